@@ -1,9 +1,9 @@
 """The public calls of each crate with their clauses, as docs/CLAUSES.md has them, from the text of `src/`.
 
-A call is told by the first sentence of its comment. Behind it are the labels of its clauses, each group of them with the
-`//` lines above it; a clause without a label stands as it is. Of a clause that cites one record the parts follow in square
-brackets: the record's fields, each group of them with the comment above it. What the words of a clause mean stands in
-docs/PROOFS.md and docs/DEFINITIONS.md.
+A call leads to its file, and is told by the first sentence of its comment. Behind it are its clauses, each group of them
+behind the `//` lines above it: a clause of up to MOST characters, or without a label, as it stands, and of a longer one the
+label. Of a clause that cites one record the parts follow in square brackets: the record's fields, each group of them with
+the comment above it. What the words of a clause mean stands in docs/PROOFS.md and docs/DEFINITIONS.md.
 """
 
 import re
@@ -17,11 +17,13 @@ ITEM = re.compile(r'^( *)pub (?:const )?(?:unsafe )?(?:extern "C" )?fn (\w+)')
 TRAIT_ITEM = re.compile(r'^    fn (\w+)')
 OWNER = re.compile(r'^(?:pub )?(impl|trait)\b(?:<.*?>)? ?(?:[\w:]+(?:<.*?>)? for )?(\w+)')
 CLAUSE = re.compile(r'^ *ensures (?:(\w+) )?\{')
+# how long a clause with a label may be that stands as it is
+MOST = 100
 # records of disks and of states that most clauses cite, whose parts say nothing of a call
 GENERAL = {'sector_disk/Disk', 'states/State', 'store/Opened', 'store/Stands', 'registry/Opened', 'registry/Stands'}
 HEAD = """# Clauses
 
-For who uses a crate, or asks what is proved of a call: each public call with its one clause, or the labels of its clauses and the comments above them. Where a clause cites one record, its parts are in square brackets. All clauses stand in `src/`, in front of each body. `bench/documents.py` makes this page.
+For who uses a crate, or asks what is proved of a call: each public call, which leads to its file, with its clauses behind the comments above them. Labels are in italics; a clause of over 100 characters is told by its label alone, and stands in that file in front of the body. Where a clause cites one record, its parts are in square brackets. `bench/documents.py` makes this page.
 
 """
 
@@ -134,28 +136,32 @@ def told(parts):
     return f' [{listed}]' if listed else ''
 
 
-def label_of(number, lines, path):
-    """The label of the clause at a line, or the clause itself where it has none, with the parts of the record that it cites."""
+def clause_at(number, lines, path):
+    """The clause at a line as the page has it: its label, itself where that is short or isn't there, and the parts of the record
+    that it cites."""
     label = CLAUSE.match(lines[number]).group(1)
-    clause = next(definitions.clause_texts(' '.join(lines[number:]), label or 'result'))
-    return f'`{label or " ".join(clause.split())}`' + told(cited_in(clause, path))
+    clause = ' '.join(next(definitions.clause_texts(' '.join(lines[number:]), label or 'result')).split())
+    shown = [f'*{label}*'] if label else []
+    if not label or len(clause) <= MOST:
+        shown.append('`' + clause.replace('|', '\\|') + '`')
+    return ' '.join(shown) + told(cited_in(clause, path))
 
 
 def groups_of(lines, path):
-    """The clauses of a call: for each group between empty lines its comment and its labels."""
-    groups, comment, labels = [], [], []
+    """The clauses of a call: for each group between empty lines its comment and they themselves."""
+    groups, comment, clauses = [], [], []
     for number, line in enumerate([*lines, '']):
         if CLAUSE.match(line):
-            labels.append(label_of(number, lines, path))
+            clauses.append(clause_at(number, lines, path))
         elif line.strip().startswith('//'):
-            if labels:
-                groups.append((comment, labels))
-                comment, labels = [], []
+            if clauses:
+                groups.append((comment, clauses))
+                comment, clauses = [], []
             comment.append(line.strip()[3:])
-        elif not line.strip() and (labels or comment):
-            groups.append((comment, labels))
-            comment, labels = [], []
-    return [(' '.join(comment).rstrip('.'), labels) for comment, labels in groups if labels]
+        elif not line.strip() and (clauses or comment):
+            groups.append((comment, clauses))
+            comment, clauses = [], []
+    return [(' '.join(comment).rstrip('.'), clauses) for comment, clauses in groups if clauses]
 
 
 def end_of_header(lines, number):
@@ -172,7 +178,7 @@ def end_of_header(lines, number):
 
 
 def calls_in(path, names):
-    """The public calls of a file, with what is said of them and their clauses."""
+    """The public calls of a file, with the file, what is said of them, and their clauses."""
     owner, comment, found = None, [], []
     lines = path.read_text().splitlines()
     for number, line in enumerate(lines):
@@ -186,15 +192,15 @@ def calls_in(path, names):
             name = item.group(item.lastindex)
             if (owner[1] if owner else name) in names:
                 header = lines[number:end_of_header(lines, number)]
-                found.append((f'{owner[1]}::{name}' if owner else name, described(comment), groups_of(header, path)))
+                found.append((f'{owner[1]}::{name}' if owner else name, path, described(comment), groups_of(header, path)))
         comment = [*comment, line] if line.strip().startswith('///') else comment if line.strip().startswith('#[') else []
     return found
 
 
-def row_of(name, said, groups):
+def row_of(name, path, said, groups):
     """The row of a call."""
-    parts = [', '.join(labels) + (f': {comment}' if comment else '') for comment, labels in groups]
-    return f'| `{name}` | {said} | {"; ".join(parts)} |'.replace('  ', ' ')
+    parts = [(f'{comment}: ' if comment else '') + '; '.join(clauses) for comment, clauses in groups]
+    return f'| [`{name}`](../{path.relative_to(ROOT)}) | {said} | {"<br>".join(parts)} |'.replace('  ', ' ')
 
 
 def page(crates):
