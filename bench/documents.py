@@ -4,8 +4,9 @@
     python3 bench/documents.py            writes the pages anew
     python3 bench/documents.py --check    writes nothing, and fails where a page would change
 
-It fails where a document has more words than LIMITS gives it, and where a name in it isn't in the tree: a path of the
-repository, or a word of the code (with `_`, `::` or a capital letter within it) between backquotes.
+It fails where a document has more words than LIMITS gives it, where a name in it isn't in the tree: a path of the
+repository, or a word of the code (with `_`, `::` or a capital letter within it) between backquotes; and where the list of
+bench/README.md doesn't name each file of bench/ once.
 """
 
 import re
@@ -84,8 +85,18 @@ def unknown_names(text, words, paths):
                 yield name
 
 
+def unlisted():
+    """The files of this folder that its list doesn't name once."""
+    named = QUOTED.findall((ROOT / 'bench' / 'README.md').read_text())
+    return sorted(path.name for path in (ROOT / 'bench').iterdir()
+                  if path.is_file() and path.name != 'README.md' and named.count(path.name) != 1)
+
+
 def main():
     wrong = 0
+    for name in unlisted():
+        print(f'bench/README.md names {name} not once')
+        wrong += 1
     for path, text in pages().items():
         if '--check' not in sys.argv:
             path.write_text(text)

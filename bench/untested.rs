@@ -1,7 +1,7 @@
-//! A tuned program of the same rules, to compare with: one object at a base, PT_LOADs, RELATIVE relocations, the text.
-//! It makes no test of the file. `rustc --edition 2021 -O -C target-cpu=x86-64-v2 bench/tuned.rs`; with `--cfg tests -o
-//! tuned_tests` it makes the two tests that cost something on large tables: that no tag which may be present once is
-//! present twice, and that each relocation's place lies in a PT_LOAD, both before anything is written.
+//! A program of the same rules for `compare.py`: one object at a base, PT_LOADs, RELATIVE relocations, the text. It makes
+//! no test of the file. `rustc --edition 2021 -O -C target-cpu=x86-64-v2 bench/untested.rs`; with `--cfg tests -o two_tests`
+//! it makes the two that cost something on large tables: that no tag which may be present once is present twice, and that
+//! each relocation's place lies in a PT_LOAD, both before anything is written.
 use std::fs;
 use std::io::{self, Write};
 use std::os::fd::FromRawFd;
