@@ -205,14 +205,14 @@ typedef struct rlibreg_entry {
 
 /* What is told of a registry as a whole. */
 typedef struct rlibreg_information {
-    uint64_t version;      /* of the disk's layout: 2 */
-    uint64_t sectors;      /* how many sectors the disk has */
-    uint64_t generation;   /* how many changes the registry has taken */
-    uint64_t libraries;    /* how many are installed */
-    uint64_t preloads;     /* how many there are */
-    uint64_t free_sectors; /* how many sectors nothing uses: catalogues need some of them */
-    uint64_t free_runs;    /* in how many runs they are */
-    uint64_t largest;      /* how many bytes a library of a new name may have now, or 0 */
+    uint64_t version;        /* of the disk's layout: 2 */
+    uint64_t sectors;        /* how many sectors the disk has */
+    uint64_t generation;     /* how many changes the registry has taken */
+    uint64_t libraries;      /* how many are installed */
+    uint64_t preloads;       /* how many there are */
+    uint64_t unused_sectors; /* how many sectors nothing uses */
+    uint64_t unused_runs;    /* in how many runs they are */
+    uint64_t largest;        /* how many bytes a library of a new name may have now, or 0 */
 } rlibreg_information;
 
 /* What is found of a library's file: one of these, or n where En is the first test that refuses it
@@ -243,7 +243,7 @@ RLIBREG_SAME(sizeof(rlibreg_entry) == 16);
 RLIBREG_SAME(offsetof(rlibreg_entry, file_length) == 12);
 RLIBREG_SAME(sizeof(rlibreg_information) == 64);
 RLIBREG_SAME(offsetof(rlibreg_information, generation) == 16);
-RLIBREG_SAME(offsetof(rlibreg_information, free_sectors) == 40);
+RLIBREG_SAME(offsetof(rlibreg_information, unused_sectors) == 40);
 RLIBREG_SAME(offsetof(rlibreg_information, largest) == 56);
 RLIBREG_SAME(sizeof(rlibreg_finding) == 16);
 RLIBREG_SAME(offsetof(rlibreg_finding, finding) == 12);
@@ -324,7 +324,8 @@ uint32_t rlibreg_digest(const uint8_t *disk, size_t disk_length, const char *nam
  * is left as it was. No library's file is read.
  *
  * An installation under a new name of a file of at most `largest` bytes meets none of S7, S8, S9
- * and S10; that of a longer one meets one of them, or C1.
+ * and S10; that of a longer one meets one of them, or C1. Of the unused sectors one for every 64
+ * libraries or part of 64 is kept back for catalogues; the others are free, as S7 counts them.
  *
  * Refusals: S3, S5, S6, S11, S12. */
 uint32_t rlibreg_info(const uint8_t *disk, size_t disk_length, rlibreg_information *information,
@@ -379,7 +380,7 @@ uint32_t rlibreg_plan_install(const uint8_t *disk, size_t disk_length, const uin
                               size_t file_length, uint8_t *plan, size_t plan_room, char *text,
                               size_t text_room, rlibreg_answer *answer);
 
-/* FILE takes the place of the library of its SONAME. The old file's sectors are free after the
+/* FILE takes the place of the library of its SONAME. The old file's sectors are unused after the
  * change alone, so there has to be room for both. Refusals: C1, C3, S10, S7, S8; S3, S5, S6, S11,
  * S12. */
 uint32_t rlibreg_plan_replace(const uint8_t *disk, size_t disk_length, const uint8_t *file,

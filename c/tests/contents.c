@@ -181,8 +181,8 @@ static void try_told(rlibreg *it, uint64_t sectors) {
     WANT(!install(it, '~', told.largest));
     want_library(it, '~', told.largest);
     WANT(!remove_library(it, '~') && !rlibreg_info_of(it, &after));
-    WANT(after.generation == told.generation + 2 && after.free_sectors == told.free_sectors);
-    WANT(after.largest == told.largest || told.free_runs > 32);
+    WANT(after.generation == told.generation + 2 && after.unused_sectors == told.unused_sectors);
+    WANT(after.largest == told.largest || told.unused_runs > 32);
 }
 
 /* Disks of each size from the least on, empty and with a library. */

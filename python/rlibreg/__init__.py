@@ -103,8 +103,8 @@ class Info(NamedTuple):
     generation: int  # how many changes the registry has taken
     libraries: int  # how many are installed
     preloads: int  # how many there are
-    free_sectors: int  # how many nothing uses: catalogues need some of them
-    free_runs: int  # in how many runs these are
+    unused_sectors: int  # how many nothing uses: some are kept back for catalogues
+    unused_runs: int  # in how many runs these are
     largest: int  # how many bytes a library of a new name may have now, or 0
 
 

@@ -46,8 +46,8 @@ class Finding(ctypes.Structure):
 
 class Information(ctypes.Structure):
     _fields_ = [(name, ctypes.c_uint64) for name in
-                ('version', 'sectors', 'generation', 'libraries', 'preloads', 'free_sectors',
-                 'free_runs', 'largest')]
+                ('version', 'sectors', 'generation', 'libraries', 'preloads', 'unused_sectors',
+                 'unused_runs', 'largest')]
 
 
 class Listing(ctypes.Structure):
