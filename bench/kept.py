@@ -1,14 +1,14 @@
 #!/usr/bin/env python3
 """Starts a program from images that are kept, beside changes of its disk and kills of both.
 
-    python3 bench/kept.py PROGRAMS [SECONDS]
+    python3 bench/kept.py PROGRAMS [SECONDS [FOLDER]]
 
-PROGRAMS has rlibreg and rlibreg-run (c/build.sh). Twenty loops start a program that prints which version of a
-library it has, each start with `rlibreg-run -c`, every other one with -v too, which tells what it did, but has
-the loader's C library set up first; one loop puts further versions in the place of the library, at
-times so slowly that images are kept between, and empties the folder of images. Some starts and some changes are
-killed. What is printed has to be a version that the disk had while the start went on: none that is older than the
-last that was acknowledged before it, and none that wasn't begun. It ends with 1 where one isn't.
+PROGRAMS has rlibreg and rlibreg-run (c/build.sh). Disk and images lie in FOLDER, or in memory. Twenty loops start a
+program that prints which version of a library it has, each start with `rlibreg-run -c`, every other one with -v too,
+which tells what it did, but has the loader's C library set up first; one loop puts further versions in the place of
+the library, at times so slowly that images are kept between, and empties the folder of images. Some starts and some
+changes are killed. What is printed has to be a version that the disk had while the start went on: none that is older
+than the last that was acknowledged before it, and none that wasn't begun. It ends with 1 where one isn't.
 """
 
 import collections
@@ -104,8 +104,9 @@ def start(words, versions, choose, until, counts, wrong):
 def main():
     built, seconds = Path(sys.argv[1]).resolve(), float(sys.argv[2]) if len(sys.argv) > 2 else 60
     counts, wrong, versions = collections.Counter(), [], Versions()
-    with tempfile.TemporaryDirectory(dir='/dev/shm' if os.access('/dev/shm', os.W_OK) else None) as name:
-        folder = Path(name)
+    memory = '/dev/shm' if os.access('/dev/shm', os.W_OK) else None
+    with tempfile.TemporaryDirectory(dir=sys.argv[3] if len(sys.argv) > 3 else memory) as name:
+        folder = Path(name).resolve()
         os.chdir(folder)
         library = make(folder)
         (folder / 'kept').mkdir(mode=0o700)

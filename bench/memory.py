@@ -6,11 +6,11 @@ from an image that is kept.
 
 The words are those of real_programs.py, by which SQLite is built. The fall of MemAvailable is printed, the median of
 several rounds, which says something on an idle machine alone; behind it what the system counts of a group of these
-processes (cgroups, as root), with the image and without; the sum of what the processes have of their own and their part
-of what they share (Pss of /proc/PID/smaps_rollup); and what nobody can take from them: the pages that they have written,
-and the tables of pages. The images are kept in a folder of tmpfs, and in one of the file system of FOLDER. Both are
-emptied before each round, so their pages are in the fall and in the group, but for what a file system on a disk can give
-back.
+processes (cgroups, as root), and what of that it can't give to others, by which MemAvailable falls: what the processes
+have written, what is on tmpfs, and what the kernel has for them; of this the least too. Then the sum of what the
+processes have of their own and their part of what they share (Pss of /proc/PID/smaps_rollup); and the pages that they
+have written, and the tables of pages. The images are kept in a folder of tmpfs, and in one of the file system of FOLDER.
+Both are emptied before each round, so their pages are in the fall and in the group.
 """
 
 import statistics
@@ -25,8 +25,11 @@ from checks import emptied
 from real_programs import asked_for
 
 SHELLS, ROUNDS = 10, 7
-# A group of the first version of cgroups, or of the second, and the files that tell what it has, and has of files.
-GROUPS = (('/sys/fs/cgroup/memory', 'memory.usage_in_bytes', 'cache'), ('/sys/fs/cgroup', 'memory.current', 'file'))
+# A group of the first version of cgroups, or of the second: the file that tells what it has, the words of memory.stat for
+# what stays, and a file with more of that. The system brings the words up to date every two seconds.
+GROUPS = (('/sys/fs/cgroup/memory', 'memory.usage_in_bytes', ('rss', 'shmem'), 'memory.kmem.usage_in_bytes'),
+          ('/sys/fs/cgroup', 'memory.current', ('anon', 'shmem', 'kernel'), None))
+TOLD_WITHIN = 2.5
 JOIN = 'echo $$ > "$0/cgroup.procs" && exec "$@"'
 
 
@@ -54,19 +57,20 @@ class Group:
 
     def __init__(self):
         found = (it for it in GROUPS if (Path(it[0]) / 'cgroup.procs').exists())
-        top, self.used, self.files = next(found, (None, None, None))
+        top, self.used, self.staying, self.more = next(found, (None,) * 4)
         self.at = Path(tempfile.mkdtemp(prefix='shells-', dir=top)) if top else None
 
     def words(self, words):
         return ['sh', '-c', JOIN, self.at, *words] if self.at else words
 
     def counts(self):
-        """What it has with files and without, in KiB."""
+        """What it has, and what of that stays where others need memory, in KiB."""
         if not self.at or not (self.at / self.used).exists():
             return 0, 0
-        used = int((self.at / self.used).read_text())
         told = dict(line.split() for line in (self.at / 'memory.stat').read_text().splitlines())
-        return used // 1024, (used - int(told[self.files])) // 1024
+        stays = sum(int(told[it]) for it in self.staying)
+        stays += int((self.at / self.more).read_text()) if self.more else 0
+        return int((self.at / self.used).read_text()) // 1024, stays // 1024
 
     def end(self):
         if self.at:
@@ -84,7 +88,7 @@ def shells(words, place):
         it.stdin.flush()
         assert it.stdout.readline() == b'42\n'
         them.append(it)
-    time.sleep(0.2)
+    time.sleep(TOLD_WITHIN)
     found = before - available(), *group.counts(), sum(map(pss, them)), sum(map(own, them))
     for it in them:
         it.communicate(b'.quit\n')
@@ -110,13 +114,13 @@ def main():
                 empty(disk)
                 rows[variant.name].append(shells([*variant.before, './sqlite3'], place))
                 size = max(size, sum(it.stat().st_blocks / 2 for it in memory.iterdir()))
-    medians = {name: [statistics.median(it) for it in zip(*row)] for name, row in rows.items()}
-    for name, found in medians.items():
-        told = [f'{it / 1024:.1f} MiB ({it / usual:.2f} of the static links)' if usual else '0'
-                for it, usual in zip(found, medians['static'])]
-        print(f'{name}: {told[0]} by MemAvailable, {told[1]} of the group, {told[2]} of it without files, '
+    usual, least = ({name: [of(it) for it in zip(*row)] for name, row in rows.items()} for of in (statistics.median, min))
+    for name, found in usual.items():
+        told = [f'{it / 1024:.2f} MiB ({it / static:.2f} of the static links)' if static else '0'
+                for it, static in zip([*found, least[name][2]], [*usual['static'], least['static'][2]])]
+        print(f'{name}: {told[0]} by MemAvailable, {told[1]} of the group, {told[2]} of it stay, at least {told[5]}, '
               f'{told[3]} by Pss, {told[4]} written or of tables', flush=True)
-    print(f'in {memory}: {size / 1024:.1f} MiB')
+    print(f'in {memory}: {size / 1024:.2f} MiB')
 
 
 if __name__ == '__main__':

@@ -103,7 +103,7 @@ debian() {
 # systemd's own checkers.
 checkers() {
     local said
-    said=$(chroot "$root" systemd-analyze verify --man=no run-rlibreg.mount rlibreg-disk.service \
+    said=$(chroot "$root" systemd-analyze verify --man=no rlibreg-disk.service \
         rlibreg@usr-bin-program.service 2>&1) && [ -z "$said" ] || failed "systemd-analyze: $said"
     if chroot "$root" udevadm verify --help > /dev/null 2>&1; then
         chroot "$root" udevadm verify --no-summary /usr/lib/udev/rules.d/61-rlibreg.rules
@@ -137,7 +137,7 @@ END
 start
 start
 journalctl -b -o cat -u 'rlibreg*' | grep '^library\|^rlibreg: one'
-find /run/rlibreg -type f -printf 'rlibreg: kept by %u in %h\n'
+find /var/cache/rlibreg -type f -printf 'rlibreg: kept by %u in %h\n'
 echo 'replace '$(od -An -v -tx1 libother.so | tr -d ' \n') > changes
 END
         commands 'flock -s'
@@ -224,7 +224,7 @@ partitions
 boot
 ended
 said 'the node is root:rlibreg 640' '^library libgreeting.so' '^rlibreg: one' '^rlibreg: other' \
-    'kept by rlibreg in /run/rlibreg/usr-bin-program' 'roothash=' 'the day is over'
+    'kept by rlibreg in /var/cache/rlibreg/usr-bin-program' 'roothash=' 'the day is over'
 echo 'systemd, the switch: as written'
 hash=$(sed -n 's/^rlibreg: roothash=//p' "$room/said")
 

@@ -5,16 +5,13 @@ it that is kept, and from registries that have 330 MB of others beside them, few
 
     python3 bench/start.py PROGRAMS FOLDER [--sources SOURCES]
 
-The words are those of real_programs.py, by which Lua is built. Each start runs an empty script; the
-least of three times thirty are printed, in milliseconds, and those of the processor behind them. Then comes
-the median of all, and of as many beside a process that writes and syncs a file of the same file system.
+The words are those of real_programs.py, by which Lua is built. Each start runs an empty script. The least and the
+median of some hundred starts in turn are printed, in milliseconds, and the least of the processor behind them; once with
+nothing beside, and once beside a process that writes and syncs a file of the same file system. Images are kept in a folder
+of that file system, and in one of tmpfs.
 """
 
-import resource
 import shutil
-import statistics
-import subprocess
-import time
 from pathlib import Path
 
 import real_builds
@@ -22,24 +19,10 @@ from beside import kept_folder, writer
 from checks import emptied
 from disks import MIB, install, library
 from real_programs import asked_for, done
+from starts import timed
 
-ROUNDS, STARTS, SECTORS = 3, 30, 700_000
+STARTS, STARTS_BESIDE, SECTORS = 500, 60, 700_000
 OTHERS = ((21, 15 * MIB), (315, MIB)) # how many, of so many bytes
-
-
-def used():
-    it = resource.getrusage(resource.RUSAGE_CHILDREN)
-    return it.ru_utime + it.ru_stime
-
-
-def starts(words, folder):
-    """The times of some starts, by the clock and of the processor."""
-    rows = []
-    for _ in range(STARTS):
-        before, start = used(), time.perf_counter()
-        subprocess.run([*map(str, words), '-e', ''], cwd=folder, check=True)
-        rows.append((time.perf_counter() - start, used() - before))
-    return [(1000 * real, 1000 * spent) for real, spent in rows]
 
 
 def crowded(programs, build, number, size):
@@ -51,11 +34,12 @@ def crowded(programs, build, number, size):
     return disk
 
 
-def all_variants(bench, build, made, kept):
+def all_variants(bench, build, made, on_disk, in_memory):
     static, registry, *rest = made
     yield from (static, registry)
     run, *disk = registry.before
-    yield registry._replace(name='registry, -c', before=[run, '-c', kept, *disk])
+    for name, kept in (('registry, -c', on_disk), ('registry, -c in memory', in_memory)):
+        yield registry._replace(name=name, before=[run, '-c', kept, *disk])
     yield from rest
     if shutil.which('lua5.4'):
         yield static._replace(name="the system's loader", file=Path(shutil.which('lua5.4')).read_bytes())
@@ -64,27 +48,23 @@ def all_variants(bench, build, made, kept):
         yield registry._replace(name=f'{number} libraries of {size >> 20} MiB beside', before=before)
 
 
-def told(variant, place):
-    words = [*variant.before, './lua']
-    rounds = [starts(words, place) for _ in range(ROUNDS)]
-    least = ', '.join('{:.2f} ({:.2f})'.format(*(min(row[k] for row in rows) for k in (0, 1))) for rows in rounds)
-    with writer(place):
-        beside = starts(words, place)
-    usual = statistics.median(real for rows in rounds for real, _ in rows)
-    other = statistics.median(real for real, _ in beside)
-    return f'{variant.name}: {least}; median {usual:.2f}, beside a writer {other:.2f}'
+def words_of(variant, place):
+    """The words of a start, whose file is made in a folder."""
+    (place / 'lua').write_bytes(variant.file)
+    (place / 'lua').chmod(0o755)
+    return [*map(str, variant.before), str(place / 'lua'), '-e', '']
 
 
 def main():
     bench, sources, _ = asked_for()
     build = real_builds.lua(bench.folder / 'Lua', sources)
     made = [*bench.variants(build, bench.registry(build), 'lua')]
-    with kept_folder() as kept:
-        for variant in all_variants(bench, build, made, kept):
-            place = emptied(bench.folder / variant.name)
-            (place / 'lua').write_bytes(variant.file)
-            (place / 'lua').chmod(0o755)
-            print(told(variant, place), flush=True)
+    with kept_folder(bench.folder) as on_disk, kept_folder() as in_memory:
+        ways = {it.name: (words_of(it, emptied(bench.folder / it.name)), {})
+                for it in all_variants(bench, build, made, on_disk, in_memory)}
+        timed(ways, STARTS, 'Lua')
+        with writer(bench.folder):
+            timed(ways, STARTS_BESIDE, 'beside a writer, Lua')
 
 
 if __name__ == '__main__':

@@ -8,7 +8,7 @@ FOLDER has rlibreg and rlibreg-run (c/build.sh). Each of 100 libraries exports t
 200 of the others' in its data; the program needs all of them, and ends at once. gcc makes them, and ld links them; both
 loaders start the same objects. The least and the median of some hundred starts in turn are printed, in milliseconds,
 and the least of the processor behind them; once with nothing beside, and once beside a process that writes and syncs a
-file of the same file system, which is that of FOLDER.
+file of the same file system, which is that of FOLDER. Images are kept there, and in memory.
 """
 
 import os
@@ -87,11 +87,12 @@ def main():
         run(built / 'rlibreg', 'script', folder / 'disk', input=lines.encode())
         os.chdir(folder)
         run_words = [str(built / 'rlibreg-run'), 'disk', './program']
-        with kept_folder() as kept:
+        with kept_folder(folder) as on_disk, kept_folder() as in_memory:
             ways = {
                 "the system's loader": (['./program'], {'LD_BIND_NOW': '1', 'LD_LIBRARY_PATH': '.'}),
                 'rlibreg-run': (run_words, {}),
-                'rlibreg-run -c': ([run_words[0], '-c', str(kept), *run_words[1:]], {})}
+                'rlibreg-run -c': ([run_words[0], '-c', str(on_disk), *run_words[1:]], {}),
+                'rlibreg-run -c in memory': ([run_words[0], '-c', str(in_memory), *run_words[1:]], {})}
             what = f'{count} libraries, {relocations} relocations'
             timed(ways, STARTS, what)
             with writer(folder):

@@ -21,6 +21,10 @@
 #include <sys/auxv.h>
 #include <unistd.h>
 
+#ifdef __GLIBC__
+#include <malloc.h>
+#endif
+
 /* The loader takes some 24 KiB, beside what depends on its words. */
 enum { STACK = 128 << 10 };
 
@@ -109,6 +113,9 @@ static void bind_program(struct program *it, struct keeping *keeping, const char
     name_kept(keeping);
     free(it->bytes);
     let_bytes_go(&it->image);
+#ifdef __GLIBC__
+    malloc_trim(0); /* the program lives on with what isn't given back */
+#endif
 }
 
 /* How many bytes the words and the environment take as pointers, which the program gets anew. */

@@ -216,6 +216,8 @@ static int write_all(int fd, const void *bytes, uint64_t length, uint64_t at) {
     return 0;
 }
 
+/* It is on the medium before anyone maps it: else a process may find other bytes in a page that the
+ * system couldn't write and had to drop. */
 static int write_file(int fd, const struct program *program, const struct kept_file *file) {
     const struct counts *counts = &file->head->counts;
     const uint8_t *bytes = program->bytes;
@@ -229,7 +231,7 @@ static int write_file(int fd, const struct program *program, const struct kept_f
         const struct piece *it = &file->pieces[i];
         if (it->from && write_all(fd, (const void *)it->address, it->length, it->from)) return -1;
     }
-    return ftruncate(fd, (off_t)file->head->length);
+    return ftruncate(fd, (off_t)file->head->length) || fdatasync(fd) ? -1 : 0;
 }
 
 /* A process that writes a longer file than it may is ended by a signal. */

@@ -6,6 +6,7 @@
 #include <fcntl.h>
 #include <signal.h>
 #include <stdarg.h>
+#include <stdio.h>
 #include <stdlib.h>
 #include <sys/stat.h>
 #include <time.h>
@@ -49,15 +50,28 @@ WRAPPED(int, fchmod, int fd, mode_t mode) {
     return fails() ? -1 : __real_fchmod(fd, mode);
 }
 
+static int is_synced; /* since it was written last */
+
 WRAPPED(ssize_t, pwrite, int fd, const void *bytes, size_t length, off_t at) {
+    is_synced = 0;
     return fails() ? -1 : __real_pwrite(fd, bytes, length, at);
 }
 
 WRAPPED(int, ftruncate, int fd, off_t length) {
+    is_synced = 0;
     return fails() ? -1 : __real_ftruncate(fd, length);
 }
 
+WRAPPED(int, fdatasync, int fd) {
+    is_synced = !fails() && !__real_fdatasync(fd);
+    return is_synced ? 0 : -1;
+}
+
 WRAPPED(int, linkat, int from, const char *old, int to, const char *new, int flags) {
+    if (!is_synced) {
+        fputs("keeping.c: an image is named before it is on the medium\n", stderr);
+        abort();
+    }
     return fails() ? -1 : __real_linkat(from, old, to, new, flags);
 }
 

@@ -77,7 +77,8 @@ gcc $flags -o "$room/within" "$here/within.c"
 # The loader as it keeps images, and it in each start of the tests of the loader.
 # The first says that it is the built one, the others are the same but for that: an id of another
 # build, and none.
-keeping=$taking$(printf ',--wrap=%s' kernel_clock openat fchmod pwrite ftruncate linkat unlinkat)
+keeping=$taking$(printf ',--wrap=%s' kernel_clock openat fchmod pwrite ftruncate fdatasync \
+    linkat unlinkat)
 build_id=0x$(readelf -nW "$built/rlibreg-run" | sed -n 's/.*Build ID: //p')
 for build in run-kept:$build_id run-kept-other:0x0123456789abcdef run-kept-none:none; do
     gcc $loader -o "$room/${build%:*}" $keeping -Wl,--build-id=${build#*:} "$here/keeping.c" \
@@ -126,6 +127,16 @@ for part in cuts same held recipe devices full loader starting initializers kept
     (. "$here/$part.sh")
 done
 (. "$here/twice.sh")
+# Images in a folder on a disk, where OBJECTS is; once, since they are those of the C side.
+case $(stat -f -c %T "$objects") in
+    ext2/ext3 | xfs | btrfs | f2fs)
+        if mkdir "$objects/disk" 2> lost; then
+            cp tool within rlibreg-run run-* "$objects/disk/"
+            (cd "$objects/disk" && . "$here/kept.sh")
+        fi
+        ;;
+    *) echo 'skipped: images in a folder on a disk' ;;
+esac
 
 # What build.sh has made, as it stands: no C of the library is compiled anew for these.
 for part in shared installed manual python driver; do
