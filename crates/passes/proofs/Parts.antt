@@ -1,5 +1,6 @@
 -- Single sectors in two parts, of which one is written before the bytes of a file and one behind them.
 use Rattle.std.proofs.Common.{◌≡◌, ℕ, ◌+◌, ◌-◌, ◌<◌, List, ◌++◌, length, get_or, take, drop, sym, ap, subst, ◌∙◌, refl, arith}
+use Rattle.std.specs.Prelude.{Result, Ok, Err, OnOk}
 use Rattle.std.specs.List.{Contains}
 use Rattle.std.proofs.lemmas.List.{take-append-drop, map-append, length-append, get_or_append_left, get_or-append_right}
 use Rattle.std.proofs.lemmas.List.Elements.{Contains-append_left, Contains-append_right, All-append, All-get_or, All-from_get_or}
@@ -67,3 +68,8 @@ still_held some old new singles same apart held =
     All-from_get_or (λ (s : SingleSector). sector new s.at ≡ s.content) singles no_single
     (λ i lt. same.others (get_or singles i no_single).at (apart (get_or singles i no_single).at (place_among singles i no_single lt))
     ∙ All-get_or (λ (s : SingleSector). sector old s.at ≡ s.content) singles i no_single lt held)
+
+-- two facts of a result that is Ok give a third
+pub on_ok_both : {T E P Q R : Type 0} (r : Result T E) → (P → Q → R) → OnOk r P → OnOk r Q → OnOk r R
+on_ok_both (Ok x) f p q = f p q
+on_ok_both (Err e) f p q = tt

@@ -26,9 +26,49 @@ fn count_before(extents: &[Extent], singles: &[SingleSector]) -> usize
     }
 }
 
-/// The first pass of a commit: writes a file's bytes into its extents and each single sector, and
-/// syncs. The single sectors are written in their order, the first of them before the bytes as far
-/// as they lie in front of these: so neighbours are written one after the other.
+/// Writes a file's bytes into its extents and each single sector. The single sectors are written in
+/// their order, the first of them before the bytes as far as they lie in front of these: so
+/// neighbours are written one after the other. It doesn't sync.
+pub fn write_unsynced<D: Disk>(
+    disk: &mut D,
+    extents: &[Extent],
+    bytes: &[u8],
+    singles: &[SingleSector],
+) -> Result<(), DiskFault>
+    requires inside { All (IsOnDisk (D.facts disk.old).sectors) extents.now }
+    requires fits { (D.facts disk.old).sectors < 2 ^ 32 }
+    requires apart { AllPairs IsApart extents.now }
+    requires room { All (λ single. single.at < (D.facts disk.old).sectors) singles.now }
+    requires once { AreDistinct (single_places singles.now) }
+    requires elsewhere { (k : _) → Contains (single_places singles.now) k
+        → Contains (places extents.now) k → ⊥ }
+    ensures calls { AreCallsInRow (sector_count extents.now + length singles.now)
+        (D.facts disk.old) (D.facts disk.new) result }
+
+    // A stop at any moment changes the written sectors alone.
+    ensures any_moment { IsTrue (D.facts disk.old).honest
+        → LeavesOnly (D.facts disk.old) (D.facts disk.new)
+        (IsMixtureBut (Contains (single_places singles.now ++ places extents.now))
+        (D.facts disk.old)) }
+
+    // What reads give changes there alone.
+    ensures now { IsTrue (D.facts disk.old).honest → OnOk result
+        (SameBut (Contains (single_places singles.now ++ places extents.now))
+        (D.facts disk.old).now (D.facts disk.new).now) }
+    ensures written { IsTrue (D.facts disk.old).honest
+        → OnOk result (bytes_at (D.facts disk.new).now (places extents.now)
+        ≡ padded (sector_bytes * sector_count extents.now) bytes.now) }
+    ensures singles { IsTrue (D.facts disk.old).honest
+        → OnOk result (HoldsSingles (D.facts disk.new).now singles.now) }
+{
+    let (front, back) = singles.split_at(count_before(extents, singles));
+    write_singles(disk, front)?;
+    write_bytes(disk, extents, bytes)?;
+    write_singles(disk, back)
+}
+
+/// The first pass of a commit: writes a file's bytes and single sectors, as `write_unsynced` does,
+/// and syncs.
 pub fn stage<D: Disk>(
     disk: &mut D,
     extents: &[Extent],
@@ -62,10 +102,7 @@ pub fn stage<D: Disk>(
         → OnOk result (HoldsSingles (D.facts disk.new).now singles.now) }
     ensures synced { IsTrue (D.facts disk.old).honest → OnOk result (IsSynced (D.facts disk.new)) }
 {
-    let (front, back) = singles.split_at(count_before(extents, singles));
-    write_singles(disk, front)?;
-    write_bytes(disk, extents, bytes)?;
-    write_singles(disk, back)?;
+    write_unsynced(disk, extents, bytes, singles)?;
     disk.sync()
 }
 

@@ -27,7 +27,7 @@ pub all_usable : {root : Root} {entries : List PlacedEntry} {held : List HeldRow
 all_usable {root = root} {entries = entries} {held = held} kept = All-append (IsUsable root.sectors) (used root entries) (lone_sectors held) kept.apart.inside kept.claimed.inside
 
 -- lists in which each number stands as often have the same elements
-same_elements : (a b : List ℕ) → ((k : ℕ) → occurs k a ≡ occurs k b) → (s : ℕ) → Contains a s → Contains b s
+pub same_elements : (a b : List ℕ) → ((k : ℕ) → occurs k a ≡ occurs k b) → (s : ℕ) → Contains a s → Contains b s
 same_elements a b counts s found = occurs_contains s b (omega (arith, counts s, contains_occurs s a found))
 
 pub claims_as : (flags : List Bool) (a b : List ℕ) → ((k : ℕ) → occurs k a ≡ occurs k b) → ClaimsJust flags a → ClaimsJust flags b

@@ -43,7 +43,7 @@ use Rattle.store.proofs.Rooms.{kept_sectors}
 use Rattle.store.proofs.Anew.{all_usable}
 
 -- byte strings cost what their entries say
-costs_are : (m : List Sector) (entries : List PlacedEntry) → All IsWhole m → HaveSpellings entries → ((k : ℕ) → Contains (flat_map sectors_of entries) k → k < length m)
+pub costs_are : (m : List Sector) (entries : List PlacedEntry) → All IsWhole m → HaveSpellings entries → ((k : ℕ) → Contains (flat_map sectors_of entries) k → k < length m)
     → sum_by (λ library. cost (length library.bytes)) (map (library_of m) entries) ≡ entries_cost entries
 costs_are m [] whole fit inside = refl
 costs_are m (e ∷ entries) whole fit inside =

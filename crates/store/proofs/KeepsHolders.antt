@@ -18,6 +18,7 @@ use Rattle.store.specs.inside.Claimed.{IsUsable}
 use Rattle.store.specs.inside.HeldRows.{IsLeft}
 use Rattle.store.specs.inside.Kept.{IsKept}
 use Rattle.store.specs.inside.Room.{IsRootOr}
+use Rattle.store.specs.inside.Settled.{KeepsRows}
 use Rattle.store.proofs.Anew.{all_usable}
 use Rattle.store.proofs.Counts.{occurs, occurs-flat_map, occurs_contains, contains_occurs}
 use Rattle.store.proofs.KeyedRows.{no_row}
@@ -74,6 +75,15 @@ module _ {root : Root} {entries : List PlacedEntry} {held : List HeldRow} {layou
       bytes = λ honest at library is. record { placed = is.placed; by = is.by; stands = held_bytes honest is.by library is.stands };
       versions = λ at placed. (λ by. by, λ by. by);
       none = λ none. none;
+    }
+
+    -- also where the state lists some of it no longer,
+    pub keeps_rows : {new : List HeldRow} → KeepsRows held new → KeepsHolders before after held new
+    keeps_rows rows = record {
+      holders = rows.holders;
+      bytes = λ honest at library is. record { placed = is.placed; by = (rows.versions at is.placed).0 is.by; stands = held_bytes honest is.by library is.stands };
+      versions = rows.versions;
+      none = rows.none;
     }
 
     -- and so does one after which the state lists a version no longer.

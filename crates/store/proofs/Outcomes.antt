@@ -76,7 +76,7 @@ module _ {D : Type 0} (facts : D → DiskFacts) {old new : Opened D} {n : ℕ} (
   }
 
 -- memory may be wanting whether or not there is room
-memory_wants : (a b : Bool) → IsAnswer (if a then Some Full else if b then Some Fragmented else None) (Err OutOfMemory)
+pub memory_wants : (a b : Bool) → IsAnswer (if a then Some Full else if b then Some Fragmented else None) (Err OutOfMemory)
 memory_wants true b = inr refl
 memory_wants false true = inr refl
 memory_wants false false = inr refl

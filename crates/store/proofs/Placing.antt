@@ -41,12 +41,42 @@ same_more a b at same free =
     }
 
 -- and so give the same single sectors.
-singles_same : (ks : List ℕ) (a b : List Bool) → ClaimsSame a b → AreTaken a ks → AreTaken b ks
+pub singles_same : (ks : List ℕ) (a b : List Bool) → ClaimsSame a b → AreTaken a ks → AreTaken b ks
 singles_same [] a b same taken = tt
 singles_same (k ∷ ks) a b same taken = (
   lowest_same a b k same taken.0,
   singles_same ks (with_flag true (one_sector k) a) (with_flag true (one_sector k) b) (same_more a b k same taken.0.0) taken.1,
 )
+
+-- Two layouts of one size in which the same sectors are claimed.
+module _ (layout in_layout : List Bool) (used : List ℕ) (size : length layout ≡ length in_layout) (kept : ClaimsJust layout used) (claims : ClaimsJust in_layout used) where
+  pub same_claims : ClaimsSame layout in_layout
+  same_claims = same-from_used layout in_layout used size kept claims
+
+  -- the same once these extents are taken
+  same_taken : (extents : List Extent) → All (IsInside layout) extents → ClaimsSame (with_flags true extents layout) (with_flags true extents in_layout)
+  same_taken extents inside =
+      let there : All (IsInside in_layout) extents = λ k d lt. let i = inside k d lt in (i.0, i.1, omega (arith, i.2, size)) in
+      same-from_used (with_flags true extents layout) (with_flags true extents in_layout) (places extents ++ used)
+      (length-with_flags true extents layout inside ∙ size ∙ sym (length-with_flags true extents in_layout there))
+      (claims-take layout used extents inside kept)
+      (claims-take in_layout used extents there claims)
+
+  -- What is taken of the one is taken of the other.
+  pub taken_also : (need : ℕ) (extents : List Extent) (at : ℕ) (catalogues : List ℕ) → All (IsInside layout) extents
+      → IsTaken layout need extents at catalogues → IsTaken in_layout need extents at catalogues
+  taken_also need extents at catalogues inside taken =
+      let then = same_taken extents inside in
+      record {
+        bytes = taken.bytes ∙ taken-same need layout in_layout same_claims;
+        entry = lowest_same (with_flags true extents layout) (with_flags true extents in_layout) at then taken.entry;
+        listed = singles_same catalogues (with_flag true (one_sector at) (with_flags true extents layout)) (with_flag true (one_sector at) (with_flags true extents in_layout))
+            (same_more (with_flags true extents layout) (with_flags true extents in_layout) at then taken.entry.0) taken.listed;
+      }
+
+-- extents of data on the disk lie inside
+pub data_inside : (layout : List Bool) (extents : List Extent) → All IsDataExtent extents → All (IsOnDisk (length layout)) extents → All (IsInside layout) extents
+data_inside layout extents filled on_disk k d lt = let extent = filled k d lt in (omega (arith, extent.filled), extent.low, on_disk k d lt)
 
 module _ (root : Root) (entries : List PlacedEntry) (held : List HeldRow) (layout : List Bool) (kept : IsKept root entries held layout) where
   abbrev sectors_in_use : List ℕ
@@ -61,39 +91,20 @@ module _ (root : Root) (entries : List PlacedEntry) (held : List HeldRow) (layou
   claims : ClaimsJust in_layout sectors_in_use
   claims = layout_of-claims root.sectors sectors_in_use (λ k d lt. (all_usable kept k d lt).1)
 
-  same : ClaimsSame layout in_layout
-  same = same-from_used layout in_layout sectors_in_use size kept.claimed.claims claims
-
-  -- the same once these extents are taken
-  same_taken : (extents : List Extent) → All (IsInside layout) extents → ClaimsSame (with_flags true extents layout) (with_flags true extents in_layout)
-  same_taken extents inside =
-      let there : All (IsInside in_layout) extents = λ k d lt. let i = inside k d lt in (i.0, i.1, omega (arith, i.2, size)) in
-      same-from_used (with_flags true extents layout) (with_flags true extents in_layout) (places extents ++ sectors_in_use)
-      (length-with_flags true extents layout inside ∙ size ∙ sym (length-with_flags true extents in_layout there))
-      (claims-take layout sectors_in_use extents inside kept.claimed.claims)
-      (claims-take in_layout sectors_in_use extents there claims)
-
   -- What is taken of the layout that is kept is taken of the sectors in use.
   pub singles_in_use : (ks : List ℕ) → AreTaken layout ks → AreTaken in_layout ks
-  singles_in_use ks taken = singles_same ks layout in_layout same taken
+  singles_in_use ks taken = singles_same ks layout in_layout (same_claims layout in_layout sectors_in_use size kept.claimed.claims claims) taken
 
   pub taken_in_use : (need : ℕ) (extents : List Extent) (at : ℕ) (catalogues : List ℕ) → All (IsInside layout) extents
       → IsTaken layout need extents at catalogues → IsTaken in_layout need extents at catalogues
-  taken_in_use need extents at catalogues inside taken =
-      let then = same_taken extents inside in
-      record {
-        bytes = taken.bytes ∙ taken-same need layout in_layout same;
-        entry = lowest_same (with_flags true extents layout) (with_flags true extents in_layout) at then taken.entry;
-        listed = singles_same catalogues (with_flag true (one_sector at) (with_flags true extents layout)) (with_flag true (one_sector at) (with_flags true extents in_layout))
-            (same_more (with_flags true extents layout) (with_flags true extents in_layout) at then taken.entry.0) taken.listed;
-      }
+  taken_in_use need extents at catalogues inside taken = taken_also layout in_layout sectors_in_use size kept.claimed.claims claims need extents at catalogues inside taken
 
   -- The same by other words for what was needed and given.
   pub taken_so : {need n at here : ℕ} {extents its : List Extent} {catalogues listed : List ℕ} → need ≡ n → its ≡ extents → here ≡ at
       → listed ≡ catalogues → All IsDataExtent extents → All (IsOnDisk (length layout)) extents
       → IsTaken layout need extents at catalogues → IsTaken in_layout n its here listed
   taken_so {need = need} {n = n} {at = at} {here = here} {extents = extents} {its = its} {catalogues = catalogues} {listed = listed} so_many are there these filled on_disk taken =
-      let inside : All (IsInside layout) extents = λ k d lt. let extent = filled k d lt in (omega (arith, extent.filled), extent.low, on_disk k d lt) in
+      let inside = data_inside layout extents filled on_disk in
       subst (λ l. IsTaken in_layout n its here l) (sym these)
       (subst (λ k. IsTaken in_layout n its k catalogues) (sym there)
       (subst (λ k. IsTaken in_layout k its at catalogues) so_many

@@ -44,7 +44,7 @@ use Rattle.store.proofs.Rooms.{cost_is, kept_sectors}
 use Rattle.store.proofs.UsedAlone.{no_entry}
 
 -- the byte strings without the first of a name are those without its position
-without_is : (m : List Sector) (name : List ℕ) (entries : List PlacedEntry) (gone : ℕ) → gone < length entries
+pub without_is : (m : List Sector) (name : List ℕ) (entries : List PlacedEntry) (gone : ℕ) → gone < length entries
     → ((k : ℕ) (d : PlacedEntry) → k < gone → name_of (get_or entries k d).entry ≢ name)
     → ((d : PlacedEntry) → name_of (get_or entries gone d).entry ≡ name)
     → libraries_without name (map (library_of m) entries) ≡ map (library_of m) (remove entries gone)
@@ -57,7 +57,7 @@ without_is m name (e ∷ entries) (suc gone) fits before at =
     ∙ ap (λ l. library_of m e ∷ l) (without_is m name entries gone (omega (arith, fits)) (λ k d lt. before (suc k) d (omega (arith, lt))) at)
 
 -- positions that close up name the same
-names_closed : (libraries : List Library) (gone : ℕ) (positions : List ℕ) → gone < length libraries → All (λ position. position ≢ gone) positions
+pub names_closed : (libraries : List Library) (gone : ℕ) (positions : List ℕ) → gone < length libraries → All (λ position. position ≢ gone) positions
     → names_at (remove libraries gone) (map (closed_up gone) positions) ≡ names_at libraries positions
 names_closed libraries gone [] fits others = refl
 names_closed libraries gone (p ∷ positions) fits others =

@@ -43,7 +43,7 @@ use Rattle.store.proofs.UsedAlone.{no_entry}
 use Rattle.store.proofs.Written.{written_bytes}
 
 -- with one entry in the place of another of its name: no name stands twice,
-set_cases : {A : Type 0} (P : A → Type 0) (xs : List A) (i k : ℕ) (x d : A) → i < length xs → (k ≡ i → P x) → (k ≢ i → P (get_or xs k d)) → P (get_or (set xs i x) k d)
+pub set_cases : {A : Type 0} (P : A → Type 0) (xs : List A) (i k : ℕ) (x d : A) → i < length xs → (k ≡ i → P x) → (k ≢ i → P (get_or xs k d)) → P (get_or (set xs i x) k d)
 set_cases P xs i k x d fits at elsewhere = ⊎_elim
     (λ same. subst P (sym (ap (λ n. get_or (set xs i x) n d) same ∙ get_or-set_same xs i x d fits)) (at same))
     (λ other. subst P (sym (get_or-set_other xs i k x d other)) (elsewhere other))
@@ -60,7 +60,7 @@ name_kept entries place k entry d fits same =
     (λ here. sym (ap (λ n. name_of (get_or entries n d).entry) here ∙ same d))
     (λ _. refl)
 
-names_with : (entries : List PlacedEntry) (place : ℕ) (entry : PlacedEntry) → place < length entries
+pub names_with : (entries : List PlacedEntry) (place : ℕ) (entry : PlacedEntry) → place < length entries
     → ((e : PlacedEntry) → name_of (get_or entries place e).entry ≡ name_of entry.entry) → HaveOwnNames entries
     → HaveOwnNames (set entries place entry)
 names_with entries place entry fits same names i j d lt inside = λ equal.
@@ -77,7 +77,7 @@ name_with m (e ∷ entries) zero entry (suc p) same = refl
 name_with m (e ∷ entries) (suc place) entry zero same = refl
 name_with m (e ∷ entries) (suc place) entry (suc p) same = name_with m entries place entry p same
 
-names_at_with : (m : List Sector) (entries : List PlacedEntry) (place : ℕ) (entry : PlacedEntry) (positions : List ℕ)
+pub names_at_with : (m : List Sector) (entries : List PlacedEntry) (place : ℕ) (entry : PlacedEntry) (positions : List ℕ)
     → ((e : PlacedEntry) → name_of (get_or entries place e).entry ≡ name_of entry.entry)
     → names_at (map (library_of m) (set entries place entry)) positions ≡ names_at (map (library_of m) entries) positions
 names_at_with m entries place entry [] same = refl
@@ -87,7 +87,7 @@ names_at_with m entries place entry (p ∷ positions) same = λ i. name_with m e
 abbrev replaces : List Sector → (name bytes : List ℕ) → PlacedEntry → List PlacedEntry → Bool → List Library
 replaces m name bytes e entries found = if found then record { name = name; bytes = bytes } ∷ map (library_of m) entries else library_of m e ∷ libraries_with name bytes (map (library_of m) entries)
 
-libraries_with_is : (m : List Sector) (name bytes : List ℕ) (entries : List PlacedEntry) (place : ℕ) (entry : PlacedEntry) → place < length entries
+pub libraries_with_is : (m : List Sector) (name bytes : List ℕ) (entries : List PlacedEntry) (place : ℕ) (entry : PlacedEntry) → place < length entries
     → ((k : ℕ) (d : PlacedEntry) → k < place → name_of (get_or entries k d).entry ≢ name)
     → ((d : PlacedEntry) → name_of (get_or entries place d).entry ≡ name) → record { name = name; bytes = bytes } ≡ library_of m entry
     → libraries_with name bytes (map (library_of m) entries) ≡ map (library_of m) (set entries place entry)

@@ -12,4 +12,5 @@ pub mod Changed
 pub mod Step
 pub mod Taken
 pub mod Upgraded
+pub mod Draft
 pub mod inside

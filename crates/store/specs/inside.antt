@@ -2,6 +2,8 @@
 pub mod Catalogues
 pub mod Change
 pub mod Claimed
+pub mod Committed
+pub mod Draft
 pub mod Edit
 pub mod First
 pub mod Found
@@ -13,4 +15,5 @@ pub mod Next
 pub mod Prepared
 pub mod Reading
 pub mod Room
+pub mod Settled
 pub mod Stored

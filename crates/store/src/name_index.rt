@@ -185,6 +185,17 @@ impl NameIndex {
         }
     }
 
+    /// The same order, in memory of its own.
+    pub(crate) fn copy(&self, alloc: Global) -> Result<NameIndex, AllocError>
+        ensures { IfOk result (λ index. index.positions ≡ self.now.positions) }
+    {
+        let mut positions = Vec::new(alloc);
+        positions.extend_from_slice(&self.positions)?;
+        let mut guesses = Vec::new(alloc);
+        guesses.extend_from_slice(&self.guesses)?;
+        Ok(NameIndex { positions, guesses })
+    }
+
     /// The positions in the order of the names.
     pub(crate) fn positions(&self) -> &[u16]
         ensures { result.now ≡ self.now.positions }

@@ -12,6 +12,23 @@ use crate::name_index::close_up;
 use roots::Root;
 use states::MOST_PRELOADS;
 
+/// The next root, which counts so many libraries and lists these catalogues and these preloads.
+pub(crate) fn root_over(root: &Root, libraries: usize, catalogues: &[u32], preloads: &[u16]) -> Root
+    requires generation { root.now.generation + 1 < 2 ^ 64 }
+    requires few { libraries ≤ most_libraries }
+    requires catalogues { length catalogues.now ≤ most_catalogues }
+    requires preloads { length preloads.now ≤ most_preloads }
+    ensures { result ≡ next_root root.now libraries catalogues.now preloads.now }
+{
+    Root::over_catalogues(
+        root.generation + 1,
+        root.sectors,
+        libraries as u16,
+        catalogues,
+        preloads,
+    )
+}
+
 /// The next root, which counts so many libraries and lists these catalogues and the same preloads.
 pub(crate) fn next_root(root: &Root, libraries: usize, catalogues: &[u32]) -> Root
     requires fits { RootHasSpelling root.now }

@@ -13,7 +13,7 @@ pub(crate) struct Prepared {
 }
 
 impl Kept {
-    ghost use Rattle.std.specs.Prelude.{◌≡◌, ◌+◌, ◌⊎◌, List, IsTrue, OnOk};
+    ghost use Rattle.std.specs.Prelude.{◌≡◌, ◌+◌, ◌⊎◌, List, IsTrue, OnErr, OnOk};
     ghost use Rattle.sector_disk.specs.Disk.{Sector, Mixture, LeavesOnly};
     ghost use Rattle.states.specs.State.{State};
     ghost use Rattle.store.specs.declared.placed_entry.PlacedEntry.{PlacedEntry};
@@ -46,6 +46,8 @@ impl Kept {
             → Makes (D.facts disk.old).now written self.old prepared.now bytes.now s s'
             → OnOk result (IsAt D.facts (opened disk.new self.new) s') }
         ensures made { OnOk result (IsMade self.old self.new prepared.now) }
+        ensures given_up { OnErr result ((self.new.root ≡ self.old.root)
+            × (self.new.entries ≡ self.old.entries) × (self.new.held ≡ self.old.held)) }
         ensures written { OnOk result (IsTrue (D.facts disk.old).honest
             → (m : List Sector) → Mixture (D.facts disk.new) m
             → HasBytes m prepared.now.change.staged bytes.now) }

@@ -1,5 +1,5 @@
 // What a put takes: sectors for its bytes, and their entry.
-ghost use Rattle.std.specs.Prelude.{◌≡◌, ◌+◌, ◌<◌, ◌≤◌, ◌↔◌, All, Err, IfOk, OnOk, OnErr, length};
+ghost use Rattle.std.specs.Prelude.{◌≡◌, ◌+◌, ◌*◌, ◌<◌, ◌≤◌, ◌↔◌, All, Err, IfOk, OnOk, OnErr, length};
 ghost use Rattle.std.specs.Prelude.{vec_len, vec_capacity};
 ghost use Rattle.std.specs.Int.{div_ceil};
 ghost use Rattle.extents.specs.Extent.{sector_count};
@@ -86,7 +86,7 @@ pub(crate) fn take_put(
     requires size { IsFileSize (length bytes.now) }
     requires disk { length layout.old ≤ most_sectors }
     requires few { catalogues ≤ most_catalogues }
-    requires spare { spare ≤ most_catalogues }
+    requires spare { spare ≤ 2 * most_catalogues }
     ensures taken { IfOk result (λ room. IsPutTaken layout.old layout.new name.now bytes.now
         catalogues spare room.put room.catalogues) }
     ensures full { (result ≡ Err TakeRefusal.Full) ↔ (free_count layout.old

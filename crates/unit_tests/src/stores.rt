@@ -11,3 +11,4 @@ mod sectors;
 mod seen;
 mod snapshot;
 mod told;
+mod updates;

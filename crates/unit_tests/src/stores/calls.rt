@@ -88,7 +88,7 @@ fn choose<D: Disk>(rt: &impl Abort, store: &mut Store<D>, at: usize) -> Option<S
 }
 
 // So many bytes of one value.
-fn bytes_of(rt: &(impl Abort + AllocGlobal), byte: u8, length: usize) -> Vec<u8> {
+pub(crate) fn bytes_of(rt: &(impl Abort + AllocGlobal), byte: u8, length: usize) -> Vec<u8> {
     let bytes = vec![in rt.alloc(); byte; length];
     bytes.expect(rt, "the bytes of a put")
 }

@@ -1,167 +1,48 @@
-use Rattle.std.proofs.Common.{◌≡◌, IsTrue, ◌+◌, ◌<◌, ◌++◌, length, take, drop, All, sym, subst, ap, ◌∙◌, arith}
+use Rattle.std.proofs.Common.{◌≡◌, IsTrue, ◌+◌, ◌++◌, length, sym, subst, ap, ◌∙◌, arith}
 use Rattle.std.specs.List.{Contains}
-use Rattle.std.proofs.lemmas.List.Elements.{All-same, All-take, All-drop, Contains-append_left, Contains-append_right}
 use Rattle.std.proofs.lemmas.Result.{on_ok_weaker}
 use Rattle.sector_disk.specs.Disk.{IsMixtureBut, SameBut}
-use Rattle.sector_disk.proofs.Mixtures.{same_more, synced_at_ok}
+use Rattle.sector_disk.proofs.Mixtures.{synced_at_ok}
 use Rattle.sector_disk.proofs.Writes.{sync_leaves}
 use Rattle.extents.specs.Extent.{places, sector_count}
-use Rattle.passes.specs.Bytes.{IsOnDisk, bytes_at}
-use Rattle.passes.specs.declared.single.SingleSector.{SingleSector}
+use Rattle.passes.specs.Bytes.{bytes_at}
 use Rattle.passes.specs.Calls.{AreCallsInRow}
 use Rattle.passes.specs.Singles.{single_places, HoldsSingles}
-use Rattle.passes.proofs.Commits.{wider, wider_leaves}
-use Rattle.passes.proofs.Files.{more_leaves}
-use Rattle.passes.proofs.Parts.{parts_of, front_among, back_among, front_once, back_once, parts_apart, whole_held, still_held}
 use Rattle.passes.proofs.Rows.{one_in_row, then_in_row, stop_in_row}
-use Rattle.passes.proofs.Runs.{bytes_at_same}
 use Rattle.passes.proofs.pass.stage.Goals as goal
-
-pub write_singles-requires-clause-room : goal.write_singles-requires-clause-room
-write_singles-requires-clause-room g c =
-    let P = λ (s : SingleSector). s.at < (g.D.Disk.facts c.args.disk.now).sectors in
-    let singles = c.args.singles.now in
-    All-same P _ (take c.count_before.result singles) c.split_at.ensures.front (All-take P c.count_before.result singles c.requires.room)
-
-pub write_singles-requires-clause-once : goal.write_singles-requires-clause-once
-write_singles-requires-clause-once g c =
-    front_once (parts_of c.count_before.result c.args.singles.now _ _ c.split_at.ensures.front c.split_at.ensures.back) c.requires.once
-
-pub write_bytes-requires-clause-inside : goal.write_bytes-requires-clause-inside
-write_bytes-requires-clause-inside g c =
-    subst (λ sectors. All (IsOnDisk sectors) c.args.extents.now) (sym c.write_singles.ensures.calls.sectors) c.requires.inside
-
-pub write_singles-requires-2-clause-room : goal.write_singles-requires-2-clause-room
-write_singles-requires-2-clause-room g c =
-    let P = λ (s : SingleSector). s.at < (g.D.Disk.facts c.write_bytes.new.disk).sectors in
-    let singles = c.args.singles.now in
-    let room = subst (λ sectors. All (λ (s : SingleSector). s.at < sectors) singles) (sym (c.write_bytes.ensures.calls.sectors ∙ c.write_singles.ensures.calls.sectors)) c.requires.room in
-    All-same P _ (drop c.count_before.result singles) c.split_at.ensures.back (All-drop P c.count_before.result singles room)
-
-pub write_singles-requires-2-clause-once : goal.write_singles-requires-2-clause-once
-write_singles-requires-2-clause-once g c =
-    back_once (parts_of c.count_before.result c.args.singles.now _ _ c.split_at.ensures.front c.split_at.ensures.back) c.requires.once
-
-pub returns-in_err-write_singles-clause-any_moment : goal.returns-in_err-write_singles-clause-any_moment
-returns-in_err-write_singles-clause-any_moment g c honest =
-    let parts = parts_of c.count_before.result c.args.singles.now _ _ c.split_at.ensures.front c.split_at.ensures.back in
-    let ks = places c.args.extents.now in
-    let at = single_places c.args.singles.now in
-    let f = single_places c.split_at.result.0.now in
-    wider_leaves (Contains f) (Contains (at ++ ks)) (λ k found. Contains-append_left at ks k (front_among parts k found)) (c.write_singles.ensures.any_moment honest)
-
-pub returns-in_err-write_bytes-clause-any_moment : goal.returns-in_err-write_bytes-clause-any_moment
-returns-in_err-write_bytes-clause-any_moment g c honest =
-    let parts = parts_of c.count_before.result c.args.singles.now _ _ c.split_at.ensures.front c.split_at.ensures.back in
-    let ks = places c.args.extents.now in
-    let at = single_places c.args.singles.now in
-    let f = single_places c.split_at.result.0.now in
-    let honest_then = subst IsTrue (sym c.write_singles.ensures.calls.honest) honest in
-    more_leaves (Contains ks) (Contains (at ++ ks)) (Contains-append_right at ks)
-    (wider_leaves (Contains f) (Contains (at ++ ks)) (λ k found. Contains-append_left at ks k (front_among parts k found)) (c.write_singles.ensures.any_moment honest))
-    (c.write_bytes.ensures.any_moment honest_then)
-
-pub returns-in_err-write_singles-2-clause-any_moment : goal.returns-in_err-write_singles-2-clause-any_moment
-returns-in_err-write_singles-2-clause-any_moment g c honest =
-    let parts = parts_of c.count_before.result c.args.singles.now _ _ c.split_at.ensures.front c.split_at.ensures.back in
-    let ks = places c.args.extents.now in
-    let at = single_places c.args.singles.now in
-    let f = single_places c.split_at.result.0.now in
-    let b = single_places c.split_at.result.1.now in
-    let honest_then = subst IsTrue (sym c.write_singles.ensures.calls.honest) honest in
-    let honest_after = subst IsTrue (sym c.write_bytes.ensures.calls.honest) honest_then in
-    more_leaves (Contains b) (Contains (at ++ ks)) (λ k found. Contains-append_left at ks k (back_among parts k found))
-    (more_leaves (Contains ks) (Contains (at ++ ks)) (Contains-append_right at ks)
-    (wider_leaves (Contains f) (Contains (at ++ ks)) (λ k found. Contains-append_left at ks k (front_among parts k found)) (c.write_singles.ensures.any_moment honest))
-    (c.write_bytes.ensures.any_moment honest_then))
-    (c.write_singles-2.ensures.any_moment honest_after)
 
 pub returns-clause-any_moment : goal.returns-clause-any_moment
 returns-clause-any_moment g c honest =
-    let parts = parts_of c.count_before.result c.args.singles.now _ _ c.split_at.ensures.front c.split_at.ensures.back in
-    let ks = places c.args.extents.now in
-    let at = single_places c.args.singles.now in
-    let f = single_places c.split_at.result.0.now in
-    let b = single_places c.split_at.result.1.now in
-    let honest_then = subst IsTrue (sym c.write_singles.ensures.calls.honest) honest in
-    let honest_after = subst IsTrue (sym c.write_bytes.ensures.calls.honest) honest_then in
-    let honest_last = subst IsTrue (sym c.write_singles-2.ensures.calls.honest) honest_after in
-    sync_leaves c.sync.ensures.calls (IsMixtureBut (Contains (at ++ ks)) (g.D.Disk.facts c.args.disk.now)) (c.sync.ensures.honest honest_last)
-    (more_leaves (Contains b) (Contains (at ++ ks)) (λ k found. Contains-append_left at ks k (back_among parts k found))
-    (more_leaves (Contains ks) (Contains (at ++ ks)) (Contains-append_right at ks)
-    (wider_leaves (Contains f) (Contains (at ++ ks)) (λ k found. Contains-append_left at ks k (front_among parts k found)) (c.write_singles.ensures.any_moment honest))
-    (c.write_bytes.ensures.any_moment honest_then))
-    (c.write_singles-2.ensures.any_moment honest_after))
+    let honest_last = subst IsTrue (sym c.write_unsynced.ensures.calls.honest) honest in
+    sync_leaves c.sync.ensures.calls (IsMixtureBut (Contains (single_places c.args.singles.now ++ places c.args.extents.now)) (g.D.Disk.facts c.args.disk.now))
+    (c.sync.ensures.honest honest_last) (c.write_unsynced.ensures.any_moment honest)
 
 pub returns-clause-synced : goal.returns-clause-synced
 returns-clause-synced g c honest =
-    let honest_then = subst IsTrue (sym c.write_singles.ensures.calls.honest) honest in
-    let honest_after = subst IsTrue (sym c.write_bytes.ensures.calls.honest) honest_then in
-    let honest_last = subst IsTrue (sym c.write_singles-2.ensures.calls.honest) honest_after in
+    let honest_last = subst IsTrue (sym c.write_unsynced.ensures.calls.honest) honest in
     let honest_now = subst IsTrue (sym c.sync.ensures.calls.honest) honest_last in
     synced_at_ok (g.met.D.Disk.holds_now _ honest_now) (c.sync.ensures.honest honest_last)
 
 pub returns-clause-now : goal.returns-clause-now
 returns-clause-now g c honest =
-    let parts = parts_of c.count_before.result c.args.singles.now _ _ c.split_at.ensures.front c.split_at.ensures.back in
-    let ks = places c.args.extents.now in
-    let at = single_places c.args.singles.now in
-    let honest_then = subst IsTrue (sym c.write_singles.ensures.calls.honest) honest in
-    let honest_after = subst IsTrue (sym c.write_bytes.ensures.calls.honest) honest_then in
-    let honest_last = subst IsTrue (sym c.write_singles-2.ensures.calls.honest) honest_after in
-    let sync = c.sync.ensures.honest honest_last in
-    let first = wider {more = Contains (at ++ ks)} (λ k found. Contains-append_left at ks k (front_among parts k found)) (c.in_ok-write_singles.ensures.now honest) in
-    let then = same_more (Contains-append_right at ks) first (c.in_ok-write_bytes.ensures.now honest_then) in
-    let last = same_more (λ k found. Contains-append_left at ks k (back_among parts k found)) then (c.in_ok-write_singles-2.ensures.now honest_after) in
-    on_ok_weaker c.sync.result (λ _. subst (SameBut (Contains (at ++ ks)) (g.D.Disk.facts c.args.disk.now).now) (sym sync.now) last) sync.stop_ok
+    let sync = c.sync.ensures.honest (subst IsTrue (sym c.write_unsynced.ensures.calls.honest) honest) in
+    on_ok_weaker c.sync.result (λ _. subst (SameBut (Contains (single_places c.args.singles.now ++ places c.args.extents.now)) (g.D.Disk.facts c.args.disk.now).now)
+    (sym sync.now) (c.in_ok-write_unsynced.ensures.now honest)) sync.stop_ok
 
 pub returns-clause-written : goal.returns-clause-written
 returns-clause-written g c honest =
-    let parts = parts_of c.count_before.result c.args.singles.now _ _ c.split_at.ensures.front c.split_at.ensures.back in
-    let ks = places c.args.extents.now in
-    let honest_then = subst IsTrue (sym c.write_singles.ensures.calls.honest) honest in
-    let honest_after = subst IsTrue (sym c.write_bytes.ensures.calls.honest) honest_then in
-    let honest_last = subst IsTrue (sym c.write_singles-2.ensures.calls.honest) honest_after in
-    let sync = c.sync.ensures.honest honest_last in
-    let same = c.in_ok-write_singles-2.ensures.now honest_after in
-    let written = bytes_at_same _ _ ks (λ k found. same.others k (λ here. c.requires.elsewhere k (back_among parts k here) found)) ∙ c.in_ok-write_bytes.ensures.written honest_then in
-    on_ok_weaker c.sync.result (λ _. ap (λ m. bytes_at m ks) sync.now ∙ written) sync.stop_ok
+    let sync = c.sync.ensures.honest (subst IsTrue (sym c.write_unsynced.ensures.calls.honest) honest) in
+    on_ok_weaker c.sync.result (λ _. ap (λ m. bytes_at m (places c.args.extents.now)) sync.now ∙ c.in_ok-write_unsynced.ensures.written honest) sync.stop_ok
 
 pub returns-clause-singles : goal.returns-clause-singles
 returns-clause-singles g c honest =
-    let parts = parts_of c.count_before.result c.args.singles.now _ _ c.split_at.ensures.front c.split_at.ensures.back in
-    let ks = places c.args.extents.now in
-    let front = c.split_at.result.0.now in
-    let b = single_places c.split_at.result.1.now in
-    let honest_then = subst IsTrue (sym c.write_singles.ensures.calls.honest) honest in
-    let honest_after = subst IsTrue (sym c.write_bytes.ensures.calls.honest) honest_then in
-    let honest_last = subst IsTrue (sym c.write_singles-2.ensures.calls.honest) honest_after in
-    let sync = c.sync.ensures.honest honest_last in
-    let beside = still_held (Contains ks) _ _ front (c.in_ok-write_bytes.ensures.now honest_then)
-    (λ k found here. c.requires.elsewhere k (front_among parts k found) here) (c.in_ok-write_singles.ensures.written honest) in
-    let first = still_held (Contains b) _ _ front (c.in_ok-write_singles-2.ensures.now honest_after) (parts_apart parts c.requires.once) beside in
-    let held = whole_held parts _ first (c.in_ok-write_singles-2.ensures.written honest_after) in
-    on_ok_weaker c.sync.result (λ _. subst (λ m. HoldsSingles m c.args.singles.now) (sym sync.now) held) sync.stop_ok
+    let sync = c.sync.ensures.honest (subst IsTrue (sym c.write_unsynced.ensures.calls.honest) honest) in
+    on_ok_weaker c.sync.result (λ _. subst (λ m. HoldsSingles m c.args.singles.now) (sym sync.now) (c.in_ok-write_unsynced.ensures.singles honest)) sync.stop_ok
 
-pub returns-in_err-write_singles-clause-calls : goal.returns-in_err-write_singles-clause-calls
-returns-in_err-write_singles-clause-calls g c =
-    stop_in_row c.from_residual.result c.in_err-write_singles.ensures.calls (omega arith) c.from_residual.ensures.0
-
-pub returns-in_err-write_bytes-clause-calls : goal.returns-in_err-write_bytes-clause-calls
-returns-in_err-write_bytes-clause-calls g c =
-    stop_in_row c.from_residual-in_err-write_bytes.result
-    (then_in_row c.in_ok-write_singles.ensures.calls c.in_err-write_bytes.ensures.calls) (omega arith) c.from_residual-in_err-write_bytes.ensures.0
-
-pub returns-in_err-write_singles-2-clause-calls : goal.returns-in_err-write_singles-2-clause-calls
-returns-in_err-write_singles-2-clause-calls g c =
-    stop_in_row c.from_residual-in_err-write_singles-2.result
-    (then_in_row c.in_ok-write_singles.ensures.calls (then_in_row c.in_ok-write_bytes.ensures.calls c.in_err-write_singles-2.ensures.calls))
-    (omega arith) c.from_residual-in_err-write_singles-2.ensures.0
+pub returns-in_err-write_unsynced-clause-calls : goal.returns-in_err-write_unsynced-clause-calls
+returns-in_err-write_unsynced-clause-calls g c =
+    stop_in_row c.from_residual.result c.in_err-write_unsynced.ensures.calls (omega arith) c.from_residual.ensures.0
 
 pub returns-clause-calls : goal.returns-clause-calls
 returns-clause-calls g c =
-    let calls =
-    then_in_row c.in_ok-write_singles.ensures.calls (then_in_row c.in_ok-write_bytes.ensures.calls (then_in_row c.in_ok-write_singles-2.ensures.calls (one_in_row c.sync.ensures.calls))) in
-    let sum : length c.split_at.result.0.now + (sector_count c.args.extents.now + (length c.split_at.result.1.now + 1)) ≡ sector_count c.args.extents.now + length c.args.singles.now + 1 =
-    omega arith in
-    subst (λ n. AreCallsInRow n (g.D.Disk.facts c.args.disk.now) (g.D.Disk.facts c.sync.new.self) c.sync.result) sum calls
+    then_in_row c.in_ok-write_unsynced.ensures.calls (one_in_row c.sync.ensures.calls)

@@ -1,0 +1,146 @@
+// The commit of an update.
+use crate::change::{Change, Staged};
+use crate::draft::{Draft, Touched};
+use crate::edit::Edit;
+use crate::kept::Kept;
+use crate::listed::catalogues;
+use crate::next::root_over;
+use crate::prepared::Prepared;
+use crate::refusal::StoreRefusal;
+use crate::room::take_catalogues;
+use crate::store::Store;
+use crate::update::Update;
+use roots::catalogues_for;
+use sector_disk::Disk;
+
+impl Kept {
+    ghost use Rattle.std.specs.Prelude.{◌≡◌, IsFalse};
+    ghost use Rattle.store.specs.inside.Committed.{Commits};
+    ghost use Rattle.store.specs.inside.Draft.{IsDrafting, drafting};
+    ghost use Rattle.store.specs.inside.Stored.{IsStored, opened};
+
+    /// Commits a draft's preloads over the list that stands: S1.
+    fn commit_preloads<D: Disk>(&mut self, disk: &mut D, draft: &Draft) -> Result<(), StoreRefusal>
+        requires drafting { IsDrafting (D.facts disk.old).sectors self.old draft.now }
+        requires usable { IsFalse self.old.failed }
+        requires preloads { draft.now.touched ≡ Touched.Preloads }
+        ensures stored { IsStored (D.facts disk.new).sectors self.new }
+        ensures commits { Commits D.facts (drafting disk.old self.old draft.now)
+            (opened disk.new self.new) result }
+    {
+        let listed = catalogues(&self.root);
+        let preloads = draft.preloads.as_slice();
+        let root = root_over(&self.root, self.entries.len(), listed, preloads);
+        let change = Change {
+            staged: Staged::Nothing,
+            root,
+        };
+        let prepared = Prepared {
+            change,
+            edit: Edit::Nothing,
+        };
+        self.make(disk, &prepared, &[])
+    }
+
+    /// Commits a draft's list, which has what was written before: S1. Where a call fails the draft
+    /// is given up.
+    fn commit_list<D: Disk>(&mut self, disk: &mut D, draft: Draft) -> Result<(), StoreRefusal>
+        requires drafting { IsDrafting (D.facts disk.old).sectors self.old draft }
+        requires usable { IsFalse self.old.failed }
+        requires list { draft.touched ≡ Touched.List }
+        ensures stored { IsStored (D.facts disk.new).sectors self.new }
+        ensures commits { Commits D.facts (drafting disk.old self.old draft)
+            (opened disk.new self.new) result }
+    {
+        let libraries = draft.entries.len();
+        let taken = take_catalogues(&mut self.layout, catalogues_for(libraries));
+        let preloads = draft.preloads.as_slice();
+        let root = root_over(&self.root, libraries, taken.as_slice(), preloads);
+        let change = Change {
+            staged: Staged::Catalogues(taken),
+            root,
+        };
+        self.failed = true;
+        let made = change.carry_out(disk, &mut self.singles, &[], &draft.sectors);
+        if let Err(fault) = made {
+            change.give_back(&mut self.layout);
+            self.leave_all(&draft.entries);
+            return Err(StoreRefusal::from(fault));
+        }
+        self.enter(change.root, draft);
+        Ok(())
+    }
+
+    /// Commits a draft: S2, S1.
+    fn commit_draft<D: Disk>(&mut self, disk: &mut D, draft: Draft) -> Result<(), StoreRefusal>
+        requires drafting { IsDrafting (D.facts disk.old).sectors self.old draft }
+        ensures stored { IsStored (D.facts disk.new).sectors self.new }
+        ensures commits { Commits D.facts (drafting disk.old self.old draft)
+            (opened disk.new self.new) result }
+    {
+        if self.failed {
+            self.leave_all(&draft.entries);
+            return Err(StoreRefusal::Reopen);
+        }
+        match draft.touched {
+            Touched::Nothing => Ok(()),
+            Touched::Preloads => self.commit_preloads(disk, &draft),
+            Touched::List => self.commit_list(disk, draft),
+        }
+    }
+}
+
+impl<D: Disk> Update<D> {
+    ghost use Rattle.std.specs.Prelude.{◌≡◌, ◌≢◌, ◌⊎◌, ◌↔◌, Err, IfErr, IsTrue, OnErr, OnOk};
+    ghost use Rattle.std.specs.Prelude.{length};
+    ghost use Rattle.sector_disk.specs.Disk.{LeavesOnly};
+    ghost use Rattle.roots.specs.Root.{listed_preloads};
+    ghost use Rattle.states.specs.State.{State};
+    ghost use Rattle.store.specs.Changed.{Changed};
+    ghost use Rattle.store.specs.Draft.{IsDraftedAt, commit_calls, committed, layout_drafted};
+    ghost use Rattle.store.specs.HeldVersions.{KeepsHeld};
+    ghost use Rattle.store.specs.Opened.{IsAt};
+    ghost use Rattle.store.specs.Stands.{Stands, catalogues_of};
+    ghost use Rattle.store.specs.Taken.{AreTaken};
+
+    /// Commits the draft: it writes the catalogues of its list, syncs, writes the next root and
+    /// syncs. Where the preloads alone were changed it writes the root over the same catalogues,
+    /// and where nothing was it writes nothing. It takes no memory, and never more sectors than
+    /// there are. It refuses with S2 or S1, and gives the draft up then: after S1 the store has to
+    /// be opened again, and may hold the draft's state.
+    pub fn commit(self) -> (Result<(), StoreRefusal>, Store<D>)
+        // A stop at any moment leaves what stood, or the draft.
+        ensures any_moment { (s d : State) → IsDraftedAt D.facts self s d
+            → LeavesOnly (D.facts self.store.disk) (D.facts result.1.disk)
+            (λ m. Stands m s ⊎ Stands m (committed self.touched s d)) }
+        ensures ok { (s d : State) → IsDraftedAt D.facts self s d → OnOk result.0
+            (IsAt D.facts result.1 (committed self.touched s d)) }
+
+        // What somebody holds stays as it was.
+        ensures held { KeepsHeld D.facts self.store result.1 }
+
+        // On any disk. After a failed call the store has to be opened again.
+        ensures on_any_disk { Changed D.facts StoreRefusal.Device StoreRefusal.Reopen
+            self.store result.1 (commit_calls self.touched (length self.entries))
+            (λ e. (e ≡ StoreRefusal.Device) ⊎ (e ≡ StoreRefusal.Reopen)) result.0 }
+        ensures entries { OnOk result.0 (result.1.entries ≡ self.entries) }
+        ensures preloads { OnOk result.0 (listed_preloads result.1.root ≡ self.preloads) }
+
+        // It takes the sectors of the list's catalogues; over the same list it keeps the catalogues.
+        ensures placed { OnOk result.0 (self.touched ≡ Touched.List
+            → AreTaken (layout_drafted self) (catalogues_of result.1.root)) }
+        ensures catalogues { OnOk result.0 (self.touched ≢ Touched.List
+            → catalogues_of result.1.root ≡ catalogues_of self.store.root) }
+        ensures given_up { OnErr result.0 ((result.1.root ≡ self.store.root)
+            × (result.1.entries ≡ self.store.entries) × (result.1.held ≡ self.store.held)) }
+
+        // A draft of which nothing was changed leaves the store as it was.
+        ensures same { self.touched ≡ Touched.Nothing → result.1 ≡ self.store }
+    {
+        let Update { disk, kept, draft } = self;
+        let mut disk = disk;
+        let mut kept = kept;
+        let made = kept.commit_draft(&mut disk, draft);
+        (made, Store { disk, kept })
+    }
+}

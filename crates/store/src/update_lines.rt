@@ -1,0 +1,120 @@
+// The lines of an update: each changes the draft alone.
+use crate::edit::Edit;
+use crate::name_index::close_up;
+use crate::refusal::StoreRefusal;
+use crate::update::Update;
+use sector_disk::Disk;
+
+impl<D: Disk> Update<D> {
+    ghost use Rattle.std.specs.Prelude.{◌≡◌, ◌+◌, ◌<◌, ◌≤◌, ℕ, All, OnOk, length};
+    ghost use Rattle.std.specs.Int.{div_ceil};
+    ghost use Rattle.extents.specs.Extent.{AreDistinct};
+    ghost use Rattle.sector_disk.specs.Disk.{sector_bytes};
+    ghost use Rattle.states.specs.Changes.{with_bytes, with_new, with_preloads, without};
+    ghost use Rattle.states.specs.Limits.{most_preloads};
+    ghost use Rattle.states.specs.State.{State};
+    ghost use Rattle.store.specs.Draft.{IsDraftedAt, IsDraftedBehind, IsDraftedNamed};
+    ghost use Rattle.store.specs.Draft.{IsDraftedOut, IsDraftedOver, IsLine, IsNewToDraft};
+    ghost use Rattle.store.specs.Draft.{IsNoPreloadOfDraft, drafted, longest_drafted};
+    ghost use Rattle.store.specs.Draft.{room_drafted, touched_preloads};
+    ghost use Rattle.store.specs.Names.{IsFileSize, IsName};
+    ghost use Rattle.store.specs.Stands.{names_at};
+    ghost use Rattle.store.specs.Step.{IsAnswer, IsExactAnswer, IsRefusalOfChange};
+    ghost use Rattle.store.specs.Step.{IsRefusalOfPutNew, IsRefusalOfPutOver};
+    ghost use Rattle.store.specs.Step.{refusal_of_change, refusal_of_new, refusal_of_put};
+
+    /// Puts a byte string of 64 bytes to 16 MiB, with a name that no other of the draft has, behind
+    /// the draft's others. It writes its sectors and that of its entry, and doesn't sync. It refuses
+    /// with S2, S9, S10, S11, S7, S8 or S1, of which S1 alone may come after the first write.
+    pub fn put_new(&mut self, name: &[u8], bytes: &[u8]) -> Result<(), StoreRefusal>
+        requires name { IsName name.now }
+        requires size { IsFileSize (length bytes.now) }
+        requires new { IsNewToDraft self.old name.now }
+        ensures line { IsLine D.facts self.old self.new
+            (div_ceil (length bytes.now) sector_bytes + 1) IsRefusalOfPutNew result }
+        ensures ok { (s d : State) → IsDraftedAt D.facts self.old s d → OnOk result
+            (IsDraftedAt D.facts self.new s (drafted d (with_new name.now bytes.now d))) }
+        ensures refused { (s d : State) → IsDraftedAt D.facts self.old s d → IsAnswer
+            (refusal_of_new (room_drafted self.old) (longest_drafted self.old) d bytes.now) result }
+        ensures placed { OnOk result (IsDraftedBehind D.facts self.old self.new bytes.now) }
+    {
+        let put = self.kept.take_new(&mut self.draft, name, bytes)?;
+        self.kept.write_draft(&mut self.disk, &put, bytes)?;
+        self.draft.edit(&Edit::Behind(put));
+        Ok(())
+    }
+
+    /// Puts other bytes, 64 bytes to 16 MiB, in the place of those that the draft has under this
+    /// name. The sectors of the old ones are free once it is done where the update wrote them, and
+    /// else once it is committed. It takes no memory. It refuses with S2, S10, S7, S8 or S1, of
+    /// which S1 alone may come after the first write.
+    pub fn put_over(&mut self, name: &[u8], bytes: &[u8]) -> Result<(), StoreRefusal>
+        requires present { (position : ℕ) × IsDraftedNamed self.old name.now position }
+        requires size { IsFileSize (length bytes.now) }
+        ensures line { IsLine D.facts self.old self.new
+            (div_ceil (length bytes.now) sector_bytes + 1) IsRefusalOfPutOver result }
+        ensures ok { (s d : State) → IsDraftedAt D.facts self.old s d → OnOk result
+            (IsDraftedAt D.facts self.new s (drafted d (with_bytes name.now bytes.now d))) }
+        ensures refused { (s d : State) → IsDraftedAt D.facts self.old s d → IsExactAnswer
+            (refusal_of_put (room_drafted self.old) (longest_drafted self.old) d bytes.now) result }
+        ensures placed { OnOk result
+            (IsDraftedOver D.facts self.old self.new name.now bytes.now) }
+    {
+        let libraries = self.draft.entries.len();
+        let Some(position) = self.draft.index.position_of(&self.draft.entries, name) else {
+            unreachable!();
+        };
+        let put = self.kept.take_over(libraries, name, bytes)?;
+        self.kept.write_draft(&mut self.disk, &put, bytes)?;
+        self.kept.leave(&self.draft.entries[position]);
+        self.draft.edit(&Edit::Over(position, put));
+        Ok(())
+    }
+
+    /// Takes the byte string with this name, which is none of the draft's preloads, out of the
+    /// draft. Those behind it close up, and the preloads keep their names. It makes no call of the
+    /// disk and takes no memory, and is never refused for want of sectors: S2, S10.
+    pub fn delete(&mut self, name: &[u8]) -> Result<(), StoreRefusal>
+        requires present { (position : ℕ) × IsDraftedNamed self.old name.now position }
+        requires no_preload { IsNoPreloadOfDraft self.old name.now }
+        ensures line { IsLine D.facts self.old self.new 0 IsRefusalOfChange result }
+        ensures ok { (s d : State) → IsDraftedAt D.facts self.old s d → OnOk result
+            (IsDraftedAt D.facts self.new s (drafted d (without name.now d))) }
+        ensures refused { (s d : State) → IsDraftedAt D.facts self.old s d
+            → IsExactAnswer (refusal_of_change d) result }
+        ensures placed { OnOk result (IsDraftedOut self.old self.new name.now) }
+        ensures untouched { self.new.store.disk ≡ self.old.store.disk }
+    {
+        self.kept.test_change()?;
+        let Some(position) = self.draft.index.position_of(&self.draft.entries, name) else {
+            unreachable!();
+        };
+        self.kept.leave(&self.draft.entries[position]);
+        self.draft.edit(&Edit::Out(position));
+        close_up(self.draft.preloads.as_mut_slice(), position as u16);
+        Ok(())
+    }
+
+    /// Makes the byte strings at these positions of the draft its preloads, in this order: 16 at
+    /// most, none of them twice. It makes no call of the disk and takes no memory: S2, S10.
+    pub fn set_preloads(&mut self, positions: &[usize]) -> Result<(), StoreRefusal>
+        requires few { length positions.now ≤ most_preloads }
+        requires inside { All (λ position. position < length self.old.entries) positions.now }
+        requires distinct { AreDistinct positions.now }
+        ensures line { IsLine D.facts self.old self.new 0 IsRefusalOfChange result }
+        ensures ok { (s d : State) → IsDraftedAt D.facts self.old s d → OnOk result
+            (IsDraftedAt D.facts self.new s
+            (drafted d (with_preloads (names_at d.libraries positions.now) d))) }
+        ensures refused { (s d : State) → IsDraftedAt D.facts self.old s d
+            → IsExactAnswer (refusal_of_change d) result }
+        ensures entries { self.new.entries ≡ self.old.entries }
+        ensures preloads { OnOk result (self.new.preloads ≡ positions.now) }
+        ensures touched { OnOk result
+            (self.new.touched ≡ touched_preloads self.old.touched) }
+        ensures untouched { self.new.store.disk ≡ self.old.store.disk }
+    {
+        self.kept.test_change()?;
+        self.draft.choose(positions);
+        Ok(())
+    }
+}
