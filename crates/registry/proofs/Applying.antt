@@ -15,7 +15,9 @@ use Rattle.states.specs.State.{State}
 use Rattle.requests.specs.Request.{Request, install, replace, remove, set_preloads, bind, list}
 use Rattle.requests.specs.Phase.{Phase}
 use Rattle.requests.specs.Step.{Step, accepted, answer_of, refusal_at, reply_of, IsReply, TakesMemory, Leads, LacksWrite, LeavesFailed}
-use Rattle.requests.specs.declared.refusal.Refusal.TheVariants.{Device, Full, Fragmented, TooMany, GenerationEnd, OutOfMemory}
+use Rattle.requests.specs.declared.refusal.Refusal.{Refusal}
+use Rattle.requests.specs.declared.refusal.Refusal.TheVariants.{Object, AlreadyInstalled, NotInstalled, InPreloads, RepeatedPreload, TooManyPreloads, NoSlot, NoSuchBinder, Bind}
+use Rattle.requests.specs.declared.refusal.Refusal.TheVariants.{Device, Reopen, Damaged, Full, Fragmented, TooMany, GenerationEnd, OutOfMemory}
 use Rattle.requests.specs.declared.reply.Reply.{Reply}
 use Rattle.requests.specs.declared.reply.Reply.TheVariants.{Done, Refused}
 use Rattle.requests.specs.declared.reply.Reply.TheVariants as reply
@@ -63,6 +65,27 @@ change_step (remove name) is p p' r step = step
 change_step (set_preloads names) is p p' r step = step
 change_step (bind program base) is p p' r step = absurd is
 change_step list is p p' r step = absurd is
+
+-- a change that one of its tests refuses leaves all as it was
+pub refused_step : (p : Phase) (q : Request) → (refusal : Refusal) → refusal ≢ Device → refusal ≢ Reopen → refusal ≢ OutOfMemory → IsFalse p.failed → refusal_at p q ≡ Some refusal
+    → Step p q (Refused refusal) p
+refused_step p q (Object why) device reopen memory usable is = (usable, is, leads_same p)
+refused_step p q (Bind why) device reopen memory usable is = (usable, is, leads_same p)
+refused_step p q AlreadyInstalled device reopen memory usable is = (usable, is, leads_same p)
+refused_step p q NotInstalled device reopen memory usable is = (usable, is, leads_same p)
+refused_step p q InPreloads device reopen memory usable is = (usable, is, leads_same p)
+refused_step p q RepeatedPreload device reopen memory usable is = (usable, is, leads_same p)
+refused_step p q TooManyPreloads device reopen memory usable is = (usable, is, leads_same p)
+refused_step p q NoSlot device reopen memory usable is = (usable, is, leads_same p)
+refused_step p q NoSuchBinder device reopen memory usable is = (usable, is, leads_same p)
+refused_step p q Damaged device reopen memory usable is = (usable, is, leads_same p)
+refused_step p q Full device reopen memory usable is = (usable, is, leads_same p)
+refused_step p q Fragmented device reopen memory usable is = (usable, is, leads_same p)
+refused_step p q TooMany device reopen memory usable is = (usable, is, leads_same p)
+refused_step p q GenerationEnd device reopen memory usable is = (usable, is, leads_same p)
+refused_step p q Device device reopen memory usable is = absurd (device refl)
+refused_step p q Reopen device reopen memory usable is = absurd (reopen refl)
+refused_step p q OutOfMemory device reopen memory usable is = absurd (memory refl)
 
 -- what takes no memory answers as what takes some
 pub exact_answer : (first : Option StoreRefusal) (result : Result (Unit {0}) StoreRefusal) → IsExactAnswer first result → IsAnswer first result

@@ -1,5 +1,5 @@
 -- What a bind answers by what its walk has found.
-use Rattle.std.proofs.Common.{◌≡◌, ℕ, ◌+◌, List, [], ◌∷◌, map, drop, sum_by, Option, Some, None, inl, refl, sym, ap, subst, ◌∙◌}
+use Rattle.std.proofs.Common.{◌≡◌, ℕ, ◌+◌, ◌<◌, IsFalse, IsTrue, List, [], ◌∷◌, map, drop, sum_by, Option, Some, None, inl, refl, sym, ap, subst, ◌∙◌}
 use Rattle.std.specs.Option.{option_map}
 use Rattle.std.proofs.lemmas.List.Sums.{sum_by-cons}
 use Rattle.elf_file.specs.FirstOf.{first_of}
@@ -20,6 +20,7 @@ use Rattle.store.specs.declared.refusal.StoreRefusal.{StoreRefusal}
 use Rattle.store.specs.declared.refusal.StoreRefusal.TheVariants as reading
 use Rattle.requests.specs.Binding.{object_of, objects, preload_numbers, binding_refusal, bound_objects, bound_image, of_bind}
 use Rattle.states.specs.State.{Library, State}
+use Rattle.requests.specs.Phase.{Phase}
 use Rattle.requests.specs.Request.{bind}
 use Rattle.requests.specs.Step.{Leads}
 use Rattle.requests.specs.declared.refusal.Refusal.TheVariants.{Bind}
@@ -31,7 +32,7 @@ use Rattle.registry.specs.Untested.{AppliedUntested, ComesBehindReading, ReadsLi
 use Rattle.registry.specs.Binding.{data_sectors, bind_sectors}
 use Rattle.registry.specs.Phase.{phase_of}
 use Rattle.store.specs.IsRead.{IsRead}
-use Rattle.registry.specs.inside.Reading.{IsReadRefusal, refusal_of_read}
+use Rattle.registry.specs.inside.Reading.{IsReadRefusalIf, refusal_of_read}
 use Rattle.registry.specs.inside.Walked.{walked_objects, walked_refusal}
 
 module _ (s : State) (program : List ℕ) (base : ℕ) (files : List Library) (lacks : Option Need) (taken : program_refusal program base ≡ None)
@@ -63,22 +64,20 @@ module _ (s : State) (program : List ℕ) (base : ℕ) (files : List Library) (l
       by (l ∷ ls) = sum_by-cons (λ (f : Library). data_sectors f.bytes) l ls ∙ ap (λ n. data_sectors l.bytes + n) (by ls)
           ∙ sym (sum_by-cons (λ (o : Named). data_sectors o.file) (object_of l) (map object_of ls))
 
-module _ {D : Type 0} (facts : D → DiskFacts) (old new : Opened D) (s : State) (read : IsRead facts old new) (at : IsAt facts old s) (program : List ℕ) (base : ℕ) where
-  pub leads : Leads (phase_of facts old s) s (phase_of facts new s)
-  leads = record { sectors = read.calls.sectors; failed = read.failed; state = refl }
-
+-- A bind that led from one phase to another of the same state.
+module _ (p p' : Phase) (usable : IsFalse p.failed) (leads : Leads p p.state p') (program : List ℕ) (base : ℕ) where
   -- a refusal of a bind is a step, where each file that it reads is a library if it comes behind reading
-  pub refused : (e : BindRefusal) → IsAnswer program base (objects s) (preload_numbers s) e → (ComesBehindReading program base (Refused (of_bind e)) → ReadsLibraries s program)
-      → UntestedStep (phase_of facts old s) (bind program base) (Refused (of_bind e)) (phase_of facts new s)
-  refused (binding.Program r) h all = ((at.usable, ap (option_map Bind) h, leads), all)
-  refused binding.BadBase h all = ((at.usable, ap (option_map Bind) h, leads), all)
-  refused (binding.Missing needer name) h all = ((at.usable, ap (option_map Bind) h, leads), all)
-  refused binding.NoRoom h all = ((at.usable, ap (option_map Bind) h, leads), all)
-  refused (binding.Undefined object symbol) h all = ((at.usable, ap (option_map Bind) h, leads), all)
-  refused binding.OutOfMemory h all = ((at.usable, h, leads), all)
+  pub refused : (e : BindRefusal) → IsAnswer program base (objects p.state) (preload_numbers p.state) e → (ComesBehindReading program base (Refused (of_bind e)) → ReadsLibraries p.state program)
+      → UntestedStep p (bind program base) (Refused (of_bind e)) p'
+  refused (binding.Program r) h all = ((usable, ap (option_map Bind) h, leads), all)
+  refused binding.BadBase h all = ((usable, ap (option_map Bind) h, leads), all)
+  refused (binding.Missing needer name) h all = ((usable, ap (option_map Bind) h, leads), all)
+  refused binding.NoRoom h all = ((usable, ap (option_map Bind) h, leads), all)
+  refused (binding.Undefined object symbol) h all = ((usable, ap (option_map Bind) h, leads), all)
+  refused binding.OutOfMemory h all = ((usable, h, leads), all)
 
   -- one of the program by itself doesn't,
-  pub alone : (e : BindRefusal) → IsProgramAnswer program base e → ComesBehindReading program base (Refused (of_bind e)) → ReadsLibraries s program
+  pub alone : (e : BindRefusal) → IsProgramAnswer program base e → ComesBehindReading program base (Refused (of_bind e)) → ReadsLibraries p.state program
   alone binding.OutOfMemory h behind = absurd behind
   alone (binding.Program r) h behind = absurd (let no : ◌≡◌ {A = Option BindRefusal} None (Some (binding.Program r)) = sym behind ∙ h in cc)
   alone binding.BadBase h behind = absurd (let no : ◌≡◌ {A = Option BindRefusal} None (Some binding.BadBase) = sym behind ∙ h in cc)
@@ -87,18 +86,18 @@ module _ {D : Type 0} (facts : D → DiskFacts) (old new : Opened D) (s : State)
   alone (binding.Undefined object symbol) h behind = absurd (let no : ◌≡◌ {A = Option BindRefusal} None (Some (binding.Undefined object symbol)) = sym behind ∙ h in cc)
 
   -- so is an image
-  pub bound : (image : MemoryImage) → binding_refusal s program base ≡ None → image ≡ bound_image s program base
-      → ((a : ℕ) → image_byte image a ≡ byte_of (bound_objects s program base) a) → ReadsLibraries s program
-      → UntestedStep (phase_of facts old s) (bind program base) (Bound image) (phase_of facts new s)
-  bound image accepted is bytes all = ((at.usable, ap (option_map Bind) accepted, (is, bytes), leads), λ behind. all)
+  pub bound : (image : MemoryImage) → binding_refusal p.state program base ≡ None → image ≡ bound_image p.state program base
+      → ((a : ℕ) → image_byte image a ≡ byte_of (bound_objects p.state program base) a) → ReadsLibraries p.state program
+      → UntestedStep p (bind program base) (Bound image) p'
+  bound image accepted is bytes all = ((usable, ap (option_map Bind) accepted, (is, bytes), leads), λ behind. all)
 
   -- and a reading that is refused
-  pub unread : program_refusal program base ≡ None → (e : StoreRefusal) → IsReadRefusal facts old new e → (e ≡ reading.Damaged → ReadsLibraries s program → ⊥)
-      → UntestedStep (phase_of facts old s) (bind program base) (Refused (refusal_of_read e)) (phase_of facts new s)
-  unread taken reading.Device is damaged = ((at.usable, record { risen = is; untested = taken; same = leads }), λ none. absurd none)
+  pub unread : program_refusal program base ≡ None → (e : StoreRefusal) → IsReadRefusalIf (p.failures < p'.failures) (IsTrue p.failed) e → (e ≡ reading.Damaged → ReadsLibraries p.state program → ⊥)
+      → UntestedStep p (bind program base) (Refused (refusal_of_read e)) p'
+  unread taken reading.Device is damaged = ((usable, record { risen = is; untested = taken; same = leads }), λ none. absurd none)
   unread taken reading.Reopen is damaged = ((is, leads), λ none. absurd none)
-  unread taken reading.OutOfMemory is damaged = ((at.usable, memory program base taken, leads), λ none. absurd none)
-  unread taken reading.Damaged is damaged = (at.usable, taken, damaged refl, leads)
+  unread taken reading.OutOfMemory is damaged = ((usable, memory program base taken, leads), λ none. absurd none)
+  unread taken reading.Damaged is damaged = (usable, taken, damaged refl, leads)
   unread taken reading.NotFormatted is damaged = absurd is
   unread taken reading.AlreadyFormatted is damaged = absurd is
   unread taken reading.BadGeometry is damaged = absurd is
@@ -107,6 +106,10 @@ module _ {D : Type 0} (facts : D → DiskFacts) (old new : Opened D) (s : State)
   unread taken reading.TooMany is damaged = absurd is
   unread taken reading.GenerationEnd is damaged = absurd is
   unread taken reading.OldFormat is damaged = absurd is
+
+module _ {D : Type 0} (facts : D → DiskFacts) (old new : Opened D) (s : State) (read : IsRead facts old new) (at : IsAt facts old s) (program : List ℕ) (base : ℕ) where
+  pub leads_read : Leads (phase_of facts old s) s (phase_of facts new s)
+  leads_read = record { sectors = read.calls.sectors; failed = read.failed; state = refl }
 
   -- what a step that only reads does to a registry
   pub applied : (answer : Reply) → UntestedStep (phase_of facts old s) (bind program base) answer (phase_of facts new s) → AppliedUntested facts old new s s (bind program base) answer

@@ -159,17 +159,17 @@ module _ {D : Type 0} (facts : D → DiskFacts) where
   change_leaves (Ok done) changed = changed.usable
   change_leaves (Err refusal) changed = (λ is. (changed.device is).1, changed.same)
 
-  left_failed : {old new : Opened D} {most : ℕ} {Refuses : Refusal → Type 0} (answer : Result (Unit {0}) Refusal) → Changed facts Device Reopen old new most Refuses answer
+  pub left_failed : {old new : Opened D} {most : ℕ} {Refuses : Refusal → Type 0} (answer : Result (Unit {0}) Refusal) → Changed facts Device Reopen old new most Refuses answer
       → IsTrue old.failed → new ≡ old
   left_failed (Ok done) changed failed = let no : ◌≡◌ {A = Result (Unit {0}) Refusal} (Ok done) (Err Reopen) = changed.reopen.1 failed in cc
   left_failed (Err refusal) changed failed = let is : refusal ≡ Reopen = same_refusal refusal Reopen (changed.reopen.1 failed) in changed.same (λ device. cc)
 
-  failed_call : {old new : Opened D} {most : ℕ} {Refuses : Refusal → Type 0} (answer : Result (Unit {0}) Refusal) → Changed facts Device Reopen old new most Refuses answer
+  pub failed_call : {old new : Opened D} {most : ℕ} {Refuses : Refusal → Type 0} (answer : Result (Unit {0}) Refusal) → Changed facts Device Reopen old new most Refuses answer
       → answer_of answer ≡ Refused Device → (facts old.disk).failures < (facts new.disk).failures
   failed_call (Ok done) changed is = cc
   failed_call (Err refusal) changed is = let device : refusal ≡ Device = cc in (changed.device device).0
 
-  refused_reopen : {old new : Opened D} {most : ℕ} {Refuses : Refusal → Type 0} (answer : Result (Unit {0}) Refusal) → Changed facts Device Reopen old new most Refuses answer
+  pub refused_reopen : {old new : Opened D} {most : ℕ} {Refuses : Refusal → Type 0} (answer : Result (Unit {0}) Refusal) → Changed facts Device Reopen old new most Refuses answer
       → (answer_of answer ≡ Refused Reopen) ↔ IsTrue old.failed
   refused_reopen (Ok done) changed = (λ is. cc, λ failed. let no : ◌≡◌ {A = Result (Unit {0}) Refusal} (Ok done) (Err Reopen) = changed.reopen.1 failed in cc)
   refused_reopen (Err refusal) changed = (λ is. let same : refusal ≡ Reopen = cc in changed.reopen.0 (ap Err same), λ failed. ap answer_of (changed.reopen.1 failed))

@@ -4,7 +4,6 @@ use Rattle.sector_disk.specs.Disk.{DiskFacts}
 use Rattle.store.specs.Opened.{Opened}
 use Rattle.store.specs.declared.refusal.StoreRefusal.{StoreRefusal}
 use Rattle.store.specs.declared.refusal.StoreRefusal.TheVariants as reading
-use Rattle.requests.specs.declared.refusal.Refusal.{Refusal}
 use Rattle.requests.specs.declared.refusal.Refusal.TheVariants.{Damaged}
 use Rattle.registry.specs.Found.{IsFindRefusal}
 use Rattle.registry.specs.inside.Reading.{IsReadRefusal, refusal_of_read}

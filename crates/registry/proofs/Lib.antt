@@ -8,6 +8,8 @@ pub mod Forms
 pub mod Keeping
 pub mod Names
 pub mod Openings
+pub mod Planning
+pub mod DraftBinds
 pub mod Putting
 pub mod Puts
 pub mod RanSoFar

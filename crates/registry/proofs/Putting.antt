@@ -45,12 +45,12 @@ has_position None h some = absurd (false≢true h)
 has_position (Some i) h some = (i, some)
 
 -- the test of the file comes first
-file_first : (o : Option FileRefusal) (r : FileRefusal) (others : List (Option Refusal)) → o ≡ Some r → first_of (option_map refusal.Object o ∷ others) ≡ Some (refusal.Object r)
+pub file_first : (o : Option FileRefusal) (r : FileRefusal) (others : List (Option Refusal)) → o ≡ Some r → first_of (option_map refusal.Object o ∷ others) ≡ Some (refusal.Object r)
 file_first None r others is = cc
 file_first (Some q) r others is = let same : q ≡ r = cc in ap (λ f. Some (refusal.Object f)) same
 
 -- a put is refused where its file is no library, or where memory to admit it is refused
-put_step : (p : Phase) (q : Request) (bytes : List ℕ) → IsFalse p.failed → ((r : FileRefusal) → library_refusal bytes ≡ Some r → refusal_at p q ≡ Some (refusal.Object r))
+pub put_step : (p : Phase) (q : Request) (bytes : List ℕ) → IsFalse p.failed → ((r : FileRefusal) → library_refusal bytes ≡ Some r → refusal_at p q ≡ Some (refusal.Object r))
     → (ReadNeedsMemory bytes → TakesMemory q) → (e : Refusal) → IsLibraryRefusal bytes e → Step p q (Refused e) p
 put_step p q bytes usable first memory (refusal.Object r) is = (usable, first r is, leads_same p)
 put_step p q bytes usable first memory refusal.OutOfMemory is = (usable, memory is, leads_same p)
@@ -70,7 +70,7 @@ put_step p q bytes usable first memory refusal.Fragmented is = absurd is
 put_step p q bytes usable first memory refusal.TooMany is = absurd is
 put_step p q bytes usable first memory refusal.GenerationEnd is = absurd is
 
-over_is_new : (e : StoreRefusal) → IsRefusalOfPutOver e → IsRefusalOfPutNew e
+pub over_is_new : (e : StoreRefusal) → IsRefusalOfPutOver e → IsRefusalOfPutNew e
 over_is_new store_refusal.Device is = is
 over_is_new store_refusal.Reopen is = is
 over_is_new store_refusal.Full is = is

@@ -20,18 +20,18 @@ use Rattle.registry.specs.declared.needs.Needs.{Needs}
 use Rattle.registry.specs.declared.source.Source.{Source}
 use Rattle.registry.specs.declared.source.Source.TheVariants.{Current, Held}
 use Rattle.store.specs.IsRead.{IsRead}
-use Rattle.registry.specs.inside.Source.{HasEntries, HasFiles, Offers, offered, offered_preloads}
+use Rattle.registry.specs.inside.Source.{AreNamesOf, HasEntries, HasFiles, Offers, offered, offered_preloads}
 use Rattle.registry.specs.inside.Walked.{IsAmong, IsWalked}
 use Rattle.store.proofs.IsReadLemmas.{read_more}
 use Rattle.registry.proofs.Keeping.{keeps_held_read}
 use Rattle.registry.proofs.StateNames.{names_are, numbers_are}
 
--- it offers as many files as it has entries
-pub offered_count : {D : Type 0} (source : Source) (store : Opened D) (entries : List PlacedEntry) → HasEntries source store entries → offered source store ≡ length entries
-offered_count Current store entries has = ap length has
-offered_count (Held snapshot) store entries has = has.held.count
-
 module _ {D : Type 0} (facts : D → DiskFacts) where
+  -- what it offers are the names of the state
+  pub are_names : (source : Source) (entries : List PlacedEntry) (s : State) (store : Opened D) → Offers facts source entries s store
+      → AreNamesOf s entries (HasEntries source store entries) (offered_preloads source store)
+  are_names source entries s store offers = record { has = offers.has; own = offers.own; names = offers.names; preloads = offers.preloads }
+
   -- a store at a state offers that
   pub offers_current : (store : Opened D) (s : State) → (IsTrue (facts store.disk).honest → HoldsNow (facts store.disk)) → HaveOwnNames store.entries → IsAt facts store s
       → Offers facts Current store.entries s store

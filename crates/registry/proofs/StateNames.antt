@@ -72,6 +72,26 @@ kept_names : (m : List Sector) (entries : List PlacedEntry) → names_of (map (l
 kept_names m [] = refl
 kept_names m (e ∷ es) = ap (λ ns. placed_name e ∷ ns) (kept_names m es)
 
+-- The byte strings of entries, and the names of some of them, in a state.
+module _ (m : List Sector) (entries : List PlacedEntry) (s : State) (libraries : s.libraries ≡ map (library_of m) entries) where
+  names_known : names_of s.libraries ≡ entry_names entries
+  names_known = ap names_of libraries ∙ kept_names m entries
+
+  -- the objects of the state go by the names of the entries
+  pub names_of_entries : order.names_of (objects s) ≡ entry_names entries
+  names_of_entries = object_names s.libraries ∙ names_known
+
+  -- the preloads are listed by their numbers
+  pub numbers_of : (ks : List ℕ) → s.preloads ≡ names_at s.libraries ks → HaveOwnNames entries → All (λ k. k < length entries) ks → preload_numbers s ≡ ks
+  numbers_of ks preloads own inside =
+      let names : List (List ℕ) = entry_names entries in
+      let within : All (λ k. k < length names) ks = subst (λ n. All (λ k. k < n) ks) (sym (length-map entries placed_name)) inside in
+      let there : All (λ k. k < length s.libraries) ks = subst (λ n. All (λ k. k < n) ks) (sym (ap length libraries ∙ length-map entries (library_of m))) inside in
+      let named : s.preloads ≡ map (λ k. get_or names k []) ks = preloads ∙ preload_names s.libraries ks there ∙ ap (λ (l : List (List ℕ)). map (λ k. get_or l k []) ks) names_known in
+      ap (λ (l : List (List ℕ)). filter_map (λ name. position (bytes_eq name) l) s.preloads) names_known
+      ∙ ap (filter_map (λ name. position (bytes_eq name) names)) named
+      ∙ numbers_back names ks (names_distinct entries own) within
+
 module _ {D : Type 0} (facts : D → DiskFacts) (kept : Opened D) (s : State) (holds : IsTrue (facts kept.disk).honest → HoldsNow (facts kept.disk)) (at : IsAt facts kept s) where
   abbrev now : List Sector
   now = (facts kept.disk).now
@@ -79,26 +99,15 @@ module _ {D : Type 0} (facts : D → DiskFacts) (kept : Opened D) (s : State) (h
   now_stands : StandsBy Two now kept.root kept.entries s
   now_stands = at.stands now (holds at.honest)
 
-  names_known : names_of s.libraries ≡ entry_names kept.entries
-  names_known = ap (λ (t : State). names_of t.libraries) now_stands.is ∙ kept_names now kept.entries
+  libraries_are : s.libraries ≡ map (library_of now) kept.entries
+  libraries_are = ap (λ (t : State). t.libraries) now_stands.is
 
-  -- the objects of the state go by the names of the entries
   pub names_are : order.names_of (objects s) ≡ entry_names kept.entries
-  names_are = object_names s.libraries ∙ names_known
+  names_are = names_of_entries now kept.entries s libraries_are
 
   pub object_count : length (objects s) ≡ length kept.entries
   object_count = sym (length-map (objects s) (λ (o : Named). o.name)) ∙ ap length names_are ∙ length-map kept.entries placed_name
 
-  -- the preloads are listed by their numbers
   pub numbers_are : HaveOwnNames kept.entries → All (λ k. k < length kept.entries) (listed_preloads kept.root) → preload_numbers s ≡ listed_preloads kept.root
-  numbers_are own inside =
-      let ks : List ℕ = listed_preloads kept.root in
-      let names : List (List ℕ) = entry_names kept.entries in
-      let libraries : List Library = map (library_of now) kept.entries in
-      let within : All (λ k. k < length names) ks = subst (λ n. All (λ k. k < n) ks) (sym (length-map kept.entries placed_name)) inside in
-      let there : All (λ k. k < length libraries) ks = subst (λ n. All (λ k. k < n) ks) (sym (length-map kept.entries (library_of now))) inside in
-      let preloads : s.preloads ≡ map (λ k. get_or names k []) ks =
-      ap (λ (t : State). t.preloads) now_stands.is ∙ preload_names libraries ks there ∙ ap (λ (l : List (List ℕ)). map (λ k. get_or l k []) ks) (kept_names now kept.entries) in
-      ap (λ (l : List (List ℕ)). filter_map (λ name. position (bytes_eq name) l) s.preloads) names_known
-      ∙ ap (filter_map (λ name. position (bytes_eq name) names)) preloads
-      ∙ numbers_back names ks (names_distinct kept.entries own) within
+  numbers_are own inside = numbers_of now kept.entries s libraries_are (listed_preloads kept.root)
+      (ap (λ (t : State). t.preloads) now_stands.is ∙ ap (λ (l : List Library). names_at l (listed_preloads kept.root)) (sym libraries_are)) own inside

@@ -69,7 +69,7 @@ module _ {D : Type 0} (facts : D → DiskFacts) (registry : opened.Opened D) (s 
   preload_inside : (k : ℕ) → k < length (listed_preloads registry.root) → get_or (listed_preloads registry.root) k 0 < length s.libraries
   preload_inside k lt = omega (arith, root_fits.preloads.listed.used k 0 lt, counted, count_is)
 
-  preloads_inside : All (λ p. p < length s.libraries) (listed_preloads registry.root)
+  pub preloads_inside : All (λ p. p < length s.libraries) (listed_preloads registry.root)
   preloads_inside k d lt = omega (arith, root_fits.preloads.listed.used k d lt, counted, count_is)
 
   -- No two entries have one name, and no preload is listed twice.

@@ -11,8 +11,8 @@ use Rattle.states.specs.Limits.{most_preloads, last_generation}
 use Rattle.states.specs.State.{State, has_name}
 use Rattle.requests.specs.Phase.{Phase, table_of}
 use Rattle.requests.specs.Request.{remove, set_preloads}
-use Rattle.requests.specs.Step.{refusal_at}
-use Rattle.requests.specs.Tests.{is_installed, is_last, has_repeat}
+use Rattle.requests.specs.Table.{Table}
+use Rattle.requests.specs.Tests.{first_refusal, is_installed, is_last, has_repeat}
 use Rattle.requests.specs.declared.refusal.Refusal.{Refusal}
 use Rattle.requests.specs.declared.refusal.Refusal.TheVariants.{NotInstalled, InPreloads, RepeatedPreload, TooManyPreloads, GenerationEnd}
 use Rattle.registry.specs.Refusals.{refusal_of}
@@ -22,33 +22,39 @@ last_test : {R : Type 0} (refusal : R) (test : Bool) → first_of ((refusal when
 last_test refusal true = refl
 last_test refusal false = refl
 
-module _ (p : Phase) (name : List ℕ) where
+module _ (t : Table) (name : List ℕ) where
   abbrev remove_by : Bool → Bool → Option Refusal
-  remove_by installed preload = first_of ((NotInstalled when not installed) ∷ (InPreloads when preload) ∷ (GenerationEnd when is_last (table_of p)) ∷ [])
+  remove_by installed preload = first_of ((NotInstalled when not installed) ∷ (InPreloads when preload) ∷ (GenerationEnd when is_last t) ∷ [])
 
-  pub remove_absent : is_installed (table_of p) name ≡ false → refusal_at p (remove name) ≡ Some NotInstalled
-  remove_absent absent = ap (λ b. remove_by b (has_name p.state.preloads name)) absent
+  pub remove_absent : is_installed t name ≡ false → first_refusal t (remove name) ≡ Some NotInstalled
+  remove_absent absent = ap (λ b. remove_by b (has_name t.preloads name)) absent
 
-  pub remove_preload : is_installed (table_of p) name ≡ true → has_name p.state.preloads name ≡ true → refusal_at p (remove name) ≡ Some InPreloads
+  pub remove_preload : is_installed t name ≡ true → has_name t.preloads name ≡ true → first_refusal t (remove name) ≡ Some InPreloads
   remove_preload installed preload = (λ i. remove_by (installed i) (preload i))
 
-  pub remove_tested : is_installed (table_of p) name ≡ true → has_name p.state.preloads name ≡ false → refusal_at p (remove name) ≡ (GenerationEnd when is_last (table_of p))
-  remove_tested installed free = (λ i. remove_by (installed i) (free i)) ∙ last_test GenerationEnd (is_last (table_of p))
+  pub remove_tested : is_installed t name ≡ true → has_name t.preloads name ≡ false → first_refusal t (remove name) ≡ (GenerationEnd when is_last t)
+  remove_tested installed free = (λ i. remove_by (installed i) (free i)) ∙ last_test GenerationEnd (is_last t)
 
-module _ (p : Phase) (names : List (List ℕ)) where
+module _ (t : Table) (names : List (List ℕ)) where
   abbrev preloads_by : Bool → Bool → Bool → Option Refusal
-  preloads_by many repeat lacking = first_of ((TooManyPreloads when many) ∷ (RepeatedPreload when repeat) ∷ (NotInstalled when lacking) ∷ (GenerationEnd when is_last (table_of p)) ∷ [])
+  preloads_by many repeat lacking = first_of ((TooManyPreloads when many) ∷ (RepeatedPreload when repeat) ∷ (NotInstalled when lacking) ∷ (GenerationEnd when is_last t) ∷ [])
 
   abbrev lacks : Bool
-  lacks = list_any (λ name. not (is_installed (table_of p) name)) names
+  lacks = list_any (λ name. not (is_installed t name)) names
 
   pub preloads_lacking : nat_lt most_preloads (length names) ≡ false → has_repeat names ≡ false
-      → list_any (λ name. not (is_installed (table_of p) name)) names ≡ true → refusal_at p (set_preloads names) ≡ Some NotInstalled
+      → list_any (λ name. not (is_installed t name)) names ≡ true → first_refusal t (set_preloads names) ≡ Some NotInstalled
   preloads_lacking few once lacking = (λ i. preloads_by (few i) (once i) (lacking i))
 
-  pub preloads_tested : nat_lt most_preloads (length names) ≡ false → has_repeat names ≡ false → list_any (λ name. not (is_installed (table_of p) name)) names ≡ false
-      → refusal_at p (set_preloads names) ≡ (GenerationEnd when is_last (table_of p))
-  preloads_tested few once there = (λ i. preloads_by (few i) (once i) (there i)) ∙ last_test GenerationEnd (is_last (table_of p))
+  pub preloads_many : nat_lt most_preloads (length names) ≡ true → first_refusal t (set_preloads names) ≡ Some TooManyPreloads
+  preloads_many many = ap (λ b. preloads_by b (has_repeat names) (list_any (λ name. not (is_installed t name)) names)) many
+
+  pub preloads_repeated : nat_lt most_preloads (length names) ≡ false → has_repeat names ≡ true → first_refusal t (set_preloads names) ≡ Some RepeatedPreload
+  preloads_repeated few repeat = (λ i. preloads_by (few i) (repeat i) (list_any (λ name. not (is_installed t name)) names))
+
+  pub preloads_tested : nat_lt most_preloads (length names) ≡ false → has_repeat names ≡ false → list_any (λ name. not (is_installed t name)) names ≡ false
+      → first_refusal t (set_preloads names) ≡ (GenerationEnd when is_last t)
+  preloads_tested few once there = (λ i. preloads_by (few i) (once i) (there i)) ∙ last_test GenerationEnd (is_last t)
 
 -- the test of the generation, in the store's words
 pub last_change : (p : Phase) → (GenerationEnd when is_last (table_of p)) ≡ option_map refusal_of (refusal_of_change p.state)

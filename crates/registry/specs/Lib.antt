@@ -7,6 +7,7 @@ pub mod Acknowledged
 pub mod Answered
 pub mod Binding
 pub mod Calls
+pub mod Drafting
 pub mod Found
 pub mod Flight
 pub mod Flying

@@ -1,5 +1,6 @@
 -- What the code keeps as it goes. Nobody has to believe it; of public clauses only those of binders
 -- in flight cite it.
+pub mod Drafting
 pub mod Binding
 pub mod Named
 pub mod Reading

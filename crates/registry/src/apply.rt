@@ -8,7 +8,7 @@ use sector_disk::Disk;
 use std::alloc::AllocError;
 
 /// The reply that a change's result makes.
-fn reply(change: Result<(), Refusal>) -> Reply
+pub(crate) fn reply(change: Result<(), Refusal>) -> Reply
     ensures { result ≡ answer_of change }
 {
     match change {

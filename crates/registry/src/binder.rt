@@ -12,7 +12,7 @@ ghost use Rattle.registry.specs.inside.Walked.{IsAmong, IsBoundBy, IsWalked};
 use crate::bind::refusal_of_read;
 use crate::bound::bind_walked;
 use crate::registry::Registry;
-use crate::source::Source;
+use crate::source::{Files, Source};
 use crate::walk::Walk;
 use hash_check::Admitted;
 use image::{BindRefusal, Image, admit_program};
@@ -81,7 +81,7 @@ fn look<D: Disk>(
     ensures refused { IfErr result (IsProgramAnswer program.now base) }
 {
     let program = admit_program(alloc, program, base)?;
-    let walk = Walk::start(alloc, store, source, &program)?;
+    let walk = Walk::start(alloc, &Files { store, source }, &program)?;
     Ok(walk)
 }
 

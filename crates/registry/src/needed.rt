@@ -10,7 +10,7 @@ ghost use Rattle.registry.specs.Untested.{ReadsLibraries};
 ghost use Rattle.store.specs.IsRead.{IsRead};
 ghost use Rattle.registry.specs.inside.Reading.{IsReadRefusal};
 
-use crate::source::Source;
+use crate::source::{Files, Source};
 use crate::walk::Walk;
 use hash_check::Admitted;
 use sector_disk::Disk;
@@ -48,7 +48,7 @@ pub(crate) fn read_needed<D: Disk>(
     // No two files have one name.
     store.entries_are_sound();
     let source = Source::Current;
-    let mut walk = Walk::start(alloc, store, source, program)?;
+    let mut walk = Walk::start(alloc, &Files { store, source }, program)?;
     while walk.has_next() {
         walk.step(alloc, store, source)?;
     }

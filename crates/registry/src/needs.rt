@@ -6,15 +6,12 @@ ghost use Rattle.elf_dynamic.specs.Strings.{needed};
 ghost use Rattle.store.specs.Stands.{HaveOwnNames};
 ghost use Rattle.store.specs.declared.placed_entry.PlacedEntry.{PlacedEntry};
 ghost use Rattle.store.specs.NameOrder.{entry_names};
-ghost use Rattle.registry.specs.inside.Source.{HasEntries, offered};
 ghost use Rattle.registry.specs.inside.Walked.{Grows, more_needs};
 
-use crate::source::{Source, place_of};
+use crate::source::{Named, place_of};
 use elf_dynamic::Object;
 use scope::{NeededName, Places};
-use sector_disk::Disk;
 use std::alloc::{AllocError, Global};
-use store::Store;
 
 /// What a walk has found to be needed of the files that there are.
 #[derive(Drop)]
@@ -44,22 +41,21 @@ fn note(
 
 impl Needs {
     /// Adds the place of the file of this name, or notes that there is none.
-    fn add_named<D: Disk>(
+    fn add_named<N: Named>(
         &mut self,
         alloc: Global,
-        store: &Store<D>,
-        source: Source<'_>,
+        files: &N,
         needer: &[u8],
         name: &[u8],
     ) -> Result<(), AllocError>
-        requires { self.old.places.limit ≡ offered source store.now + 1 }
-        ensures ok { (entries : List PlacedEntry) → HasEntries source.entry store.now entries
+        requires { self.old.places.limit ≡ N.offered files.now + 1 }
+        ensures ok { (entries : List PlacedEntry) → N.has files.now entries
             → HaveOwnNames entries → OnOk result (self.new
             ≡ more_needs (entry_names entries) self.old needer.now (name.now ∷ [])) }
         ensures grows { Grows self.old self.new }
         ensures same { OnErr result (self.new ≡ self.old) }
     {
-        match place_of(store, source, name) {
+        match place_of(files, name) {
             Some(place) => self.places.add(place),
             None => note(alloc, &mut self.missing, needer, name),
         }
@@ -67,38 +63,36 @@ impl Needs {
 
     /// Adds the places of the files that an object needs, and notes the first name that no file
     /// goes by, as far as memory is given.
-    fn add_each<D: Disk>(
+    fn add_each<N: Named>(
         &mut self,
         alloc: Global,
-        store: &Store<D>,
-        source: Source<'_>,
+        files: &N,
         needer: &[u8],
         object: &Object<'_>,
     ) -> Result<(), AllocError>
-        requires { self.old.places.limit ≡ offered source store.now + 1 }
-        ensures ok { (entries : List PlacedEntry) → HasEntries source.entry store.now entries
+        requires { self.old.places.limit ≡ N.offered files.now + 1 }
+        ensures ok { (entries : List PlacedEntry) → N.has files.now entries
             → HaveOwnNames entries → OnOk result (self.new
             ≡ more_needs (entry_names entries) self.old needer.now (needed object.now)) }
         ensures grows { Grows self.old self.new }
     {
         for name in object.needed_names() {
-            self.add_named(alloc, store, source, needer, name)?;
+            self.add_named(alloc, files, needer, name)?;
         }
         Ok(())
     }
 
     /// The same, or nothing where memory is refused. One pass over the object's dynamic section,
     /// with one search among the names for each needed name.
-    pub(crate) fn add_needed<D: Disk>(
+    pub(crate) fn add_needed<N: Named>(
         &mut self,
         alloc: Global,
-        store: &Store<D>,
-        source: Source<'_>,
+        files: &N,
         needer: &[u8],
         object: &Object<'_>,
     ) -> Result<(), AllocError>
-        requires { self.old.places.limit ≡ offered source store.now + 1 }
-        ensures ok { (entries : List PlacedEntry) → HasEntries source.entry store.now entries
+        requires { self.old.places.limit ≡ N.offered files.now + 1 }
+        ensures ok { (entries : List PlacedEntry) → N.has files.now entries
             → HaveOwnNames entries → OnOk result (self.new
             ≡ more_needs (entry_names entries) self.old needer.now (needed object.now)) }
         ensures grows { Grows self.old self.new }
@@ -106,7 +100,7 @@ impl Needs {
     {
         let count = self.places.count();
         let known = self.missing.is_some();
-        let added = self.add_each(alloc, store, source, needer, object);
+        let added = self.add_each(alloc, files, needer, object);
         if added.is_err() {
             self.places.shorten(count);
             if !known {

@@ -1,5 +1,5 @@
-// What a walk finds the files of a bind in.
-ghost use Rattle.std.specs.Prelude.{◌≡◌, ◌<◌, ◌≤◌, All, IfOk, IfSome, nat_eq, List};
+// What a walk finds the files of a bind in, and by.
+ghost use Rattle.std.specs.Prelude.{◌≡◌, ◌<◌, ◌≤◌, ℕ, All, IfOk, IfSome, nat_eq, length, List};
 ghost use Rattle.std.specs.List.{IsDistinct};
 ghost use Rattle.scope.specs.LoadOrder.{place_of};
 ghost use Rattle.store.specs.Stands.{HaveOwnNames};
@@ -19,66 +19,100 @@ pub(crate) enum Source<'a> {
     Held(&'a Snapshot),
 }
 
-/// How many files there are.
-pub(crate) fn count<D: Disk>(store: &Store<D>, source: Source<'_>) -> usize
-    ensures count { result ≡ offered source.entry store.now }
-    ensures few { result ≤ 2048 }
-{
-    match source {
-        Source::Current => store.count(),
-        Source::Held(snapshot) => snapshot.count(),
-    }
+/// Files that are found by their names, some of them preloads.
+pub(crate) trait Named {
+    /// They have these entries.
+    ghost has: { Self → List PlacedEntry → Type 0 };
+
+    /// How many there are.
+    ghost offered: { Self → ℕ };
+
+    /// The positions of the preloads.
+    ghost listed: { Self → List ℕ };
+
+    /// How many there are.
+    fn count(&self) -> usize
+        ensures count { result ≡ offered self.now }
+        ensures few { result ≤ 2048 };
+
+    /// The positions of the preloads.
+    fn preloads(&self) -> &[u16]
+        ensures value { result.now ≡ listed self.now }
+        ensures inside { All (λ p. p < offered self.now) result.now }
+        ensures once { IsDistinct nat_eq result.now };
+
+    /// The position of the file of this name. It halves the order of the names.
+    fn position(&self, name: &[u8]) -> Option<usize>
+        ensures within { IfSome result (λ i. i < offered self.now) }
+        ensures few { offered self.now ≤ 2048 }
+        ensures found { (entries : List PlacedEntry) → has self.now entries
+            → IsFound entries name.now result };
+
+    /// So many entries they have.
+    ghost counted: { (files : Self) → (entries : List PlacedEntry) → has files entries
+        → offered files ≡ length entries };
 }
 
-/// The positions of the preloads.
-fn preloads<'a, D: Disk>(store: &'a Store<D>, source: Source<'a>) -> &'a [u16]
-    ensures value { result.now ≡ offered_preloads source.entry store.now }
-    ensures inside { All (λ p. p < offered source.entry store.now) result.now }
-    ensures once { IsDistinct nat_eq result.now }
-{
-    match source {
-        Source::Current => store.preloads(),
-        Source::Held(snapshot) => snapshot.preloads(),
-    }
+/// The files of a store as it is, or of a snapshot that was taken of it.
+#[derive(Clone, Copy)]
+pub(crate) struct Files<'a, D: Disk> {
+    pub store: &'a Store<D>,
+    pub source: Source<'a>,
 }
 
-/// The same as numbers.
-pub(crate) fn preload_numbers<D: Disk>(
-    alloc: Global,
-    store: &Store<D>,
-    source: Source<'_>,
-) -> Result<Vec<usize>, AllocError>
-    ensures same { IfOk result (λ v. v.items ≡ offered_preloads source.entry store.now) }
-    ensures inside { All (λ p. p < offered source.entry store.now)
-        (offered_preloads source.entry store.now) }
-    ensures once { IsDistinct nat_eq (offered_preloads source.entry store.now) }
+impl<'a, D: Disk> Named for Files<'a, D> {
+    ghost use Rattle.registry.specs.inside.Source.{offered_count};
+
+    ghost has = { λ files. HasEntries files.source files.store.now };
+
+    ghost offered = { λ files. offered files.source files.store.now };
+
+    ghost listed = { λ files. offered_preloads files.source files.store.now };
+
+    fn count(&self) -> usize {
+        match self.source {
+            Source::Current => self.store.count(),
+            Source::Held(snapshot) => snapshot.count(),
+        }
+    }
+
+    fn preloads(&self) -> &[u16] {
+        match self.source {
+            Source::Current => self.store.preloads(),
+            Source::Held(snapshot) => snapshot.preloads(),
+        }
+    }
+
+    fn position(&self, name: &[u8]) -> Option<usize> {
+        match self.source {
+            Source::Current => self.store.position(name),
+            Source::Held(snapshot) => snapshot.position(self.store, name),
+        }
+    }
+
+    ghost counted = { λ files. offered_count files.source files.store.now };
+}
+
+/// The positions of the preloads as numbers.
+pub(crate) fn preload_numbers<N: Named>(alloc: Global, files: &N) -> Result<Vec<usize>, AllocError>
+    ensures same { IfOk result (λ v. v.items ≡ N.listed files.now) }
+    ensures inside { All (λ p. p < N.offered files.now) (N.listed files.now) }
+    ensures once { IsDistinct nat_eq (N.listed files.now) }
 {
-    preloads(store, source)
+    files
+        .preloads()
         .iter()
         .map(|position| *position as usize)
         .collect(alloc)
 }
 
-/// The position of the file of this name. It halves the order of the names.
-fn position_of<D: Disk>(store: &Store<D>, source: Source<'_>, name: &[u8]) -> Option<usize>
-    ensures within { IfSome result (λ i. i < offered source.entry store.now) }
-    ensures few { offered source.entry store.now ≤ 2048 }
-    ensures found { (entries : List PlacedEntry) → HasEntries source.entry store.now entries
-        → IsFound entries name.now result }
-{
-    match source {
-        Source::Current => store.position(name),
-        Source::Held(snapshot) => snapshot.position(store, name),
-    }
-}
-
 /// The place of the file of this name in a queue, the first file being at place 1.
-pub(crate) fn place_of<D: Disk>(store: &Store<D>, source: Source<'_>, name: &[u8]) -> Option<usize>
-    ensures place { (entries : List PlacedEntry) → HasEntries source.entry store.now entries
+pub(crate) fn place_of<N: Named>(files: &N, name: &[u8]) -> Option<usize>
+    ensures place { (entries : List PlacedEntry) → N.has files.now entries
         → HaveOwnNames entries → result ≡ place_of (entry_names entries) name.now }
-    ensures within { IfSome result (λ place. place ≤ offered source.entry store.now) }
+    ensures within { IfSome result (λ place. place ≤ N.offered files.now) }
 {
-    match position_of(store, source, name) {
+    match files.position(name) {
         Some(position) => Some(position + 1),
         None => None,
     }

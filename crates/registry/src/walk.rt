@@ -1,5 +1,5 @@
 // The walk of a bind through the files of its load order.
-ghost use Rattle.std.specs.Prelude.{◌≡◌, ◌<◌, ◌≤◌, ◌+◌, ◌-◌, [], ℕ, List, length};
+ghost use Rattle.std.specs.Prelude.{◌≡◌, ◌<◌, ◌≤◌, ◌+◌, ◌-◌, ◌∷◌, ◌++◌, [], ℕ, List, length};
 ghost use Rattle.std.specs.Prelude.{get_or, slice_index_or, true, false, IfOk};
 ghost use Rattle.std.specs.Prelude.{IfErr, OnOk, OnErr};
 ghost use Rattle.sector_disk.specs.Disk.{AreCallsAtMost};
@@ -10,13 +10,13 @@ ghost use Rattle.states.specs.State.{State};
 ghost use Rattle.requests.specs.Library.{IsLibrary};
 ghost use Rattle.store.specs.IsRead.{IsRead, file_sectors};
 ghost use Rattle.registry.specs.inside.Reading.{IsReadRefusal};
-ghost use Rattle.registry.specs.inside.Source.{HasEntries, HasFiles, Offers, offered};
+ghost use Rattle.registry.specs.inside.Source.{AreNamesOf, HasEntries, HasFiles, Offers, offered};
 ghost use Rattle.registry.specs.inside.Walked.{HasReadNext, IsAmong, IsWalked, next_place};
 
 use crate::library_file::LibraryFile;
 use crate::needs::Needs;
 use crate::reading::read_library;
-use crate::source::{Source, count, preload_numbers};
+use crate::source::{Files, Named, Source, preload_numbers};
 use hash_check::Admitted;
 use scope::{first_level, program_name};
 use sector_disk::Disk;
@@ -33,26 +33,25 @@ pub(crate) struct Walk {
 
 impl Walk {
     /// A walk at its start: the program was looked at, and no file was read.
-    pub(crate) fn start<D: Disk>(
+    pub(crate) fn start<N: Named>(
         alloc: Global,
-        store: &Store<D>,
-        source: Source<'_>,
+        names: &N,
         program: &Admitted<'_>,
     ) -> Result<Walk, AllocError>
         ensures ok { (entries : List PlacedEntry) → (s : State)
-            → Offers D.facts source.entry entries s store.now
+            → AreNamesOf s entries (N.has names.now entries) (N.listed names.now)
             → IfOk result (λ walk. IsWalked program.now s walk.needs walk.files.items) }
-        ensures among { IfOk result (λ walk. IsAmong (offered source.entry store.now)
+        ensures among { IfOk result (λ walk. IsAmong (N.offered names.now)
             walk.needs walk.files.items) }
         ensures none { IfOk result (λ walk. walk.files.items ≡ []) }
     {
-        let preloads = preload_numbers(alloc, store, source)?;
-        let places = first_level(alloc, count(store, source), &preloads)?;
+        let preloads = preload_numbers(alloc, names)?;
+        let places = first_level(alloc, names.count(), &preloads)?;
         let mut needs = Needs {
             places,
             missing: None,
         };
-        needs.add_needed(alloc, store, source, program_name(), program.object())?;
+        needs.add_needed(alloc, names, program_name(), program.object())?;
         let files = Vec::new(alloc);
         Ok(Walk { needs, files })
     }
@@ -77,7 +76,7 @@ impl Walk {
     }
 
     /// The position of the file that is to be read next.
-    fn next_position(&self) -> usize
+    pub(crate) fn next_position(&self) -> usize
         requires next { length self.now.files.items + 1 < length self.now.needs.places.places }
         requires first { get_or self.now.needs.places.places 0 1 ≡ 0 }
         ensures next { result ≡ next_place self.now.needs self.now.files.items - 1 }
@@ -88,6 +87,37 @@ impl Walk {
         // Only the first place is the program's.
         self.places_are_apart();
         self.needs.places.at(self.files.len() + 1) - 1
+    }
+
+    /// Takes the next file, which was read, and looks at what it needs. Where memory is refused the
+    /// walk stays as it was.
+    pub(crate) fn take<N: Named>(
+        &mut self,
+        alloc: Global,
+        names: &N,
+        file: LibraryFile,
+    ) -> Result<(), AllocError>
+        requires next { length self.old.files.items + 1 < length self.old.needs.places.places }
+        requires among { IsAmong (N.offered names.now) self.old.needs self.old.files.items }
+        ensures walked { (program : List ℕ) → (entries : List PlacedEntry) → (s : State)
+            → AreNamesOf s entries (N.has names.now entries) (N.listed names.now)
+            → IsWalked program s self.old.needs self.old.files.items
+            → file ≡ slice_index_or s.libraries
+            (next_place self.old.needs self.old.files.items - 1) no_library
+            → OnOk result (IsWalked program s self.new.needs self.new.files.items) }
+        ensures behind { OnOk result
+            (self.new.files.items ≡ self.old.files.items ++ file ∷ []) }
+        ensures among { OnOk result (IsAmong (N.offered names.now)
+            self.new.needs self.new.files.items) }
+        ensures same { OnErr result ((self.new.needs ≡ self.old.needs)
+            × (self.new.files.items ≡ self.old.files.items)) }
+    {
+        self.places_are_apart();
+        self.files.reserve(1)?;
+        self.needs
+            .add_needed(alloc, names, file.name(), file.admitted().object())?;
+        self.files.push_reserved(file);
+        Ok(())
     }
 
     /// Reads the next file, whole, admits it, and looks at what it needs. A refusal leaves the walk
@@ -123,9 +153,7 @@ impl Walk {
     {
         let position = self.next_position();
         let file = read_library(alloc, store, source, position)?;
-        self.files.reserve(1)?;
-        self.needs.add_needed(alloc, store, source, file.name(), file.admitted().object())?;
-        self.files.push_reserved(file);
+        self.take(alloc, &Files { store, source }, file)?;
         Ok(())
     }
 }

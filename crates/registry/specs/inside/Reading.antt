@@ -8,13 +8,17 @@ use Rattle.requests.specs.declared.refusal.Refusal.{Refusal}
 use Rattle.requests.specs.declared.refusal.Refusal.TheVariants as registry
 use Rattle.registry.specs.Refusals.{refusal_of}
 
--- what it may be refused with, on any disk
+-- what reading may be refused with, where a call failed, or a write or a sync before it
+abbrev pub IsReadRefusalIf : (has_failed failed_before : Type 0) → StoreRefusal → Type 0
+IsReadRefusalIf has_failed failed_before Device = has_failed
+IsReadRefusalIf has_failed failed_before Reopen = failed_before
+IsReadRefusalIf has_failed failed_before Damaged = Unit
+IsReadRefusalIf has_failed failed_before OutOfMemory = Unit
+IsReadRefusalIf has_failed failed_before other = ⊥
+
+-- the same of a store, on any disk
 abbrev pub IsReadRefusal : {D : Type 0} → (D → DiskFacts) → Opened D → Opened D → StoreRefusal → Type 0
-IsReadRefusal facts old new Device = (facts old.disk).failures < (facts new.disk).failures
-IsReadRefusal facts old new Reopen = IsTrue old.failed
-IsReadRefusal facts old new Damaged = Unit
-IsReadRefusal facts old new OutOfMemory = Unit
-IsReadRefusal facts old new other = ⊥
+IsReadRefusal facts old new refusal = IsReadRefusalIf ((facts old.disk).failures < (facts new.disk).failures) (IsTrue old.failed) refusal
 
 -- the same in the registry's words: the last line stands for S5, and for what no reading refuses
 abbrev pub refusal_of_read : StoreRefusal → Refusal

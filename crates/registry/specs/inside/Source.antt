@@ -28,10 +28,23 @@ abbrev pub HasEntries : {D : Type 0} → Source → Opened D → List PlacedEntr
 HasEntries Current store entries = store.entries ≡ entries
 HasEntries (Held snapshot) store entries = IsTakenOf store.held snapshot.now entries
 
+-- it offers as many files as it has entries
+pub offered_count : {D : Type 0} (source : Source) (store : Opened D) (entries : List PlacedEntry) → HasEntries source store entries → offered source store ≡ length entries
+offered_count Current store entries has = λ i. length (has i)
+offered_count (Held snapshot) store entries has = has.held.count
+
 -- In every mixture of the disk its files are those of this state.
 abbrev pub HasFiles : {D : Type 0} → (D → DiskFacts) → Source → Opened D → State → Type 0
 HasFiles facts Current store s = IsAt facts store s
 HasFiles facts (Held snapshot) store s = IsTrue (facts store.disk).honest × AreHeldAs facts store snapshot.now.handles s.libraries
+
+-- Entries, which files that are found by name have, and the positions of their preloads: they are
+-- those of this state.
+pub record AreNamesOf (s : State) (entries : List PlacedEntry) (Has : Type 0) (listed : List ℕ) : Type 0 where
+  pub has : Has
+  pub own : HaveOwnNames entries
+  pub names : names_of (objects s) ≡ entry_names entries
+  pub preloads : All (λ p. p < length entries) listed → preload_numbers s ≡ listed
 
 -- What it offers in a store as it is now are the libraries of this state, by these entries, and its
 -- preloads.

@@ -9,7 +9,7 @@ use Rattle.registry.specs.inside.Source.{offered}
 use Rattle.registry.specs.inside.Walked.{IsAmong, IsWalked}
 use Rattle.store.proofs.IsReadLemmas.{read_more, read_none}
 use Rattle.registry.proofs.FilesRead.{all_read, libraries_read, missing_read, next_is_library}
-use Rattle.registry.proofs.Sources.{HasCome, come_more, come_offers, count_read, entries_read, offers_current}
+use Rattle.registry.proofs.Sources.{are_names, HasCome, come_more, come_offers, count_read, entries_read, offers_current}
 use Rattle.sector_disk.specs.Disk.{AreCallsExactly}
 use Rattle.sector_disk.proofs.Moments.{exactly_none}
 use Rattle.states.specs.State.{Library, State}
@@ -92,7 +92,7 @@ loop-source-init g c =
     let disk = g.D.Disk.facts start.disk in
     record {
       among = c.in_ok-walk.ensures.among;
-      walked = λ s at. c.in_ok-walk.ensures.ok start.entries s (offers_current g.D.Disk.facts start s (g.met.D.Disk.holds_now start.disk) c.entries_are_sound.ensures.own_names at);
+      walked = λ s at. c.in_ok-walk.ensures.ok start.entries s (are_names g.D.Disk.facts Current start.entries s start (offers_current g.D.Disk.facts start s (g.met.D.Disk.holds_now start.disk) c.entries_are_sound.ensures.own_names at));
       libraries = subst (All IsLibrary) (sym none) (All-nil IsLibrary);
       own = c.entries_are_sound.ensures.own_names;
       read = read_none start;

@@ -15,7 +15,7 @@ use Rattle.registry.specs.Untested.{UntestedStep}
 use Rattle.registry.specs.declared.walk.Walk.{Walk}
 use Rattle.store.specs.IsRead.{IsRead}
 use Rattle.registry.specs.inside.Reading.{IsReadRefusal}
-use Rattle.registry.proofs.Bindings.{refusal_same, objects_same, answer_same, sectors_read, refused, bound, unread}
+use Rattle.registry.proofs.Bindings.{refusal_same, objects_same, answer_same, leads_read, sectors_read, refused, bound, unread}
 use Rattle.registry.proofs.registry.Registry.bind_admitted.Goals as goal
 
 pub returns-in-Err-clause-step : goal.returns-in-Err-clause-step
@@ -24,7 +24,8 @@ returns-in-Err-clause-step g c s at =
     let here : IsAt g.D.Disk.facts c.self.inside.store s = subst (λ k. IsAt g.D.Disk.facts k s) (sym c.self.view_is) at in
     subst (λ r. UntestedStep (phase_of g.D.Disk.facts c.args.self.now s) (bind c.args.program.now c.args.base) (Refused r)
     (phase_of g.D.Disk.facts c.read_needed.new.store s)) (sym c.refusal_of_read.ensures)
-    (unread g.D.Disk.facts c.args.self.now c.read_needed.new.store s read at c.args.program.now c.args.base c.requires c.in-Err.refusal
+    (unread (phase_of g.D.Disk.facts c.args.self.now s) (phase_of g.D.Disk.facts c.read_needed.new.store s) at.usable
+    (leads_read g.D.Disk.facts c.args.self.now c.read_needed.new.store s read at c.args.program.now c.args.base) c.args.program.now c.args.base c.requires c.in-Err.refusal
     (subst (λ k. IsReadRefusal g.D.Disk.facts k c.read_needed.new.store c.in-Err.refusal) c.self.view_is c.in-Err.ensures.refusals) (c.in-Err.ensures.damaged s here))
 
 pub bind_found-requires : goal.bind_found-requires
@@ -36,7 +37,8 @@ returns-in_err-image-clause-step g c s at =
     let here : IsAt g.D.Disk.facts c.self.inside.store s = subst (λ k. IsAt g.D.Disk.facts k s) (sym c.self.view_is) at in
     let walk : Walk = c.in-Ok.walk in
     let p = err_from_is_err_and c.from_residual.result c.from_residual.ensures.1 in
-    rw (p.1, p.2) (refused g.D.Disk.facts c.args.self.now c.read_needed.new.store s read at c.args.program.now c.args.base c.in_err-image.field-0.0
+    rw (p.1, p.2) (refused (phase_of g.D.Disk.facts c.args.self.now s) (phase_of g.D.Disk.facts c.read_needed.new.store s) at.usable
+    (leads_read g.D.Disk.facts c.args.self.now c.read_needed.new.store s read at c.args.program.now c.args.base) c.args.program.now c.args.base c.in_err-image.field-0.0
     (answer_same s c.args.program.now c.args.base walk.files.items walk.needs.missing c.requires (c.in-Ok.ensures.ok s here) (c.in-Ok.ensures.missing s here)
     c.in_err-image.field-0.0 c.in_err-image.ensures.tested.refused) (λ behind. c.in-Ok.ensures.libraries s here))
 
@@ -48,7 +50,8 @@ returns-clause-step g c s at =
     let ordered = c.in-Ok.ensures.ok s here in
     let lacking = c.in-Ok.ensures.missing s here in
     let same = objects_same s c.args.program.now c.args.base walk.files.items walk.needs.missing c.requires ordered lacking in
-    bound g.D.Disk.facts c.args.self.now c.read_needed.new.store s read at c.args.program.now c.args.base c.in_ok-image.image
+    bound (phase_of g.D.Disk.facts c.args.self.now s) (phase_of g.D.Disk.facts c.read_needed.new.store s) at.usable
+    (leads_read g.D.Disk.facts c.args.self.now c.read_needed.new.store s read at c.args.program.now c.args.base) c.args.program.now c.args.base c.in_ok-image.image
     (refusal_same s c.args.program.now c.args.base walk.files.items walk.needs.missing c.requires ordered lacking ∙ c.in_ok-image.ensures.tested.accepted)
     (c.in_ok-image.ensures.ok ∙ ap image_of same)
     (λ a. c.in_ok-image.ensures.bytes a ∙ ap (λ os. byte_of os a) same) (c.in-Ok.ensures.libraries s here)

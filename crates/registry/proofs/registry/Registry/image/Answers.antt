@@ -7,6 +7,7 @@ use Rattle.requests.specs.Request.{bind}
 use Rattle.registry.specs.Binding.{bind_sectors, bound_answer}
 use Rattle.registry.specs.Phase.{phase_of}
 use Rattle.registry.specs.Untested.{UntestedStep}
+use Rattle.registry.proofs.Applying.{leads_same}
 use Rattle.registry.proofs.Bindings.{alone, refused}
 use Rattle.store.proofs.IsReadLemmas.{read_none}
 use Rattle.registry.proofs.registry.Registry.image.Goals as goal
@@ -14,9 +15,9 @@ use Rattle.registry.proofs.registry.Registry.image.Goals as goal
 pub returns-in_err-program-clause-step : goal.returns-in_err-program-clause-step
 returns-in_err-program-clause-step g c s at =
     let p = err_from_is_err_and c.from_residual.result c.from_residual.ensures.1 in
-    rw (p.1, p.2) (refused g.D.Disk.facts c.args.self.now c.args.self.now s (read_none c.args.self.now) at c.args.file.now c.args.base c.in_err-program.field-0.0
+    rw (p.1, p.2) (refused (phase_of g.D.Disk.facts c.args.self.now s) (phase_of g.D.Disk.facts c.args.self.now s) at.usable (leads_same (phase_of g.D.Disk.facts c.args.self.now s)) c.args.file.now c.args.base c.in_err-program.field-0.0
     (program-answer c.args.file.now c.args.base (objects s) (preload_numbers s) c.in_err-program.field-0.0 c.in_err-program.ensures.refused)
-    (alone g.D.Disk.facts c.args.self.now c.args.self.now s (read_none c.args.self.now) at c.args.file.now c.args.base c.in_err-program.field-0.0 c.in_err-program.ensures.refused))
+    (alone (phase_of g.D.Disk.facts c.args.self.now s) (phase_of g.D.Disk.facts c.args.self.now s) at.usable (leads_same (phase_of g.D.Disk.facts c.args.self.now s)) c.args.file.now c.args.base c.in_err-program.field-0.0 c.in_err-program.ensures.refused))
 
 pub returns-clause-step : goal.returns-clause-step
 returns-clause-step g c s at =

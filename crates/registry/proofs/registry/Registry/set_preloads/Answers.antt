@@ -1,17 +1,19 @@
-use Rattle.std.proofs.Common.{◌≡◌, Err, map, sym, ap, subst, ◌∙◌}
+use Rattle.std.proofs.Common.{◌≡◌, Err, Some, map, refl, sym, ap, subst, ◌∙◌}
+use Rattle.std.proofs.lemmas.Bool.{false≢true}
 use Rattle.std.specs.Option.{option_map}
 use Rattle.std.proofs.lemmas.Result.{err_from_is_err_and}
 use Rattle.store.specs.Stands.{names_at}
 use Rattle.store.specs.Step.{refusal_of_change}
 use Rattle.states.specs.Changes.{with_preloads}
 use Rattle.requests.specs.Request.{set_preloads}
+use Rattle.requests.specs.Phase.{table_of}
 use Rattle.requests.specs.Step.{answer_of, refusal_at}
 use Rattle.requests.specs.declared.reply.Reply.TheVariants.{Refused}
 use Rattle.registry.specs.Untested.{AppliesUntested}
-use Rattle.store.specs.Opened.{IsAt}
+use Rattle.store.specs.Opened.{IsAt, Opened}
 use Rattle.registry.specs.Phase.{phase_of}
 use Rattle.registry.specs.Refusals.{refusal_of}
-use Rattle.registry.proofs.Applying.{untouched, exact_answer, store_changed}
+use Rattle.registry.proofs.Applying.{change_step, exact_answer, refused_step, store_changed, untouched}
 use Rattle.registry.proofs.Changed.{change_ample, change_may}
 use Rattle.registry.proofs.Tested.{last_change, change_deviceless}
 use Rattle.store.specs.HeldVersions.{KeepsHeld}
@@ -27,9 +29,16 @@ returns-in_err-positions-clause-applied g c s at =
     let p = err_from_is_err_and c.from_residual.result c.from_residual.ensures.1 in
     let facts = g.D.Disk.facts in
     let now = c.args.self.now in
+    let store = c.self.inside.store in
+    let here : IsAt facts store s = subst (λ r. IsAt facts r s) (sym c.self.view_is) at in
     let q = set_preloads (map (λ n. n.now) c.args.names.now) in
+    let e = c.in_err-positions.field-0.0 in
+    let tests = c.in_err-positions.ensures in
+    let first : refusal_at (phase_of facts now s) q ≡ Some e = subst (λ (r : Opened g.row.D.Denot). refusal_at (phase_of facts r s) q ≡ Some e) c.self.view_is
+    (tests.refused s here (table_of (phase_of facts store s)) (refl, refl)) in
     subst (λ r. AppliesUntested facts now now s q (answer_of r)) (sym (p.1 ∙ ap Err p.2))
-    (untouched facts now s at q (Refused c.in_err-positions.field-0.0) (c.in_err-positions.ensures.refused s at))
+    (untouched facts now s at q (Refused e) (change_step q tt (phase_of facts now s) (phase_of facts now s) (Refused e) (refused_step (phase_of facts now s) q e (λ is. tests.device (ap Err is))
+    (λ is. false≢true (sym here.usable ∙ tests.reopen.0 (ap Err is))) (λ is. subst IsPreloadsRefusal is tests.refusals) at.usable first)))
 
 pub returns-clause-applied : goal.returns-clause-applied
 returns-clause-applied g c s at =
@@ -41,8 +50,8 @@ returns-clause-applied g c s at =
     let here : IsAt facts old s = subst (λ r. IsAt facts r s) (sym c.self.view_is) at in
     let first = refusal_of_change s in
     let tested : refusal_at (phase_of facts old s) q ≡ option_map refusal_of first =
-    subst (λ r. refusal_at (phase_of facts r s) q ≡ option_map refusal_of first) (sym c.self.view_is) (c.in_ok-positions.ensures.ok s at ∙ last_change (phase_of facts c.args.self.now s)) in
-    let named : names_at s.libraries c.as_slice.result.now ≡ names = ap (names_at s.libraries) c.as_slice.ensures.value ∙ c.in_ok-positions.ensures.state s at in
+    c.in_ok-positions.ensures.ok s here (table_of (phase_of facts old s)) (refl, refl) ∙ last_change (phase_of facts old s) in
+    let named : names_at s.libraries c.as_slice.result.now ≡ names = ap (names_at s.libraries) c.as_slice.ensures.value ∙ c.in_ok-positions.ensures.state s here in
     let done = c.set_preloads.ensures in
     subst (λ r. AppliesUntested facts r new s q (answer_of c.in_words.result)) c.self.view_is
     (rw c.in_words.ensures (store_changed facts old new s here q tt first tested (change_deviceless s) (with_preloads (names_at s.libraries c.as_slice.result.now) s)
@@ -59,7 +68,9 @@ pub returns-in_err-positions-clause-on_any_disk : goal.returns-in_err-positions-
 returns-in_err-positions-clause-on_any_disk g c =
     let p = err_from_is_err_and c.from_residual.result c.from_residual.ensures.1 in
     let tested = c.in_err-positions.ensures in
-    rw (p.1 ∙ ap Err p.2) (changed_none g.D.Disk.facts c.args.self.now c.in_err-positions.field-0.0 tested.reopen tested.device tested.refusals)
+    let e = c.in_err-positions.field-0.0 in
+    rw (p.1 ∙ ap Err p.2) (subst (λ (k : Opened g.row.D.Denot). Changed g.D.Disk.facts Device Reopen k k 2 IsPreloadsRefusal (Err e)) c.self.view_is
+    (changed_none g.D.Disk.facts c.self.inside.store e tested.reopen tested.device tested.refusals))
 
 pub returns-clause-on_any_disk : goal.returns-clause-on_any_disk
 returns-clause-on_any_disk g c =

@@ -5,25 +5,23 @@ use Rattle.scope.specs.Objects.{program_name}
 use Rattle.scope.specs.Queue.{Queue}
 use Rattle.requests.specs.Binding.{objects}
 use Rattle.registry.specs.declared.needs.Needs.{Needs}
-use Rattle.registry.specs.inside.Source.{offered, offered_preloads}
 use Rattle.registry.specs.inside.Walked.{IsWalked, more_needs}
 use Rattle.registry.proofs.FilesRead.{none_read, first_needs}
-use Rattle.registry.proofs.Sources.{offered_count}
 use Rattle.registry.proofs.StateNames.{entry_count}
 use Rattle.registry.proofs.walk.Walk.start.Goals as goal
 
 pub returns-clause-ok : goal.returns-clause-ok
-returns-clause-ok g c entries s offers =
+returns-clause-ok g c entries s are =
     let names : List (List ℕ) = names_of (objects s) in
-    let listed : List ℕ = offered_preloads c.args.source c.args.store.now in
+    let listed : List ℕ = g.N.Named.listed c.args.names.now in
     let before = λ (q : Queue). let needs : Needs = record { places = q; missing = None } in needs in
-    let count : offered c.args.source c.args.store.now ≡ length entries = offered_count c.args.source c.args.store.now entries offers.has in
-    let files : length entries ≡ length s.libraries = entry_count entries s offers.names in
+    let count : g.N.Named.offered c.args.names.now ≡ length entries = g.met.N.Named.counted c.args.names.now entries are.has in
+    let files : length entries ≡ length s.libraries = entry_count entries s are.names in
     let inside : All (λ p. p < length entries) listed = subst (λ (n : ℕ). All (λ p. p < n) listed) count c.preload_numbers.ensures.inside in
     subst (IsWalked c.args.program.now s c.add_needed.new.self) (sym c.new-files.ensures.items)
-    (none_read c.args.program.now s listed (offers.preloads inside) (subst (λ (n : ℕ). All (λ p. p < n) listed) files inside) c.preload_numbers.ensures.once c.add_needed.new.self
-    (c.in_ok-add_needed.ensures.ok entries offers.has offers.own
-    ∙ ap (λ (ns : List (List ℕ)). more_needs ns (before c.in_ok-places.places) c.program_name.result.now (needed c.object.result.now)) (sym offers.names)
+    (none_read c.args.program.now s listed (are.preloads inside) (subst (λ (n : ℕ). All (λ p. p < n) listed) files inside) c.preload_numbers.ensures.once c.add_needed.new.self
+    (c.in_ok-add_needed.ensures.ok entries are.has are.own
+    ∙ ap (λ (ns : List (List ℕ)). more_needs ns (before c.in_ok-places.places) c.program_name.result.now (needed c.object.result.now)) (sym are.names)
     ∙ ap (λ (n : List ℕ). more_needs names (before c.in_ok-places.places) n (needed c.object.result.now)) c.program_name.ensures
     ∙ ap (λ (f : List ℕ). more_needs names (before c.in_ok-places.places) program_name (needed f)) c.object.ensures.same
     ∙ ap (λ (q : Queue). more_needs names (before q) program_name (needed c.args.program.now)) c.in_ok-places.ensures

@@ -1,0 +1,4 @@
+use Rattle.registry.proofs.draft.UpdateListed.position.Goals as goal
+
+pub returns-clause-state : goal.returns-clause-state
+returns-clause-state g c d at = c.position.ensures.state at.0 d at.1

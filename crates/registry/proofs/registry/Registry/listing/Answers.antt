@@ -1,4 +1,0 @@
-use Rattle.registry.proofs.registry.Registry.listing.Goals as goal
-
-pub returns : goal.returns
-returns g c s at = λ i. record { libraries = c.in_ok-libraries.ensures s at i; preloads = c.in_ok-preloads.ensures s at i }

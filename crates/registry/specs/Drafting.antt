@@ -1,0 +1,81 @@
+-- What the commands of an update do to its draft: the state as it will be, which nothing on the disk
+-- holds before the commit (own).
+use Rattle.std.specs.Prelude.{◌≡◌, ◌⊎◌, ◌<◌, ◌↔◌, IsTrue, IsFalse, None}
+use Rattle.sector_disk.specs.Disk.{DiskFacts, AreCalls, LeavesOnly}
+use Rattle.states.specs.State.{State}
+use Rattle.store.specs.Draft.{Drafted, IsDraftedAt, IsSameDraft, StaysBeside, beside, drafted, longest_drafted}
+use Rattle.store.specs.Stands.{Stands}
+use Rattle.requests.specs.Phase.{Phase}
+use Rattle.requests.specs.Request.{Request, bind, list}
+use Rattle.requests.specs.Step.{Step, Leads, accepted, refusal_at}
+use Rattle.requests.specs.declared.refusal.Refusal.TheVariants.{Device, Reopen}
+use Rattle.requests.specs.declared.reply.Reply.{Reply}
+use Rattle.requests.specs.declared.reply.Reply.TheVariants.{Done, Refused}
+use Rattle.registry.specs.Answered.{IsAnswerTo}
+use Rattle.registry.specs.Untested.{UntestedStep}
+
+-- Where a draft stands, in the words of the step table: beside its state are the sectors of what stands
+-- and isn't in it, and those of versions that only binders hold.
+abbrev pub draft_phase : {D : Type 0} → (D → DiskFacts) → Drafted D → State → Phase
+draft_phase facts u d = record {
+  sectors = (facts u.store.disk).sectors;
+  lone = beside u;
+  longest = longest_drafted u;
+  failures = (facts u.store.disk).failures;
+  failed = u.store.failed;
+  state = d;
+}
+
+-- A write of a library that no test refuses failed: the draft is as it was, and every later answer is S2.
+pub record LosesDraft (p : Phase) (request : Request) (p' : Phase) : Type 0 where
+  pub sectors : p'.sectors ≡ p.sectors
+  pub risen : p.failures < p'.failures
+  pub failed : IsTrue p'.failed
+  pub untested : refusal_at p request ≡ None
+  pub state : p'.state ≡ p.state
+
+-- A change of a draft is tested by the step table, and what is accepted is planned: the draft has it,
+-- of the generation that stands.
+abbrev pub PlanStep : Phase → Request → Reply → Phase → Type 0
+PlanStep p request (Refused Device) p' = IsFalse p.failed × LosesDraft p request p'
+PlanStep p request (Refused refusal) p' = Step p request (Refused refusal) p'
+PlanStep p request answer p' =
+    IsFalse p.failed × (refusal_at p request ≡ None) × (answer ≡ Done) × Leads p (drafted p.state (accepted p.state request)) p'
+
+-- a command of an update: a bind and a listing are those of the step table, over the draft's state
+abbrev pub DraftStep : Phase → Request → Reply → Phase → Type 0
+DraftStep p (bind program base) answer p' = UntestedStep p (bind program base) answer p'
+DraftStep p list answer p' = Step p list answer p'
+DraftStep p request answer p' = PlanStep p request answer p'
+
+-- A command was answered so, and led from a state of the draft to this one; at every moment the disk
+-- holds the state s that stands.
+pub record AppliedDraft {D : Type 0} (facts : D → DiskFacts) (old new : Drafted D) (s d d' : State) (request : Request) (answer : Reply) : Type 0 where
+  pub step : DraftStep (draft_phase facts old d) request answer (draft_phase facts new d')
+  pub any_moment : LeavesOnly (facts old.store.disk) (facts new.store.disk) (λ m. Stands m s)
+  -- at the end the draft is at the state after; or a write failed, and that is the state before
+  pub kept : IsDraftedAt facts new s d' ⊎ (IsTrue new.store.failed × (d' ≡ d))
+
+-- the same, with the state after it
+abbrev pub AppliesDraft : {D : Type 0} → (D → DiskFacts) → Drafted D → Drafted D → State → State → Request → Reply → Type 0
+AppliesDraft facts old new s d request answer = (d' : State) × AppliedDraft facts old new s d d' request answer
+
+-- what an answer leaves of a draft: a refusal leaves it as it was, and so do a bind and a listing
+abbrev pub LeavesDraft : {D : Type 0} → Drafted D → Drafted D → Request → Reply → Type 0
+LeavesDraft old new request (Refused refusal) = IsSameDraft old new
+LeavesDraft old new (bind program base) answer = IsSameDraft old new
+LeavesDraft old new list answer = new ≡ old
+LeavesDraft old new request answer = Unit {0}
+
+-- A command of an update was answered so, on any disk.
+pub record AnsweredDraft {D : Type 0} (facts : D → DiskFacts) (old new : Drafted D) (request : Request) (answer : Reply) : Type 0 where
+  -- after a failed write the update can only be given up, and nothing is done
+  pub reopen : (answer ≡ Refused Reopen) ↔ IsTrue old.store.failed
+  pub failed : IsTrue old.store.failed → new ≡ old
+  -- S1 comes only where a call of the disk failed
+  pub device : answer ≡ Refused Device → (facts old.store.disk).failures < (facts new.store.disk).failures
+  pub answers : IsAnswerTo request answer
+  -- what stands is untouched, and what somebody holds
+  pub beside : StaysBeside facts old new
+  pub leaves : LeavesDraft old new request answer
+  pub calls : AreCalls (facts old.store.disk) (facts new.store.disk)

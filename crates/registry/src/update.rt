@@ -1,0 +1,110 @@
+// An update of a registry: several changes, and one commit.
+ghost use Rattle.std.specs.Prelude.{◌≡◌};
+
+use crate::bind::refusal_of_read;
+use crate::refusal::in_words;
+use crate::registry::Registry;
+use requests::Refusal;
+use sector_disk::Disk;
+use std::alloc::Global;
+use std::marker::Model;
+
+/// A registry in the midst of an update: what stands on its disk, and a draft of what is to stand.
+/// Contracts see the draft.
+pub struct Update<D: Disk> {
+    pub(crate) alloc: Global,
+    pub(crate) draft: store::Update<D>,
+}
+
+impl<D: Disk> Model for Update<D> {
+    ghost use Rattle.store.specs.Draft.{Drafted};
+
+    ghost Value = { Drafted D };
+
+    ghost view = { λ u. u.draft };
+}
+
+impl<D: Disk> Registry<D> {
+    ghost use Rattle.std.specs.Prelude.{◌≡◌, ◌⊎◌, IfErr, IfOk, IsFalse, IsTrue};
+    ghost use Rattle.states.specs.State.{State};
+    ghost use Rattle.store.specs.Draft.{IsDraftedAt, begun};
+    ghost use Rattle.store.specs.Opened.{IsAt};
+
+    /// Begins an update, whose draft is the state that stands. It makes no call of the disk. It
+    /// refuses with S2 or S11, and hands the registry back.
+    pub fn update(self) -> Result<Update<D>, (Refusal, Registry<D>)>
+        ensures begun { IfOk result (λ update. update ≡ begun self) }
+        ensures usable { IfOk result (λ update. IsFalse self.failed) }
+        ensures ok { (s : State) → IsAt D.facts self s
+            → IfOk result (λ update. IsDraftedAt D.facts update s s) }
+        ensures same { IfErr result (λ e. e.1 ≡ self) }
+        ensures refused { IfErr result (λ e.
+            ((e.0 ≡ Refusal.Reopen) × IsTrue self.failed)
+            ⊎ ((e.0 ≡ Refusal.OutOfMemory) × IsFalse self.failed)) }
+    {
+        let Registry { alloc, store } = self;
+        match store.update(alloc) {
+            Ok(draft) => Ok(Update { alloc, draft }),
+            Err((refusal, store)) => Err((refusal_of_read(refusal), Registry { alloc, store })),
+        }
+    }
+}
+
+impl<D: Disk> Update<D> {
+    ghost use Rattle.std.specs.Prelude.{◌≡◌, ◌⊎◌, IfErr, OnErr, OnOk, length};
+    ghost use Rattle.sector_disk.specs.Disk.{LeavesOnly};
+    ghost use Rattle.states.specs.State.{State};
+    ghost use Rattle.store.specs.Changed.{Changed};
+    ghost use Rattle.store.specs.Draft.{IsDraftedAt, commit_calls, committed};
+    ghost use Rattle.store.specs.HeldVersions.{KeepsHeld};
+    ghost use Rattle.store.specs.Opened.{IsAt};
+    ghost use Rattle.store.specs.Stands.{Stands};
+    ghost use Rattle.store.specs.declared.draft.Touched.TheVariants.{Nothing};
+
+    /// Whether a write of the update failed. Then each command of it answers S2.
+    pub fn has_failed(&self) -> bool
+        ensures { result ≡ self.now.store.failed }
+    {
+        self.draft.has_failed()
+    }
+
+    /// Commits the draft: one change of the registry, or none where the draft has none. It takes no
+    /// memory, and no sectors that aren't there. It refuses with S1 or S2, and gives the update up
+    /// then: after S1 the disk has to be opened again, and may hold either state.
+    pub fn commit(self) -> (Result<(), Refusal>, Registry<D>)
+        // A stop at any moment leaves what stood, or all of the draft.
+        ensures any_moment { (s d : State) → IsDraftedAt D.facts self s d
+            → LeavesOnly (D.facts self.store.disk) (D.facts result.1.disk)
+            (λ m. Stands m s ⊎ Stands m (committed self.touched s d)) }
+        ensures ok { (s d : State) → IsDraftedAt D.facts self s d → OnOk result.0
+            (IsAt D.facts result.1 (committed self.touched s d)) }
+
+        // What somebody holds stays as it was.
+        ensures held { KeepsHeld D.facts self.store result.1 }
+
+        // On any disk
+        ensures on_any_disk { Changed D.facts Refusal.Device Refusal.Reopen
+            self.store result.1 (commit_calls self.touched (length self.entries))
+            (λ e. (e ≡ Refusal.Device) ⊎ (e ≡ Refusal.Reopen)) result.0 }
+        ensures given_up { OnErr result.0 ((result.1.root ≡ self.store.root)
+            × (result.1.entries ≡ self.store.entries) × (result.1.held ≡ self.store.held)) }
+        ensures entries { OnOk result.0 (result.1.entries ≡ self.entries) }
+
+        // A draft of which nothing was changed leaves the registry as it was.
+        ensures same { self.touched ≡ Nothing → result.1 ≡ self.store }
+    {
+        let Update { alloc, draft } = self;
+        let (made, store) = draft.commit();
+        (in_words(made), Registry { alloc, store })
+    }
+
+    /// Gives the update up: the registry is as it was before it. It makes no call of the disk, also
+    /// after S2.
+    pub fn give_up(self) -> Registry<D>
+        ensures { result ≡ self.store }
+    {
+        let Update { alloc, draft } = self;
+        let store = draft.give_up();
+        Registry { alloc, store }
+    }
+}

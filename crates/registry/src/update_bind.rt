@@ -1,0 +1,146 @@
+// Binding a program with the draft of an update.
+ghost use Rattle.std.specs.Prelude.{◌≡◌, ◌<◌, IfErr, IfOk, OnOk, length, map, slice_index_or};
+ghost use Rattle.scope.specs.LoadOrder.{available, load_order, missing};
+ghost use Rattle.states.specs.State.{State};
+ghost use Rattle.store.specs.Draft.{IsDraftedAt};
+ghost use Rattle.store.specs.Stands.{no_library};
+ghost use Rattle.requests.specs.Binding.{object_of, objects, preload_numbers};
+ghost use Rattle.requests.specs.Library.{IsLibrary};
+ghost use Rattle.registry.specs.Untested.{ReadsLibraries};
+ghost use Rattle.registry.specs.inside.Drafting.{IsDraftReadRefusal, ReadsBeside};
+
+use crate::bind::refusal_of_read;
+use crate::bound::bind_found;
+use crate::library_file::LibraryFile;
+use crate::update::Update;
+use crate::walk::Walk;
+use hash_check::Admitted;
+use image::{Image, admit_program};
+use requests::{Refusal, Reply};
+use sector_disk::Disk;
+use std::alloc::Global;
+use store::StoreRefusal;
+
+/// Reads the file at this position of a draft, and sees that it is a library of its name.
+fn read_drafted<D: Disk>(
+    alloc: Global,
+    draft: &mut store::Update<D>,
+    position: usize,
+) -> Result<LibraryFile, StoreRefusal>
+    requires { position < length draft.old.entries }
+    ensures read { ReadsBeside D.facts draft.old draft.new }
+    ensures ok { (s d : State) → IsDraftedAt D.facts draft.old s d → IfOk result (λ file.
+        file ≡ slice_index_or d.libraries position no_library) }
+    ensures library { IfOk result IsLibrary }
+    ensures damaged { (s d : State) → IsDraftedAt D.facts draft.old s d
+        → IfErr result (λ e. e ≡ StoreRefusal.Damaged
+        → IsLibrary (slice_index_or d.libraries position no_library) → ⊥) }
+    ensures refusals { IfErr result (IsDraftReadRefusal D.facts draft.old draft.new) }
+{
+    let bytes = draft.read_blob(alloc, position)?;
+    LibraryFile::new(alloc, draft.name(position), bytes)
+}
+
+/// Reads the files that a program needs of a draft, in load order, as a bind of what stands does.
+fn read_needed_of<D: Disk>(
+    alloc: Global,
+    draft: &mut store::Update<D>,
+    program: &Admitted<'_>,
+) -> Result<Walk, StoreRefusal>
+    ensures read { ReadsBeside D.facts draft.old draft.new }
+    ensures ok { (s d : State) → IsDraftedAt D.facts draft.old s d → IfOk result (λ walk.
+        load_order program.now (objects d) (preload_numbers d)
+        ≡ available program.now (map object_of walk.files.items)) }
+    ensures missing { (s d : State) → IsDraftedAt D.facts draft.old s d → IfOk result (λ walk.
+        missing program.now (objects d) (preload_numbers d) ≡ walk.needs.missing) }
+    ensures libraries { (s d : State) → IsDraftedAt D.facts draft.old s d
+        → OnOk result (ReadsLibraries d program.now) }
+    ensures damaged { (s d : State) → IsDraftedAt D.facts draft.old s d → IfErr result (λ e.
+        e ≡ StoreRefusal.Damaged → ReadsLibraries d program.now → ⊥) }
+    ensures refusals { IfErr result (IsDraftReadRefusal D.facts draft.old draft.new) }
+{
+    // No two files have one name.
+    draft.entries_are_sound();
+    let mut walk = Walk::start(alloc, draft, program)?;
+    while walk.has_next() {
+        let file = read_drafted(alloc, draft, walk.next_position())?;
+        walk.take(alloc, draft, file)?;
+    }
+    Ok(walk)
+}
+
+impl<D: Disk> Update<D> {
+    ghost use Rattle.std.specs.Prelude.{◌≡◌, ◌≢◌, ◌<◌, Err, None, IsTrue, IfErr};
+    ghost use Rattle.image.specs.Refusal.{program_refusal};
+    ghost use Rattle.states.specs.State.{State};
+    ghost use Rattle.store.specs.Draft.{IsDraftedAt};
+    ghost use Rattle.requests.specs.Request.{bind};
+    ghost use Rattle.registry.specs.Answered.{IsBindAnswer, IsBindRefusal};
+    ghost use Rattle.registry.specs.Binding.{bound_answer};
+    ghost use Rattle.registry.specs.Drafting.{AppliesDraft, DraftStep, draft_phase};
+    ghost use Rattle.registry.specs.inside.Drafting.{ReadsBeside};
+
+    /// The image of a program that is admitted at a base that is good for it, or a refusal: S1, S5
+    /// or S11 of the first reading that has one, else B3, B4 or B5.
+    fn bind_admitted(&mut self, program: &Admitted<'_>, base: u64) -> Result<Image, Refusal>
+        requires { program_refusal program.now base ≡ None }
+        ensures step { (s d : State) → IsDraftedAt D.facts self.old s d
+            → DraftStep (draft_phase D.facts self.old d) (bind program.now base)
+            (bound_answer result) (draft_phase D.facts self.new d) }
+        ensures read { ReadsBeside D.facts self.old self.new }
+        ensures refusals { IfErr result IsBindRefusal }
+        ensures reopen { result ≡ Err Refusal.Reopen → IsTrue self.old.store.failed }
+        ensures device { result ≡ Err Refusal.Device
+            → (D.facts self.old.store.disk).failures < (D.facts self.new.store.disk).failures }
+    {
+        let walk = match read_needed_of(self.alloc, &mut self.draft, program) {
+            Ok(walk) => walk,
+            Err(refusal) => return Err(refusal_of_read(refusal)),
+        };
+        let image = bind_found(self.alloc, program, base, walk)?;
+        Ok(image)
+    }
+
+    /// The image of a program, or the first refusal. The program by itself is tested before any
+    /// call of the disk.
+    fn image(&mut self, file: &[u8], base: u64) -> Result<Image, Refusal>
+        ensures step { (s d : State) → IsDraftedAt D.facts self.old s d
+            → DraftStep (draft_phase D.facts self.old d) (bind file.now base)
+            (bound_answer result) (draft_phase D.facts self.new d) }
+        ensures read { ReadsBeside D.facts self.old self.new }
+        ensures failed { IsTrue self.old.store.failed → (result ≡ Err Refusal.Reopen)
+            × (self.new ≡ self.old) }
+        ensures refusals { IfErr result IsBindRefusal }
+        ensures reopen { result ≡ Err Refusal.Reopen → IsTrue self.old.store.failed }
+        ensures device { result ≡ Err Refusal.Device
+            → (D.facts self.old.store.disk).failures < (D.facts self.new.store.disk).failures }
+        ensures alone { program_refusal file.now base ≢ None → self.new ≡ self.old }
+    {
+        if self.draft.has_failed() {
+            return Err(Refusal::Reopen);
+        }
+        let program = admit_program(self.alloc, file, base)?;
+        self.bind_admitted(&program, base)
+    }
+
+    /// The reply to `Bind`: what a bind is answered once the draft is committed as it is.
+    pub(crate) fn bind(&mut self, program: &[u8], base: u64) -> Reply
+        ensures applied { (s d : State) → IsDraftedAt D.facts self.old s d
+            → AppliesDraft D.facts self.old self.new s d (bind program.now base) result }
+
+        // On any disk
+        ensures read { ReadsBeside D.facts self.old self.new }
+        ensures alone { program_refusal program.now base ≢ None → self.new ≡ self.old }
+        ensures failed { IsTrue self.old.store.failed
+            → (result ≡ Reply.Refused Refusal.Reopen) × (self.new ≡ self.old) }
+        ensures answers { IsBindAnswer result }
+        ensures reopen { result ≡ Reply.Refused Refusal.Reopen → IsTrue self.old.store.failed }
+        ensures device { result ≡ Reply.Refused Refusal.Device
+            → (D.facts self.old.store.disk).failures < (D.facts self.new.store.disk).failures }
+    {
+        match self.image(program, base) {
+            Ok(image) => Reply::Bound(image),
+            Err(refusal) => Reply::Refused(refusal),
+        }
+    }
+}
