@@ -43,6 +43,7 @@ CLAUSES = [
     ('rlibreg_c/change', 'rlibreg_plan_install rlibreg_plan_replace rlibreg_plan_remove', 'planned'),
     ('rlibreg_c/format', 'rlibreg_plan_format', 'plan answered left'),
     ('rlibreg_c/upgrade', 'rlibreg_plan_upgrade', 'plan answered left'),
+    ('rlibreg_c/update', 'rlibreg_plan_update', 'plan answered left'),
 ]
 READING = [
     ('1. Files', 'What the bytes of a file say, and when they are refused (gABI chapters 4 and 5).', [
@@ -93,7 +94,7 @@ PLAIN = {
     'byte_registry/Asked: IsUnupgraded': 'why none is upgraded: a test of an upgrade, want of memory, or what a look at the bytes refuses',
     'byte_registry/Plans: LeadsFrom': 'each mixture after each prefix of the steps is as before or as after, and each after all of them as after',
     'c_answers/Answers: IsPreloadAnswered': 'a choice of the preloads, answered as a change; or the bytes are no names in a row; or memory was refused',
-    'c_answers/Layout: IsImageOf': 'the buffers have the image that is defined over the registry that the bytes hold, with the defined byte at each address',
+    'c_answers/Buffers: IsImageOf': 'the buffers have the image that is defined over the registry that the bytes hold, with the defined byte at each address',
     'program_parts/Reply: command_refusal_text': 'the line of a refusal; after C1 comes that of the file; that of a bind or of a disk is as without a command',
     'registry/Acknowledged: Exchange': 'what was asked and answered: a command with its reply, or none, as of a step of a binder',
     'registry/Flight: goings_by': 'the length of a load order; 0 where a test refuses the program by itself',
@@ -103,7 +104,7 @@ PLAIN = {
     'registry/Flying: Flies': 'the binder is on this flight: it holds, in the registry as it is now, the libraries of the state that it was begun at',
     'registry/Flying: IsStep': 'what a step may be answered: Going, one step further; the answer, after exactly as many steps; or S1, S2, S11',
     'registry/Flying: IsLastStep': 'the same of a step',
-    'store/HeldVersions: AreVersions': 'each held version has one row and some holder, and counts as listed exactly where the state lists it',
+    'store/Holds: AreHolds': 'each held byte string has one row and some holder, and counts as listed exactly where the state lists it',
     'binders/Events: happening_of': 'what an event asks',
     'binders/EventsRan: exchanges': 'what events and their replies are to the state',
     'binders/Stepped: SteppedIn': 'the flights after a step: one step further, over with the answer of the bind, or where it was',
@@ -186,19 +187,19 @@ PLAIN = {
     'roots/Fields: ListsSectors': 'so many sectors in so many places: behind the root sectors and before `end`, none of them twice',
     'extents/Extent: AreDistinct': 'no number is there twice',
     'extents/Longest: longest_first': 'the runs sorted, longest first; of those that are as long, the one that came first stays first',
-    'extents/Runs: IsFreeRun': 'a free run, seen from outside: it is on the disk and free, and could be longer on neither side',
+    'extents/Runs: IsUnusedRun': 'an unused run, seen from outside: it is on the disk and unused, and could be longer on neither side',
 }
 CRATES = [
     ('names', 'Names of their own'), ('elf_file', 'Files'), ('elf_dynamic', 'Symbols and relocations of files'),
     ('hash_check', 'Admission and the search of names'), ('scope', 'Load order and lookup'),
     ('text_output', 'Text on its way to a writer'), ('image', 'Images'), ('executable', 'Executable files'),
     ('bindings', 'What symbols are bound to'), ('requests', 'Requests and the step table'),
-    ('sector_disk', 'The disk model'), ('file_disk', 'A disk over a file'), ('extents', 'Free and claimed sectors'),
+    ('sector_disk', 'The disk model'), ('file_disk', 'A disk over a file'), ('extents', 'Unused and claimed sectors'),
     ('states', 'States'), ('roots', 'Root, catalogue and entry sectors'), ('passes', 'Passes over a disk'), ('store', 'Named byte strings'),
     ('snapshots', 'Snapshots'), ('contents', 'What a disk has'), ('registry', 'The registry on a disk'),
     ('binders', 'Binders in slots'), ('byte_disk', 'A disk over given bytes'),
     ('byte_registry', 'A registry on given bytes'), ('c_answers', 'What calls for C are answered'), ('rlibreg_c', 'The calls for C'), ('commands', 'The program'),
-    ('program_parts', 'What programs share'), ('scripts', 'The lines of scripts'), ('tool_commands', 'The second program'),
+    ('program_parts', 'What programs share'), ('scripts', 'The lines of scripts'), ('updates', 'Several changes, one commit'), ('tool_parts', 'What forms tell and say'), ('tool_commands', 'The second program'),
     ('replays', 'The law that a dump replays')]
 HEAD = """# Definitions
 

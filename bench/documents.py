@@ -19,9 +19,9 @@ import definitions
 ROOT = Path(__file__).resolve().parent.parent
 PROOFS, DEFINITIONS, CLAUSES = (ROOT / 'docs' / f'{name}.md' for name in ('PROOFS', 'DEFINITIONS', 'CLAUSES'))
 LIMITS = {
-    'README.md': 1300, 'docs/ARCHITECTURE.md': 2505, 'docs/C.md': 3500, 'docs/CASES.md': 1585, 'docs/COMMANDS.md': 5100,
-    'docs/DECISIONS.md': 4340, 'docs/FORMATS.md': 3330, 'docs/GUIDE.md': 1700, 'docs/LINKING.md': 1600, 'docs/NEWS.md': 195,
-    'docs/PERFORMANCE.md': 2000, 'docs/PROOFS.md': 4340, 'docs/PYTHON.md': 1260, 'docs/TOOL.md': 1240}
+    'README.md': 1300, 'docs/ARCHITECTURE.md': 2505, 'docs/C.md': 3610, 'docs/CASES.md': 1585, 'docs/COMMANDS.md': 5100,
+    'docs/DECISIONS.md': 4340, 'docs/FORMATS.md': 3330, 'docs/GUIDE.md': 1700, 'docs/LINKING.md': 1600, 'docs/NEWS.md': 210,
+    'docs/PERFORMANCE.md': 2000, 'docs/PROOFS.md': 4340, 'docs/PYTHON.md': 1407, 'docs/TOOL.md': 1460}
 OF_A_CRATE = 200
 # names of the standards, of the system and of the toolchain, which the tree doesn't spell
 ELSEWHERE = {'sqlite_std_file', 'elf_x86_64', 'thread_local', 'lW', '__cxa_atexit', 'luaL_openlibs'}

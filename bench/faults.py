@@ -1,6 +1,6 @@
 #!/usr/bin/env python3
-"""Runs each changing command of the program `rlibreg` on a disk in a file, and has one system call after the other fail,
-or kills the program at it. Wants strace.
+"""Runs each changing command of the program `rlibreg`, and `update` of `rlibreg-tool`, on a disk in a file, and has one system
+call after the other fail, or kills the program at it. Wants strace.
 
     python3 bench/faults.py PROGRAM FOLDER [--tool RLIBREG_TOOL]
 
@@ -49,14 +49,18 @@ def made_files(folder):
 
 
 class Bench:
-    def __init__(self, program, folder):
-        self.program, self.folder = str(program.resolve()), folder
+    def __init__(self, program, tool, folder):
+        self.program, self.tool, self.folder = str(program.resolve()), tool and str(tool.resolve()), folder
         self.disk, self.other = folder / 'disk', folder / '.disk.rlibreg-new'
         self.wrong = 0
 
     def run(self, words, wrapped=()):
-        ended = subprocess.run([*wrapped, self.program, *words], cwd=self.folder, capture_output=True, timeout=120)
+        program, lines = (self.tool, self.lines()) if words[0] == 'update' else (self.program, None)
+        ended = subprocess.run([*wrapped, program, *words], cwd=self.folder, input=lines, capture_output=True, timeout=120)
         return ended.returncode, ended.stdout
+
+    def lines(self):
+        return b'replace %s\npreload b a\ncommit\n' % (self.folder / 'b2.so').read_bytes().hex().encode()
 
     def done(self, *words):
         status, text = self.run(words)
@@ -96,7 +100,7 @@ class Bench:
         self.put(start)
         status, text = self.run(words, ['strace', '-qq', '-o', '/dev/null', '-e', f'inject={fault}'])
         left = self.other.exists() and call not in UNLINKS and 'KILL' not in fault
-        found, told = self.seen(), 'done' if text == b'ok\n' else 'not told'
+        found, told = self.seen(), 'done' if text.endswith(b'ok\n') else 'not told'
         if left or found not in states or told == 'done' and found != states[1]:
             self.wrong += 1
             print(f'WRONG: {words} {fault}: {status} {text} {found}' + (', and the other name is left' if left else ''))
@@ -133,7 +137,7 @@ def main():
     program, folder = given.program, given.folder
     folder.mkdir(parents=True, exist_ok=True)
     made_files(folder)
-    bench = Bench(program, folder)
+    bench = Bench(program, given.tool, folder)
     bench.put(None)
     bench.done('format', 'disk', SECTORS)
     bench.done('install', 'disk', 'a.so')
@@ -148,6 +152,8 @@ def main():
         (['format', 'disk', SECTORS], None), (['install', 'disk', 'b.so'], one), (['replace', 'disk', 'b2.so'], two),
         (['remove', 'disk', 'b'], two), (['preload', 'disk', 'b', 'a'], two), (['upgrade', 'disk'], old),
     ]
+    if given.tool:
+        commands.append((['update', 'disk'], two))
     if not shutil.which('strace'):
         print('skipped: calls that fail: there is no strace')
         commands = []

@@ -11,27 +11,29 @@ release=${2:-bookworm}
 cd "$(dirname "$0")/.."
 root=$(mktemp -d)
 chmod 755 "$root" # else apt-get's own user can't read there who resolves names
-trap 'rm -rf "$root"' EXIT
+trap 'loops=$root/tmp/walk/loops; [ ! -f "$loops" ] || xargs -rn 1 losetup -d < "$loops" || true
+    umount "$root/proc" "$root/sys" 2> /dev/null || true; rm -rf --one-file-system "$root"' EXIT
 wanted=bzip2,g++,libc6-dev,make,musl-tools,pkg-config,python3,python3-pip,python3-setuptools,python3-venv,python3-wheel
 debootstrap --variant=minbase --include=$wanted "$release" "$root" > "$root.log" 2>&1 ||
     { tail "$root.log" >&2; exit 1; }
 rm "$root.log"
 mkdir "$root/rlibreg" "$root/rlibreg/c"
-cp -r docs python "$root/rlibreg/"
+cp -r docs python share "$root/rlibreg/"
 cp -r c/*.{sh,py,in,lua} c/rlibreg.h c/system c/tests "$root/rlibreg/c/"
+cp bench/page.sh "$root/rlibreg/"
 cp -rP "$built" "$root/rlibreg/c/out"
 
 cat > "$root/walk.sh" << 'END'
 set -eEuo pipefail
 trap 'echo "failed: $BASH_COMMAND" >&2' ERR
 
-# commands PAGE: its commands; program PAGE NUMBER: one of its programs in C.
-commands() {
-    sed -n 's/^    \$ //p' "/rlibreg/docs/$1.md"
-}
+. /rlibreg/page.sh
+docs=/rlibreg/docs
+
+# program PAGE NUMBER: one of its programs in C.
 program() {
     awk -v number="$2" '/^```c$/ {block++; next} /^```$/ {inside = 0}
-        block == number && /^\/\*/ {inside = 1} inside' "/rlibreg/docs/$1.md"
+        block == number && /^\/\*/ {inside = 1} inside' "$docs/$1.md"
 }
 everything() {
     find / -xdev -path /proc -prune -o -print | sort
@@ -56,7 +58,7 @@ by_pkg_config() {
     echo "pkg-config: $(pkg-config --modversion rlibreg), $(pkg-config --cflags --libs rlibreg)"
     program C 1 > updater.c
     gcc -Wall -Wextra -o updater updater.c $(pkg-config --cflags --libs rlibreg)
-    eval "$(commands PYTHON)"
+    eval "$(commands $docs/PYTHON.md)"
     ./updater disk libone.so
     rlibreg list disk
     rlibreg bind disk program 0x10000 | grep object
@@ -127,7 +129,7 @@ C
     $object -shared -Wl,-soname,libb.so -o libb.so b.c
     $object -pie -o program alone.c libb.so
     ./updater disk libb.so
-    eval "$(commands TOOL)"
+    eval "$(commands $docs/TOOL.md)"
     rlibreg list old | tee listed
     rlibreg list new | cmp - listed
     echo 'docs/TOOL.md: as written'
@@ -148,7 +150,7 @@ for line in io.lines(arg[0]) do io.write(#line, " ") end
 print(select(2, pcall(require, "nowhere")))
 os.exit(true, true)
 LUA
-    eval "$(commands LINKING)" > found
+    eval "$(commands $docs/LINKING.md)" > found
     musl-gcc -O2 -static -o lua.static src/lua.c $core
     { printf 'ok\nok\n'; ./lua.static script.lua; printf 'ok\n2\n'; } > wanted
     sed 1,2d found | head -n 1
@@ -163,6 +165,41 @@ by_table() {
     command=$(sed -n "s/^| $1 [0-9.]* | \`\([^\`]*\)\` .*/\1/p" /rlibreg/docs/LINKING.md)
     cp -r "../$2" .
     (cd "$2" && eval "$command") > log 2>&1 || { tail log >&2; return 1; }
+}
+
+# A registry on a partition, its copy, the switch, and growing, by the page's commands, over loop devices
+# in the place of partitions. The system's word on a device is asked for in /proc and /sys.
+partitions() {
+    local page=$docs/DEVICES.md node number
+    mount -t proc proc /proc
+    mount -t sysfs sysfs /sys
+    mknod /dev/loop-control c 10 237
+    for number in {0..63}; do mknod "/dev/loop$number" b 7 "$number"; done
+    mkdir -p /dev/disk/by-partlabel /var/cache/rlibreg
+    : > loops
+    for node in rlibreg_a rlibreg_b rlibreg_c; do
+        eval "$(commands $page Partitions fallocate)" || break
+        echo "$loop" >> loops
+        ln -s "$loop" /dev/disk/by-partlabel/$node
+        mv file $node
+    done 2> lost
+    if [ "$(wc -l < loops)" = 3 ]; then
+        eval "$(commands $page Partitions a=/dev)"
+        rlibreg install $a libone.so
+        printf 'install %s\ncommit\n' "$(od -An -v -tx1 libtwo.so | tr -d ' \n')" > changes
+        eval "$(commands $page Partitions 'flock -s')"
+        a=$b b=/dev/disk/by-partlabel/rlibreg_c
+        eval "$(commands $page Partitions 'dd if=/dev/zero')"
+        eval "$(commands $page Partitions 'rm -rf')"
+        rlibreg-tool digest /etc/rlibreg/disk | cmp - <(sha256sum libone.so libtwo.so)
+        [ "$(rlibreg-run /etc/rlibreg/disk main | head -n 1)" = '+one +two main' ]
+        echo 'docs/DEVICES.md: partitions as written, over loop devices'
+    else
+        echo "left out: partitions, since there are no loop devices: $(cat lost)"
+    fi
+    xargs -rn 1 losetup -d < loops
+    umount /proc /sys
+    rm -rf rlibreg_* /dev/loop* /dev/disk /var/cache/rlibreg /etc/rlibreg
 }
 
 # Projects as they are: three by their own commands, and what they do.
@@ -192,6 +229,7 @@ by_python
 by_wheel
 /rlibreg/c/example.sh 2> /dev/null | tail -n 1
 objects
+partitions
 tool
 lua
 projects

@@ -97,7 +97,7 @@ python3 -c 'import rlibreg; print(rlibreg.Registry("disk").list())'
 rm disk
 dpkg -r rlibreg > /dev/null
 everything > after
-diff before after | grep -v ' /try/\(before\|after\)$' | grep '^[<>]' && exit 1
+if diff before after | grep -v ' /try/\(before\|after\)$' | grep '^[<>]'; then exit 1; fi
 END
 
 # A library and a program that needs it.

@@ -1,12 +1,13 @@
 #!/usr/bin/env bash
-# partitions.sh BUILT [RELEASE [CUTS]] tries the section "Partitions" of docs/GUIDE.md with what
+# partitions.sh BUILT [RELEASE [CUTS]] tries the section "Partitions" of docs/DEVICES.md with what
 # c/build.sh has put into BUILT: the commands as they stand there, in a Debian (RELEASE is bookworm)
 # that systemd and udev run in a guest of qemu, with a disk of partitions, and over a loop device of
 # this machine.
 #
 # - Units and rule by systemd's own checkers, as far as RELEASE has them.
 # - A loop device with direct I/O: what is made on it is, byte for byte, what is made in a file.
-# - The node's group and mode; the service that waits, the one that starts, its kept image; the switch.
+# - The node's group and mode; the service that waits, the one that starts, its kept image; the switch;
+#   growing, also where a copy was cut before.
 # - A program that the initramfs starts, and a first process, from a registry on a partition.
 # - dm-verity: the same over it; a changed byte, and another root hash, start nothing.
 # - The power goes CUTS times (5) while the switch goes to and fro: the link names one of the two.
@@ -16,26 +17,14 @@
 set -eu
 built=$(cd "$1" && pwd)
 PATH=$built:$PATH
-release=${2:-bookworm} cuts=${3:-5} accel=${ACCEL:-tcg}
+release=${2:-bookworm} cuts=${3:-5}
 cd "$(dirname "$0")/.."
 room=$(mktemp -d)
-root=$room/root disk=$room/disk.img guide=$PWD/docs/GUIDE.md guest= loop=
+page=$PWD/docs/DEVICES.md loop=
+. bench/guest.sh
 mkdir "$room/made"
 trap 'ended=$?; [ -z "$guest" ] || kill "$guest" || true; [ -z "$loop" ] || losetup -d "$loop"
     rm -rf "$room"; exit $ended' EXIT
-
-failed() {
-    echo "partitions.sh: $1" >&2
-    tail -n 40 "$room/console" >&2 || true
-    exit 1
-}
-
-# The commands of the section, by the words that the first has; up to the next empty line.
-commands() {
-    awk -v first="$1" '/^## / {inside = $2 == "Partitions"} !/^    \$ / {block = 0}
-        inside && /^    \$ / {if (index($0, first)) block = 1; if (block) print substr($0, 7)}' "$guide" |
-        grep . || failed "GUIDE has no commands that begin with $1"
-}
 
 # Two libraries of one name, a program that prints what they say, and one that is the first process.
 programs() {
@@ -65,7 +54,7 @@ END
 # The commands for a loop device, and the same registry in a file.
 over_a_loop_device() {
     cd "$room/made"
-    eval "$(commands 'fallocate')"
+    eval "$(of Partitions 'fallocate')"
     [ "$(losetup -nO DIO "$loop" | tr -d ' ')" = 1 ] || failed 'the loop device has no direct I/O'
     rlibreg format "$loop" 8192
     rlibreg install "$loop" libone.so
@@ -80,24 +69,14 @@ over_a_loop_device() {
     echo 'a loop device: as written, with direct I/O'
 }
 
-# A Debian with what is installed, and the initramfs that it makes.
-debian() {
-    local wanted=systemd,systemd-sysv,udev,initramfs-tools,linux-image-amd64,cryptsetup-bin,e2fsprogs
-    debootstrap --variant=minbase --include=$wanted,busybox,zstd "$release" "$root" > "$room/log" 2>&1 ||
-        { tail "$room/log" >&2; exit 1; }
-    DESTDIR=$root PYTHONDIR=/usr/lib/python3/dist-packages c/install.sh /usr "$built"
+# A Debian with what is installed, and what the guest needs beside it.
+prepare() {
+    debian systemd,systemd-sysv,cryptsetup-bin,e2fsprogs
     cp "$room/made/program" "$room/made/first" "$root/usr/bin/"
-    mkdir "$root/try"
     cp "$room"/made/*.so "$root/try/"
     chroot "$root" systemd-sysusers
-    mkdir -p "$root/etc/rlibreg"
     echo /usr/bin/program > "$root/etc/rlibreg/initramfs"
-    printf 'MODULES=list\nCOMPRESSLEVEL=1\n' > "$root/etc/initramfs-tools/conf.d/small"
-    printf '%s\n' virtio_pci virtio_blk ext4 > "$root/etc/initramfs-tools/modules"
-    chroot "$root" sh -c 'mkinitramfs -o /boot/initramfs "$(ls /lib/modules)"'
-    mv "$root"/boot/vmlinuz-* "$room/kernel"
-    mv "$root/boot/initramfs" "$room/initramfs"
-    rm -rf "$root"/boot/* "$root"/usr/lib/modules/* "$root"/var/cache/apt "$root"/var/lib/apt/lists
+    initramfs
 }
 
 # systemd's own checkers.
@@ -113,7 +92,7 @@ checkers() {
     fi
 }
 
-# What the guest does on its first day, with the commands of GUIDE, and in its cuts.
+# What the guest does on its first day, with the commands of DEVICES, and in its cuts.
 scripts() {
     {
         cat << 'END'
@@ -123,13 +102,13 @@ trap 'echo "rlibreg: failed: $BASH_COMMAND"; journalctl -b -o cat -u "rlibreg*" 
 cd /try
 udevadm settle
 END
-        commands 'a=/dev'
+        of Partitions 'a=/dev'
         cat << 'END'
 echo "rlibreg: the node is $(stat -Lc '%U:%G %a' $a)"
 rlibreg install $a libone.so
 END
         echo 'start() {'
-        commands 'systemctl start'
+        of Partitions 'systemctl start'
         cat << 'END'
     while systemctl is-active -q 'rlibreg@*'; do sleep 0.1; done
     journalctl --sync
@@ -138,16 +117,26 @@ start
 start
 journalctl -b -o cat -u 'rlibreg*' | grep '^library\|^rlibreg: one'
 find /var/cache/rlibreg -type f -printf 'rlibreg: kept by %u in %h\n'
-echo 'replace '$(od -An -v -tx1 libother.so | tr -d ' \n') > changes
+printf 'replace %s\ncommit\n' $(od -An -v -tx1 libother.so | tr -d ' \n') > changes
 END
-        commands 'flock -s'
+        of Partitions 'flock -s'
         cat << 'END'
 start
 journalctl -b -o cat -u 'rlibreg*' | grep '^rlibreg: other'
 END
-        commands 'veritysetup format' | sed 's/$/ > tree/'
+        of Partitions 'veritysetup format' | sed 's/$/ > tree/'
         cat << 'END'
 sed -n 's/^Root hash:[[:space:]]*/rlibreg: roothash=/p' tree
+a=$b b=/dev/disk/by-partlabel/rlibreg_c
+rlibreg format $b $(blockdev --getsz $b)
+rlibreg-tool dump $a commit | head -c 9999 | rlibreg-tool update $b || echo 'rlibreg: a copy is cut'
+END
+        of Partitions 'dd if=/dev/zero'
+        of Partitions 'rm -rf'
+        cat << 'END'
+echo "rlibreg: there are $(rlibreg-tool info /etc/rlibreg/disk | sed -n 's/^sectors //p') sectors"
+rlibreg-tool dump $a | cmp - <(rlibreg-tool dump $b)
+start
 echo 'rlibreg: the day is over'
 poweroff -f
 END
@@ -161,7 +150,7 @@ rlibreg list /etc/rlibreg/disk
 echo 'rlibreg: to and fro'
 while :; do
 END
-        commands 'flock -s' | grep 'ln \|mv '
+        of Partitions 'ln -sfn'
         printf 'c=$a a=$b b=$c\ndone\n'
     } > "$root/try/cuts.sh"
     chmod 755 "$root/try/day.sh" "$root/try/cuts.sh"
@@ -181,51 +170,19 @@ END
     rm -f "$root/etc/rlibreg/disk"
 }
 
-# A disk with four partitions, of which the first is the root.
-partitions() {
-    local size
-    size=$(($(du -sm "$root" | cut -f1) + 150))
-    truncate -s $((size + 20))M "$disk"
-    printf '%s\n' 'label: gpt' "size=${size}M, name=root" 'size=4M, name=rlibreg_a' \
-        'size=4M, name=rlibreg_b' 'size=1M, name=rlibreg_hashes' | sfdisk -q "$disk"
-    mke2fs -q -t ext4 -d "$root" -E offset=$((1 << 20)) "$disk" ${size}M
-}
-
-# boot [WORD]..: with these behind the kernel's command line. The console's lines are in a file.
-boot() {
-    qemu-system-x86_64 -accel "$accel" -m 1024 -nographic -no-reboot -kernel "$room/kernel" \
-        -initrd "$room/initramfs" -drive "file=$disk,format=raw,if=virtio,cache=writeback" \
-        -append "root=PARTLABEL=root rw console=ttyS0 no_timer_check panic=1 quiet $*" > "$room/console" 2>&1 < /dev/null &
-    guest=$!
-}
-
-# ended: waits for the end of the guest, half an hour at most. What it said is without the console's
-# own signs.
-ended() {
-    timeout 1800 tail --pid=$guest -f /dev/null || failed 'the guest goes on'
-    wait $guest || true
-    guest=
-    tr -d '\r' < "$room/console" | sed 's/\x1b[^A-Za-z]*[A-Za-z]//g' |
-        grep -a '^rlibreg\|^library' > "$room/said" || true
-}
-
-# said LINE..: whether the console has each.
-said() {
-    local line
-    for line; do grep -aq "$line" "$room/said" || failed "the guest didn't say: $line"; done
-}
-
 programs
 over_a_loop_device
-debian
+prepare
 checkers
 scripts
-partitions
+partitions 'size=4M, name=rlibreg_a' 'size=8M, name=rlibreg_c' 'size=4M, name=rlibreg_b' \
+    'size=1M, name=rlibreg_hashes' # a byte is changed where the text stands last: in rlibreg_b
 boot
 ended
 said 'the node is root:rlibreg 640' '^library libgreeting.so' '^rlibreg: one' '^rlibreg: other' \
-    'kept by rlibreg in /var/cache/rlibreg/usr-bin-program' 'roothash=' 'the day is over'
-echo 'systemd, the switch: as written'
+    'kept by rlibreg in /var/cache/rlibreg/usr-bin-program' 'roothash=' 'a copy is cut' \
+    'there are 16384 sectors' 'the day is over'
+echo 'systemd, the switch, growing: as written'
 hash=$(sed -n 's/^rlibreg: roothash=//p' "$room/said")
 
 node=/dev/disk/by-partlabel/rlibreg_b
@@ -256,11 +213,8 @@ echo 'dm-verity: the same, and nothing of a changed byte or under another root h
 
 for ((i = 0; i <= cuts; i++)); do
     boot init=/try/cuts.sh
-    timeout 1800 sh -c "until grep -aq 'to and fro' '$room/console'; do sleep 0.2; done" ||
-        failed 'the guest goes on'
-    sleep "$((RANDOM % 3)).$((RANDOM % 10))"
-    kill -9 $guest
-    ended
-    said 'the link names /dev/disk/by-partlabel/rlibreg_[ab]$' '^library libgreeting.so'
+    begun 'to and fro'
+    power_cut 3
+    said 'the link names /dev/disk/by-partlabel/rlibreg_[abc]$' '^library libgreeting.so'
 done
 echo "$cuts power cuts: the link is whole"

@@ -17,7 +17,6 @@ import subprocess
 INPUT, OUTPUT, ERRORS = 0, 1, 2
 SUBSETS = [set(some) for count in (1, 2, 3) for some in itertools.combinations((INPUT, OUTPUT, ERRORS), count)]
 NAMES = {INPUT: '/dev/stdin', OUTPUT: '/dev/stdout', ERRORS: '/dev/stderr'}
-LINES = b'preload b a\nlist\n'
 WAIT = 0.5
 
 Ended = collections.namedtuple('Ended', 'status output errors disk')
@@ -28,6 +27,8 @@ class Streams:
 
     NAME, BAD_LINE = 'rlibreg', b'bad command line'
     UNWRITTEN = b''  # what is said where the output fails
+    # The command that reads lines, with lines, how many reads these take, and the status where none come.
+    READER, LINES, READS, NO_LINES = 'script', b'preload b a\nlist\n', 2, 0
 
     def __init__(self, program, folder, one, two, old):
         self.program, self.folder, self.disk = str(program), folder, folder / 'disk'
@@ -81,7 +82,7 @@ class Streams:
             [self.program, *words], cwd=self.folder, preexec_fn=close, pass_fds=passed,
             stdin=into[INPUT], stdout=into[OUTPUT], stderr=into[ERRORS])
         try:
-            output, errors = process.communicate(LINES if INPUT not in given else None, timeout=wait)
+            output, errors = process.communicate(self.LINES if INPUT not in given else None, timeout=wait)
         except subprocess.TimeoutExpired:
             process.kill()
             output, errors = process.communicate()
@@ -104,7 +105,7 @@ class Streams:
 
     def expected(self, words, plain, failing):
         """The status where some streams fail: of a command that gives text to the output, or of a script that was run."""
-        reads = words[0] == 'script' and plain.output
+        reads = words[0] == self.READER and plain.output
         return 3 if OUTPUT in failing and plain.output or INPUT in failing and reads and plain.status == 0 else plain.status
 
     def closed_streams(self, kind, words, start, plain, **how):
@@ -113,12 +114,12 @@ class Streams:
         for closed in SUBSETS:
             self.put(before)
             ended = self.run(words, closed=closed, **how)
-            unread = INPUT in closed and words[0] == 'script'
+            unread = INPUT in closed and words[0] == self.READER
             holds = ended.status == self.expected(words, plain, closed)
             holds &= unread or ended.output == (b'' if OUTPUT in closed else plain.output)
             said = plain.errors or (self.UNWRITTEN if OUTPUT in closed and plain.output else b'')
             holds &= unread or ended.errors == (b'' if ERRORS in closed else said)
-            holds &= ended.disk == (before if unread else plain.disk)
+            holds &= ended.disk == (before if unread or words[0] == 'update' and OUTPUT in closed else plain.disk)
             self.check(kind, words, start, ended, holds, before, plain.disk)
 
     def closed(self):
@@ -159,12 +160,12 @@ class Streams:
 
     def the_disk(self):
         """The disk itself behind a stream: nothing is written, and only a message elsewhere is said. Standard input is looked
-        at for `script` alone: for every other command the disk behind it is one like any other."""
+        at for `script` and `update` alone: for every other command the disk behind it is one like any other."""
         contents = {'a registry': self.starts['a registry'], 'zeros': self.starts['zeros'], 'an empty file': b'', '24 bytes': bytes(24)}
         for (start, content), stream in itertools.product(contents.items(), NAMES):
             for name, more in itertools.product(('disk', 'link', NAMES[stream], f'/proc/self/fd/{stream}', f'/dev/fd/{stream}'), (0, os.O_APPEND)):
                 for words, status, message in self.with_disk(name):
-                    if stream == INPUT and words[0] != 'script':
+                    if stream == INPUT and words[0] != self.READER:
                         self.behind_input(name, words, start, content, more)
                         continue
                     ended = self.behind(stream, words, content, more)
@@ -205,8 +206,8 @@ class Streams:
 
     def odd(self):
         """Streams of other kinds, with what they have to end with."""
-        for kind, stream, statuses, made in kinds():
-            for start, words in itertools.product(self.starts, self.commands()):
+        for kind, stream, statuses, made in kinds(self.LINES, self.NO_LINES):
+            for start, words in itertools.product(self.starts, self.odd_commands()):
                 plain, before = self.plain(words, start), self.start_of(words, start)
                 self.put(before)
                 given, behind, late = made()
@@ -215,9 +216,12 @@ class Streams:
                 for end in (given, behind):
                     if end is not None and not (late and end is behind):
                         end.close() if hasattr(end, 'close') else os.close(end)
-                uses = {INPUT: words[0] == 'script' and plain.status == 0, OUTPUT: plain.output, ERRORS: plain.errors}[stream]
+                uses = {INPUT: words[0] == self.READER and plain.status == 0, OUTPUT: plain.output, ERRORS: plain.errors}[stream]
                 holds = ended.status in ((plain.status, *statuses) if not uses or stream == ERRORS else statuses)
                 self.check(kind, words, start, ended, holds, before, plain.disk)
+
+    def odd_commands(self):
+        return self.commands()
 
     def hung_up(self, words, stream, given, behind):
         """The other end of a terminal goes before the command is run."""
@@ -239,23 +243,23 @@ class Streams:
             self.check('no /proc', ['list', name], 'a folder', plain, plain[:3] == (3, b'', f'rlibreg: cannot read {name}\n'.encode()), None, None)
 
     def interrupted(self):
-        """A read of a script that a signal interrupts is made again: the first, and the one that finds its end."""
+        """A read of lines that a signal interrupts is made again: the first, and the one that finds the end of a script."""
         if not shutil.which('strace'):
             print('skipped: an interrupted read: there is no strace')
             return
-        plain = self.plain(['script', 'disk'], 'a registry')
-        for number in 1, 2:
+        plain = self.plain([self.READER, 'disk'], 'a registry')
+        for number in range(1, self.READS + 1):
             self.put(self.starts['a registry'])
             lines = self.folder / 'lines'
-            lines.write_bytes(LINES)
+            lines.write_bytes(self.LINES)
             with open(lines, 'rb') as given:
                 ended = subprocess.run(
-                    ['strace', '-qq', '-o', 'log', '-P', lines, '-e', f'inject=read:error=EINTR:when={number}', self.program, 'script', 'disk'],
+                    ['strace', '-qq', '-o', 'log', '-P', lines, '-e', f'inject=read:error=EINTR:when={number}', self.program, self.READER, 'disk'],
                     cwd=self.folder, stdin=given, capture_output=True)
             log = self.folder / 'log'
             holds = 'EINTR' in log.read_text() and (ended.returncode, ended.stdout) == (plain.status, plain.output)
             ended = Ended(ended.returncode, ended.stdout, ended.stderr, self.found())
-            self.check('an interrupted read', ['script', 'disk'], 'a registry', ended, holds, self.starts['a registry'], plain.disk)
+            self.check('an interrupted read', [self.READER, 'disk'], 'a registry', ended, holds, self.starts['a registry'], plain.disk)
             lines.unlink()
             log.unlink()
 
@@ -271,15 +275,16 @@ class Streams:
 
 
 class ToolStreams(Streams):
-    """Those of the program `rlibreg-tool`, which reads no standard input."""
+    """Those of the program `rlibreg-tool`. Other kinds of streams are tried by `update` alone, which reads standard input."""
 
     NAME, BAD_LINE = 'rlibreg-tool', b'usage: rlibreg-tool '
     UNWRITTEN = b'rlibreg-tool: cannot write\n'
+    READER, LINES, READS, NO_LINES = 'update', b'preload b a\nlist\ncommit\n', 1, 1
 
     def commands(self, disk='disk', files=lambda name: name):
         return [
             ['info', disk], ['check', disk], ['file', disk, 'b'], ['dump', disk], ['replace', disk, files('b2.so')],
-            ['remove', disk, 'b'], ['executable', disk, files('alone'), '0x400000'],
+            ['remove', disk, 'b'], ['executable', disk, files('alone'), '0x400000'], ['update', disk],
         ]
 
     def with_disk(self, disk):
@@ -287,7 +292,10 @@ class ToolStreams(Streams):
         return [(words, *unread) for words in self.commands(disk)]
 
     def parts(self):
-        return [self.closed, self.the_disk, self.odd_words]
+        return [self.closed, self.the_disk, self.odd, self.interrupted, self.odd_words]
+
+    def odd_commands(self):
+        return [words for words in self.commands() if words[0] == self.READER]
 
 
 def full_pipe(blocking):
@@ -313,9 +321,9 @@ def gone_peer():
     return theirs, None, False
 
 
-def talking_socket():
+def talking_socket(lines):
     ours, theirs = socket.socketpair()
-    ours.sendall(LINES)
+    ours.sendall(lines)
     ours.shutdown(socket.SHUT_WR)
     return theirs, ours, False
 
@@ -339,13 +347,13 @@ def device(name, mode):
     return lambda: (os.open(name, mode), None, False)
 
 
-def kinds():
-    """Kinds of streams: which of the three, the statuses where it is used, and how it is made. A process that Python starts
+def kinds(lines, no_lines):
+    """Kinds of streams: which of the three, the statuses where it is used, and how it is made, a socket with lines. A process that Python starts
     has SIGPIPE as the system has it, so that it would end one that doesn't ignore it."""
     for stream, name in NAMES.items():
         yield f'a folder as {name}', stream, (3,), folder
-        yield f'a socket as {name}', stream, (0, 1, 3), talking_socket
-        yield f'a terminal that has hung up as {name}', stream, (0,) if stream == INPUT else (3,), terminal
+        yield f'a socket as {name}', stream, (0, 1, 3), lambda: talking_socket(lines)
+        yield f'a terminal that has hung up as {name}', stream, (no_lines,) if stream == INPUT else (3,), terminal
     yield 'a pipe without a byte that does not wait as /dev/stdin', INPUT, (3,), silent_pipe
     yield '/dev/full as /dev/stdout', OUTPUT, (3,), device('/dev/full', os.O_WRONLY)
     for stream in (OUTPUT, ERRORS):

@@ -8,10 +8,11 @@
  *
  * There are two layers.
  *
- * 1. Calls over bytes (rlibreg_bind, rlibreg_list, rlibreg_file, rlibreg_digest, rlibreg_info,
- *    rlibreg_check, rlibreg_plan_*). Each is proved to return, to do nothing undefined, and to give
- *    what is defined (docs/C.md). They do no input or output: who calls has the bytes of the disk in
- *    memory, and gets an image, a listing, a library's bytes, their digest, what is told of the
+ * 1. Calls over bytes (rlibreg_bind, rlibreg_bindings, rlibreg_executable, rlibreg_list,
+ *    rlibreg_file, rlibreg_digest, rlibreg_info, rlibreg_check, rlibreg_plan_*). Each is proved to
+ *    return, to do nothing undefined, and to give what is defined (docs/C.md). They do no input or
+ *    output: who calls has the bytes of the disk in memory, and gets an image, what its symbols are
+ *    bound to, its executable file, a listing, a library's bytes, their digest, what is told of the
  *    whole, what is found of each library, or a plan, which is the list of the writes and syncs that
  *    make a change.
  * 2. Calls over a file (struct rlibreg and the calls behind it), in C over the first layer, which
@@ -115,7 +116,8 @@ uint32_t rlibreg_version(void);
  *
  * Each call gives one. 0: it did what it is for. 1 to 9: the library's own. Above: the refusal of
  * that number in docs/COMMANDS.md, with 100 for B (of a bind), 200 for C (of a command) and 300 for
- * S (of the disk): 103 is B3. rlibreg_status_name gives the name. */
+ * S (of the disk): 103 is B3. From 401 on: why a bound program has no executable file, of which
+ * docs/TOOL.md has more. rlibreg_status_name gives the name. */
 enum {
     RLIBREG_DONE = 0,
     RLIBREG_NO_ROOM = 1,      /* a buffer is too small: the answer has what is needed */
@@ -148,7 +150,17 @@ enum {
     RLIBREG_TOO_MANY = 309,          /* S9: more than 2,048 libraries */
     RLIBREG_GENERATION_END = 310,    /* S10: it was changed 2^64 - 1 times */
     RLIBREG_OUT_OF_MEMORY = 311,     /* S11: memory was refused */
-    RLIBREG_OLD_FORMAT = 312         /* S12: a disk of version 1, which is to be upgraded */
+    RLIBREG_OLD_FORMAT = 312,        /* S12: a disk of version 1, which is to be upgraded */
+
+    RLIBREG_NO_ENTRY = 401,         /* the program has no entry in code of its own */
+    RLIBREG_STATIC_PIE = 402,       /* it would relocate itself, by what the file lacks */
+    RLIBREG_PRE_INITIALIZERS = 403, /* it has pre-initializers, which nobody would run */
+    RLIBREG_INITIALIZERS = 404,     /* a library has initializers; the text names it */
+    RLIBREG_FINALIZERS = 405,       /* a library has finalizers; the text names it */
+    RLIBREG_OUT_OF_ORDER = 406,     /* the segments don't rise: of no image that a bind gives */
+    RLIBREG_TOO_MANY_HEADERS = 407, /* there are more segments than the kernel takes */
+    RLIBREG_WRITABLE_CODE = 408,    /* an object's memory could be written and executed */
+    RLIBREG_NO_PAGES = 409          /* no pages are free for the headers */
 };
 
 /* The name of a status, as "B3 Missing"; "unknown" of a number that is none. Never freed. */
@@ -164,9 +176,10 @@ const char *rlibreg_file_refusal_name(uint32_t number);
 typedef struct rlibreg_answer {
     uint32_t status;       /* the status, as the call gives it */
     uint32_t file_refusal; /* where the status is B1 or C1: n of the first test En that refuses */
-    uint64_t count;        /* how many segments, libraries or steps there are */
+    uint64_t count;        /* how many segments, libraries, steps or program headers there are; of
+                            * an update that is refused: how many changes before the one that is */
     uint64_t preloads;     /* how many preloads there are */
-    uint64_t bytes;        /* how many bytes there are: of segments, names, a file, the plan */
+    uint64_t bytes;        /* how many bytes there are: of segments, names, a text, a file, a plan */
     uint64_t text;         /* how many bytes the whole text has */
     uint64_t generation;   /* of a listing: how many changes the registry has taken */
     uint64_t objects;      /* how many objects an image has */
@@ -229,6 +242,15 @@ typedef struct rlibreg_finding {
     uint32_t finding;     /* RLIBREG_SOUND, 1 to 33, or RLIBREG_OTHER_NAME */
 } rlibreg_finding;
 
+/* A change of an update. Its bytes are at a place of one buffer, which has those of all. */
+typedef struct rlibreg_change {
+    uint64_t kind;   /* RLIBREG_INSTALL, RLIBREG_REPLACE, RLIBREG_REMOVE or RLIBREG_PRELOAD */
+    uint64_t from;   /* where its bytes begin in the buffer */
+    uint64_t length; /* how many there are: of a file, of a name, or of names in a row */
+} rlibreg_change;
+
+enum { RLIBREG_INSTALL = 1, RLIBREG_REPLACE = 2, RLIBREG_REMOVE = 3, RLIBREG_PRELOAD = 4 };
+
 RLIBREG_SAME(sizeof(rlibreg_answer) == 56);
 RLIBREG_SAME(offsetof(rlibreg_answer, file_refusal) == 4);
 RLIBREG_SAME(offsetof(rlibreg_answer, count) == 8);
@@ -247,6 +269,9 @@ RLIBREG_SAME(offsetof(rlibreg_information, unused_sectors) == 40);
 RLIBREG_SAME(offsetof(rlibreg_information, largest) == 56);
 RLIBREG_SAME(sizeof(rlibreg_finding) == 16);
 RLIBREG_SAME(offsetof(rlibreg_finding, finding) == 12);
+RLIBREG_SAME(sizeof(rlibreg_change) == 24);
+RLIBREG_SAME(offsetof(rlibreg_change, from) == 8);
+RLIBREG_SAME(offsetof(rlibreg_change, length) == 16);
 RLIBREG_SAME(sizeof(size_t) == 8 && sizeof(void *) == 8);
 
 /* ---- Layer 1: bytes
@@ -266,9 +291,9 @@ RLIBREG_SAME(sizeof(size_t) == 8 && sizeof(void *) == 8);
  * TEXT gets the line or the reply that the program `rlibreg` prints of the same: "ok\n", a listing,
  * or a refusal with its number and its names, as "refused B3 Missing libtwo.so libone.so\n". It
  * isn't ended by a byte 0. The answer's `text` has the length of the whole; where `text_room` is
- * less, the buffer has the beginning. It is empty of an image, of a library's bytes and digest, of
- * what is told of the whole and of what is found, which are in places of their own, and with the statuses 1
- * to 9, of which the program knows nothing. A text that was cut changes no status.
+ * less, the buffer has the beginning. It is empty of all that has a place of its own (an image,
+ * bindings, a file, a digest, what is told of the whole, what is found), and with the statuses 1 to
+ * 9, of which the program knows nothing. A text that was cut changes no status.
  *
  * MEMORY that is refused is answered S11: nothing was done then. S1 is never the answer.
  *
@@ -289,6 +314,34 @@ uint32_t rlibreg_bind(const uint8_t *disk, size_t disk_length, const uint8_t *pr
                       size_t objects_room, rlibreg_segment *segments, size_t segments_room,
                       uint8_t *bytes, size_t bytes_room, char *text, size_t text_room,
                       rlibreg_answer *answer);
+
+/* Tells what the symbols of a program and of the libraries that it needs are bound to. The status
+ * is the one that rlibreg_bind gives of this PROGRAM and BASE. With 0, B3 and B5 BYTES has the
+ * text that `rlibreg-tool bindings` prints (docs/TOOL.md), the answer's `bytes` bytes, without a
+ * byte 0 behind them: of each object in load order its base, the names that it needs, and each
+ * symbol that a relocation names, with its address and the object that defines it; with B5 each
+ * that is undefined. With B3 it has what was found, and each name that is missing with who needs
+ * it. With every other status BYTES is left as it was.
+ *
+ * Refusals: B1 to B5; S3, S5, S6, S11, S12. */
+uint32_t rlibreg_bindings(const uint8_t *disk, size_t disk_length, const uint8_t *program,
+                          size_t program_length, uint64_t base, char *bytes, size_t bytes_room,
+                          char *text, size_t text_room, rlibreg_answer *answer);
+
+/* Makes a static executable file of a bound program. With the status 0 BYTES has the file, the
+ * answer's `bytes` bytes, which loads just the image that rlibreg_bind gives of this PROGRAM and
+ * BASE: Linux starts it without a loader and without the registry. `count` is how many program
+ * headers it has: Linux before 6.17 starts none with more than 73. With another status BYTES is
+ * left as it was. It takes the memory of the image, and up to five times that of its segments.
+ *
+ * RLIBREG_NO_ENTRY, RLIBREG_STATIC_PIE, RLIBREG_PRE_INITIALIZERS, RLIBREG_INITIALIZERS,
+ * RLIBREG_FINALIZERS, RLIBREG_OUT_OF_ORDER, RLIBREG_TOO_MANY_HEADERS, RLIBREG_WRITABLE_CODE or
+ * RLIBREG_NO_PAGES where the image has no such file, by the first that applies: TEXT has the line
+ * of `rlibreg-tool executable`. Refusals: B1 to B5; S3, S5, S6, S11, S12. */
+uint32_t rlibreg_executable(const uint8_t *disk, size_t disk_length, const uint8_t *program,
+                            size_t program_length, uint64_t base, uint8_t *bytes,
+                            size_t bytes_room, char *text, size_t text_room,
+                            rlibreg_answer *answer);
 
 /* Lists the registry. With the status 0 ENTRIES has the answer's `count` libraries in the order of
  * their installation, and behind them `preloads` preloads in theirs; NAMES has all their names in a
@@ -357,7 +410,8 @@ uint32_t rlibreg_check(const uint8_t *disk, size_t disk_length, rlibreg_finding 
  * a sync, the one after. The disk is the one that was given: nobody wrote to it in between.
  *
  * A plan takes 516 bytes for each sector and 4 for each sync: an installation or a replacement
- * those of the file's bytes, and at most 37 steps beside; every other plan at most 37 steps.
+ * those of the file's bytes, and at most 37 steps beside; every other plan but that of an update at
+ * most 37 steps.
  *
  * With another status there is nothing to carry out. */
 #define RLIBREG_SYNC 0xffffffffu
@@ -399,6 +453,21 @@ uint32_t rlibreg_plan_remove(const uint8_t *disk, size_t disk_length, const char
 uint32_t rlibreg_plan_preload(const uint8_t *disk, size_t disk_length, const char *names,
                               size_t names_length, uint8_t *plan, size_t plan_room, char *text,
                               size_t text_room, rlibreg_answer *answer);
+
+/* An update: these changes, in their order, in one plan, which makes all of them or none. Each has
+ * its bytes at its place in BYTES, as the plan of it alone has them, and is tested over the state
+ * that those before it lead to. It is one change of the registry, and without changes the plan
+ * writes nothing. Sectors that a library has now are unused after the update alone, so there has to
+ * be room for both; those of one that is installed and removed again are free for what follows.
+ *
+ * Where one is refused the answer's `count` is how many come before it. RLIBREG_BAD_ARGUMENT, before
+ * any is tested, where a kind is none of the four, a place isn't inside BYTES, or names don't end
+ * with a byte 0. Refusals: those of the changes, C1 to C6, S7 to S10; S3, S5, S6, S11, S12. */
+uint32_t rlibreg_plan_update(const uint8_t *disk, size_t disk_length,
+                             const rlibreg_change *changes, size_t changes_count,
+                             const uint8_t *bytes, size_t bytes_length, uint8_t *plan,
+                             size_t plan_room, char *text, size_t text_room,
+                             rlibreg_answer *answer);
 
 /* ---- Layer 2: files
  *
@@ -496,6 +565,15 @@ uint32_t rlibreg_replace(rlibreg *registry, const void *file, size_t length);
 uint32_t rlibreg_remove(rlibreg *registry, const char *name);
 uint32_t rlibreg_preload(rlibreg *registry, const char *const *names, size_t count);
 
+/* An update, as rlibreg_plan_update plans it: these changes are one change, of which all are made
+ * or none is, and what is said above of a change holds of it. Where one is refused, rlibreg_last has
+ * in `count` how many come before it. CHANGES, and BYTES, which has the bytes of each, stay the
+ * caller's; each may be null where it has none.
+ *
+ * Refusals: those of the plan; S1, S2. RLIBREG_READ_ONLY, RLIBREG_SYSTEM. */
+uint32_t rlibreg_update(rlibreg *registry, const rlibreg_change *changes, size_t count,
+                        const void *bytes, size_t length);
+
 /* A listing, as rlibreg_list gives it. It belongs to who asked, is written in every case, and is
  * freed by rlibreg_listing_free, which may be called twice. Beside its refusals: S1, S2. */
 typedef struct rlibreg_listing {
@@ -547,6 +625,34 @@ typedef struct rlibreg_image {
 uint32_t rlibreg_image_of(rlibreg *registry, const void *program, size_t length, uint64_t base,
                           rlibreg_image *image);
 void rlibreg_image_free(rlibreg_image *image);
+
+/* The image that rlibreg_image_of would give after an update of these changes, so that it is known
+ * before whether a program will be bound. Nothing is written, and the file may be open for reading
+ * alone. A change that is refused is answered so here too; `count` is 0 where the bind is.
+ *
+ * The file is mapped once more, privately, and the plan is carried out in that memory. It takes
+ * memory for the plan, for the pages that are written, and for the image; where the process locks
+ * its memory (mlockall), or what it may have is counted (RLIMIT_AS, RLIMIT_DATA,
+ * vm.overcommit_memory 2), for the whole disk. Where that isn't given the answer is S11, which says
+ * nothing of the update.
+ *
+ * Refusals: B1 to B5; C1 to C6, S7 to S10; S1, S2, S3, S5, S6, S11, S12. */
+uint32_t rlibreg_update_image_of(rlibreg *registry, const rlibreg_change *changes, size_t count,
+                                 const void *bytes, size_t length, const void *program,
+                                 size_t program_length, uint64_t base, rlibreg_image *image);
+
+/* What symbols are bound to, as rlibreg_bindings tells it, ended by a byte 0: with the statuses 0,
+ * B3 and B5. It belongs to who asked, and is freed by free. BINDINGS and BYTES, how many it has
+ * without that byte, are written in every case: null and 0 with every other status. Beside its
+ * refusals: S1, S2. */
+uint32_t rlibreg_bindings_of(rlibreg *registry, const void *program, size_t length, uint64_t base,
+                             char **bindings, size_t *bytes);
+
+/* The executable file of a program, as rlibreg_executable gives it. It belongs to who asked, and
+ * is freed by free. FILE and BYTES, how many it has, are written in every case: null and 0 where
+ * the status isn't 0. Beside its refusals: S1, S2. */
+uint32_t rlibreg_executable_of(rlibreg *registry, const void *program, size_t length,
+                               uint64_t base, void **file, size_t *bytes);
 
 #ifdef __cplusplus
 }

@@ -11,6 +11,10 @@
 
 enum { SECTOR = 512, STEP_NUMBER = 4, SMALL_PLAN = 40, FIRST_TEXT = 4096, FIRST_FILE = 1 << 16 };
 
+/* Room for most images: what isn't used of it isn't touched, and where it is too small a program is
+ * bound twice. */
+enum { FIRST_OBJECTS = 1024, FIRST_SEGMENTS = 4096, FIRST_BYTES = 16 << 20 };
+
 struct rlibreg {
     struct disk_file file;
     struct place place; /* of the file, where it was opened for changes */
@@ -329,6 +333,35 @@ uint32_t rlibreg_preload(rlibreg *it, const char *const *names, size_t count) {
     return status;
 }
 
+/* The changes of an update, with the bytes of all. */
+struct update {
+    const rlibreg_change *changes;
+    size_t count;
+    const void *bytes;
+    size_t length;
+};
+
+static uint32_t plan_update(rlibreg *it, const void *asked, size_t length, uint8_t *plan,
+                            size_t room) {
+    const struct update *update = asked;
+    (void)length;
+    return rlibreg_plan_update(it->file.bytes, it->file.length, update->changes, update->count,
+                               update->bytes, update->length, plan, room, it->text, it->text_room,
+                               &it->answer);
+}
+
+/* How much an update writes at most, but for what each plan has room for: of each change its bytes,
+ * the rest of their last sector, and an entry. */
+static size_t written_by(const struct update *it) {
+    return it->length + it->count * 2 * SECTOR;
+}
+
+uint32_t rlibreg_update(rlibreg *it, const rlibreg_change *changes, size_t count,
+                        const void *bytes, size_t length) {
+    const struct update asked = { changes, count, bytes, length };
+    return change(it, plan_update, &asked, written_by(&asked));
+}
+
 /* ---- Making a registry */
 
 /* Makes a registry on the file that is open, where it has none. */
@@ -439,27 +472,82 @@ void rlibreg_listing_free(rlibreg_listing *it) {
     *it = (rlibreg_listing){ 0 };
 }
 
-uint32_t rlibreg_file_of(rlibreg *it, const char *name, void **bytes, size_t *length) {
-    size_t room = FIRST_FILE;
+/* What is asked for: a library by its name, or a program at an address. */
+struct asked {
+    const void *bytes;
+    size_t length;
+    uint64_t base;
+};
+
+/* A call that puts what is asked for into one buffer. */
+typedef uint32_t give_call(rlibreg *it, const struct asked *what, void *out, size_t room);
+
+/* A block that is given back but for its first bytes. */
+static void *fitting(void *block, size_t bytes) {
+    void *it = realloc(block, bytes ? bytes : 1);
+    return it ? it : block;
+}
+
+/* Gives what is asked for, which is never empty, with a byte 0 behind it. At first there is so much
+ * room; where that isn't given, as much as for a small file. */
+static uint32_t give(rlibreg *it, give_call *call, struct asked what, size_t first, void **bytes,
+                     size_t *length) {
     *bytes = NULL;
     *length = 0;
     uint32_t status = refuse(it);
     if (status) return status;
-    for (;;) {
-        uint8_t *out = malloc(room);
-        if (!out) return say_memory(it);
-        status = rlibreg_file(it->file.bytes, it->file.length, name, strlen(name), out, room,
-                              it->text, it->text_room, &it->answer);
+    char *out = malloc(first + 1);
+    size_t room = out ? first : FIRST_FILE;
+    if (!out && first > room) out = malloc(room + 1);
+    for (; out; out = malloc(room + 1)) {
+        status = call(it, &what, out, room);
         int again = text_was_cut(it) || status == RLIBREG_NO_ROOM;
-        if (!status && !again) {
-            *bytes = out;
+        if (!again && it->answer.bytes) {
             *length = it->answer.bytes;
-            return RLIBREG_DONE;
+            out[*length] = 0;
+            *bytes = fitting(out, *length + 1);
+            return status;
         }
         free(out);
         if (!again) return status;
         if (status == RLIBREG_NO_ROOM) room = it->answer.bytes;
     }
+    return say_memory(it);
+}
+
+static uint32_t give_file(rlibreg *it, const struct asked *what, void *out, size_t room) {
+    return rlibreg_file(it->file.bytes, it->file.length, what->bytes, what->length, out, room,
+                        it->text, it->text_room, &it->answer);
+}
+
+static uint32_t give_bindings(rlibreg *it, const struct asked *what, void *out, size_t room) {
+    return rlibreg_bindings(it->file.bytes, it->file.length, what->bytes, what->length, what->base,
+                            out, room, it->text, it->text_room, &it->answer);
+}
+
+static uint32_t give_executable(rlibreg *it, const struct asked *what, void *out, size_t room) {
+    return rlibreg_executable(it->file.bytes, it->file.length, what->bytes, what->length,
+                              what->base, out, room, it->text, it->text_room, &it->answer);
+}
+
+uint32_t rlibreg_file_of(rlibreg *it, const char *name, void **bytes, size_t *length) {
+    struct asked what = { name, strlen(name), 0 };
+    return give(it, give_file, what, FIRST_FILE, bytes, length);
+}
+
+uint32_t rlibreg_bindings_of(rlibreg *it, const void *program, size_t length, uint64_t base,
+                             char **bindings, size_t *bytes) {
+    void *given;
+    struct asked what = { program, length, base };
+    uint32_t status = give(it, give_bindings, what, FIRST_FILE, &given, bytes);
+    *bindings = given;
+    return status;
+}
+
+uint32_t rlibreg_executable_of(rlibreg *it, const void *program, size_t length, uint64_t base,
+                               void **file, size_t *bytes) {
+    struct asked what = { program, length, base };
+    return give(it, give_executable, what, FIRST_BYTES, file, bytes);
 }
 
 uint32_t rlibreg_digest_of(rlibreg *it, const char *name,
@@ -517,21 +605,10 @@ void rlibreg_findings_free(rlibreg_findings *it) {
     *it = (rlibreg_findings){ 0 };
 }
 
-/* What is bound, and where. */
-struct bound {
-    const void *program;
-    size_t length;
-    uint64_t base;
-};
-
 /* How much room an image has. */
 struct room {
     size_t objects, segments, bytes;
 };
-
-/* Room for most images: what isn't used of it isn't touched, and where it is too small a program is
- * bound twice. Where so many bytes aren't given it is a quarter of them, and again, down to these. */
-enum { FIRST_OBJECTS = 1024, FIRST_SEGMENTS = 4096, FIRST_BYTES = 16 << 20 };
 
 /* Has the system give large pages to much room, which is faster where most of it is used; but none
  * to its beginning, so that a small image takes little. */
@@ -553,16 +630,11 @@ static int make_room(rlibreg_image *out, struct room room) {
     return 0;
 }
 
+/* Where so many bytes aren't given it is a quarter of them, and again, down to FIRST_BYTES. */
 static int make_first_room(rlibreg_image *out, struct room *room) {
     for (; room->bytes >= FIRST_BYTES; room->bytes /= 4)
         if (make_room(out, *room)) return 1;
     return 0;
-}
-
-/* A block that is given back but for its first bytes. */
-static void *fitting(void *block, size_t bytes) {
-    void *it = realloc(block, bytes ? bytes : 1);
-    return it ? it : block;
 }
 
 /* Gives back the room that an image doesn't take. */
@@ -572,28 +644,20 @@ static void give_room_back(rlibreg_image *it, size_t bytes) {
     it->bytes = fitting(it->bytes, bytes);
 }
 
-static uint32_t bind_into(rlibreg *it, const struct bound *what, rlibreg_image *out,
-                          struct room room) {
-    return rlibreg_bind(it->file.bytes, it->file.length, what->program, what->length, what->base,
-                        out->objects, room.objects, out->segments, room.segments, out->bytes,
-                        room.bytes, it->text, it->text_room, &it->answer);
+static uint32_t bind_into(rlibreg *it, const uint8_t *disk, const struct asked *what,
+                          rlibreg_image *out, struct room room) {
+    return rlibreg_bind(disk, it->file.length, what->bytes, what->length, what->base, out->objects,
+                        room.objects, out->segments, room.segments, out->bytes, room.bytes,
+                        it->text, it->text_room, &it->answer);
 }
 
-uint32_t rlibreg_image_of(rlibreg *it, const void *program, size_t length, uint64_t base,
-                          rlibreg_image *out) {
-    return rlibreg_image_in(it, program, length, base, out, FIRST_BYTES);
-}
-
-uint32_t rlibreg_image_in(rlibreg *it, const void *program, size_t length, uint64_t base,
+/* Binds a program over the bytes of a disk. At first an image's bytes have so much room. */
+static uint32_t bind_over(rlibreg *it, const uint8_t *disk, const struct asked *what,
                           rlibreg_image *out, size_t first_bytes) {
-    struct bound what = { program, length, base };
     struct room room = { FIRST_OBJECTS, FIRST_SEGMENTS, first_bytes };
-    *out = (rlibreg_image){ 0 };
-    uint32_t status = refuse(it);
-    if (status) return status;
     if (!make_first_room(out, &room)) room = (struct room){ 0 }; /* and so it is asked what it takes */
     for (;;) {
-        status = bind_into(it, &what, out, room);
+        uint32_t status = bind_into(it, disk, what, out, room);
         int again = text_was_cut(it) || status == RLIBREG_NO_ROOM;
         if (!status && !again) break;
         if (!again) {
@@ -609,6 +673,52 @@ uint32_t rlibreg_image_in(rlibreg *it, const void *program, size_t length, uint6
     out->object_count = it->answer.objects;
     give_room_back(out, it->answer.bytes);
     return RLIBREG_DONE;
+}
+
+uint32_t rlibreg_image_of(rlibreg *it, const void *program, size_t length, uint64_t base,
+                          rlibreg_image *out) {
+    return rlibreg_image_in(it, program, length, base, out, FIRST_BYTES);
+}
+
+uint32_t rlibreg_image_in(rlibreg *it, const void *program, size_t length, uint64_t base,
+                          rlibreg_image *out, size_t first_bytes) {
+    const struct asked what = { program, length, base };
+    *out = (rlibreg_image){ 0 };
+    uint32_t status = refuse(it);
+    return status ? status : bind_over(it, it->file.bytes, &what, out, first_bytes);
+}
+
+/* The bytes of the disk as they are after a plan, or null where there is no memory for them. Of a
+ * private map the system copies the pages that are written, and nothing of it comes to the file. */
+static uint8_t *copy_after(const struct disk_file *file, const uint8_t *plan, size_t length) {
+    const int kind = MAP_PRIVATE | MAP_NORESERVE;
+    uint8_t *copy = mmap(NULL, file->length, PROT_READ | PROT_WRITE, kind, file->fd, 0);
+    if (copy == MAP_FAILED) return NULL;
+    for (size_t at = 0; at < length; at += STEP_NUMBER) {
+        uint32_t number = number_at(plan + at);
+        if (number == RLIBREG_SYNC) continue;
+        memcpy(copy + (size_t)number * SECTOR, plan + at + STEP_NUMBER, SECTOR);
+        at += SECTOR;
+    }
+    return copy;
+}
+
+uint32_t rlibreg_update_image_of(rlibreg *it, const rlibreg_change *changes, size_t count,
+                                 const void *bytes, size_t length, const void *program,
+                                 size_t program_length, uint64_t base, rlibreg_image *out) {
+    const struct update update = { changes, count, bytes, length };
+    const struct asked what = { program, program_length, base };
+    uint8_t *plan;
+    *out = (rlibreg_image){ 0 };
+    uint32_t status = refuse(it);
+    if (!status) status = make_plan(it, plan_update, &update, written_by(&update), &plan);
+    if (status) return status;
+    uint8_t *copy = copy_after(&it->file, plan, it->answer.bytes);
+    free(plan);
+    if (!copy) return say_memory(it);
+    status = bind_over(it, copy, &what, out, FIRST_BYTES);
+    munmap(copy, it->file.length);
+    return status;
 }
 
 void rlibreg_image_free(rlibreg_image *it) {

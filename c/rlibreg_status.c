@@ -39,6 +39,15 @@ const char *rlibreg_status_name(uint32_t status) {
         { RLIBREG_GENERATION_END, "S10 GenerationEnd" },
         { RLIBREG_OUT_OF_MEMORY, "S11 OutOfMemory" },
         { RLIBREG_OLD_FORMAT, "S12 OldFormat" },
+        { RLIBREG_NO_ENTRY, "NoEntry" },
+        { RLIBREG_STATIC_PIE, "StaticPie" },
+        { RLIBREG_PRE_INITIALIZERS, "PreInitializers" },
+        { RLIBREG_INITIALIZERS, "Initializers" },
+        { RLIBREG_FINALIZERS, "Finalizers" },
+        { RLIBREG_OUT_OF_ORDER, "OutOfOrder" },
+        { RLIBREG_TOO_MANY_HEADERS, "TooManyHeaders" },
+        { RLIBREG_WRITABLE_CODE, "WritableCode" },
+        { RLIBREG_NO_PAGES, "NoRoom" },
     };
     for (size_t i = 0; i < sizeof all / sizeof *all; i++)
         if (all[i].status == status) return all[i].name;

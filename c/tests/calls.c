@@ -348,6 +348,96 @@ static void try_image(struct file program, const char *library) {
             }
 }
 
+/* ---- Bindings and an executable file: a call for each */
+
+static uint32_t give(char what, struct file program, uint64_t base, void *bytes, size_t room,
+                     char *text, size_t text_room, rlibreg_answer *answer) {
+    if (what == 'b')
+        return rlibreg_bindings(disk, sizeof disk, program.bytes, program.length, base, bytes, room,
+                                text, text_room, answer);
+    return rlibreg_executable(disk, sizeof disk, program.bytes, program.length, base, bytes, room,
+                              text, text_room, answer);
+}
+
+/* With every room this is given, by this status; where there is too little, nothing is written. */
+static void try_given(char what, struct file program, uint32_t wanted, const void *given,
+                      size_t length, uint64_t count) {
+    for (size_t room = 0; room <= length + 1; room++) {
+        uint8_t *bytes = guarded(room);
+        int fits = room >= length;
+        rlibreg_answer answer, all = { .bytes = length, .count = count };
+        all.status = fits ? wanted : RLIBREG_NO_ROOM;
+        WANT(give(what, program, 0x10000, bytes, room, NULL, 0, &answer) == all.status);
+        WANT(!memcmp(&answer, &all, sizeof all));
+        if (fits) WANT(!memcmp(bytes, given, length));
+        check_guard(bytes, fits ? length : 0);
+        if (room > 64 && room + length / 64 < length) room += length / 64;
+    }
+}
+
+/* Nothing is given: the buffer is left, and the text says why, with every room for that. */
+static void try_not_given(char what, struct file program, uint64_t base, uint32_t wanted,
+                          const char *line) {
+    for (size_t room = 0; room <= strlen(line) + 1; room++) {
+        rlibreg_answer answer;
+        uint8_t *bytes = guarded(ROOM);
+        char *text = guarded(room);
+        WANT(give(what, program, base, bytes, ROOM, text, room, &answer) == wanted);
+        WANT(answer.status == wanted && answer.text == strlen(line) && !answer.bytes);
+        WANT(!answer.count && (answer.file_refusal != 0) == (wanted == RLIBREG_BAD_PROGRAM));
+        WANT(!memcmp(text, line, room < strlen(line) ? room : strlen(line)));
+        check_guard(bytes, 0);
+        check_guard(text, room);
+    }
+}
+
+/* What neither is given of, by the same lines as a bind. */
+static void try_none_given(struct file program, uint64_t base, uint32_t wanted, const char *line) {
+    try_not_given('b', program, base, wanted, line);
+    try_not_given('x', program, base, wanted, line);
+}
+
+/* Without its library a program has no executable file, and it is told what it lacks. */
+static void try_lacking(struct file program, const char *library) {
+    char missing[600], said[2000];
+    snprintf(missing, sizeof missing, "refused B3 Missing /program %s\n", library);
+    const char *form = "found /program\nneeds %s\nmissing %s /program\nend\n";
+    int length = snprintf(said, sizeof said, form, library, library);
+    try_given('b', program, RLIBREG_MISSING, said, (size_t)length, 0);
+    try_not_given('x', program, 0x10000, RLIBREG_MISSING, missing);
+}
+
+/* With its library, of which no relocation names a symbol. */
+static void try_bindings(struct file program, const char *library) {
+    char said[2000];
+    const char *form = "object 0x%016x /program\nneeds %s\nobject 0x%016x %s\nend\n";
+    int length = snprintf(said, sizeof said, form, 0x10000, library, 0x11000, library);
+    try_given('b', program, RLIBREG_DONE, said, (size_t)length, 0);
+}
+
+/* The same program with an entry, at its first byte but one, in memory that may be executed. */
+static struct file with_entry(struct file program) {
+    struct file it = { malloc(program.length), program.length };
+    WANT(it.bytes && program.length > 64 + 56);
+    memcpy(it.bytes, program.bytes, program.length);
+    it.bytes[24] = 1;                                    /* e_entry */
+    for (int i = 0; i < 2; i++) it.bytes[64 + 56 * i + 4] |= 1; /* p_flags: PF_X */
+    return it;
+}
+
+/* The file of a program is of the kind ET_EXEC, with its entry, and as many headers as are counted. */
+static void try_executable(struct file program) {
+    static uint8_t bytes[ROOM];
+    rlibreg_answer answer;
+    struct file it = with_entry(program);
+    try_not_given('x', program, 0x10000, RLIBREG_NO_ENTRY, "refused NoEntry\n");
+    WANT(!give('x', it, 0x10000, bytes, ROOM, NULL, 0, &answer));
+    WANT(!memcmp(bytes, "\177ELF", 4) && bytes[16] == 2 && bytes[24] == 1 && bytes[26] == 1);
+    WANT(answer.count == bytes[56] && answer.count > 3 && answer.bytes % 4096 == 0);
+    try_given('x', it, RLIBREG_DONE, bytes, answer.bytes, answer.count);
+    free(it.bytes);
+}
+
 static void try_bind_refusal(struct file program, uint64_t base, uint32_t wanted,
                              const char *line) {
     char text[256];
@@ -355,6 +445,7 @@ static void try_bind_refusal(struct file program, uint64_t base, uint32_t wanted
     uint32_t status = rlibreg_bind(disk, sizeof disk, program.bytes, program.length, base, NULL, 0,
                                    NULL, 0, NULL, 0, text, sizeof text, &answer);
     WANT(status == wanted && answer.text == strlen(line) && !memcmp(text, line, strlen(line)));
+    if (wanted != RLIBREG_MISSING) try_none_given(program, base, wanted, line);
 }
 
 /* ---- Bytes that are damaged */
@@ -384,6 +475,9 @@ static void try_damaged(struct file program, struct file library) {
         uint32_t bound = rlibreg_bind(disk, sizeof disk, program.bytes, program.length, 0x10000,
                                       objects, 64, segments, 64, bytes, ROOM, text, ROOM, &answer);
         WANT(is_status(bound) && bound != RLIBREG_BAD_ARGUMENT);
+        WANT(bound == give('b', program, 0x10000, bytes, ROOM, text, ROOM, &answer));
+        WANT((bound ? bound : RLIBREG_NO_ENTRY) ==
+             give('x', program, 0x10000, bytes, ROOM, text, ROOM, &answer));
         rlibreg_information told;
         uint32_t informed = rlibreg_info(disk, sizeof disk, &told, text, ROOM, &answer);
         WANT(informed ? is_status(informed) && listed == informed
@@ -419,6 +513,8 @@ static void try_lengths(void) {
         WANT(rlibreg_plan_upgrade(disk, length, NULL, 0, NULL, 0, &answer) == status);
         WANT(rlibreg_bind(disk, length, NULL, 0, 0, NULL, 0, NULL, 0, NULL, 0, NULL, 0, &answer) ==
              status);
+        WANT(rlibreg_bindings(disk, length, NULL, 0, 0, NULL, 0, NULL, 0, &answer) == status);
+        WANT(rlibreg_executable(disk, length, NULL, 0, 0, NULL, 0, NULL, 0, &answer) == status);
     }
 }
 
@@ -443,6 +539,7 @@ static void try_empty(const struct given *it) {
     struct call format = { 'f', NULL, 0 };
     snprintf(missing, sizeof missing, "refused B3 Missing /program %s\n", it->name);
     try_refusal(install_of(it->library), RLIBREG_NOT_FORMATTED, "refused S3 NotFormatted\n");
+    try_none_given(it->program, 0x10000, RLIBREG_NOT_FORMATTED, "refused S3 NotFormatted\n");
     try_nothing_told(sizeof disk, RLIBREG_NOT_FORMATTED, "refused S3 NotFormatted\n");
     try_steps(format, 3); /* a sync, the root, a sync */
     try_plan(format);
@@ -450,6 +547,7 @@ static void try_empty(const struct given *it) {
     try_listing(0, 0, 0, "", 0, "end\n");
     try_info((rlibreg_information){ 2, SECTORS, 0, 0, 0, 38, 1, 35 * SECTOR });
     try_bind_refusal(it->program, 0x10000, RLIBREG_MISSING, missing);
+    try_lacking(it->program, it->name);
     try_bind_refusal(it->program, 0x10001, RLIBREG_BAD_BASE, "refused B2 BadBase\n");
     try_bind_refusal((struct file){ NULL, 0 }, 0, RLIBREG_BAD_PROGRAM, "refused B1 E1 TooShort\n");
 }
@@ -469,6 +567,8 @@ static void try_installed(const struct given *it) {
     try_digest(it->name, it->digest);
     try_no_files(it->name);
     try_image(it->program, it->name);
+    try_bindings(it->program, it->name);
+    try_executable(it->program);
     try_bind_refusal(it->program, 0x7ffffffff000, RLIBREG_NO_PLACE, "refused B4 NoRoom\n");
 }
 

@@ -1,6 +1,6 @@
 /* cuts PROGRAM NAME DISK BASE_PROGRAM CHANGE [FILE|NAME].. cuts the plan of a change at each
  * prefix, and opens every disk that a power cut may leave then, by the library and by the program
- * `rlibreg`.
+ * `rlibreg`. Behind the CHANGE `update` are several, with a word `,` between each two.
  *
  * Of what was written since the last sync each sector has its old content or any that was written
  * to it. A disk that is left has to be the one from before the change or the one after it, whole:
@@ -217,6 +217,34 @@ static struct steps without_sync(const struct steps *steps) {
 
 /* ---- */
 
+/* An update: of each kind and its words up to a comma, in one plan. */
+static uint32_t plan_update(const uint8_t *disk, size_t length, char **words, uint8_t *plan,
+                            char *text, rlibreg_answer *answer) {
+    static uint8_t bytes[ROOM];
+    static const char *const kinds[] = { "", "install", "replace", "remove", "preload" };
+    rlibreg_change changes[16];
+    size_t count = 0, at = 0;
+    for (; *words; words++) {
+        rlibreg_change *it = &changes[count++];
+        *it = (rlibreg_change){ 0, at, 0 };
+        for (size_t kind = 1; kind <= 4; kind++)
+            if (!strcmp(*words, kinds[kind])) it->kind = kind;
+        while (*++words && strcmp(*words, ",")) {
+            uint8_t *own = (uint8_t *)*words;
+            size_t own_length = strlen(*words) + (it->kind == RLIBREG_PRELOAD);
+            int is_file = it->kind == RLIBREG_INSTALL || it->kind == RLIBREG_REPLACE;
+            if (is_file) own = read_file(*words, &own_length);
+            memcpy(bytes + at, own, own_length);
+            at += own_length;
+            if (is_file) free(own);
+        }
+        it->length = at - it->from;
+        if (!*words) break;
+    }
+    return rlibreg_plan_update(disk, length, changes, count, bytes, at, plan, ROOM, text, ROOM,
+                               answer);
+}
+
 static uint32_t plan_change(const uint8_t *disk, size_t length, char **words, uint8_t *plan,
                             char *text, rlibreg_answer *answer) {
     const char *what = words[0];
@@ -225,6 +253,8 @@ static uint32_t plan_change(const uint8_t *disk, size_t length, char **words, ui
         return rlibreg_plan_format(disk, length, plan, ROOM, text, ROOM, answer);
     if (!strcmp(what, "upgrade"))
         return rlibreg_plan_upgrade(disk, length, plan, ROOM, text, ROOM, answer);
+    if (!strcmp(what, "update"))
+        return plan_update(disk, length, words + 1, plan, text, answer);
     if (!strcmp(what, "remove"))
         return rlibreg_plan_remove(disk, length, words[1], strlen(words[1]), plan, ROOM, text, ROOM,
                                    answer);

@@ -20,6 +20,19 @@ cut_change remove a
 cut_change preload
 cut_change remove b
 
+# Several changes in one plan; then the disk gets each by itself.
+cut_update() {
+    ./cuts "$rlibreg" left disk "$data/program-1.so" update "$@"
+}
+cut_update install "$data/strong.so"
+cut_update install "$data/strong.so" , install "$data/long.so" , preload a b
+./tool install disk "$data/strong.so" > /dev/null
+./tool install disk "$data/long.so" > /dev/null
+cut_update replace "$data/protected.so" , preload b , remove a
+cut_update remove b , install "$data/protected.so" , remove a
+./tool remove disk b > /dev/null
+./tool remove disk a > /dev/null
+
 for old in one pair three; do
     cp "$data/old-$old.disk" disk
     chmod u+w disk

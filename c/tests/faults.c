@@ -103,6 +103,36 @@ static uint32_t make_preload(rlibreg *it) {
     return rlibreg_preload(it, &name, 1);
 }
 
+/* An update that replaces the library, sets the preloads, and installs and removes: all of it or
+ * nothing is found in a listing. */
+static struct update {
+    rlibreg_change changes[4];
+    char bytes[2 << 20];
+    size_t count, length;
+} updated;
+
+static void add(uint64_t kind, const void *bytes, size_t length) {
+    updated.changes[updated.count++] = (rlibreg_change){ kind, updated.length, length };
+    memcpy(updated.bytes + updated.length, bytes, length);
+    updated.length += length;
+}
+
+static void fill_update(void) {
+    add(RLIBREG_REPLACE, other.bytes, other.length);
+    add(RLIBREG_PRELOAD, name, strlen(name) + 1);
+    add(RLIBREG_REPLACE, library.bytes, library.length);
+    add(RLIBREG_REPLACE, other.bytes, other.length);
+}
+
+static uint32_t make_update(rlibreg *it) {
+    return rlibreg_update(it, updated.changes, updated.count, updated.bytes, updated.length);
+}
+
+static uint32_t update_image_of(rlibreg *it, uint64_t base, rlibreg_image *image) {
+    return rlibreg_update_image_of(it, updated.changes, updated.count, updated.bytes,
+                                   updated.length, program.bytes, program.length, base, image);
+}
+
 static uint32_t make_format(rlibreg *it) {
     return rlibreg_format(it, DISK, 128, 0);
 }
@@ -138,6 +168,7 @@ static struct change changes[] = {
     { .what = "replace", .prepare = leave_library, .make = make_replace },
     { .what = "delete", .prepare = leave_library, .make = make_remove },
     { .what = "preload", .prepare = leave_library, .make = make_preload },
+    { .what = "update", .prepare = leave_library, .make = make_update },
     { .what = "upgrade", .prepare = leave_old, .make = rlibreg_upgrade },
     { .what = "format", .prepare = leave_nothing, .make = make_format, .opens = 1 },
     { .what = "format in place", .prepare = leave_zeros, .make = make_format, .opens = 1 },
@@ -149,8 +180,17 @@ struct outcome {
     int why;
 };
 
+static uint32_t bindings_of(rlibreg *it, uint64_t base, char **text, size_t *length) {
+    return rlibreg_bindings_of(it, program.bytes, program.length, base, text, length);
+}
+
+static uint32_t executable_of(rlibreg *it, uint64_t base, void **bytes, size_t *length) {
+    return rlibreg_executable_of(it, program.bytes, program.length, base, bytes, length);
+}
+
 /* After S1 a struct says S2 to everything. */
 static void want_reopen(rlibreg *it, const struct change *change) {
+    char *text;
     rlibreg_listing listing;
     rlibreg_image image;
     rlibreg_information information;
@@ -164,10 +204,13 @@ static void want_reopen(rlibreg *it, const struct change *change) {
     WANT(rlibreg_listing_of(it, &listing) == RLIBREG_REOPEN && !listing.entries);
     WANT(rlibreg_image_of(it, program.bytes, program.length, 0, &image) == RLIBREG_REOPEN);
     WANT(rlibreg_last(it)->status == RLIBREG_REOPEN && !image.bytes);
+    WANT(update_image_of(it, 0, &image) == RLIBREG_REOPEN && !image.bytes);
     WANT(rlibreg_file_of(it, name, &bytes, &length) == RLIBREG_REOPEN && !bytes && !length);
     WANT(rlibreg_digest_of(it, name, digest) == RLIBREG_REOPEN && !digest[0]);
     WANT(rlibreg_info_of(it, &information) == RLIBREG_REOPEN);
     WANT(rlibreg_findings_of(it, &findings) == RLIBREG_REOPEN && !findings.findings);
+    WANT(executable_of(it, 0, &bytes, &length) == RLIBREG_REOPEN && !bytes && !length);
+    WANT(bindings_of(it, 0, &text, &length) == RLIBREG_REOPEN && !text && !length);
 }
 
 static int is_of_the_system(uint32_t status) {
@@ -273,7 +316,7 @@ static void try_ends(const struct change *change, long calls) {
 
 /* ---- Memory */
 
-enum { LOOKS = 6 };
+enum { LOOKS = 9 };
 
 /* Looks at the disk, by the call of this number. */
 static uint32_t look_by(rlibreg *it, int number) {
@@ -284,6 +327,7 @@ static uint32_t look_by(rlibreg *it, int number) {
     rlibreg_findings findings;
     uint8_t digest[RLIBREG_DIGEST_BYTES];
     void *bytes;
+    char *text;
     size_t length;
     switch (number) {
     case 0:
@@ -304,6 +348,18 @@ static uint32_t look_by(rlibreg *it, int number) {
         return status;
     case 4:
         return rlibreg_digest_of(it, name, digest);
+    case 5:
+        status = bindings_of(it, 0x10000, &text, &length);
+        free(text);
+        return status;
+    case 6:
+        status = executable_of(it, 0x10000, &bytes, &length);
+        free(bytes);
+        return status;
+    case 7:
+        status = update_image_of(it, 0x10000, &image);
+        rlibreg_image_free(&image);
+        return status;
     }
     return rlibreg_info_of(it, &information);
 }
@@ -355,6 +411,7 @@ static long try_memory(const struct change *change) {
 /* ---- What a struct is not for */
 
 static void try_misuse(void) {
+    char *text;
     rlibreg_listing listing;
     rlibreg_image image;
     rlibreg_information information;
@@ -372,7 +429,10 @@ static void try_misuse(void) {
     WANT(rlibreg_digest_of(it, name, digest) == RLIBREG_BAD_GEOMETRY && !digest[0]);
     WANT(rlibreg_info_of(it, &information) == RLIBREG_BAD_GEOMETRY);
     WANT(rlibreg_findings_of(it, &findings) == RLIBREG_BAD_GEOMETRY && !findings.findings);
-    WANT(make_install(it) == RLIBREG_READ_ONLY);
+    WANT(executable_of(it, 0, &bytes, &length) == RLIBREG_BAD_GEOMETRY && !bytes && !length);
+    WANT(bindings_of(it, 0, &text, &length) == RLIBREG_BAD_GEOMETRY && !text && !length);
+    WANT(update_image_of(it, 0, &image) == RLIBREG_BAD_GEOMETRY && !image.bytes);
+    WANT(make_install(it) == RLIBREG_READ_ONLY && make_update(it) == RLIBREG_READ_ONLY);
     WANT(rlibreg_format(it, DISK, 7, 0) == RLIBREG_BAD_ARGUMENT);
     WANT(rlibreg_format(it, DISK, 4194305, 0) == RLIBREG_BAD_ARGUMENT);
     WANT(make_format(it) == RLIBREG_ALREADY_FORMATTED);
@@ -387,6 +447,7 @@ static void try_misuse(void) {
     WANT(!rlibreg_text(it)[0] && rlibreg_last(it)->status == RLIBREG_READ_ONLY);
     WANT(rlibreg_upgrade(it) == RLIBREG_READ_ONLY && make_remove(it) == RLIBREG_READ_ONLY);
     WANT(rlibreg_preload(it, NULL, 0) == RLIBREG_READ_ONLY);
+    WANT(make_update(it) == RLIBREG_READ_ONLY && rlibreg_last(it)->count == 0);
     WANT(!rlibreg_listing_of(it, &listing) && listing.libraries == 0);
     rlibreg_listing_free(&listing);
     rlibreg_listing_free(&listing);
@@ -414,6 +475,7 @@ int main(int argc, char **argv) {
     name = argv[4];
     read_file(&old, argv[5]);
     WANT(library.length != other.length);
+    fill_update();
     try_misuse();
     for (size_t i = 0; i < sizeof changes / sizeof *changes; i++) {
         struct change *change = &changes[i];

@@ -51,6 +51,7 @@ static void end(pid_t child) {
 }
 
 static void call_all(rlibreg *it) {
+    char *text;
     rlibreg_listing listing;
     rlibreg_image image;
     rlibreg_information information;
@@ -59,15 +60,21 @@ static void call_all(rlibreg *it) {
     void *bytes;
     size_t length;
     const uint32_t bad = RLIBREG_BAD_ARGUMENT;
+    const rlibreg_change install = { RLIBREG_INSTALL, 0, library_length };
     WANT(rlibreg_listing_of(it, &listing) == bad && !listing.entries && !listing.names);
     WANT(rlibreg_image_of(it, program, program_length, 0, &image) == bad && !image.bytes);
     WANT(rlibreg_file_of(it, name, &bytes, &length) == bad && !bytes && !length);
     WANT(rlibreg_digest_of(it, name, digest) == bad && !digest[0]);
     WANT(rlibreg_info_of(it, &information) == bad);
     WANT(rlibreg_findings_of(it, &findings) == bad && !findings.findings && !findings.names);
+    WANT(rlibreg_bindings_of(it, program, program_length, 0, &text, &length) == bad && !text);
+    WANT(rlibreg_executable_of(it, program, program_length, 0, &bytes, &length) == bad && !bytes);
     WANT(rlibreg_install(it, library, library_length) == bad);
     WANT(rlibreg_replace(it, library, library_length) == bad);
     WANT(rlibreg_remove(it, name) == bad && rlibreg_preload(it, &name, 1) == bad);
+    WANT(rlibreg_update(it, &install, 1, library, library_length) == bad);
+    WANT(rlibreg_update_image_of(it, &install, 1, library, library_length, program, program_length,
+                                 0, &image) == bad && !image.bytes);
     WANT(rlibreg_upgrade(it) == bad && rlibreg_format(it, "new", 64, 0) == bad);
     WANT(rlibreg_open(it, "disk", 0) == bad);
     WANT(rlibreg_last(it)->status == bad && !rlibreg_text(it)[0]);

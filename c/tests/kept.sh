@@ -308,7 +308,6 @@ echo user > kept/0123456789abcdef
 images 'another boot' 2
 want "a file that is none of the loader's" user "$(cat kept/0123456789abcdef)"
 rm kept/*
-./tool preload disk > /dev/null
 
 # What was changed just now isn't kept: the file of a disk, or of a long program.
 $compile -pie -Wl,-e,_start -o long "$programs/place.c" -x c - <<< 'char more[3 << 20] = "more";'
@@ -316,6 +315,7 @@ now() {
     ./rlibreg-run -v -c kept disk "./$1" 2>&1 > lost | sed 's/^rlibreg-run: kept: //'
 }
 just='was changed just now'
+./tool preload disk > /dev/null
 want 'a disk that was changed just now' "$none
 nothing is kept: the disk $just, or tells too little" "$(now place)"
 sleep 2.1

@@ -131,12 +131,14 @@ static long try_meanwhile(void) {
 
 /* Of a file that was cut nothing is read through the map. */
 static uint32_t look_by(rlibreg *it, int number) {
+    const rlibreg_change install = { RLIBREG_INSTALL, 0, library_length };
     rlibreg_listing listing;
     rlibreg_image image;
     rlibreg_information information;
     rlibreg_findings findings;
     uint8_t digest[RLIBREG_DIGEST_BYTES];
     void *bytes;
+    char *text;
     size_t length;
     switch (number) {
     case 0: return rlibreg_listing_of(it, &listing);
@@ -145,12 +147,18 @@ static uint32_t look_by(rlibreg *it, int number) {
     case 3: return rlibreg_findings_of(it, &findings);
     case 4: return rlibreg_upgrade(it);
     case 5: return rlibreg_digest_of(it, name, digest);
+    case 6: return rlibreg_executable_of(it, library, library_length, 0, &bytes, &length);
+    case 7: return rlibreg_bindings_of(it, library, library_length, 0, &text, &length);
+    case 8: return rlibreg_update(it, &install, 1, library, library_length);
+    case 9:
+        return rlibreg_update_image_of(it, &install, 1, library, library_length, library,
+                                       library_length, 0, &image);
     }
     return rlibreg_info_of(it, &information);
 }
 
 static void try_looks(void) {
-    for (int number = 0; number < 7; number++) {
+    for (int number = 0; number < 11; number++) {
         prepare();
         rlibreg *it = open_disk("disk");
         cut_whole();

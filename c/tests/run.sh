@@ -57,8 +57,8 @@ watched=$(printf ',--wrap=%s' open openat fstat stat fstatat fstatfs lseek nanos
     flock sync_file_range fsync fcntl pread ioctl posix_fadvise mincore mmap ftruncate pwrite \
     linkat syscall renameat unlink unlinkat fstatvfs fremovexattr)
 watched="-Wl$watched $objects/tests/watched.o"
-plain='tool calls cuts turns'
-over_watched='opening streams place front making forked contents findings'
+plain='tool calls together cuts turns'
+over_watched='opening streams place front making forked contents findings updates'
 compiled tests "$checked" $(printf "$here/%s.c " watched faults $plain $over_watched)
 for name in $plain; do gcc $checked -o "$room/$name" "$objects/tests/$name.o" $beside; done
 for name in faults $over_watched; do
@@ -97,6 +97,7 @@ given+=("$(sha256sum < "$data/strong.so" | cut -d ' ' -f 1)")
 "$room/calls" "${given[@]}"
 gcc $flags -O1 -o "$room/calls" "$here/calls.c" "$built/librlibreg.a"
 (ulimit -s 512 && "$room/calls" "${given[@]}")
+"$room/together" "${given[@]:0:2}" "$data/long.so"
 # alone NAME WORD..: a test in a folder of its own.
 alone() {
     mkdir $1.files
@@ -121,9 +122,15 @@ fi
 alone forked "$data/strong.so" "$data/program-1.so" b
 alone contents "$data/strong.so" b
 alone findings "$data/strong.so" b "$data/old-one.disk"
+of_updates=("$data/strong.so" "$data/protected.so" "$data/long.so" "$data/program-1.so")
+alone updates "${of_updates[@]}"
+# Where memory is refused, which the sanitizer of addresses has much of.
+gcc $flags -O1 -o limited "$here/updates.c" "$here/watched.c" ${watched%% *} "$built/librlibreg.a"
+alone limited "${of_updates[@]}" > told || { cat told; exit 1; }
+sed -n '/^skipped/p' told
 alone kept-files file
 plain=./rlibreg-run bases=8
-for part in cuts same held recipe devices full loader starting initializers kept documents streams; do
+for part in cuts same held devices full loader starting initializers kept documents streams; do
     (. "$here/$part.sh")
 done
 (. "$here/twice.sh")

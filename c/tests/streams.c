@@ -106,6 +106,8 @@ static void try_the_disk(int how, int may_be_written) {
         uint32_t status = rlibreg_install(it, library, library_length);
         WANT(may_be_written ? is_refused(status) && is_as_before() && !rlibreg_text(it)[0]
                             : !status && !rlibreg_remove(it, name));
+        if (may_be_written)
+            WANT(is_refused(rlibreg_update(it, NULL, 0, NULL, 0)) && is_as_before());
         WANT(!rlibreg_listing_of(it, &listing));
         rlibreg_listing_free(&listing);
         rlibreg_close(it);

@@ -266,6 +266,8 @@ WRAPPED(int, mincore, void *from, size_t length, unsigned char *kept) {
 WRAPPED(void *, mmap, void *at, size_t length, int how, int kind, int fd, off_t from) {
     if (kind & MAP_ANONYMOUS)
         return fails("copy", 0) ? MAP_FAILED : __real_mmap(at, length, how, kind, fd, from);
+    if (kind & MAP_PRIVATE) /* the disk as it will be after an update */
+        return fails("map-after", 0) ? MAP_FAILED : __real_mmap(at, length, how, kind, fd, from);
     if (watched.is_on) WANT(kind == MAP_SHARED && from == 0);
     if (watched.is_on) WANT(how == PROT_READ || (how == PROT_NONE && length == 1));
     if (how == PROT_NONE) watched.forgotten = 0;

@@ -17,17 +17,18 @@ import errno
 import math
 import operator
 import os
+import re
 import threading
 import time
-from typing import (Any, Callable, Iterable, Iterator, List, Literal, NamedTuple, NoReturn, Tuple,
-                    TypeVar, Union)
+from typing import (Any, Callable, Iterable, Iterator, List, Literal, NamedTuple, NoReturn,
+                    Tuple, TypeVar, Union)
 
 from . import _calls
 from ._calls import library as _library
 
-__all__ = ['Busy', 'Closed', 'Error', 'Finding', 'Held', 'Image', 'Info', 'Library', 'Listing',
-           'Object', 'Permissions', 'Put', 'Refusal', 'Registry', 'Segment', 'Status',
-           'SystemFault', 'format', 'upgrade', 'version']
+__all__ = ['Binding', 'Bindings', 'BoundObject', 'Busy', 'Closed', 'Error', 'Finding', 'Held',
+           'Image', 'Info', 'Library', 'Listing', 'Object', 'Permissions', 'Put', 'Refusal',
+           'Registry', 'Segment', 'Status', 'SystemFault', 'Update', 'format', 'upgrade', 'version']
 
 PathName = Union[str, bytes, 'os.PathLike[str]', 'os.PathLike[bytes]']
 Content = Union[bytes, bytearray, memoryview, str, 'os.PathLike[str]', 'os.PathLike[bytes]']
@@ -70,6 +71,15 @@ class Status(enum.IntEnum):
     GENERATION_END = 310
     OUT_OF_MEMORY = 311
     OLD_FORMAT = 312
+    NO_ENTRY = 401
+    STATIC_PIE = 402
+    PRE_INITIALIZERS = 403
+    INITIALIZERS = 404
+    FINALIZERS = 405
+    OUT_OF_ORDER = 406
+    TOO_MANY_HEADERS = 407
+    WRITABLE_CODE = 408
+    NO_PAGES = 409
 
 
 class Permissions(enum.IntFlag):
@@ -148,6 +158,33 @@ class Image(NamedTuple):
     objects: list[Object]
 
 
+class Binding(NamedTuple):
+    """What a symbol is bound to that a relocation of an object names."""
+
+    symbol: str
+    object: str | None  # the name of the one that defines it; None where none does
+    address: int | None  # 0 where it is weak and none defines it; None where it is undefined (B5)
+
+
+class BoundObject(NamedTuple):
+    """An object, what it needs, and what its symbols are bound to."""
+
+    name: str  # a library's SONAME; the program's is '/program'
+    base: int | None  # None where a name is missing: then no object has a place
+    needs: list[str]
+    missing: list[str]  # those of them that aren't installed (B3)
+    bindings: list[Binding]
+
+
+class Bindings(NamedTuple):
+    """What the symbols of a program and its libraries are bound to, object by object in load order;
+    or where names are missing what was found."""
+
+    status: Status  # that of a bind: DONE, MISSING or UNDEFINED
+    objects: list[BoundObject]
+    text: str  # as rlibreg-tool prints it
+
+
 # ---- Errors
 
 
@@ -160,6 +197,7 @@ class Error(Exception):
     file_refusal: int = 0  # of a file that is refused (B1, C1): n of the first test En
     file_refusal_name: str = ''  # its name, as 'E1 TooShort'
     errno: int = 0  # of a device that failed (S1): why
+    change: int | None = None  # of an update: which of its changes is refused, counted from 0
 
     def __str__(self) -> str:
         return self.text or super().__str__()
@@ -167,8 +205,8 @@ class Error(Exception):
 
 class Refusal(Error):
     """The registry refuses, by a number that the program's manual has: B1 to B5, C1 to C6, S1 to
-    S12. Nothing was done; but after S1 a change was made or not, and the registry has to be opened
-    again."""
+    S12; or a bound program has no executable file. Nothing was done; but after S1 a change was made
+    or not, and the registry has to be opened again."""
 
 
 class Held(Error):
@@ -242,6 +280,13 @@ def _word(word: PathName) -> bytes:
     if b'\0' in given:
         raise ValueError('embedded null byte')
     return given
+
+
+def _words(names: Iterable[str]) -> list[bytes]:
+    """The names of preloads."""
+    if isinstance(names, (str, bytes)):
+        raise TypeError('preloads are a list of names')
+    return [_word(name) for name in names]
 
 
 def _unsigned(value: int, bits: int) -> int:
@@ -411,14 +456,68 @@ def _list(handle: _Handle) -> Error | Listing:
         _library.rlibreg_listing_free(ctypes.byref(given))
 
 
-def _file(handle: _Handle, name: bytes) -> Error | bytes:
-    """A library's bytes, of Python's own memory."""
+def _given(handle: _Handle, call: str, *words: object) -> Tuple[Error | None, bytes]:
+    """What a call is answered and gives, of Python's own memory."""
     given, length = _calls.POINTER(), _calls.SIZE()
     try:
-        return (handle.ask('file_of', name, ctypes.byref(given), ctypes.byref(length))
-                or bytes(_calls.array(length.value).from_address(given.value).raw))
+        error = handle.ask(call, *words, ctypes.byref(given), ctypes.byref(length))
+        data = _calls.array(length.value).from_address(given.value).raw if given.value else b''
+        return error, bytes(data)
     finally:
         _calls.free(given)
+
+
+def _file(handle: _Handle, name: bytes) -> Error | bytes:
+    """A library's bytes."""
+    error, data = _given(handle, 'file_of', name)
+    return error or data
+
+
+def _executable(handle: _Handle, program: bytes, base: int) -> Error | bytes:
+    error, data = _given(handle, 'executable_of', program, len(program), base)
+    return error or data
+
+
+def _bindings(handle: _Handle, program: bytes, base: int) -> Error | Bindings:
+    error, data = _given(handle, 'bindings_of', program, len(program), base)
+    if error and not data:
+        return error
+    text = data.decode('ascii')
+    return Bindings(Status(error.number if error else Status.DONE), _objects(text), text)
+
+
+def _name(word: str) -> str:
+    """A name, as the program spells it: a byte that isn't plain by two digits, none by an e."""
+    if word == '\\e':
+        return ''
+    spelt = re.sub(r'\\x(..)', lambda it: chr(int(it[1], 16)), word)
+    return spelt.encode('latin-1').decode('utf-8', 'surrogateescape')
+
+
+def _objects(text: str) -> list[BoundObject]:
+    """The objects of the text of bindings."""
+    objects: list[BoundObject] = []
+    for line in text.splitlines():
+        what, *words = line.split(' ')
+        if what == 'object':
+            objects.append(BoundObject(_name(words[1]), int(words[0], 16), [], [], []))
+        elif what == 'found':
+            objects.append(BoundObject(_name(words[0]), None, [], [], []))
+        elif what == 'needs':
+            objects[-1].needs.append(_name(words[0]))
+        elif what == 'missing':
+            objects[-1].missing.append(_name(words[0]))
+        elif what != 'end':
+            objects[-1].bindings.append(_binding(what, words))
+    return objects
+
+
+def _binding(what: str, words: list[str]) -> Binding:
+    """Of a line `binds`, `unresolved` or `undefined`."""
+    symbol = _name(words[0])
+    if what == 'binds':
+        return Binding(symbol, _name(words[2]), int(words[1], 16))
+    return Binding(symbol, None, 0 if what == 'unresolved' else None)
 
 
 def _has(handle: _Handle, data: bytes) -> Error | bool:
@@ -485,6 +584,87 @@ def _object(it: _calls.Object, given: _calls.Image, segments: list[Segment]) -> 
     name = ctypes.string_at(given.bytes + it.name, it.name_length).decode()
     own = segments[it.first_segment:it.first_segment + it.segments]
     return Object(it.base, name, own, it.headers, it.header_count, it.dynamic, it.entry)
+
+
+def _is_of_a_change(number: int) -> bool:
+    """Whether a refusal is that of a change, and of no opening or bind."""
+    return (Status.BAD_FILE <= number <= Status.TOO_MANY_PRELOADS or
+            Status.FULL <= number <= Status.GENERATION_END)
+
+
+class Update:
+    """Changes of a registry that are made together, as one, where the `with` of this ends; or none,
+    where it ends by an exception. Until then nothing is written or refused: a change that the
+    registry refuses is the exception of the next `bind`, and of the end, and `change` is its place
+    among the changes. Files are given as to a Registry, and are in memory until the end."""
+
+    def __init__(self, handle: _Handle) -> None:
+        self._handle = handle
+        self._changes: list[tuple[int, bytes]] | None = None
+
+    def __enter__(self) -> Update:
+        error = self._handle.refusal()
+        if error:
+            raise error
+        if self._changes is not None:
+            raise _error(Error, Status.BAD_ARGUMENT, 'the update has begun')
+        self._changes = []
+        return self
+
+    def __exit__(self, kind: object, *rest: object) -> None:
+        try:
+            if kind is None:
+                self._call('update')
+        finally:
+            self._changes = None
+
+    def _begun(self) -> list[tuple[int, bytes]]:
+        """The changes so far."""
+        if self._changes is None:
+            raise _error(Error, Status.BAD_ARGUMENT, 'an update is made within its `with`')
+        return self._changes
+
+    def _call(self, name: str, *words: object) -> None:
+        """Makes a call over the changes so far."""
+        begun, at = self._begun()[:], 0
+        places = []
+        for kind, own in begun:
+            places.append(_calls.Change(kind, at, len(own)))
+            at += len(own)
+        changes, data = (_calls.Change * len(places))(*places), b''.join(own for _, own in begun)
+        self._handle.do(lambda: self._ask(name, changes, len(places), data, at, *words))
+
+    def _ask(self, name: str, *words: object) -> Error | None:
+        """What a call is answered, and of which change it is."""
+        error = self._handle.ask(name, *words)
+        if error and _is_of_a_change(error.number):
+            error.change = _library.rlibreg_last(self._handle.struct).contents.count
+        return error
+
+    def install(self, file: Content) -> None:
+        """Installs a library under its SONAME, behind the others."""
+        self._begun().append((_calls.INSTALL, _content(file)))
+
+    def replace(self, file: Content) -> None:
+        """Puts a library in the place of the one of its SONAME."""
+        self._begun().append((_calls.REPLACE, _content(file)))
+
+    def remove(self, name: str) -> None:
+        """Removes the library of this name."""
+        self._begun().append((_calls.REMOVE, _word(name)))
+
+    def preload(self, names: Iterable[str]) -> None:
+        """Sets the preloads, in this order."""
+        data = b''.join(word + b'\0' for word in _words(names))
+        self._begun().append((_calls.PRELOAD, data))
+
+    def bind(self, program: Content, base: int) -> Image:
+        """Binds a program over what the registry will have once the changes so far are made, and
+        writes nothing."""
+        data, given = _content(program), _calls.Image()
+        address = _unsigned(base, 64)
+        self._call('update_image_of', data, len(data), address, ctypes.byref(given))
+        return _image(given)
 
 
 class Registry:
@@ -557,10 +737,13 @@ class Registry:
 
     def preload(self, names: Iterable[str]) -> None:
         """Sets the preloads, which every program is bound with, in this order."""
-        if isinstance(names, (str, bytes)):
-            raise TypeError('preloads are a list of names')
-        words = [_word(name) for name in names]
+        words = _words(names)
         self._handle.call('preload', (_calls.TEXT * len(words))(*words), len(words))
+
+    def update(self) -> Update:
+        """Changes that are made together, at the end of a `with`; or none, where that ends by an
+        exception."""
+        return Update(self._handle)
 
     def list(self) -> Listing:
         """What the registry has."""
@@ -626,6 +809,19 @@ class Registry:
         address = _unsigned(base, 64)
         self._handle.call('image_of', data, len(data), address, ctypes.byref(given))
         return _image(given)
+
+    def bindings(self, program: Content, base: int) -> Bindings:
+        """What the symbols of a program and of the libraries that it needs are bound to, bound at an
+        address. A symbol that is undefined and a name that is missing are no exceptions: `status`
+        has what `bind` would be refused by."""
+        data, address = _content(program), _unsigned(base, 64)
+        return self._handle.do(lambda: _bindings(self._handle, data, address))
+
+    def executable(self, program: Content, base: int) -> bytes:
+        """The static executable file of a program that is bound at an address, which needs neither
+        a loader nor the registry. Linux before 6.17 starts none with more than 73 program headers."""
+        data, address = _content(program), _unsigned(base, 64)
+        return self._handle.do(lambda: _executable(self._handle, data, address))
 
 
 def format(path: PathName, sectors: int, wait: Wait = False) -> None:

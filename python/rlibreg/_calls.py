@@ -13,6 +13,7 @@ NAME = f'librlibreg.so.{VERSION.rpartition(".")[0]}'  # its SONAME
 
 CHANGES, WAIT = 1, 2
 SOUND, OTHER_NAME = 0, 100
+INSTALL, REPLACE, REMOVE, PRELOAD = 1, 2, 3, 4
 DIGEST_BYTES = 32
 
 
@@ -42,6 +43,10 @@ class Entry(ctypes.Structure):
 class Finding(ctypes.Structure):
     _fields_ = [('name', ctypes.c_uint64), ('name_length', ctypes.c_uint32),
                 ('finding', ctypes.c_uint32)]
+
+
+class Change(ctypes.Structure):
+    _fields_ = [(name, ctypes.c_uint64) for name in ('kind', 'from', 'length')]
 
 
 class Information(ctypes.Structure):
@@ -106,6 +111,7 @@ PROTOTYPES: dict[str, tuple[Any, ...]] = {  # what each gives, and what it takes
     'replace': (NUMBER, POINTER, TEXT, SIZE),
     'remove': (NUMBER, POINTER, TEXT),
     'preload': (NUMBER, POINTER, ctypes.POINTER(TEXT), SIZE),
+    'update': (NUMBER, POINTER, ctypes.POINTER(Change), SIZE, TEXT, SIZE),
     'listing_of': (NUMBER, POINTER, ctypes.POINTER(Listing)),
     'listing_free': (None, ctypes.POINTER(Listing)),
     'file_of': (NUMBER, POINTER, TEXT, ctypes.POINTER(POINTER), ctypes.POINTER(SIZE)),
@@ -114,7 +120,13 @@ PROTOTYPES: dict[str, tuple[Any, ...]] = {  # what each gives, and what it takes
     'findings_of': (NUMBER, POINTER, ctypes.POINTER(Findings)),
     'findings_free': (None, ctypes.POINTER(Findings)),
     'image_of': (NUMBER, POINTER, TEXT, SIZE, ctypes.c_uint64, ctypes.POINTER(Image)),
+    'update_image_of': (NUMBER, POINTER, ctypes.POINTER(Change), SIZE, TEXT, SIZE, TEXT, SIZE,
+                        ctypes.c_uint64, ctypes.POINTER(Image)),
     'image_free': (None, ctypes.POINTER(Image)),
+    'bindings_of': (NUMBER, POINTER, TEXT, SIZE, ctypes.c_uint64, ctypes.POINTER(POINTER),
+                    ctypes.POINTER(SIZE)),
+    'executable_of': (NUMBER, POINTER, TEXT, SIZE, ctypes.c_uint64, ctypes.POINTER(POINTER),
+                      ctypes.POINTER(SIZE)),
 }
 
 

@@ -22,6 +22,8 @@ WORDS = {'format': 1, 'upgrade': 0, 'install': 1, 'replace': 1, 'remove': 1, 'li
 LINE = re.compile(r'(install|replace) (?:[0-9a-fA-F]{2})+|remove [!-~]+|preload(?: [!-~]+)*|list'
                   r'|bind 0x[0-9a-fA-F]{1,16} (?:[0-9a-fA-F]{2})+')
 
+UNOPENED = (Status.NOT_FORMATTED, Status.DAMAGED, Status.BAD_GEOMETRY, Status.OLD_FORMAT)
+
 
 class NotMapped(Exception):
     """A case that the module has no calls for."""
@@ -99,19 +101,55 @@ def run_command(disk, command, words):
         return ask(registry, command, words)
 
 
+def asked(line):
+    """The command of a line, and its words."""
+    command, *words = line.split(' ')
+    if command in ('install', 'replace'):
+        words = [bytes.fromhex(words[0])]
+    elif command == 'bind':
+        words = [bytearray.fromhex(words[1]), words[0]]
+    return command, words
+
+
 def run_lines(registry, script):
     """The replies to a script's lines, and how many lines were refused."""
     replies, statuses = [], [0]
     for line in script.decode('latin-1').splitlines():
-        command, *words = line.split(' ')
-        if command in ('install', 'replace'):
-            words = [bytes.fromhex(words[0])]
-        elif command == 'bind':
-            words = [bytearray.fromhex(words[1]), words[0]]
-        reply, status = told(functools.partial(ask, registry, command, words))
+        reply, status = told(functools.partial(ask, registry, *asked(line)))
         replies.append(reply + '\n')
         statuses.append(status)
     return ''.join(replies).encode(), statuses
+
+
+def update_by(registry, lines):
+    """The replies to the lines of an update. A refusal comes later than the tool's: it says of which
+    change it is."""
+    replies, changes = [], []
+    try:
+        with registry.update() as update:
+            for line in lines:
+                if not line.startswith('bind'):
+                    changes.append(len(replies))
+                ask(update, *asked(line))
+                replies.append('bound' if line.startswith('bind') else 'planned')
+        return '\n'.join([*replies, 'ok']), 0
+    except rlibreg.Refusal as refusal:
+        if refusal.number in UNOPENED:
+            return '', exit_status(refusal)
+        if refusal.change is not None:
+            del replies[changes[refusal.change]:]
+        return '\n'.join([*replies, refusal.text]), exit_status(refusal)
+
+
+def update_of(data):
+    """The lines of an update up to `commit`."""
+    lines, commit, _ = data.decode('latin-1').partition('\ncommit\n')
+    if data.startswith(b'commit\n'):
+        return []
+    lines = lines.split('\n')
+    if not commit or 'list' in lines or not all(LINE.fullmatch(line) for line in lines):
+        raise NotMapped
+    return lines
 
 
 def script_of(data):
@@ -125,8 +163,9 @@ def script_of(data):
 
 
 class Run(NamedTuple):
-    """`on BEFORE run WORD .. [< FILE] => STATUS ANSWER then AFTER`."""
+    """`on BEFORE run WORD .. [< FILE] => STATUS ANSWER then AFTER`; or `tool` for `run`."""
 
+    program: str  # `run` or `tool`
     before: bytes  # or None
     command: str
     words: list
@@ -137,7 +176,7 @@ class Run(NamedTuple):
 
 
 def run_of(case):
-    before, run = ' '.join(case.words).split(' run ', 1)
+    before, program, run = re.fullmatch('(.*?) (run|tool) (.*)', ' '.join(case.words)).groups()
     run, _, script = run.partition(' < ')
     command, *words = run.split(' ')
     status, wanted = case.answer.split(' ', 1)
@@ -145,7 +184,7 @@ def run_of(case):
     before = None if before == 'none' else file(before)
     text = b'' if wanted.startswith('error ') else without_objects(answer(wanted))
     script = file(script or 'bytes=')
-    return Run(before, command, words, script, int(status), text, left(after, before))
+    return Run(program, before, command, words, script, int(status), text, left(after, before))
 
 
 def on_disk(case, disk):
@@ -156,7 +195,10 @@ def on_disk(case, disk):
         disk.write_bytes(run.before)
     name, *words = run.words
     path = disk if name == 'disk' else name and disk.parent / name
-    if run.command == 'script':
+    if run.program == 'tool':
+        with rlibreg.Registry(path, changes=True) as registry:
+            text, status = update_by(registry, update_of(run.script))
+    elif run.command == 'script':
         text, status = told_script(path, run.script)
     else:
         if run.command in ('install', 'replace', 'bind'):
@@ -181,6 +223,8 @@ def told_script(path, script):
 def is_mapped(run):
     """Whether the words are those of a command that the module has."""
     _, *words = run.words
+    if run.program == 'tool':
+        return run.command == 'update' and not words
     if run.command == 'script':
         return run.script and script_of(run.script)
     if run.command == 'preload':

@@ -34,7 +34,9 @@ class Handlers(OnDisk):
                       lambda: self.registry.info(), lambda: self.registry.check(),
                       lambda: self.registry.file('b'), lambda: self.registry.put(library),
                       lambda: self.registry.digest('b'),
-                      lambda: b''.join(self.registry.dump())]
+                      lambda: self.registry.bindings(program, 0x10000),
+                      lambda: self.registry.executable(program, 0x10000),
+                      lambda: b''.join(self.registry.dump()), self.update]
         self.answers = [self.heard(call) for call in self.calls]
         self.assertEqual(len({str(it) for it in self.answers}), len(self.calls))
 
@@ -46,7 +48,13 @@ class Handlers(OnDisk):
         except rlibreg.Busy:
             return 'busy'
         except rlibreg.Refusal as it:
-            return it.number, it.name, it.text, it.file_refusal, it.file_refusal_name
+            return it.number, it.name, it.text, it.file_refusal, it.file_refusal_name, it.change
+
+    def update(self):
+        """An update whose second change is refused."""
+        with self.registry.update() as update:
+            update.preload(['b'])
+            update.remove('b')
 
     def try_all(self, wrong, busy=None):
         """Makes each call, and says which were answered otherwise than alone, or not."""
@@ -190,7 +198,7 @@ class Handlers(OnDisk):
                     self.registry.close()
 
         goes_on = self.strike(handler)
-        while goes_on(children) and len(children) < 10:
+        while goes_on(children) and (len(children) < 10 or not children[-1]):
             try:
                 self.try_all([])
             except BaseException as error:

@@ -33,6 +33,29 @@ LIBRARY, PROGRAM = DATA / 'strong.so', DATA / 'program-1.so'  # `b`, and a progr
 SECTORS = 512
 
 
+def spelt(name):
+    """A name, as the program prints it."""
+    data = name.encode('utf-8', 'surrogateescape')
+    plain = [chr(b) if 0x21 <= b <= 0x7e and b != 92 else f'\\x{b:02x}' for b in data]
+    return ''.join(plain) or '\\e'
+
+
+def bindings_text(given):
+    """The text of bindings, made of their objects."""
+    lines = []
+    for it in given.objects:
+        lines.append(f'found {spelt(it.name)}' if it.base is None else
+                     f'object 0x{it.base:016x} {spelt(it.name)}')
+        for name in it.needs:
+            lines.append(f'needs {spelt(name)}')
+            lines += [f'missing {spelt(name)} {spelt(it.name)}'] * (name in it.missing)
+        for symbol, found, address in it.bindings:
+            lines.append(f'undefined {spelt(symbol)} {spelt(it.name)}' if address is None else
+                         f'unresolved {spelt(symbol)}' if found is None else
+                         f'binds {spelt(symbol)} 0x{address:016x} {spelt(found)}')
+    return '\n'.join([*lines, 'end', ''])
+
+
 class OnDisk(unittest.TestCase):
     """A test that has an empty registry."""
 
@@ -48,6 +71,17 @@ class OnDisk(unittest.TestCase):
         self.assertEqual(found.exception.number, number)
         return found.exception
 
+    def in_a_child(self, call):
+        child = os.fork()
+        if not child:
+            try:
+                call()
+                os._exit(0)
+            except BaseException as error:
+                os.write(2, f'{error!r}\n'.encode())
+                os._exit(1)
+        self.assertEqual(os.waitpid(child, 0)[1], 0)
+
 
 class Header(unittest.TestCase):
     """The module says what rlibreg.h says."""
@@ -58,7 +92,8 @@ class Header(unittest.TestCase):
         found = {name: int(number) for name, number in found.items()}
         self.assertEqual({name: found.pop(name) for name in flags},
                          {**rlibreg.Permissions.__members__, 'CHANGES': 1, 'WAIT': 2})
-        self.assertEqual((found.pop('SOUND'), found.pop('OTHER_NAME')), (0, 100))
+        for name in ('SOUND', 'OTHER_NAME', 'INSTALL', 'REPLACE', 'REMOVE', 'PRELOAD'):
+            self.assertEqual(found.pop(name), getattr(_calls, name))
         self.assertEqual(found, dict(Status.__members__))
 
     def test_structures(self):
@@ -101,9 +136,10 @@ class Arguments(OnDisk):
 
     def test_numbers_that_c_has_not(self):
         with Registry(self.disk) as registry:
-            for base in (-1, 1 << 64):
-                self.assertRaises(OverflowError, registry.bind, PROGRAM, base)
-            self.assertRaises(TypeError, registry.bind, PROGRAM, 1.0)
+            for call in (registry.bind, registry.bindings, registry.executable):
+                for base in (-1, 1 << 64):
+                    self.assertRaises(OverflowError, call, PROGRAM, base)
+                self.assertRaises(TypeError, call, PROGRAM, 1.0)
         self.assertRaises(OverflowError, rlibreg.format, self.disk, (1 << 32) + SECTORS)
         self.refused(Status.BAD_ARGUMENT, rlibreg.format, self.disk, 7)
 
@@ -212,8 +248,145 @@ class Errors(OnDisk):
         for call in (registry.list, registry.info, registry.check, registry.__enter__,
                      lambda: registry.install(LIBRARY), lambda: registry.bind(PROGRAM, 0),
                      lambda: registry.file('b'), lambda: registry.digest('b'),
-                     lambda: list(registry.dump())):
+                     lambda: registry.bindings(PROGRAM, 0), lambda: registry.executable(PROGRAM, 0),
+                     lambda: list(registry.dump()), lambda: registry.update().__enter__()):
             self.assertIsInstance(self.refused(Status.BAD_ARGUMENT, call), rlibreg.Closed)
+
+
+class Updates(OnDisk):
+    def state(self):
+        return self.disk.read_bytes()
+
+    @staticmethod
+    def memory(image):
+        segments = [(it.address, it.permissions, bytes(it.data)) for it in image.segments]
+        return segments, [(it.base, it.name) for it in image.objects]
+
+    def test_changes_are_made_together(self):
+        with Registry(self.disk, changes=True) as registry:
+            with registry.update() as update:
+                before = self.state()
+                self.refused(Status.MISSING, update.bind, PROGRAM, 0x10000)
+                for it in (LIBRARY, file('long.so')):
+                    update.install(it)
+                update.replace(memoryview(file('protected.so')))
+                update.preload(it for it in ('a', 'b'))
+                bound = self.memory(update.bind(str(PROGRAM), 0x10000))
+                self.assertEqual((self.state(), len(registry)), (before, 0))
+            found = registry.list()
+            self.assertEqual((found.generation, found.preloads), (1, ['a', 'b']))
+            self.assertEqual(registry.file('b'), file('protected.so'))
+            self.assertEqual(self.memory(registry.bind(PROGRAM, 0x10000)), bound)
+            before = self.state()
+            with registry.update():
+                pass
+            self.assertEqual(self.state(), before)
+            with registry.update() as update:
+                update.preload([])
+                for _ in range(500):
+                    update.remove('b')
+                    update.install(LIBRARY)
+            self.assertEqual(registry.list(), (2, [('a', 1536), ('b', 376)], []))
+
+    def test_an_exception_gives_all_up(self):
+        before = self.state()
+        with Registry(self.disk, changes=True) as registry:
+            for kind in (ZeroDivisionError, KeyboardInterrupt, GeneratorExit):
+                with self.assertRaises(kind), registry.update() as update:
+                    update.install(LIBRARY)
+                    raise kind
+            for call in (lambda: update.install('no-such-file'), lambda: update.remove('b\0'),
+                         lambda: update.preload('b'), lambda: update.bind(PROGRAM, -1)):
+                with self.assertRaises((OSError, ValueError, TypeError, OverflowError)):
+                    with registry.update() as update:
+                        update.install(LIBRARY)
+                        call()
+        self.assertEqual(self.state(), before)
+
+    def test_a_refusal_has_its_place(self):
+        with Registry(self.disk, changes=True) as registry:
+            registry.install(LIBRARY)
+            before = self.state()
+            for place in range(20):
+                for number, call in ((Status.BAD_FILE, lambda it: it.install(b'')),
+                                     (Status.ALREADY_INSTALLED, lambda it: it.install(LIBRARY)),
+                                     (Status.NOT_INSTALLED, lambda it: it.preload(['c'])),
+                                     (Status.FULL, lambda it: it.replace(LIBRARY.read_bytes() +
+                                                                         bytes(1 << 19)))):
+                    error = self.refused(number, self.update_with, registry, place, call)
+                    self.assertIsInstance(error, rlibreg.Refusal)
+                    self.assertEqual(error.change, place)
+            self.assertEqual(self.state(), before)
+            with self.assertRaises(rlibreg.Refusal) as found, registry.update() as update:
+                update.remove('b')
+                error = self.refused(Status.MISSING, update.bind, PROGRAM, 0x10000)
+                self.assertEqual((error.change, error.text),
+                                 (None, 'refused B3 Missing /program b'))
+                update.remove('b')
+                self.assertEqual(self.refused(Status.NOT_INSTALLED, update.bind, b'', 0).change, 1)
+            self.assertEqual((found.exception.change, self.state()), (1, before))
+
+    @staticmethod
+    def update_with(registry, place, call):
+        """So many changes, and one that is refused."""
+        with registry.update() as update:
+            for _ in range(place):
+                update.preload([])
+            call(update)
+
+    def test_only_within_a_with(self):
+        with Registry(self.disk, changes=True) as registry:
+            update = registry.update()
+            for _ in range(2):
+                for call in (lambda: update.install(LIBRARY), lambda: update.replace(LIBRARY),
+                             lambda: update.remove('b'), lambda: update.preload([]),
+                             lambda: update.bind(PROGRAM, 0)):
+                    self.refused(Status.BAD_ARGUMENT, call)
+                with update:
+                    self.refused(Status.BAD_ARGUMENT, update.__enter__)
+            self.assertEqual(registry.info().generation, 0)
+            with self.assertRaises(rlibreg.Closed), registry.update() as update:
+                update.install(LIBRARY)
+                registry.close()
+
+    def test_who_may_only_read_can_bind(self):
+        with Registry(self.disk) as registry:
+            with self.assertRaises(rlibreg.Error) as found, registry.update() as update:
+                update.install(LIBRARY)
+                self.assertEqual(len(update.bind(PROGRAM, 0x10000).objects), 2)
+            self.assertEqual(found.exception.number, Status.READ_ONLY)
+
+    def test_a_write_that_fails(self):
+        limits = resource.getrlimit(resource.RLIMIT_FSIZE)
+        before = self.state()
+        with Registry(self.disk, changes=True) as registry:
+            with self.assertRaises(rlibreg.Refusal) as found, registry.update() as update:
+                update.install(LIBRARY)
+                resource.setrlimit(resource.RLIMIT_FSIZE, (0, limits[1]))
+                self.addCleanup(resource.setrlimit, resource.RLIMIT_FSIZE, limits)
+                update.bind(PROGRAM, 0x10000)
+            error = found.exception
+            self.assertEqual((error.number, error.errno, error.change),
+                             (Status.DEVICE, errno.EFBIG, None))
+            self.refused(Status.REOPEN, self.update_with, registry, 1, lambda it: it.remove('b'))
+        self.assertEqual(self.state(), before)
+
+    def test_memory_that_is_refused(self):
+        """A process that may have a little more doesn't get what a long disk takes."""
+        self.disk.unlink()
+        rlibreg.format(self.disk, 1 << 19)
+
+        def child():
+            limit = Memory.in_use()[0] + (64 << 20)
+            with Registry(self.disk, changes=True) as registry, registry.update() as update:
+                resource.setrlimit(resource.RLIMIT_DATA, (limit, limit))
+                update.install(LIBRARY)
+                error = self.refused(Status.OUT_OF_MEMORY, update.bind, PROGRAM, 0)
+                self.assertIsNone(error.change)
+
+        self.in_a_child(child)
+        with Registry(self.disk) as registry:
+            self.assertEqual(list(registry), ['b'])
 
 
 class Locks(OnDisk):
@@ -315,17 +488,6 @@ class Locks(OnDisk):
 
 
 class Processes(OnDisk):
-    def in_a_child(self, call):
-        child = os.fork()
-        if not child:
-            try:
-                call()
-                os._exit(0)
-            except BaseException as error:
-                os.write(2, f'{error!r}\n'.encode())
-                os._exit(1)
-        self.assertEqual(os.waitpid(child, 0)[1], 0)
-
     def test_a_child_only_closes(self):
         registry = Registry(self.disk, changes=True)
 
@@ -425,6 +587,8 @@ class Contents(OnDisk):
             self.assertEqual(registry.file(first), b'\0' + LIBRARY.read_bytes()[1:])
             for name in (first, second):
                 self.assertEqual(registry.digest(name), sha256(registry.file(name)).digest())
+            for call in (registry.bind, registry.bindings, registry.executable):
+                self.refused(Status.DAMAGED, call, PROGRAM, 0x10000)
             self.assertEqual(registry.info(), info)
             self.assertEqual(registry.check(), [(first, (2, 'E2 BadMagic', 'damaged E2 BadMagic')),
                                                 (second, (0, 'Sound', 'ok'))])
@@ -497,6 +661,50 @@ class Contents(OnDisk):
             self.assertEqual(registry.put(LIBRARY.read_bytes() + b'+'), 'replaced')
             thread.join()
             self.assertEqual(list(registry), [])
+
+    def test_bindings_and_executables_are_those_of_the_tool(self):
+        """Of each stored object as a program, beside the libraries that have room."""
+        seen = set()
+        with Registry(self.disk, changes=True) as registry:
+            for path in sorted(DATA.glob('linked*.so')) + sorted(DATA.glob('*.so')):
+                try:
+                    registry.install(path)
+                except rlibreg.Refusal:
+                    continue
+        with Registry(self.disk) as registry:
+            for path in sorted(DATA.glob('*.so')):
+                for call in (registry.bindings, registry.executable):
+                    try:
+                        given = call(path, 0x400000)
+                    except rlibreg.Refusal as refusal:
+                        given = refusal
+                    seen |= self.is_told(call.__name__, path, given)
+        self.assertGreaterEqual(seen, {'binds', 'unresolved', 'undefined', 'missing', 'NoEntry',
+                                       'B1'})
+
+    def is_told(self, form, path, given):
+        """The tool gives and says the same; and what lines, or which refusals, were seen."""
+        if isinstance(given, rlibreg.Bindings):
+            self.assertEqual(given.text, bindings_text(given))
+            wanted = given.text.encode(), '', int(given.status != Status.DONE)
+        elif isinstance(given, bytes):
+            wanted = given, '', 0
+        else:
+            wanted = b'', f'rlibreg-tool: {given.text}\n', 1
+        if TOOL:
+            told = subprocess.run([TOOL, form, self.disk, path, '0x400000'], capture_output=True)
+            self.assertEqual((told.stdout, told.stderr.decode(), told.returncode), wanted)
+        return {line.split(' ')[line.startswith('refused ')]
+                for line in getattr(given, 'text', '').splitlines()}
+
+    def test_what_is_missing_is_no_exception(self):
+        with Registry(self.disk) as registry:
+            given = registry.bindings(PROGRAM, 0x10000)
+            self.assertEqual(given, (Status.MISSING, [('/program', None, ['b'], ['b'], [])],
+                                     'found /program\nneeds b\nmissing b /program\nend\n'))
+            self.refused(Status.MISSING, registry.executable, PROGRAM, 0x10000)
+            self.refused(Status.BAD_BASE, registry.bindings, PROGRAM, 1)
+            self.refused(Status.BAD_PROGRAM, registry.bindings, b'', 0)
 
     def dumped(self, registry, number=None):
         """The pieces of a dump, which ends by the error of this number."""
@@ -639,7 +847,12 @@ class Memory(OnDisk):
             self.is_kept(2000, registry.check)
             self.is_kept(2000, lambda: registry.file('b'))
             self.is_kept(2000, lambda: registry.digest('b'))
+            self.is_kept(500, lambda: registry.bindings(PROGRAM, 0x10000))
+            self.is_kept(500, lambda: self.refused(Status.NO_ENTRY, registry.executable,
+                                                   PROGRAM, 0))
             self.is_kept(2000, lambda: registry.put(LIBRARY))
+            self.is_kept(500, lambda: Updates.update_with(registry, 9,
+                                                          lambda it: it.bind(PROGRAM, 0)))
             self.is_kept(1000, lambda: list(registry.dump()))
             self.is_kept(2000, lambda: self.refused(Status.NOT_INSTALLED, registry.file, 'c'))
             self.is_kept(2000, lambda: self.refused(Status.HELD, Registry, self.disk))

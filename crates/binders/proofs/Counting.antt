@@ -1,4 +1,4 @@
--- The sectors that aren't free since binders live are those of each version that they alone hold, once.
+-- The sectors that aren't free since binders live are those of each byte string that they alone hold, once.
 use Rattle.std.proofs.Common.{◌≡◌, ◌≢◌, ℕ, ◌+◌, ◌<◌, List, [], ◌∷◌, length, get_or, if◌then◌else◌, Bool, true, false, refl, ap, suc, sym, subst, ◌∙◌, arith}
 use Rattle.std.specs.Prelude.{All, AllPairs, Contains, sum_by}
 use Rattle.std.proofs.lemmas.List.{get_or_default, length-append}
@@ -6,9 +6,9 @@ use Rattle.std.proofs.lemmas.List.Elements.{All-contains, All-cons, All-head, Al
 use Rattle.std.proofs.lemmas.List.Kept.{AllPairs-cons}
 use Rattle.std.proofs.lemmas.List.Sums.{sum_by-cons}
 use Rattle.scope.proofs.LoadOrderLemmas.{contains-here, contains-later}
-use Rattle.store.specs.HeldVersions.{HaveOwnRows, IsHeldBy, lone_sectors, AreVersions}
+use Rattle.store.specs.Holds.{HaveOwnRows, IsHeldBy, lone_sectors, AreHolds}
 use Rattle.store.specs.Stands.{sectors_of}
-use Rattle.store.specs.declared.held_versions.HeldRow.{HeldRow}
+use Rattle.store.specs.declared.holds.HeldRow.{HeldRow}
 use Rattle.store.specs.declared.placed_entry.PlacedEntry.{PlacedEntry}
 use Rattle.binders.specs.Counted.{CountsOnce, IsLone}
 use Rattle.binders.specs.Slotted.{HoldAlone, Slotted}
@@ -18,10 +18,10 @@ abbrev add : Bool → PlacedEntry → List PlacedEntry → List PlacedEntry
 add true placed later = later
 add false placed later = placed ∷ later
 
--- the versions that the state lists no longer, row by row
-abbrev lone_versions : List HeldRow → List PlacedEntry
-lone_versions [] = []
-lone_versions (row ∷ rows) = add row.listed row.placed (lone_versions rows)
+-- what is held and the state lists no longer, row by row
+abbrev lone_holds : List HeldRow → List PlacedEntry
+lone_holds [] = []
+lone_holds (row ∷ rows) = add row.listed row.placed (lone_holds rows)
 
 -- their sectors
 abbrev size : PlacedEntry → ℕ
@@ -32,23 +32,23 @@ add_size : (listed : Bool) (placed : PlacedEntry) (later : List PlacedEntry)
 add_size true placed later = omega arith
 add_size false placed later = sym (sum_by-cons size placed later)
 
-lone_size : (held : List HeldRow) → length (lone_sectors held) ≡ sum_by size (lone_versions held)
+lone_size : (held : List HeldRow) → length (lone_sectors held) ≡ sum_by size (lone_holds held)
 lone_size [] = refl
 lone_size (row ∷ rows) =
     length-append (if row.listed then [] else sectors_of row.placed) (lone_sectors rows)
     ∙ ap (λ n. length (if row.listed then [] else sectors_of row.placed) + n) (lone_size rows)
-    ∙ add_size row.listed row.placed (lone_versions rows)
+    ∙ add_size row.listed row.placed (lone_holds rows)
 
 -- what holds of each row's entry that the state doesn't list holds of each of them
 add_all : (P : PlacedEntry → Type 0) (listed : Bool) (placed : PlacedEntry) (later : List PlacedEntry) → (listed ≡ false → P placed) → All P later → All P (add listed placed later)
 add_all P true placed later here there = there
 add_all P false placed later here there = All-cons P placed later (here refl) there
 
-lone_all : (P : PlacedEntry → Type 0) (held : List HeldRow) → All (λ row. row.listed ≡ false → P row.placed) held → All P (lone_versions held)
+lone_all : (P : PlacedEntry → Type 0) (held : List HeldRow) → All (λ row. row.listed ≡ false → P row.placed) held → All P (lone_holds held)
 lone_all P [] all = All-nil P
 lone_all P (row ∷ rows) all =
     let Q : HeldRow → Type 0 = λ h. h.listed ≡ false → P h.placed in
-    add_all P row.listed row.placed (lone_versions rows) (All-head Q row rows all) (lone_all P rows (All-tail Q row rows all))
+    add_all P row.listed row.placed (lone_holds rows) (All-head Q row rows all) (lone_all P rows (All-tail Q row rows all))
 
 -- each of these entries is one of them
 later_in : (listed : Bool) (placed q : PlacedEntry) (later : List PlacedEntry) → Contains later q → Contains (add listed placed later) q
@@ -59,12 +59,12 @@ first_in : (listed : Bool) (placed : PlacedEntry) (later : List PlacedEntry) →
 first_in true placed later e = absurd cc
 first_in false placed later e = contains-here placed later
 
-lone_each : (held : List HeldRow) → All (λ row. row.listed ≡ false → Contains (lone_versions held) row.placed) held
-lone_each [] = All-nil (λ row. row.listed ≡ false → Contains (lone_versions []) row.placed)
+lone_each : (held : List HeldRow) → All (λ row. row.listed ≡ false → Contains (lone_holds held) row.placed) held
+lone_each [] = All-nil (λ row. row.listed ≡ false → Contains (lone_holds []) row.placed)
 lone_each (row ∷ rows) =
-    let Within : HeldRow → Type 0 = λ h. h.listed ≡ false → Contains (lone_versions (row ∷ rows)) h.placed in
-    let later : All Within rows = λ k d lt unlisted. later_in row.listed row.placed (get_or rows k d).placed (lone_versions rows) (lone_each rows k d lt unlisted) in
-    All-cons Within row rows (first_in row.listed row.placed (lone_versions rows)) later
+    let Within : HeldRow → Type 0 = λ h. h.listed ≡ false → Contains (lone_holds (row ∷ rows)) h.placed in
+    let later : All Within rows = λ k d lt unlisted. later_in row.listed row.placed (get_or rows k d).placed (lone_holds rows) (lone_each rows k d lt unlisted) in
+    All-cons Within row rows (first_in row.listed row.placed (lone_holds rows)) later
 
 -- none of them is there twice
 abbrev Apart : PlacedEntry → PlacedEntry → Type 0
@@ -74,10 +74,10 @@ once_more : (listed : Bool) (placed : PlacedEntry) (later : List PlacedEntry) �
 once_more true placed later others rest = rest
 once_more false placed later others rest = AllPairs-cons Apart placed later others rest
 
-lone_once : (held : List HeldRow) → HaveOwnRows held → AllPairs Apart (lone_versions held)
+lone_once : (held : List HeldRow) → HaveOwnRows held → AllPairs Apart (lone_holds held)
 lone_once [] own = λ i j d before inside. absurd (omega (arith, inside))
 lone_once (row ∷ rows) own =
-    once_more row.listed row.placed (lone_versions rows)
+    once_more row.listed row.placed (lone_holds rows)
     (lone_all (Apart row.placed) rows (λ k d lt unlisted. own 0 (suc k) d (omega arith) (omega (arith, lt))))
     (lone_once rows (λ i j d before inside. own (suc i) (suc j) d (omega (arith, before)) (omega (arith, inside))))
 
@@ -89,13 +89,13 @@ not_both : (b : Bool) → b ≡ true → b ≡ false → ⊥
 not_both true e f = absurd cc
 not_both false e f = absurd cc
 
--- The sectors of versions that holders alone keep are counted once for each version of a snapshot.
-pub counts_once : {D : Type 0} (binders : Slotted D) → AreVersions binders.registry → HoldAlone binders → CountsOnce binders
+-- The sectors that holders alone keep are counted once for each byte string of a snapshot.
+pub counts_once : {D : Type 0} (binders : Slotted D) → AreHolds binders.registry → HoldAlone binders → CountsOnce binders
 counts_once {D} binders are alone = record {
-  versions = lone_versions held;
+  holds = lone_holds held;
   once = lone_once held are.rows;
   lone = λ placed. (
-    (λ there. All-contains (IsLone binders) (lone_versions held) placed (lone_all (IsLone binders) held each) there),
+    (λ there. All-contains (IsLone binders) (lone_holds held) placed (lone_all (IsLone binders) held each) there),
     (λ is. among placed is),
   );
   sectors = lone_size held;
@@ -112,15 +112,15 @@ counts_once {D} binders are alone = record {
         let placed : PlacedEntry = (get_or held k d).placed in
         record {
           held = omega (arith, are.holders placed.at placed (by k d lt), alone placed.at);
-          version = by k d lt;
+          hold = by k d lt;
           unlisted = λ there. not_both (get_or held k d).listed ((are.flags k d lt).1 there) unlisted;
         }
 
-    among : (placed : PlacedEntry) → IsLone binders placed → Contains (lone_versions held) placed
+    among : (placed : PlacedEntry) → IsLone binders placed → Contains (lone_holds held) placed
     among placed is =
-        let k : ℕ = is.version.place in
+        let k : ℕ = is.hold.place in
         let d : HeldRow = record { placed = placed; holders = 0; listed = false } in
-        let same : ◌≡◌ {A = PlacedEntry} (get_or held k d).placed placed = is.version.is d in
+        let same : ◌≡◌ {A = PlacedEntry} (get_or held k d).placed placed = is.hold.is d in
         let unlisted : (get_or held k d).listed ≡ false = untrue (get_or held k d).listed
-        (λ listed. is.unlisted (subst (Contains binders.registry.entries) same ((are.flags k d is.version.inside).0 listed))) in
-        subst (Contains (lone_versions held)) same (lone_each held k d is.version.inside unlisted)
+        (λ listed. is.unlisted (subst (Contains binders.registry.entries) same ((are.flags k d is.hold.inside).0 listed))) in
+        subst (Contains (lone_holds held)) same (lone_each held k d is.hold.inside unlisted)

@@ -1,4 +1,4 @@
--- How often binders in slots hold each version.
+-- How often binders in slots hold each byte string.
 use Rattle.std.proofs.Common.{◌≡◌, ℕ, ◌+◌, ◌<◌, ◌≤◌, ◌==◌, List, [], ◌∷◌, length, get_or, set, Option, Some, None, if◌then◌else◌, Bool, true, refl, ap, arith}
 use Rattle.std.specs.Prelude.{All, is_none}
 use Rattle.std.proofs.lemmas.Bool.Decides.{Decides-eqb}
@@ -6,8 +6,8 @@ use Rattle.std.proofs.lemmas.List.Quantifiers.{position-Some}
 use Rattle.std.proofs.lemmas.List.Elements.{All-head, All-tail}
 use Rattle.std.proofs.lemmas.List.Sums.{get_or-le-sum_by, sum_by-cons, sum_by-set}
 use Rattle.snapshots.specs.Snapshot.{times}
-use Rattle.store.specs.HeldVersions.{IsHeldBy, holders_of}
-use Rattle.store.specs.declared.held_versions.HeldRow.{HeldRow}
+use Rattle.store.specs.Holds.{IsHeldBy, holders_of}
+use Rattle.store.specs.declared.holds.HeldRow.{HeldRow}
 use Rattle.store.specs.declared.placed_entry.PlacedEntry.{PlacedEntry}
 use Rattle.registry.specs.inside.Binding.{Binding}
 use Rattle.binders.specs.Slotted.{held_by, held_in, lowest_free}
@@ -38,7 +38,7 @@ held_empty (row ∷ rows) some none =
 same : (n : ℕ) → (n == n) ≡ true
 same n = (Decides-eqb n n).1 refl
 
--- whoever has a handle holds its version
+-- whoever has a handle holds its byte string
 pub times_there : (handles : List ℕ) (i : ℕ) → i < length handles → 0 < times (get_or handles i 0) handles
 times_there handles i lt =
     let sector : ℕ = get_or handles i 0 in

@@ -6,7 +6,7 @@ use Rattle.std.proofs.lemmas.List.{set-get_or}
 use Rattle.sector_disk.specs.Disk.{DiskFacts, Mixture, IsUnchanged, LeavesOnly, AreCalls}
 use Rattle.sector_disk.proofs.Moments.{at_rest, no_calls}
 use Rattle.snapshots.specs.Snapshot.{times}
-use Rattle.store.specs.HeldVersions.{holders_of}
+use Rattle.store.specs.Holds.{holders_of}
 use Rattle.store.specs.Opened.{Opened}
 use Rattle.requests.specs.declared.refusal.Refusal.{Refusal}
 use Rattle.requests.specs.declared.refusal.Refusal.TheVariants.{Reopen, NoSlot, NoSuchBinder, OutOfMemory}

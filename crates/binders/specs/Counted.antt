@@ -1,20 +1,20 @@
 -- Which sectors aren't free since binders live (own).
 use Rattle.std.specs.Prelude.{◌≡◌, ◌≢◌, ◌↔◌, ◌<◌, List, length, sum_by, AllPairs, Contains}
-use Rattle.store.specs.HeldVersions.{IsHeldBy, lone_sectors}
+use Rattle.store.specs.Holds.{IsHeldBy, lone_sectors}
 use Rattle.store.specs.Stands.{sectors_of}
 use Rattle.store.specs.declared.placed_entry.PlacedEntry.{PlacedEntry}
 use Rattle.binders.specs.Slotted.{Slotted, held_by}
 
--- a version that the snapshot of a binder in some slot holds, and that the state lists no longer
+-- a byte string that the snapshot of a binder in some slot holds, and that the state lists no longer
 pub record IsLone {D : Type 0} (binders : Slotted D) (placed : PlacedEntry) : Type 0 where
   pub held : 0 < held_by binders.slots placed.at
-  pub version : IsHeldBy binders.registry.held placed.at placed
+  pub hold : IsHeldBy binders.registry.held placed.at placed
   pub unlisted : Contains binders.registry.entries placed → ⊥
 
--- Beside the sectors of the state, those of these versions aren't free, and no others: each counts
+-- Beside the sectors of the state, those of these byte strings aren't free, and no others: each counts
 -- once, however many binders hold it.
 pub record CountsOnce {D : Type 0} (binders : Slotted D) : Type 0 where
-  pub versions : List PlacedEntry
-  pub once : AllPairs (λ a b. a.at ≢ b.at) versions
-  pub lone : (placed : PlacedEntry) → Contains versions placed ↔ IsLone binders placed
-  pub sectors : length (lone_sectors binders.registry.held) ≡ sum_by (λ placed. length (sectors_of placed)) versions
+  pub holds : List PlacedEntry
+  pub once : AllPairs (λ a b. a.at ≢ b.at) holds
+  pub lone : (placed : PlacedEntry) → Contains holds placed ↔ IsLone binders placed
+  pub sectors : length (lone_sectors binders.registry.held) ≡ sum_by (λ placed. length (sectors_of placed)) holds

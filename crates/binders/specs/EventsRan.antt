@@ -6,7 +6,7 @@ use Rattle.requests.specs.Runs.{Steps, last_of}
 use Rattle.registry.specs.Acknowledged.{Exchange}
 use Rattle.registry.specs.Opened.{IsAt}
 use Rattle.registry.specs.Ran.{RunsThrough}
-use Rattle.store.specs.HeldVersions.{AreVersions}
+use Rattle.store.specs.Holds.{AreHolds}
 use Rattle.binders.specs.Events.{Happening, Happens, apply}
 use Rattle.binders.specs.Slotted.{Slotted}
 use Rattle.binders.specs.declared.event.EventReply.{EventReply}
@@ -23,11 +23,11 @@ exchanges (happening ∷ happenings) (reply ∷ replies) = exchange_of happening
 exchanges happenings replies = []
 
 -- An event as a step: what a registry with binders answers to it, and what it does. Before and
--- after, what is held is a version each.
+-- after, what is held has a row each.
 pub record EventStep {D : Type 0} (facts : D → DiskFacts) (old : Slotted D) (happening : Happening) (reply : EventReply) (new : Slotted D) : Type 0 where
   pub happens : Happens facts old new happening reply
-  pub versions_before : AreVersions old.registry
-  pub versions_after : AreVersions new.registry
+  pub holds_before : AreHolds old.registry
+  pub holds_after : AreHolds new.registry
 
 -- Events were answered so, one after the other, one reply each.
 pub record EventsRan {D : Type 0} (facts : D → DiskFacts) (old new : Slotted D) (happenings : List Happening) (replies : List EventReply) : Type 0 where

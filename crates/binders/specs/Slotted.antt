@@ -2,7 +2,7 @@
 use Rattle.std.specs.Prelude.{◌≡◌, ◌≤◌, ◌<◌, ℕ, List, length, position, is_none, slice_index_or, sum_by, Option, Some, None}
 use Rattle.sector_disk.specs.Disk.{DiskFacts}
 use Rattle.snapshots.specs.Snapshot.{times}
-use Rattle.store.specs.HeldVersions.{holders_of}
+use Rattle.store.specs.Holds.{holders_of}
 use Rattle.store.specs.Opened.{Opened}
 use Rattle.registry.specs.Flight.{Flight}
 use Rattle.registry.specs.Flying.{Flies, handles_of}
@@ -17,7 +17,7 @@ pub record Slotted (D : Type 0) : Type 0 where
 abbrev pub lowest_free : List (Option Binding) → Option ℕ
 lowest_free slots = position is_none slots
 
--- how often the binder in a slot holds the version with this entry sector
+-- how often the binder in a slot holds the byte string with this entry sector
 abbrev pub held_in : ℕ → Option Binding → ℕ
 held_in sector None = 0
 held_in sector (Some binder) = times sector (handles_of binder)
@@ -26,7 +26,7 @@ held_in sector (Some binder) = times sector (handles_of binder)
 abbrev pub held_by : List (Option Binding) → ℕ → ℕ
 held_by slots sector = sum_by (λ slot. held_in sector slot) slots
 
--- In the registry each version is held at least as often as the binders hold it.
+-- In the registry each byte string is held at least as often as the binders hold it.
 abbrev pub IsHeld : {D : Type 0} → Opened D → List (Option Binding) → Type 0
 IsHeld registry slots = (sector : ℕ) → held_by slots sector ≤ holders_of registry.held sector
 

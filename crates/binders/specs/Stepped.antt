@@ -3,7 +3,7 @@ use Rattle.std.specs.Prelude.{◌≡◌, ◌≢◌, ◌↔◌, ◌⊎◌, ◌<�
 use Rattle.std.specs.Prelude.{slice_set, Option, Some, None, Result, Ok, Err, IfOk, IfErr, OnErr, IsTrue, IsFalse}
 use Rattle.sector_disk.specs.Disk.{DiskFacts, Mixture, IsUnchanged, LeavesOnly, AreCalls, AreCallsAtMost, AreCallsExactly}
 use Rattle.states.specs.State.{State}
-use Rattle.store.specs.HeldVersions.{holders_of}
+use Rattle.store.specs.Holds.{holders_of}
 use Rattle.requests.specs.declared.refusal.Refusal.{Refusal}
 use Rattle.requests.specs.declared.refusal.Refusal.TheVariants.{Reopen, NoSlot, NoSuchBinder, OutOfMemory}
 use Rattle.requests.specs.declared.reply.Reply.{Reply}
@@ -16,7 +16,7 @@ use Rattle.registry.specs.declared.binder.Step.TheVariants.{Going, Final}
 use Rattle.registry.specs.inside.Binding.{Binding}
 use Rattle.binders.specs.Slotted.{Slotted, AreOn, HoldAlone, held_by, lowest_free}
 
--- The registry stays at its state. Its holders of a version grow or shrink as the binders' do.
+-- The registry stays at its state. Its holders of a byte string grow or shrink as the binders' do.
 pub record StaysAt {D : Type 0} (facts : D → DiskFacts) (old new : Slotted D) : Type 0 where
   pub same : (s : State) → IsAt facts old.registry s → IsAt facts new.registry s
   pub kept : (new.registry.root ≡ old.registry.root) × (new.registry.entries ≡ old.registry.entries) × (new.registry.failed ≡ old.registry.failed)

@@ -33,7 +33,7 @@ impl<D: Disk> Binders<D> {
     ghost use Rattle.registry.specs.Applied.{Applies};
     ghost use Rattle.registry.specs.Calls.{IfAccepted, calls_of};
     ghost use Rattle.registry.specs.Opened.{IsAt};
-    ghost use Rattle.store.specs.HeldVersions.{AreVersions};
+    ghost use Rattle.store.specs.Holds.{AreHolds};
     ghost use Rattle.binders.specs.Counted.{CountsOnce};
     ghost use Rattle.binders.specs.Slotted.{AreOn, HoldAlone};
     ghost use Rattle.binders.specs.Stepped.{AdvancesIn, BeginsIn, CancelsIn, FlyOn};
@@ -59,14 +59,14 @@ impl<D: Disk> Binders<D> {
         self.registry.has_failed()
     }
 
-    /// Does nothing: it tells proofs that on any disk, after any event, what is held is a version
+    /// Does nothing: it tells proofs that on any disk, after any event, what is held has a row
     /// each, and that without a binder nothing is, where nobody else holds anything.
-    pub fn versions_are_sound(&self)
-        ensures versions { AreVersions self.now.registry }
+    pub fn holds_are_sound(&self)
+        ensures holds { AreHolds self.now.registry }
         ensures empty { HoldAlone self.now → All (λ slot. slot ≡ None) self.now.slots
             → self.now.registry.held ≡ [] }
     {
-        self.registry.versions_are_sound();
+        self.registry.holds_are_sound();
     }
 
     /// The registry. Binders that live are gone, and what they hold stays held until the disk is
@@ -96,11 +96,11 @@ impl<D: Disk> Binders<D> {
         ensures slots { self.new.slots ≡ self.old.slots }
         ensures alone { HoldAlone self.old → HoldAlone self.new }
 
-        // S7 counts the sectors of the state and, beside them, those of each version that only
+        // S7 counts the sectors of the state and, beside them, those of each byte string that only
         // binders hold, once.
         ensures counted { HoldAlone self.old → CountsOnce self.old }
     {
-        self.registry.versions_are_sound();
+        self.registry.holds_are_sound();
         self.registry.apply(command)
     }
 

@@ -15,9 +15,9 @@ impl<D: Disk> Binders<D> {
     pub fn happen(&mut self, event: &Event<'_>) -> EventReply
         ensures { EventStep D.facts self.old (happening_of event.now) result self.new }
     {
-        self.versions_are_sound();
+        self.holds_are_sound();
         let reply = self.reply_to(event);
-        self.versions_are_sound();
+        self.holds_are_sound();
         reply
     }
 

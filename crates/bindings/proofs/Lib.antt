@@ -1,4 +1,5 @@
 pub mod Flags
+pub mod Known
 pub mod Naming
 pub mod Texts
 pub mod Undefined

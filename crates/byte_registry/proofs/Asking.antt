@@ -1,5 +1,5 @@
 -- From what a registry over given bytes is and does to what is said of the bytes and of the plan.
-use Rattle.std.proofs.Common.{◌≡◌, ◌⊎◌, inl, inr, ⊎_elim, ℕ, ◌+◌, ◌<◌, ◌≤◌, List, [], length, take, All, false, refl, sym, ◌∙◌, ap, subst, arith}
+use Rattle.std.proofs.Common.{◌≡◌, ◌⊎◌, inl, inr, ⊎_elim, ℕ, ◌+◌, ◌<◌, ◌≤◌, List, length, take, All, false, refl, sym, ◌∙◌, ap, subst, arith}
 use Rattle.std.proofs.lemmas.Bool.{both_ways}
 use Rattle.sector_disk.specs.Disk.{Sector, Mixture, LeavesOnly, AreCallsExactly, MayAddSync}
 use Rattle.sector_disk.proofs.Mixtures.{starts_synced}
@@ -11,11 +11,14 @@ use Rattle.byte_disk.specs.Plan.{IsMixtureAfter, writes_in, SectorWrite}
 use Rattle.byte_disk.specs.inside.Laws.{byte_holds}
 use Rattle.byte_disk.proofs.Plans.{is_plan, same_given, plan_leaves, plan_ends}
 use Rattle.states.specs.State.{State}
-use Rattle.store.specs.HeldVersions.{lone_sectors}
+use Rattle.store.specs.Holds.{lone_sectors}
 use Rattle.store.specs.Opened.{Opened, IsAt}
+use Rattle.roots.specs.declared.version.Version.TheVariants.{Two}
 use Rattle.store.specs.Stands as sectors
-use Rattle.store.specs.Step.{longest_free}
-use Rattle.store.specs.declared.held_versions.HeldRow.{HeldRow}
+use Rattle.store.specs.Stands.{StandsBy}
+use Rattle.store.specs.Step.{longest_unused}
+use Rattle.store.specs.declared.holds.HeldRow.{HeldRow}
+use Rattle.requests.specs.Library.{IsLibrary}
 use Rattle.requests.specs.Phase.{Phase}
 use Rattle.requests.specs.Request.{Request, install, replace, remove, set_preloads, bind, list}
 use Rattle.requests.specs.Step as registry
@@ -32,6 +35,7 @@ use Rattle.registry.proofs.States.{few_libraries}
 use Rattle.registry.proofs.Untested.{each_accepted, other_step}
 use Rattle.byte_registry.specs.Bytes.{HoldStore}
 use Rattle.byte_registry.specs.Asked.{IsDiskOf, IsAsked}
+use Rattle.byte_registry.specs.inside.Opening.{IsOpenedOn}
 use Rattle.byte_registry.specs.Plans.{Holds, LeadsFrom, LeadsTo, behind_sync, synced_plan, most_steps}
 use Rattle.byte_registry.specs.Replies.{phase_on, opened_on, IsReplyOn}
 use Rattle.byte_registry.proofs.Steps.{few_steps}
@@ -67,32 +71,59 @@ failed_risen p list p' step = absurd step.1
 pub starts_with : (bytes : List ℕ) (disk : ByteDisk) → IsDiskOf bytes disk → (m : List Sector) → Mixture (byte_facts disk) m → m ≡ sectors_in bytes
 starts_with bytes disk is m mixture = (starts_synced (byte_holds disk) is.starts).each m mixture ∙ is.starts.now
 
-module _ (bytes : List ℕ) (old : ByteDisk) (is : IsDiskOf bytes old) (opened : Opened ByteDisk)
-    (quiet : LeavesOnly (byte_facts old) (byte_facts opened.disk) (Mixture (byte_facts old)))
-    (same_now : (byte_facts opened.disk).now ≡ (byte_facts old).now)
-    (found : (s : State) × sectors.Stands (byte_facts old).now s × IsAt byte_facts opened s × ((other : State) → sectors.Stands (byte_facts old).now other → other ≡ s))
-    (unheld : opened.held ≡ []) where
-  abbrev s : State
-  s = found.0
+-- A registry was opened on bytes.
+module _ (bytes : List ℕ) (opened : Opened ByteDisk) (on : IsOpenedOn bytes opened) where
+  abbrev pub s : State
+  s = on.found.0
 
-  abbrev start : List Sector
+  abbrev pub start : List Sector
   start = sectors_in bytes
 
+  is : IsDiskOf bytes on.disk
+  is = on.of_bytes
+
   pub holds : HoldStore bytes s
-  holds = record { size = is.size; stands = subst (λ m. sectors.Stands m s) is.starts.now found.1 }
+  holds = record { size = is.size; stands = subst (λ m. sectors.Stands m s) is.starts.now on.found.1 }
 
   pub only : (other : State) → HoldStore bytes other → other ≡ s
-  only other held = found.3 other (subst (λ m. sectors.Stands m other) (sym is.starts.now) held.stands)
+  only other held = on.found.3 other (subst (λ m. sectors.Stands m other) (sym is.starts.now) held.stands)
+
+  -- its root and entries stand in the sectors that the bytes are
+  pub stands_by : StandsBy Two start opened.root opened.entries s
+  stands_by = on.found.2.stands start (subst (Mixture (byte_facts opened.disk)) (on.now ∙ is.starts.now) (byte_holds opened.disk))
+
+  -- A change to another state that a stop leaves before or behind, and that is there at the end: the
+  -- plan leads to it, in whatever words.
+  module _ (s' : State) (new : ByteDisk) (any_moment : LeavesOnly (byte_facts opened.disk) (byte_facts new) (λ m. sectors.Stands m s ⊎ sectors.Stands m s'))
+      (ends : (m : List Sector) → Mixture (byte_facts new) m → sectors.Stands m s') where
+    module _ (HoldsIt : List Sector → State → Type 0) (before_holds : (m : List Sector) → sectors.Stands m s → HoldsIt m s)
+        (after_holds : (m : List Sector) → sectors.Stands m s' → HoldsIt m s') where
+      leaves : LeavesOnly (byte_facts on.disk) (byte_facts new) (λ m. HoldsIt m s ⊎ HoldsIt m s')
+      leaves = goes_on (λ m. HoldsIt m s ⊎ HoldsIt m s')
+          (weaken (Mixture (byte_facts on.disk)) (λ m. HoldsIt m s ⊎ HoldsIt m s')
+          (λ m mixture. inl (before_holds m (subst (λ m. sectors.Stands m s) (sym (starts_with bytes on.disk is m mixture)) holds.stands))) on.any_moment)
+          (weaken (λ m. sectors.Stands m s ⊎ sectors.Stands m s') (λ m. HoldsIt m s ⊎ HoldsIt m s')
+          (λ m. ⊎_elim (λ before. inl (before_holds m before)) (λ after. inr (after_holds m after))) any_moment)
+
+      leads : LeadsTo HoldsIt start s s' (synced_plan new)
+      leads = leads_from bytes on.disk new (λ m. HoldsIt m s) (λ m. HoldsIt m s') is leaves (λ m mixture. after_holds m (ends m mixture))
+
+    pub leads_stored : LeadsTo sectors.Stands start s s' (synced_plan new)
+    leads_stored = leads sectors.Stands (λ m stands. stands) (λ m stands. stands)
+
+    pub leads_registry : All IsLibrary s'.libraries → Holds bytes s → LeadsTo Stands start s s' (synced_plan new)
+    leads_registry after held =
+        leads Stands (λ m stands. record { stored = stands; libraries = held.stands.libraries }) (λ m stands. record { stored = stands; libraries = after })
 
   -- the phase of the opened registry, in terms of the sectors
-  same_sectors : (byte_facts opened.disk).sectors ≡ length start
-  same_sectors = quiet.past.sectors ∙ is.starts.sectors
+  pub same_sectors : (byte_facts opened.disk).sectors ≡ length start
+  same_sectors = on.any_moment.past.sectors ∙ is.starts.sectors
 
   abbrev phase_by : ℕ → List HeldRow → Phase
   phase_by sectors held = record {
     sectors = sectors;
     lone = length (lone_sectors held);
-    longest = longest_free (let store : Opened (List Sector) = record { disk = start; root = opened.root; entries = opened.entries; held = held; failed = false } in store);
+    longest = longest_unused (let store : Opened (List Sector) = record { disk = start; root = opened.root; entries = opened.entries; held = held; failed = false } in store);
     failures = (byte_facts opened.disk).failures;
     failed = opened.failed;
     state = s;
@@ -101,17 +132,17 @@ module _ (bytes : List ℕ) (old : ByteDisk) (is : IsDiskOf bytes old) (opened :
   same_phase : phase_of byte_facts opened s ≡ phase_on start opened.root opened.entries (byte_facts opened.disk).failures s
   same_phase =
       ap (λ n. phase_by n opened.held) same_sectors
-      ∙ ap (λ held. phase_by (length start) held) unheld
+      ∙ ap (λ held. phase_by (length start) held) on.unheld
       ∙ ap (λ b. let p : Phase = record {
         sectors = length start;
         lone = 0;
         longest =
-            longest_free (opened_on start opened.root opened.entries);
+            longest_unused (opened_on start opened.root opened.entries);
         failures = (byte_facts opened.disk).failures;
         failed = b;
         state = s;
       } in p)
-      found.2.usable
+      on.found.2.usable
 
   module _ (request : Request) (reply : Reply) (new : Opened ByteDisk) (applies : AppliesUntested byte_facts opened new s request reply) where
     abbrev s' : State
@@ -121,7 +152,7 @@ module _ (bytes : List ℕ) (old : ByteDisk) (is : IsDiskOf bytes old) (opened :
     is_reply = record {
       root = opened.root;
       entries = opened.entries;
-      by = found.2.stands start (subst (Mixture (byte_facts opened.disk)) (same_now ∙ is.starts.now) (byte_holds opened.disk));
+      by = stands_by;
       failures = (byte_facts opened.disk).failures;
       after = phase_of byte_facts new s';
       step = subst (λ p. UntestedStep p request reply (phase_of byte_facts new s')) same_phase applies.1.step;
@@ -143,54 +174,36 @@ module _ (bytes : List ℕ) (old : ByteDisk) (is : IsDiskOf bytes old) (opened :
       at_end : IsAt byte_facts new s'
       at_end = ⊎_elim (λ at. at) (λ broken. absurd (both_ways new.failed (step.3.failed ∙ step.0) broken.0)) applied.kept
 
-      -- what holds of the states before and after holds of the plan
-      module _ (HoldsIt : List Sector → State → Type 0) (before_holds : (m : List Sector) → sectors.Stands m s → HoldsIt m s)
-          (after_holds : (m : List Sector) → sectors.Stands m (accepted s request) → HoldsIt m (accepted s request)) where
-        may : (m : List Sector) → MayLeaveBy sectors.Stands (phase_of byte_facts opened s) request Done s' m → HoldsIt m s ⊎ HoldsIt m (accepted s request)
-        may m left = ⊎_elim (λ before. inl (before_holds m before))
-            (λ later. ⊎_elim (λ after. inr (after_holds m (subst (sectors.Stands m) same_state after)))
-            (λ flight. absurd (not_device flight.0)) later) left
-          where
-            not_device : Done ≡ Refused Device → ⊥
-            not_device e = cc
+      may : (m : List Sector) → MayLeaveBy sectors.Stands (phase_of byte_facts opened s) request Done s' m → sectors.Stands m s ⊎ sectors.Stands m (accepted s request)
+      may m left = ⊎_elim inl (λ later. ⊎_elim (λ after. inr (subst (sectors.Stands m) same_state after)) (λ flight. absurd (not_device flight.0)) later) left
+        where
+          not_device : Done ≡ Refused Device → ⊥
+          not_device e = cc
 
-        leaves : LeavesOnly (byte_facts old) (byte_facts new.disk) (λ m. HoldsIt m s ⊎ HoldsIt m (accepted s request))
-        leaves = goes_on (λ m. HoldsIt m s ⊎ HoldsIt m (accepted s request))
-            (weaken (Mixture (byte_facts old)) (λ m. HoldsIt m s ⊎ HoldsIt m (accepted s request))
-            (λ m mixture. inl (before_holds m (subst (λ m. sectors.Stands m s) (sym (starts_with bytes old is m mixture)) holds.stands))) quiet)
-            (weaken (MayLeaveBy sectors.Stands (phase_of byte_facts opened s) request Done s') (λ m. HoldsIt m s ⊎ HoldsIt m (accepted s request)) may applied.any_moment)
+      any_moment : LeavesOnly (byte_facts opened.disk) (byte_facts new.disk) (λ m. sectors.Stands m s ⊎ sectors.Stands m (accepted s request))
+      any_moment = weaken (MayLeaveBy sectors.Stands (phase_of byte_facts opened s) request Done s') (λ m. sectors.Stands m s ⊎ sectors.Stands m (accepted s request)) may applied.any_moment
 
-        found_after : (m : List Sector) → Mixture (byte_facts new.disk) m → HoldsIt m (accepted s request)
-        found_after m mixture = after_holds m (subst (sectors.Stands m) same_state (new.root, new.entries, at_end.stands m mixture))
-
-        leads : LeadsTo HoldsIt start s (accepted s request) (synced_plan new.disk)
-        leads = leads_from bytes old new.disk (λ m. HoldsIt m s) (λ m. HoldsIt m (accepted s request)) is leaves found_after
-
-      leads_registry : Holds bytes s → LeadsTo Stands start s (accepted s request) (synced_plan new.disk)
-      leads_registry held =
-          let after = each_accepted (phase_of byte_facts opened s) request step.1 held.stands.libraries in
-          leads Stands (λ m stands. record { stored = stands; libraries = held.stands.libraries }) (λ m stands. record { stored = stands; libraries = after })
+      ends : (m : List Sector) → Mixture (byte_facts new.disk) m → sectors.Stands m (accepted s request)
+      ends m mixture = subst (sectors.Stands m) same_state (new.root, new.entries, at_end.stands m mixture)
 
       -- the opening kept a sync at most, and the change its calls
-      module _ (opening : MayAddSync (byte_facts old).log (byte_facts opened.disk).log)
-          (calls : IfAccepted reply (AreCallsExactly (calls_of s request) (byte_facts opened.disk) (byte_facts new.disk))) where
+      module _ (calls : IfAccepted reply (AreCallsExactly (calls_of s request) (byte_facts opened.disk) (byte_facts new.disk))) where
         few : length (synced_plan new.disk) ≤ calls_of s request + 1
         few =
             let change : AreCallsExactly (calls_of s request) (byte_facts opened.disk) (byte_facts new.disk) =
             subst (λ r. IfAccepted r (AreCallsExactly (calls_of s request) (byte_facts opened.disk) (byte_facts new.disk))) is_done calls in
             plan_few new.disk (calls_of s request) (record {
               begun = (byte_facts opened.disk).log;
-              sync = subst (λ log. MayAddSync log (byte_facts opened.disk).log) is.starts.log opening;
+              sync = subst (λ log. MayAddSync log (byte_facts opened.disk).log) is.starts.log on.log;
               more = exactly_logged change;
             })
 
         at_most : length (synced_plan new.disk) ≤ most_steps request
         at_most = few_steps request s (length (synced_plan new.disk)) step.2 few
-            (few_libraries byte_facts opened s found.2 (λ honest. byte_holds opened.disk))
+            (few_libraries byte_facts opened s on.found.2 (λ honest. byte_holds opened.disk))
             (subst (λ t. length t.libraries ≤ 2048) same_state (few_libraries byte_facts new s' at_end (λ honest. byte_holds new.disk)))
 
-    module _ (opening : MayAddSync (byte_facts old).log (byte_facts opened.disk).log)
-        (calls : IfAccepted reply (AreCallsExactly (calls_of s request) (byte_facts opened.disk) (byte_facts new.disk))) where
+    module _ (calls : IfAccepted reply (AreCallsExactly (calls_of s request) (byte_facts opened.disk) (byte_facts new.disk))) where
       pub asked : (s : State) × IsAsked bytes s request reply (synced_plan new.disk)
       asked = (
         s,
@@ -198,12 +211,12 @@ module _ (bytes : List ℕ) (old : ByteDisk) (is : IsDiskOf bytes old) (opened :
           holds = holds;
           only = only;
           by_table = is_reply;
-          leads =
-              λ is_done. leads is_done sectors.Stands (λ m stands. stands) (λ m stands. stands);
-          registry = leads_registry;
-          few =
-              λ is_done. few is_done opening calls;
-          at_most = λ is_done. at_most is_done opening calls;
+          leads = λ is_done. leads_stored (accepted s request) new.disk (any_moment is_done) (ends is_done);
+          registry = λ is_done held.
+              leads_registry (accepted s request) new.disk (any_moment is_done) (ends is_done)
+              (each_accepted (phase_of byte_facts opened s) request (step is_done).1 held.stands.libraries) held;
+          few = λ is_done. few is_done calls;
+          at_most = λ is_done. at_most is_done calls;
         },
       )
 

@@ -1,5 +1,6 @@
 mod Asking
 mod Generations
 mod Syncs
+mod Updates
 mod Upgrades
 mod Steps

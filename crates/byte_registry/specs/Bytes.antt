@@ -12,6 +12,10 @@ pub record HoldStore (bytes : List ℕ) (s : State) : Type 0 where
   pub size : IsDiskLength (length bytes)
   pub stands : Stands (sectors_in bytes) s
 
+-- the bytes hold no state but this one
+abbrev pub HoldNoOther : List ℕ → State → Type 0
+HoldNoOther bytes s = (other : State) → HoldStore bytes other → other ≡ s
+
 -- Why nothing is opened: the bytes aren't whole sectors, or the store refuses these.
 abbrev pub IsUnopened : List ℕ → StoreRefusal → Type 0
 IsUnopened bytes refusal =

@@ -7,7 +7,7 @@ use Rattle.states.specs.State.{State}
 use Rattle.store.specs.declared.placed_entry.PlacedEntry.{PlacedEntry}
 use Rattle.store.specs.Opened.{Opened}
 use Rattle.store.specs.Stands.{StandsBy}
-use Rattle.store.specs.Step.{longest_free}
+use Rattle.store.specs.Step.{longest_unused}
 use Rattle.requests.specs.Phase.{Phase}
 use Rattle.requests.specs.Request.{Request}
 use Rattle.requests.specs.declared.reply.Reply.{Reply}
@@ -22,7 +22,7 @@ abbrev pub phase_on : List Sector → Root → List PlacedEntry → ℕ → Stat
 phase_on m root entries failures s = record {
   sectors = length m;
   lone = 0;
-  longest = longest_free (opened_on m root entries);
+  longest = longest_unused (opened_on m root entries);
   failures = failures;
   failed = false;
   state = s;

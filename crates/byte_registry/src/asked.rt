@@ -7,6 +7,7 @@ ghost use Rattle.requests.specs.declared.refusal.Refusal.TheVariants.{Device};
 ghost use Rattle.requests.specs.declared.reply.Reply.TheVariants.{Refused};
 ghost use Rattle.byte_registry.specs.Asked.{IsDiskOf, IsBadLength, IsAsked, IsUnopened, failures_of};
 ghost use Rattle.byte_registry.specs.Plans.{synced_plan};
+ghost use Rattle.byte_registry.specs.inside.Opening.{IsOpenedOn};
 
 use byte_disk::ByteDisk;
 use registry::Registry;
@@ -28,6 +29,27 @@ pub(crate) fn disk_of(
     }
 }
 
+/// The registry on a disk of these bytes, of which no file is read; or why there is none, and the
+/// disk then, where they are one.
+pub(crate) fn open_on(
+    alloc: Global,
+    disk: &[u8],
+) -> Result<Registry<ByteDisk<'_>>, (StoreRefusal, Option<ByteDisk<'_>>)>
+    ensures ok { IfOk result (IsOpenedOn disk.now) }
+    ensures device { IfErr result (λ refused. refused.0 ≡ StoreRefusal.Device
+        → 0 < failures_of refused.1) }
+    ensures err { IfErr result (λ refused. IsUnopened disk.now refused.0) }
+{
+    let disk = match disk_of(alloc, disk) {
+        Ok(disk) => disk,
+        Err(refused) => return Err(refused),
+    };
+    match Registry::open_untested(alloc, disk) {
+        Ok(registry) => Ok(registry),
+        Err((refusal, disk)) => Err((refusal, Some(disk))),
+    }
+}
+
 /// The reply of the registry on a disk to a command, and the disk then; or why there is none, and
 /// the disk then, where these bytes are one. No file is read but those that a bind needs.
 pub fn ask<'a>(
@@ -44,17 +66,12 @@ pub fn ask<'a>(
         (λ refused. refused.0 ≡ StoreRefusal.Device → 0 < failures_of refused.1) }
     ensures err { IfErr result (λ refused. IsUnopened disk.now refused.0) }
 {
-    let disk = match disk_of(alloc, disk) {
-        Ok(disk) => disk,
-        Err(refused) => return Err(refused),
-    };
-    let opened = Registry::open_untested(alloc, disk);
-    match opened {
+    match open_on(alloc, disk) {
         Ok(registry) => {
             let mut registry = registry;
             let reply = registry.apply(command);
             Ok((reply, registry.into_disk()))
         }
-        Err((refusal, disk)) => Err((refusal, Some(disk))),
+        Err(refused) => Err(refused),
     }
 }

@@ -10,11 +10,13 @@ mod generation;
 mod making;
 mod opened;
 mod plan;
+mod updated;
 mod upgrading;
 
 pub use asked::ask;
 pub use generation::generation_of;
 pub use making::format;
-pub use opened::contents_of;
+pub use opened::{contents_of, registry_of};
 pub use plan::behind_sync;
+pub use updated::ask_update;
 pub use upgrading::upgrade;

@@ -1,13 +1,14 @@
-// The contents of a disk of given bytes.
+// What a disk of given bytes has, opened to be read.
 ghost use Rattle.std.specs.Prelude.{◌≡◌, [], IfOk, IfErr, length};
 ghost use Rattle.byte_disk.specs.Bytes.{sectors_in};
 ghost use Rattle.byte_disk.specs.ReadOnlyDisk.{read_only_facts};
 ghost use Rattle.states.specs.State.{State};
 ghost use Rattle.store.specs.Opened.{IsAt};
-ghost use Rattle.byte_registry.specs.Bytes.{HaveNoContents, HoldStore};
+ghost use Rattle.byte_registry.specs.Bytes.{HaveNoContents, HoldNoOther, HoldStore};
 
 use byte_disk::ReadOnlyDisk;
 use contents::Contents;
+use registry::Registry;
 use std::alloc::Global;
 use store::StoreRefusal;
 
@@ -34,6 +35,28 @@ pub fn contents_of<'a>(
     };
     match Contents::open(alloc, disk) {
         Ok(contents) => Ok(contents),
+        Err((refusal, _disk)) => Err(refusal),
+    }
+}
+
+/// The registry on a disk of these bytes, to be read alone: no file was read, and a write fails. Or
+/// why there is none, as `contents_of` says it.
+pub fn registry_of<'a>(
+    alloc: Global,
+    disk: &'a [u8],
+) -> Result<Registry<ReadOnlyDisk<'a>>, StoreRefusal>
+    // It is at the state that the bytes hold, and they hold no other.
+    ensures ok { IfOk result (λ registry. (s : State) × HoldStore disk.now s
+        × IsAt read_only_facts registry s × HoldNoOther disk.now s) }
+    ensures held { (s : State) → HoldStore disk.now s
+        → IfOk result (λ registry. IsAt read_only_facts registry s) }
+    ensures err { IfErr result (HaveNoContents disk.now) }
+{
+    let Some(disk) = ReadOnlyDisk::over(disk) else {
+        return Err(StoreRefusal::BadGeometry);
+    };
+    match Registry::open_untested(alloc, disk) {
+        Ok(registry) => Ok(registry),
         Err((refusal, _disk)) => Err(refusal),
     }
 }

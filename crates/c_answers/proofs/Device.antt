@@ -1,11 +1,14 @@
 -- No call over bytes is answered S1.
-use Rattle.std.proofs.Common.{◌≡◌, ◌≢◌, inl, inr, ℕ, List, refl, sym, ◌∙◌, arith}
+use Rattle.std.proofs.Common.{◌≡◌, ◌≢◌, inl, inr, ℕ, List, Option, Some, None, refl, sym, ◌∙◌, arith}
 use Rattle.byte_disk.specs.declared.step.Step.{Step}
+use Rattle.executable.specs.declared.refusal.ExecutableRefusal.{ExecutableRefusal}
+use Rattle.executable.specs.declared.refusal.ExecutableRefusal.TheVariants as executable
 use Rattle.image.specs.declared.refusal.BindRefusal.{BindRefusal}
 use Rattle.image.specs.declared.refusal.BindRefusal.TheVariants as bind
 use Rattle.states.specs.State.{State}
 use Rattle.store.specs.declared.refusal.StoreRefusal.{StoreRefusal}
 use Rattle.store.specs.declared.refusal.StoreRefusal.TheVariants as store
+use Rattle.requests.specs.Binding.{binding_refusal}
 use Rattle.requests.specs.Request.{Request, set_preloads}
 use Rattle.requests.specs.declared.refusal.Refusal.{Refusal}
 use Rattle.requests.specs.declared.refusal.Refusal.TheVariants as refusal
@@ -19,8 +22,10 @@ use Rattle.c_answers.specs.declared.object.ObjectPlace.{ObjectPlace}
 use Rattle.c_answers.specs.declared.place.SegmentPlace.{SegmentPlace}
 use Rattle.c_answers.specs.Answers.{IsTold, IsTurnedAway, IsPlanned, IsChangeTold, IsChangeAnswered, IsFormatAnswered, IsUpgradeAnswered}
 use Rattle.c_answers.specs.Answers.{IsBindTold, IsBindAnswered, IsListTold, IsListAnswered, IsPreloadAnswered}
+use Rattle.c_answers.specs.Bindings.{IsBindingsAnswered, bound_number}
 use Rattle.c_answers.specs.Check.{IsCheckAnswered}
 use Rattle.c_answers.specs.Contents.{refusal_of, IsDigestAnswered, IsFileAnswered, IsInfoAnswered}
+use Rattle.c_answers.specs.Executable.{IsBoundTold, IsExecutableAnswered, executable_number}
 use Rattle.c_answers.specs.Numbers.{store_number, bind_number, refusal_number, reply_number}
 
 -- 301 is the number of S1 alone
@@ -31,6 +36,14 @@ store_not_device why other e = omega (arith, e)
 bound_not_device : (why : BindRefusal) → bind_number why ≡ 301 → ⊥
 bound_not_device bind.BadBase e = omega (arith, e)
 bound_not_device why e = omega (arith, e)
+
+bound_number_not_device : (r : Option BindRefusal) → bound_number r ≡ 301 → ⊥
+bound_number_not_device None e = omega (arith, e)
+bound_number_not_device (Some why) e = bound_not_device why e
+
+no_file_not_device : (why : ExecutableRefusal) → executable_number why ≡ 301 → ⊥
+no_file_not_device executable.NoEntry e = omega (arith, e)
+no_file_not_device why e = omega (arith, e)
 
 refusal_not_device : (why : Refusal) → reply.Refused why ≢ reply.Refused refusal.Device → refusal_number why ≡ 301 → ⊥
 refusal_not_device refusal.Device other e = other refl
@@ -43,15 +56,15 @@ reply_not_device r other e = omega (arith, e)
 
 -- so what is told of a reply, of why there is no registry, and of a plan
 module _ (text : List ℕ) (answer : Answer) (status : ℕ) (is : status ≡ 301) where
-  told : (r : Reply) → IsTold r text answer status → ⊥
+  pub told : (r : Reply) → IsTold r text answer status → ⊥
   told r (inl tells) = reply_not_device r tells.device (sym tells.status ∙ is)
   told r (inr wants) = omega (arith, is, wants.status)
 
-  turned : (why : StoreRefusal) → IsTurnedAway why text answer status → ⊥
+  pub turned : (why : StoreRefusal) → IsTurnedAway why text answer status → ⊥
   turned why (inl turns, uncounted) = store_not_device why turns.device (sym turns.status ∙ is)
   turned why (inr wants, uncounted) = omega (arith, is, wants.status)
 
-  planned : (steps : List Step) (plan : List ℕ) → IsPlanned steps plan text answer status → ⊥
+  pub planned : (steps : List Step) (plan : List ℕ) → IsPlanned steps plan text answer status → ⊥
   planned steps plan (inl given, unlisted, unbound) = told reply.Done given.1
   planned steps plan (inr lacks, unlisted, unbound) = omega (arith, is, lacks.0.status)
 
@@ -121,3 +134,23 @@ module _ (text : List ℕ) (answer : Answer) (status : ℕ) (is : status ≡ 301
   check_not_device disk findings names (inl (s, holds, inl (inr lacks, count, unlisted, unbound, silent))) = omega (arith, is, lacks.0)
   check_not_device disk findings names (inl (s, holds, inr (wants, uncounted))) = omega (arith, is, wants.status)
   check_not_device disk findings names (inr refused) = turned refused.0 refused.2
+
+  pub bindings_not_device : (disk program : List ℕ) (base : ℕ) (bytes : List ℕ) → IsBindingsAnswered disk program base bytes text answer status → ⊥
+  bindings_not_device disk program base bytes (inl (s, holds, only, inl (number, said, of, (inl put, size, count, unlisted, unbound, silent)))) =
+      bound_number_not_device (binding_refusal s program base) (sym of.number_is ∙ sym put.0 ∙ is)
+  bindings_not_device disk program base bytes (inl (s, holds, only, inl (number, said, of, (inr small, size, count, unlisted, unbound, silent)))) = omega (arith, is, small.0)
+  bindings_not_device disk program base bytes (inl (s, holds, only, inr (why, untold, said))) = told (reply.Refused why) said.0
+  bindings_not_device disk program base bytes (inr refused) = turned refused.0 refused.2
+
+  bound_told : (r : Reply) (bytes : List ℕ) → IsBoundTold r bytes text answer status → ⊥
+  bound_told reply.Done bytes said = told reply.Done said.0
+  bound_told (reply.Listing l) bytes said = told (reply.Listing l) said.0
+  bound_told (reply.Bound image) bytes (inl (file, of, (inl put, size, count, unlisted, unbound, silent))) = omega (arith, is, put.0)
+  bound_told (reply.Bound image) bytes (inl (file, of, (inr small, size, count, unlisted, unbound, silent))) = omega (arith, is, small.0)
+  bound_told (reply.Bound image) bytes (inr (why, of, (inl tells, uncounted))) = no_file_not_device why (sym tells.status ∙ is)
+  bound_told (reply.Bound image) bytes (inr (why, of, (inr wants, uncounted))) = omega (arith, is, wants.status)
+  bound_told (reply.Refused why) bytes said = told (reply.Refused why) said.0
+
+  pub executable_not_device : (disk : List ℕ) (request : Request) (bytes : List ℕ) → IsExecutableAnswered disk request bytes text answer status → ⊥
+  executable_not_device disk request bytes (inl asked) = bound_told asked.1 bytes asked.4
+  executable_not_device disk request bytes (inr unopened) = turned unopened.0 unopened.2

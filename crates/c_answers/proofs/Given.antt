@@ -30,7 +30,7 @@ use Rattle.c_answers.specs.declared.place.SegmentPlace.{SegmentPlace}
 use Rattle.c_answers.specs.Answers.{HasPlan, IsTold, IsToldAlone, IsTurnedAway, IsPlanned, IsLeft, IsPlanOf, IsChangeTold, IsChangeAnswered}
 use Rattle.c_answers.specs.Answers.{IsFormatPlan, IsFormatAnswered, IsUpgradePlan, IsUpgradeAnswered, IsBindTold, IsBindAnswered, IsListTold}
 use Rattle.c_answers.specs.Answers.{IsListGiven, IsListAnswered, IsPreloadAnswered}
-use Rattle.c_answers.specs.Layout.{CountsImage, IsLaidOut, IsImageOf, IsImageGiven}
+use Rattle.c_answers.specs.Buffers.{CountsImage, IsLaidOut, IsImageOf, IsImageGiven}
 use Rattle.c_answers.specs.Listing.{IsListingOf, AreListed, Counts, entries_of}
 use Rattle.c_answers.specs.Names.{AreNames}
 use Rattle.c_answers.specs.Numbers.{store_number, bind_number, refusal_number}
@@ -158,7 +158,7 @@ upgrade_given bytes plan text answer status zero (inl made) = record { state = m
 upgrade_given bytes plan text answer status zero (inr refused) = absurd (turned_not_done refused.0 text answer status zero refused.2)
 
 -- no refusal
-none_mapped : {A B : Type 0} (f : A → B) (o : Option A) → option_map f o ≡ None → o ≡ None
+pub none_mapped : {A B : Type 0} (f : A → B) (o : Option A) → option_map f o ≡ None → o ≡ None
 none_mapped f None e = refl
 none_mapped f (Some x) e = cc
 

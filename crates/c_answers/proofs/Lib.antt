@@ -1,6 +1,9 @@
+pub mod Bindings
+mod Changes
 pub mod Contents
 pub mod Device
 mod Entries
+pub mod Executable
 pub mod Findings
 pub mod Given
 mod Names
@@ -9,3 +12,4 @@ mod Places
 mod Rows
 mod Steps
 mod Zeros
+pub mod Updates

@@ -2,17 +2,17 @@
 use Rattle.std.proofs.Common.{◌≡◌, ℕ, ◌+◌, List, [], ◌∷◌, ◌++◌, length, ◌∙◌, ap, arith}
 use Rattle.std.proofs.lemmas.List.{length-append}
 use Rattle.image.specs.Image.{ImageSegment}
-use Rattle.c_answers.specs.Layout as layout
+use Rattle.c_answers.specs.Buffers as buffers
 use Rattle.c_answers.specs.Listing as listing
 
 -- one segment more
 pub segment_more : (from : ℕ) (segments : List ImageSegment) (s : ImageSegment)
-    → layout.places_of from (segments ++ s ∷ []) ≡ layout.places_of from segments
-    ++ layout.places_of (from + length (layout.segment_bytes segments)) (s ∷ [])
-segment_more from [] s = ap (λ n. layout.places_of n (s ∷ [])) (omega arith)
+    → buffers.places_of from (segments ++ s ∷ []) ≡ buffers.places_of from segments
+    ++ buffers.places_of (from + length (buffers.segment_bytes segments)) (s ∷ [])
+segment_more from [] s = ap (λ n. buffers.places_of n (s ∷ [])) (omega arith)
 segment_more from (x ∷ segments) s =
-    ap (λ l. layout.place_of from x ∷ l) (segment_more (from + length x.bytes) segments s
-    ∙ ap (λ n. layout.places_of (from + length x.bytes) segments ++ layout.places_of n (s ∷ [])) (omega (arith, length-append x.bytes (layout.segment_bytes segments))))
+    ap (λ l. buffers.place_of from x ∷ l) (segment_more (from + length x.bytes) segments s
+    ∙ ap (λ n. buffers.places_of (from + length x.bytes) segments ++ buffers.places_of n (s ∷ [])) (omega (arith, length-append x.bytes (buffers.segment_bytes segments))))
 
 -- two lists of entries, the second behind the first
 pub entries_more : (from : ℕ) (xs ys : List listing.Entry) → listing.places_of from (xs ++ ys) ≡ listing.places_of from xs ++ listing.places_of (from + length (listing.names_in_row xs)) ys

@@ -22,7 +22,7 @@ use Rattle.byte_registry.specs.Asked.{IsAsked, IsUnopened, IsFormatted, IsUnform
 use Rattle.c_answers.specs.declared.place.SegmentPlace.{SegmentPlace}
 use Rattle.c_answers.specs.declared.object.ObjectPlace.{ObjectPlace}
 use Rattle.c_answers.specs.declared.entry.EntryPlace.{EntryPlace}
-use Rattle.c_answers.specs.Layout.{IsImageGiven}
+use Rattle.c_answers.specs.Buffers.{IsImageGiven}
 use Rattle.c_answers.specs.Listing.{Counts, AreListed, LackSpace, entries_of}
 use Rattle.c_answers.specs.Names.{AreNames}
 use Rattle.c_answers.specs.Numbers.{done, no_room, bad_argument, out_of_memory, store_number, reply_number, file_number_in}
@@ -30,30 +30,30 @@ use Rattle.byte_registry.specs.Plans.{Holds, LeadsTo}
 use Rattle.c_answers.specs.Spelling.{plan_bytes}
 use Rattle.c_answers.specs.Unsaid.{IsSilent, IsUnbound, IsUncounted, IsUnlisted}
 
--- The text says this: as much of it as has room, and its whole length.
-pub record Says (said text : List ℕ) (told_size : ℕ) : Type 0 where
-  pub size : told_size ≡ length said
-  pub begins : take (length said) text ≡ take (length text) said
+-- The text's buffer has this: as much of it as has room; and its whole length is told.
+pub record HasText (whole text : List ℕ) (told_size : ℕ) : Type 0 where
+  pub size : told_size ≡ length whole
+  pub begins : take (length whole) text ≡ take (length text) whole
 
 -- memory was refused
 pub record WantsMemory (text : List ℕ) (told_size told_file told : ℕ) : Type 0 where
   pub status : told ≡ out_of_memory
   pub file : told_file ≡ 0
-  pub says : Says memory_text text told_size
+  pub has_text : HasText memory_text text told_size
 
 -- The reply is told: by its number, by that of the test that refuses a file, and by its text. S1 is
 -- told of no disk of bytes: what a call of it fails for is memory.
 pub record Tells (reply : Reply) (text : List ℕ) (told_size told_file told : ℕ) : Type 0 where
   pub status : told ≡ reply_number reply
   pub file : told_file ≡ file_number_in reply
-  pub says : Says (reply_text reply) text told_size
+  pub has_text : HasText (reply_text reply) text told_size
   pub device : reply ≢ Refused Device
 
 -- It is told why there is no registry, and that is never S1.
 pub record TurnsAway (refusal : StoreRefusal) (text : List ℕ) (told_size told_file told : ℕ) : Type 0 where
   pub status : told ≡ store_number refusal
   pub file : told_file ≡ 0
-  pub says : Says (disk_refusal_text refusal) text told_size
+  pub has_text : HasText (disk_refusal_text refusal) text told_size
   pub device : refusal ≢ store.Device
 
 -- The buffer of the plan has these steps, which are so many bytes, and so many.

@@ -3,14 +3,14 @@ use Rattle.std.specs.Prelude.{◌≡◌, ◌≢◌, ◌⊎◌, ◌↔◌, ◌<�
 use Rattle.byte_disk.specs.Bytes.{sectors_in}
 use Rattle.byte_disk.specs.ReadOnlyDisk.{read_only_facts}
 use Rattle.byte_disk.specs.declared.read_only.ReadOnlyDisk.{ReadOnlyDisk}
-use Rattle.extents.specs.Layout.{free_count}
-use Rattle.extents.specs.Runs.{free_runs}
+use Rattle.extents.specs.Layout.{unused_count}
+use Rattle.extents.specs.Runs.{unused_runs}
 use Rattle.sha2.specs.Sha256.{sha256}
 use Rattle.states.specs.State.{State}
 use Rattle.store.specs.Names.{IsFileSize}
 use Rattle.store.specs.Opened.{Opened, IsAt}
-use Rattle.store.specs.HeldVersions.{layout_in_use}
-use Rattle.store.specs.Step.{longest_free, refusal_of_new}
+use Rattle.store.specs.Holds.{layout_in_use}
+use Rattle.store.specs.Step.{longest_unused, refusal_of_new}
 use Rattle.store.specs.declared.refusal.StoreRefusal.{StoreRefusal}
 use Rattle.requests.specs.declared.refusal.Refusal.{Refusal}
 use Rattle.requests.specs.declared.refusal.Refusal.TheVariants as refusal
@@ -33,11 +33,16 @@ refusal_of unread.NotInstalled = refusal.NotInstalled
 refusal_of unread.Unreadable = refusal.Device
 refusal_of unread.OutOfMemory = refusal.OutOfMemory
 
+-- the buffer has just this, of which so many are counted, and the status is this one; or the buffer
+-- is too small; no text is told
+abbrev pub IsGiven : (given_status count : ℕ) → (given bytes : List ℕ) → Answer → ℕ → Type 0
+IsGiven given_status count given bytes answer status =
+    (((status ≡ given_status) × (take answer.bytes bytes ≡ given)) ⊎ ((status ≡ no_room) × (length bytes < length given)))
+    × (answer.bytes ≡ length given) × (answer.count ≡ count) × IsUnlisted answer × IsUnbound answer × IsSilent answer
+
 -- the file is in the buffer, or that is too small; no text is told
 abbrev pub IsFileGiven : List ℕ → List ℕ → Answer → ℕ → Type 0
-IsFileGiven file bytes answer status =
-    (((status ≡ done) × (take answer.bytes bytes ≡ file)) ⊎ ((status ≡ no_room) × (length bytes < length file)))
-    × (answer.bytes ≡ length file) × (answer.count ≡ 0) × IsUnlisted answer × IsUnbound answer × IsSilent answer
+IsFileGiven file bytes answer status = IsGiven done 0 file bytes answer status
 
 -- C3 is answered exactly where no library has the name, and S1 never, since no read of bytes fails
 abbrev pub IsUnread : State → List ℕ → Unread → Type 0
@@ -97,12 +102,12 @@ information_of info =
       generation = info.generation;
       libraries = info.libraries;
       preloads = info.preloads;
-      free_sectors = info.free.sectors;
-      free_runs = info.free.runs;
-      largest = info.free.largest;
+      unused_sectors = info.unused.sectors;
+      unused_runs = info.unused.runs;
+      largest = info.unused.largest;
     }
 
--- It is told of the state that the bytes hold, and of what is free in them, by the step table.
+-- It is told of the state that the bytes hold, and of what is unused in them, by the step table.
 pub record IsInfoOf (disk : List ℕ) (information : Information) : Type 0 where
   pub state : State
   pub holds : HoldStore disk state
@@ -113,11 +118,11 @@ pub record IsInfoOf (disk : List ℕ) (information : Information) : Type 0 where
   pub told : Info
   pub is : information ≡ information_of told
   pub numbers : IsInfo (length (sectors_in disk)) state told
-  pub free : told.free.sectors ≡ free_count (layout_in_use store)
-  pub runs : told.free.runs ≡ length (free_runs (layout_in_use store))
+  pub unused : told.unused.sectors ≡ unused_count (layout_in_use store)
+  pub runs : told.unused.runs ≡ length (unused_runs (layout_in_use store))
   pub largest : (file : List ℕ) → IsFileSize (length file)
-      → (length file ≤ told.free.largest) ↔ (refusal_of_new (length (sectors_in disk)) (longest_free store) state file ≡ None)
-  pub form : (told.free.largest ≡ 0) ⊎ IsFileSize told.free.largest
+      → (length file ≤ told.unused.largest) ↔ (refusal_of_new (length (sectors_in disk)) (longest_unused store) state file ≡ None)
+  pub form : (told.unused.largest ≡ 0) ⊎ IsFileSize told.unused.largest
 
 -- it is told of the registry that the bytes hold; or there is none, and it is told why
 abbrev pub IsInfoAnswered : List ℕ → Information → List ℕ → Answer → ℕ → Type 0

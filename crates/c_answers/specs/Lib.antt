@@ -1,10 +1,15 @@
 pub mod Answers
 pub mod Check
 pub mod Contents
-pub mod Layout
+pub mod Buffers
+pub mod Changes
 pub mod Listing
 pub mod Names
 pub mod Numbers
 pub mod Objects
 pub mod Spelling
 pub mod Unsaid
+pub mod Bindings
+pub mod Executable
+pub mod Update
+pub mod inside

@@ -3,7 +3,7 @@ ghost use Rattle.requests.specs.Request.{request_of};
 ghost use Rattle.c_answers.specs.Answers.{IsBindAnswered, IsBindTold};
 
 use crate::answer::Answer;
-use crate::layout::put_image;
+use crate::buffers::put_image;
 use crate::object::ObjectPlace;
 use crate::place::SegmentPlace;
 use crate::text::{tell, turn_away};

@@ -1,10 +1,10 @@
 // A library's bytes.
 ghost use Rattle.std.specs.Prelude.{◌≡◌};
-ghost use Rattle.c_answers.specs.Contents.{refusal_of, IsFileGiven, IsFileAnswered};
+ghost use Rattle.c_answers.specs.Contents.{refusal_of, IsFileAnswered};
 
 use crate::answer::Answer;
-use crate::put::put;
-use crate::status::{DONE, NO_ROOM};
+use crate::give::give;
+use crate::status::DONE;
 use crate::text::{tell, turn_away};
 use byte_registry::contents_of;
 use contents::Unread;
@@ -22,20 +22,6 @@ pub(crate) fn refusal_of(unread: Unread) -> Refusal
     }
 }
 
-/// Puts a file into a buffer. Where that is too small the answer has what it needs.
-fn put_file(file: &[u8], bytes: &mut [u8]) -> Answer
-    ensures { IsFileGiven file.now bytes.new result result.status }
-{
-    let status = match put(bytes, 0, file) {
-        Some(_) => DONE,
-        None => NO_ROOM,
-    };
-    Answer {
-        bytes: file.len() as u64,
-        ..Answer::of(status)
-    }
-}
-
 /// Gives a library's bytes, or says why they aren't given.
 pub fn file_on(alloc: Global, disk: &[u8], name: &[u8], bytes: &mut [u8], text: &mut [u8]) -> Answer
     ensures { IsFileAnswered disk.now name.now bytes.new text.new result result.status }
@@ -46,7 +32,7 @@ pub fn file_on(alloc: Global, disk: &[u8], name: &[u8], bytes: &mut [u8], text: 
             let read = contents.file(alloc, name);
             let _ = contents.into_disk();
             match read {
-                Ok(file) => put_file(&file, bytes),
+                Ok(file) => give(DONE, 0, &file, bytes),
                 Err(unread) => tell(alloc, &Reply::Refused(refusal_of(unread)), text),
             }
         }

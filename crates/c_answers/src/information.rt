@@ -23,10 +23,10 @@ pub struct Information {
     pub libraries: u64,
     /// How many preloads there are.
     pub preloads: u64,
-    /// How many sectors are free.
-    pub free_sectors: u64,
+    /// How many sectors are unused.
+    pub unused_sectors: u64,
     /// In how many runs they are.
-    pub free_runs: u64,
+    pub unused_runs: u64,
     /// The greatest length in bytes of a file that an install of a new name would take now; 0 where
     /// it would take none.
     pub largest: u64,
@@ -42,9 +42,9 @@ fn information_of(info: Info) -> Information
         generation: info.generation,
         libraries: info.libraries as u64,
         preloads: info.preloads as u64,
-        free_sectors: u64::from(info.free.sectors),
-        free_runs: info.free.runs as u64,
-        largest: u64::from(info.free.largest),
+        unused_sectors: u64::from(info.unused.sectors),
+        unused_runs: info.unused.runs as u64,
+        largest: u64::from(info.unused.largest),
     }
 }
 

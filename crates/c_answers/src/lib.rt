@@ -6,16 +6,20 @@
 #![tactic(auto)]
 
 mod answer;
+mod asked_change;
 mod bind;
+mod bound;
+mod buffers;
 mod change;
+mod change_place;
 mod check;
 mod digest;
 mod entry;
 mod file;
 mod finding;
 mod format;
+mod give;
 mod information;
-mod layout;
 mod list;
 mod listing;
 mod object;
@@ -24,12 +28,16 @@ mod plan;
 mod preload;
 mod put;
 mod status;
+mod symbols;
 mod text;
+mod update;
 mod upgrade;
 
 pub use answer::Answer;
 pub use bind::bind_on;
+pub use bound::executable_on;
 pub use change::plan_change;
+pub use change_place::ChangePlace;
 pub use check::check_on;
 pub use digest::digest_on;
 pub use entry::EntryPlace;
@@ -41,4 +49,6 @@ pub use list::list_on;
 pub use object::ObjectPlace;
 pub use place::SegmentPlace;
 pub use preload::plan_preloads;
+pub use symbols::bindings_on;
+pub use update::plan_update;
 pub use upgrade::upgrade_on;

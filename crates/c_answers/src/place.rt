@@ -1,6 +1,6 @@
 // Where a segment lies.
 ghost use Rattle.std.specs.Prelude.{◌≡◌};
-ghost use Rattle.c_answers.specs.Layout.{place_of};
+ghost use Rattle.c_answers.specs.Buffers.{place_of};
 
 use bitflags::Flags;
 use image::Segment;

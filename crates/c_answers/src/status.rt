@@ -18,6 +18,12 @@ pub(crate) const NO_ROOM: u32 = 1;
 /// An argument isn't of its form.
 pub(crate) const BAD_ARGUMENT: u32 = 2;
 
+/// B3: a needed library isn't installed.
+pub(crate) const MISSING: u32 = 103;
+
+/// B5: a symbol is bound to nothing.
+pub(crate) const UNDEFINED: u32 = 105;
+
 /// S11: memory was refused.
 pub(crate) const OUT_OF_MEMORY: u32 = 311;
 
@@ -48,9 +54,9 @@ fn bind_status(refusal: &BindRefusal) -> u32
     match refusal {
         BindRefusal::Program(_) => 101,
         BindRefusal::BadBase => 102,
-        BindRefusal::Missing { .. } => 103,
+        BindRefusal::Missing { .. } => MISSING,
         BindRefusal::NoRoom => 104,
-        BindRefusal::Undefined { .. } => 105,
+        BindRefusal::Undefined { .. } => UNDEFINED,
         BindRefusal::OutOfMemory => OUT_OF_MEMORY,
     }
 }

@@ -1,6 +1,6 @@
 // The text of what a call is answered: the line or the reply that the program prints.
 ghost use Rattle.std.specs.Prelude.{◌≡◌, ◌↔◌, IsTrue};
-ghost use Rattle.c_answers.specs.Answers.{Says, WantsMemory, IsToldAlone, IsTurnedAway};
+ghost use Rattle.c_answers.specs.Answers.{HasText, WantsMemory, IsToldAlone, IsTurnedAway};
 ghost use Rattle.c_answers.specs.Numbers.{reply_number, file_number_in};
 ghost use Rattle.c_answers.specs.Unsaid.{IsUncounted};
 
@@ -15,12 +15,12 @@ use store::StoreRefusal;
 const MEMORY_LINE: &[u8] = b"refused S11 OutOfMemory\n";
 
 /// Puts as much of a text into a buffer as has room there. Says how many bytes the whole has.
-fn put_text(said: &[u8], text: &mut [u8]) -> u64
-    ensures { Says said.now text.new result }
+pub(crate) fn put_text(whole: &[u8], text: &mut [u8]) -> u64
+    ensures { HasText whole.now text.new result }
 {
-    let most = said.len().min(text.len());
-    text[..most].copy_from_slice(&said[..most]);
-    said.len() as u64
+    let most = whole.len().min(text.len());
+    text[..most].copy_from_slice(&whole[..most]);
+    whole.len() as u64
 }
 
 /// Says that memory was refused. It takes none.
@@ -69,11 +69,11 @@ pub(crate) fn tell(alloc: Global, reply: &Reply, text: &mut [u8]) -> Answer
     if is_failure(reply) {
         return tell_memory(text);
     }
-    let mut said = Vec::new(alloc);
-    match write_reply(&mut said, reply) {
+    let mut whole = Vec::new(alloc);
+    match write_reply(&mut whole, reply) {
         Ok(()) => Answer {
             file_refusal: reply_file_refusal(reply),
-            text: put_text(&said, text),
+            text: put_text(&whole, text),
             ..Answer::of(reply_status(reply))
         },
         Err(_) => tell_memory(text),
@@ -94,10 +94,10 @@ pub(crate) fn turn_away(alloc: Global, refusal: StoreRefusal, text: &mut [u8]) -
     if is_device(refusal) {
         return tell_memory(text);
     }
-    let mut said = Vec::new(alloc);
-    match write_disk_refusal(&mut said, refusal) {
+    let mut whole = Vec::new(alloc);
+    match write_disk_refusal(&mut whole, refusal) {
         Ok(()) => Answer {
-            text: put_text(&said, text),
+            text: put_text(&whole, text),
             ..Answer::of(store_status(refusal))
         },
         Err(_) => tell_memory(text),

@@ -185,7 +185,7 @@ class OnDisk(Model):
             k for e in held.values() for start, n in e.extents for k in range(start, start + n)}
         return [k for k in range(2, self.count()) if k not in used]
 
-    def free_runs(self):
+    def unused_runs(self):
         runs = []
         for k in self.free():
             if runs and sum(runs[-1]) == k:
@@ -202,7 +202,7 @@ class OnDisk(Model):
 
     def take(self, need):
         extents = []
-        for start, n in self.in_order(self.free_runs())[:MOST_EXTENTS]:
+        for start, n in self.in_order(self.unused_runs())[:MOST_EXTENTS]:
             if need > 0:
                 extents.append(self.part(start, n, need))
                 need -= extents[-1][1]

@@ -535,12 +535,12 @@ class TooManyForReplace(OnDisk):
 
 class OneRunLess(OnDisk):
     def take(self, need):
-        runs = self.free_runs
-        self.free_runs = lambda: self.in_order(runs())[:MOST_EXTENTS - 1]
+        runs = self.unused_runs
+        self.unused_runs = lambda: self.in_order(runs())[:MOST_EXTENTS - 1]
         try:
             return super().take(need)
         finally:
-            self.free_runs = runs
+            self.unused_runs = runs
 
 
 class FullWhereFragmented(OnDisk):

@@ -7,7 +7,7 @@ use crate::file::changed_file;
 use crate::library::{Seen, put_file, put_find, put_hash};
 use crate::number::last_number;
 use crate::script::runs_so;
-use crate::words::ends_so;
+use crate::words::{Program, ends_so};
 use anyhow::{Context, Result, bail};
 use commands::run_image;
 use image::bind_alone;
@@ -74,7 +74,7 @@ fn gives(rt: &HostRuntime, call: &str, wanted: &str) -> Result<bool> {
         return leaves_so(rt, words, wanted);
     }
     if let Some(words) = call.strip_prefix("words") {
-        return ends_so(rt, words, &[], wanted);
+        return ends_so(rt, Program::Registry, words, &[], wanted);
     }
     let mut text = Vec::new(rt.alloc());
     put_answer(rt, &mut text, call)?;

@@ -1,7 +1,7 @@
 // A command line over a disk: how it ends, and what the disk is after it.
 
 use crate::file::changed_file;
-use crate::words::ends_so;
+use crate::words::{Program, ends_so};
 use anyhow::{Context, Result};
 use std::fs;
 
@@ -36,11 +36,20 @@ fn put_disk(rt: &HostRuntime, words: &str) -> Result<()> {
 }
 
 /// Whether `WORD .. [< INPUT]` ends as it is wanted. Without INPUT the input is empty.
-fn runs_to(rt: &HostRuntime, words: &str, wanted: &str) -> Result<bool> {
+fn runs_to(rt: &HostRuntime, program: Program, words: &str, wanted: &str) -> Result<bool> {
     match words.split_once(" < ") {
-        Some((words, file)) => ends_so(rt, words, &changed_file(rt, file)?, wanted),
-        None => ends_so(rt, words, &[], wanted),
+        Some((words, file)) => ends_so(rt, program, words, &changed_file(rt, file)?, wanted),
+        None => ends_so(rt, program, words, &[], wanted),
     }
+}
+
+/// What stands before `run` or `tool`, the program that this names, and its words.
+fn split_words(words: &str) -> Option<(&str, Program, &str)> {
+    if let Some((before, words)) = words.split_once(" run") {
+        return Some((before, Program::Registry, words));
+    }
+    let (before, words) = words.split_once(" tool")?;
+    Some((before, Program::Tool, words))
 }
 
 /// The disk that is wanted: `same` is the one before, with the changes behind it.
@@ -59,12 +68,13 @@ fn is_left(rt: &HostRuntime, before: &str, after: &str) -> Result<bool> {
 }
 
 /// Whether a command line ends as it is wanted and leaves the disk so: `BEFORE run WORD ..
-/// [< INPUT]`, wanted as `STATUS ANSWER then AFTER`. The file `disk` is the disk.
+/// [< INPUT]`, of `rlibreg-tool` with `tool` for `run`, wanted as `STATUS ANSWER then AFTER`. The
+/// file `disk` is the disk.
 pub(crate) fn leaves_so(rt: &HostRuntime, words: &str, wanted: &str) -> Result<bool> {
-    let (before, words) = words.split_once(" run").context("a disk without words")?;
+    let (before, program, words) = split_words(words).context("a disk without words")?;
     let (ending, after) = wanted.rsplit_once(" then ").context("no disk after it")?;
     put_disk(rt, before)?;
-    let ends = runs_to(rt, words, ending)?;
+    let ends = runs_to(rt, program, words, ending)?;
     let left = is_left(rt, before, after)?;
     Ok(ends && left)
 }

@@ -3,8 +3,31 @@
 use crate::answer::is_wanted;
 use crate::number::first_number;
 use anyhow::Result;
-use commands::run_words;
 use std::alloc::Global;
+
+/// A program that words are for.
+#[derive(Clone, Copy)]
+pub(crate) enum Program {
+    /// `rlibreg`.
+    Registry,
+    /// `rlibreg-tool`.
+    Tool,
+}
+
+/// Runs a program, and gives its exit status.
+fn run_words(
+    rt: &HostRuntime,
+    program: Program,
+    words: &[String],
+    input: &mut &[u8],
+    output: &mut Vec<u8>,
+    errors: &mut Vec<u8>,
+) -> u8 {
+    match program {
+        Program::Registry => commands::run_words(rt, rt.alloc(), words, input, output, errors),
+        Program::Tool => tool_commands::run_words(rt, rt.alloc(), words, input, output, errors),
+    }
+}
 
 /// The words of a command line: each stands behind a space.
 fn listed(alloc: Global, words: &str) -> Result<Vec<String>> {
@@ -36,11 +59,17 @@ fn is_ended(
 /// Whether a command line ends over an input as it is wanted: `STATUS ANSWER` where ANSWER goes to
 /// the output and nothing to standard error, `STATUS error ANSWER` where it goes to standard error
 /// alone.
-pub(crate) fn ends_so(rt: &HostRuntime, words: &str, input: &[u8], wanted: &str) -> Result<bool> {
+pub(crate) fn ends_so(
+    rt: &HostRuntime,
+    program: Program,
+    words: &str,
+    input: &[u8],
+    wanted: &str,
+) -> Result<bool> {
     let list = listed(rt.alloc(), words)?;
     let mut input = input;
     let mut output = Vec::new(rt.alloc());
     let mut errors = Vec::new(rt.alloc());
-    let status = run_words(rt, rt.alloc(), &list, &mut input, &mut output, &mut errors);
+    let status = run_words(rt, program, &list, &mut input, &mut output, &mut errors);
     is_ended(rt, status, &output, &errors, wanted)
 }

@@ -1,5 +1,5 @@
-//! Tests of `commands` and `registry` through their public calls, and of scripts over a registry on
-//! a disk that lies: what no clause and no case says.
+//! Tests of `commands`, `updates` and `registry` through their public calls, and of scripts over a
+//! registry on a disk that lies: what no clause and no case says.
 #![tactic(auto)]
 
 #[cfg(test)]
@@ -30,3 +30,5 @@ mod statuses;
 mod streams;
 #[cfg(test)]
 mod together;
+#[cfg(test)]
+mod update_streams;

@@ -7,6 +7,7 @@ use Rattle.std.proofs.KnownBytes.{Appends-nil, Consumes-nil}
 use Rattle.std.proofs.Math.Seq.{take-append_seam}
 use Rattle.std.proofs.lemmas.List.Elements.{All-nil}
 use Rattle.std.proofs.lemmas.Slice.Zip.{AllZip-long, all_zipped_more}
+use Rattle.program_parts.proofs.Sent.{all_sent, nothing_waits}
 use Rattle.requests.specs.Runs.{Steps, Run}
 use Rattle.binders.specs.Events.{Happening}
 use Rattle.binders.specs.declared.event.EventReply.{EventReply}
@@ -30,18 +31,6 @@ steps_length Step s [] [] (t ∷ ts) h = absurd h
 steps_length Step s [] (r ∷ rs) ts h = absurd h
 steps_length Step s (q ∷ qs) [] ts h = absurd h
 steps_length Step s (q ∷ qs) (r ∷ rs) [] h = absurd h
-
--- where nothing waits a writer holds all
-pub nothing_waits : (known : Option (List ℕ)) → append_known known [] ≡ known
-nothing_waits None = refl
-nothing_waits (Some bytes) = ap (λ l. Some l) (append-nil bytes)
-
--- what waited was sent
-pub all_sent : (before held now : Option (List ℕ)) (waiting text : List ℕ) → Appends before (append_known held waiting) text → Appends held now waiting → Appends before now text
-all_sent None held now waiting text h sent = tt
-all_sent (Some x) None now waiting text h sent = absurd h
-all_sent (Some x) (Some y) None waiting text h sent = absurd sent
-all_sent (Some x) (Some y) (Some z) waiting text h sent = sent ∙ h
 
 -- what was put behind what waits, and then sent with it
 pub sent_behind : (held mid now : Option (List ℕ)) (before waiting after text : List ℕ) → Appends (append_known held before) (append_known mid waiting) text → Appends mid now waiting → after ≡ []

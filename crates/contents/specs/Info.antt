@@ -12,5 +12,6 @@ pub record IsInfo (sectors : ℕ) (s : State) (info : Info) : Type 0 where
   pub generation : info.generation ≡ s.generation
   pub libraries : info.libraries ≡ length s.libraries
   pub preloads : info.preloads ≡ length s.preloads
-  -- beside those that the catalogues of the next change take
-  pub free_are : info.free.sectors ≡ free sectors s + catalogues_for (length s.libraries)
+  -- what the state leaves free, and beside it what the catalogues of the next change take
+  pub free_are : info.unused.free ≡ free sectors s
+  pub unused_are : info.unused.sectors ≡ free sectors s + catalogues_for (length s.libraries)

@@ -2,7 +2,7 @@
 use crate::contents::Contents;
 use roots::Version;
 use sector_disk::Disk;
-use store::FreeSpace;
+use store::UnusedSpace;
 
 /// What is told of a disk and of the state that it holds.
 #[derive(Clone, Copy, PartialEq, Eq)]
@@ -17,38 +17,38 @@ pub struct Info {
     pub libraries: usize,
     /// How many preloads there are, of `MOST_PRELOADS` at most.
     pub preloads: usize,
-    /// How much of the disk is free, and the greatest file that still goes in.
-    pub free: FreeSpace,
+    /// How much of the disk is unused, and the greatest file that still goes in.
+    pub unused: UnusedSpace,
 }
 
 impl<D: Disk> Contents<D> {
     ghost use Rattle.std.specs.Prelude.{◌≡◌, ◌≤◌, ◌⊎◌, ◌↔◌, ℕ, List, None, length};
-    ghost use Rattle.extents.specs.Layout.{free_count};
-    ghost use Rattle.extents.specs.Runs.{free_runs};
+    ghost use Rattle.extents.specs.Layout.{unused_count};
+    ghost use Rattle.extents.specs.Runs.{unused_runs};
     ghost use Rattle.roots.specs.declared.version.Version.TheVariants.{Two};
     ghost use Rattle.states.specs.State.{State};
     ghost use Rattle.store.specs.Names.{IsFileSize};
     ghost use Rattle.store.specs.Opened.{IsAt};
-    ghost use Rattle.store.specs.HeldVersions.{layout_in_use};
-    ghost use Rattle.store.specs.Step.{longest_free, refusal_of_new};
+    ghost use Rattle.store.specs.Holds.{layout_in_use};
+    ghost use Rattle.store.specs.Step.{longest_unused, refusal_of_new};
     ghost use Rattle.contents.specs.Info.{IsInfo};
 
-    /// What is told of the whole. It makes one pass over the free runs, and neither takes memory
-    /// nor calls the disk.
+    /// What is told of the whole. It makes one pass over the unused runs, and neither takes
+    /// memory nor calls the disk.
     pub fn info(&self) -> Info
         ensures state { (s : State) → IsAt D.facts self.now s
             → IsInfo (D.facts self.now.disk).sectors s result }
-        ensures free { result.free.sectors ≡ free_count (layout_in_use self.now) }
-        ensures runs { result.free.runs ≡ length (free_runs (layout_in_use self.now)) }
+        ensures unused { result.unused.sectors ≡ unused_count (layout_in_use self.now) }
+        ensures runs { result.unused.runs ≡ length (unused_runs (layout_in_use self.now)) }
 
         // An install of a file of a new name meets neither S7 nor S8, S9 nor S10, exactly up to
         // this length: it is 0, or the length of a file, which is accepted itself.
         ensures largest { (s : State) → IsAt D.facts self.now s
             → (file : List ℕ) → IsFileSize (length file)
-            → (length file ≤ result.free.largest)
-            ↔ (refusal_of_new (D.facts self.now.disk).sectors (longest_free self.now) s file
+            → (length file ≤ result.unused.largest)
+            ↔ (refusal_of_new (D.facts self.now.disk).sectors (longest_unused self.now) s file
             ≡ None) }
-        ensures form { (result.free.largest ≡ 0) ⊎ IsFileSize result.free.largest }
+        ensures form { (result.unused.largest ≡ 0) ⊎ IsFileSize result.unused.largest }
     {
         Info {
             version: Version::Two,
@@ -56,7 +56,7 @@ impl<D: Disk> Contents<D> {
             generation: self.store.generation(),
             libraries: self.store.count(),
             preloads: self.store.preloads().len(),
-            free: self.store.free_space(),
+            unused: self.store.unused_space(),
         }
     }
 }

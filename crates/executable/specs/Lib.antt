@@ -8,4 +8,5 @@ pub mod Place
 pub mod File
 pub mod Refusal
 pub mod Meaning
+pub mod Outcome
 pub mod inside

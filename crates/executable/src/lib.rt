@@ -9,6 +9,7 @@ mod entry;
 mod executable;
 mod front;
 mod initializers;
+mod line;
 mod merging;
 mod piece;
 mod pieces;
@@ -19,4 +20,5 @@ mod static_pie;
 mod writable_code;
 
 pub use executable::{Executable, executable_of};
+pub use line::{put_executable_refusal, write_executable_refusal};
 pub use refusal::ExecutableRefusal;

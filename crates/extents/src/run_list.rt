@@ -5,7 +5,7 @@ use crate::extent::Extent;
 use std::alloc::{AllocError, Global};
 use std::marker::Model;
 
-/// The free runs of a disk, from the lowest up. Most that come and go are among the lowest, so a
+/// The unused runs of a disk, from the lowest up. Most that come and go are among the lowest, so a
 /// run that goes may leave a vacant place in front of all, and one that comes may fill it.
 #[derive(Drop)]
 pub(crate) struct RunList {

@@ -14,6 +14,7 @@ mod run;
 mod seen;
 mod steps;
 mod texts;
+mod updates;
 mod upgrades;
 mod words;
 

@@ -8,6 +8,7 @@ use crate::rounds::rounds;
 use crate::seen::{before, is_as_before};
 use crate::steps::{STEPS, Step};
 use crate::texts::text;
+use crate::updates::update;
 use crate::upgrades::upgrade;
 use crate::words::Words;
 use registry::Registry;
@@ -141,7 +142,10 @@ fn besides(alloc: Global, disk: Memory) -> Result<Option<Words>, AllocError> {
     if let Some(words) = script(alloc, disk.copy()?)? {
         return Ok(Some(words));
     }
-    rounds(alloc, disk)
+    if let Some(words) = rounds(alloc, disk.copy()?)? {
+        return Ok(Some(words));
+    }
+    update(alloc, disk)
 }
 
 /// Runs all: what is told where something is otherwise than without a refused growth. `Err` is a

@@ -12,7 +12,7 @@ use Rattle.image.specs.Constant.{MEMORY_LIMIT}
 use Rattle.image.specs.Placement.{Placed, Stacked, placed_at, place, place_after, named, unit, reach, ends_too_high, lacks_room}
 use Rattle.image.specs.Refusal.{PlacesWantMemory}
 use Rattle.image.specs.Relocating.{base_at, file_at, name_at}
-use Rattle.image.specs.inside.Layout.{IsPlaced, with_bases}
+use Rattle.image.specs.inside.Segments.{IsPlaced, with_bases}
 use Rattle.image.proofs.Placing.{ends-low}
 
 -- the bases of objects

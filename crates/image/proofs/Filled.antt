@@ -23,7 +23,7 @@ use Rattle.image.specs.Placement.{Placed, Stacked, reach}
 use Rattle.image.specs.Relocating.{Write, all_writes, base_at, file_at, last_write_at, relocations_of, symbol_value, value_with, write_with, writes_of, written_or}
 use Rattle.image.specs.declared.object.ImageObject.{ImageObject}
 use Rattle.image.specs.inside.Bound.{IsFilled}
-use Rattle.image.specs.inside.Layout.{IsWhole, Rising}
+use Rattle.image.specs.inside.Segments.{IsWhole, Rising}
 use Rattle.image.proofs.Holding.{within-below, within-true}
 use Rattle.image.proofs.Placing.{loads-rising}
 use Rattle.image.proofs.Relocating.{written_or-then, writes-more}

@@ -22,7 +22,7 @@ use Rattle.image.specs.Constant.{MEMORY_LIMIT}
 use Rattle.image.specs.Loading.{heading_at}
 use Rattle.image.specs.Placement.{Placed, reach}
 use Rattle.image.specs.Relocating.{Write, base_at, symbol_value, value_with, write_with, is_undefined}
-use Rattle.image.specs.inside.Layout.{Lands, room_in}
+use Rattle.image.specs.inside.Segments.{Lands, room_in}
 use Rattle.image.proofs.Placing.{placed-any, place-reached, rooms-shift}
 
 refuses_none : (file : List ℕ) → first_refusal file ≡ None → relocation_refusal file ≡ None

@@ -5,7 +5,7 @@ use Rattle.std.proofs.Math.Seq.{take-append-add}
 use Rattle.std.proofs.lemmas.Bool.{cases_lt}
 use Rattle.std.proofs.lemmas.Grind.{common_steps}
 use Rattle.std.proofs.lemmas.List.{take_all, take-append-le, take-replicate}
-use Rattle.image.specs.inside.Layout.{padded}
+use Rattle.image.specs.inside.Segments.{padded}
 
 abbrev zeros : ℕ → List ℕ
 zeros n = replicate n 0

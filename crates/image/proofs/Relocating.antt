@@ -11,7 +11,7 @@ use Rattle.std.specs.Int.{byte_at}
 use Rattle.elf_dynamic.specs.declared.relocation.Relocation.{Relocation}
 use Rattle.image.specs.Heading.{within}
 use Rattle.image.specs.Relocating.{Write, last_write_at, written_or}
-use Rattle.image.specs.inside.Layout.{after}
+use Rattle.image.specs.inside.Segments.{after}
 
 last-by : (w : Write) (o : Option Write) (old : Option ℕ) (a : ℕ) (b : Bool)
     → written_or (cond b (Some w) o) old a ≡ cond b (Some (byte_at (a - w.place) w.value)) (written_or o old a)

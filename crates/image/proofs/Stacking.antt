@@ -13,7 +13,7 @@ use Rattle.image.specs.Heading.{Heading}
 use Rattle.image.specs.Loading.{Loaded, heading_at, loaded_at, loaded_of, all_loaded}
 use Rattle.image.specs.Placement.{Placed, Stacked, reach, end_of}
 use Rattle.image.specs.Relocating.{base_at, file_at, name_at}
-use Rattle.image.specs.inside.Layout.{Rising}
+use Rattle.image.specs.inside.Segments.{Rising}
 use Rattle.image.proofs.Placing.{loads-rising, loads-end}
 
 -- where the PT_LOADs of all objects lie

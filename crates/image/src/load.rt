@@ -6,7 +6,7 @@ ghost use Rattle.elf_dynamic.specs.Refusal.{first_refusal};
 ghost use Rattle.image.specs.Constant.{MEMORY_LIMIT};
 ghost use Rattle.image.specs.Loading.{loaded_at};
 ghost use Rattle.image.specs.Placement.{reach};
-ghost use Rattle.image.specs.inside.Layout.{fresh};
+ghost use Rattle.image.specs.inside.Segments.{fresh};
 
 use crate::permissions::Permissions;
 use crate::segment::Segment;

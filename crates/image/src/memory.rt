@@ -2,7 +2,7 @@
 
 ghost use Rattle.std.specs.Prelude.{◌≡◌, ◌-◌, ◌≤◌, ◌<◌, ◌^◌, ◌++◌, OnOk};
 ghost use Rattle.std.specs.Prelude.{drop, length, replicate, take};
-ghost use Rattle.image.specs.inside.Layout.{padded};
+ghost use Rattle.image.specs.inside.Segments.{padded};
 
 use std::alloc::AllocError;
 use std::marker::Model;
@@ -17,7 +17,7 @@ pub struct Memory<'a> {
 
 impl<'a> Model for Memory<'a> {
     ghost use Rattle.std.specs.Prelude.{ℕ, List, ◌≤◌, length};
-    ghost use Rattle.image.specs.inside.Layout.{padded};
+    ghost use Rattle.image.specs.inside.Segments.{padded};
 
     ghost Value = { List ℕ };
 

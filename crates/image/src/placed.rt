@@ -9,7 +9,7 @@ ghost use Rattle.image.specs.Bound.{AllAccepted};
 ghost use Rattle.image.specs.Placement.{Stacked, is_good_base, lacks_room, named, place};
 ghost use Rattle.image.specs.Refusal.{IsPlaceAnswer};
 ghost use Rattle.image.specs.Relocating.{base_at, file_at, name_at, own_address, symbol_value};
-ghost use Rattle.image.specs.inside.Layout.{IsPlaced, with_bases};
+ghost use Rattle.image.specs.inside.Segments.{IsPlaced, with_bases};
 
 use crate::placement::place;
 use crate::refusal::BindRefusal;
@@ -29,7 +29,7 @@ pub struct PlacedOrder<'a> {
 impl<'a> Model for PlacedOrder<'a> {
     ghost use Rattle.std.specs.Prelude.{List};
     ghost use Rattle.image.specs.Placement.{Placed};
-    ghost use Rattle.image.specs.inside.Layout.{IsPlaced, with_bases};
+    ghost use Rattle.image.specs.inside.Segments.{IsPlaced, with_bases};
 
     ghost Value = { List Placed };
 

@@ -12,7 +12,7 @@ ghost use Rattle.image.specs.Image.{heading, segments_byte};
 ghost use Rattle.image.specs.Loading.{heading_at, loaded_at};
 ghost use Rattle.image.specs.Placement.{reach};
 ghost use Rattle.image.specs.Relocating.{last_write_at, write_with, written_or};
-ghost use Rattle.image.specs.inside.Layout.{Lands, Rising, after};
+ghost use Rattle.image.specs.inside.Segments.{Lands, Rising, after};
 
 use crate::load::load;
 use crate::memory_parts::MemoryParts;

@@ -12,7 +12,7 @@ mod run;
 mod single;
 mod write;
 
-pub use pass::{commit, stage, write_unsynced};
+pub use pass::{stage, switch_root, write_unsynced};
 pub use read::read_bytes;
 pub use single::SingleSector;
 pub use write::write_bytes;

@@ -107,7 +107,11 @@ pub fn stage<D: Disk>(
 }
 
 /// The second pass of a commit: writes one sector, and syncs.
-pub fn commit<D: Disk>(disk: &mut D, at: u32, root: &[u8; SECTOR_BYTES]) -> Result<(), DiskFault>
+pub fn switch_root<D: Disk>(
+    disk: &mut D,
+    at: u32,
+    root: &[u8; SECTOR_BYTES],
+) -> Result<(), DiskFault>
     requires room { at < (D.facts disk.old).sectors }
     ensures calls { AreCallsInRow 2 (D.facts disk.old) (D.facts disk.new) result }
 

@@ -5,7 +5,7 @@ use Rattle.std.proofs.lemmas.Bool.{false≢true}
 use Rattle.sector_disk.specs.Disk.{DiskFacts, AreCallsExactly, HoldsNow}
 use Rattle.sector_disk.proofs.Moments.{exactly_none, exactly_at_most}
 use Rattle.store.specs.Changed.{Changed}
-use Rattle.store.specs.HeldVersions.{AreVersions, KeepsHeld}
+use Rattle.store.specs.Holds.{AreHolds, KeepsHeld}
 use Rattle.store.specs.Opened.{Opened, IsAt}
 use Rattle.store.specs.Step.{IsRefusalOfChange, IsRefusalOfPutNew, IsRefusalOfPutOver}
 use Rattle.store.specs.declared.refusal.StoreRefusal.{StoreRefusal}
@@ -177,7 +177,7 @@ module _ {D : Type 0} (facts : D → DiskFacts) where
   -- what a change does on any disk is an answer to its command
   pub change_answered : {old new : Opened D} {most : ℕ} {Refuses : Refusal → Type 0} {q q' : Request} {r : Reply} (answer : Result (Unit {0}) Refusal) → q' ≡ q → r ≡ answer_of answer
       → Changed facts Device Reopen old new most Refuses answer → IsAnswerTo q (answer_of answer) → Leaves old new q (answer_of answer)
-      → KeepsHeld facts old new → AreVersions old → AreVersions new → Answered facts old new q' r
+      → KeepsHeld facts old new → AreHolds old → AreHolds new → Answered facts old new q' r
   change_answered {old = old} {new = new} {q = q} {r = r} answer asked told changed answers leaves held before after =
       subst (λ x. Answered facts old new x r) (sym asked) (subst (λ y. Answered facts old new q y) (sym told) (record {
         reopen = refused_reopen answer changed;
@@ -186,7 +186,7 @@ module _ {D : Type 0} (facts : D → DiskFacts) where
         answers = answers;
         leaves = leaves;
         held = held;
-        versions_before = before;
-        versions_after = after;
+        holds_before = before;
+        holds_after = after;
         calls = changed.calls.some;
       }))

@@ -25,7 +25,7 @@ use Rattle.image.specs.declared.refusal.BindRefusal.TheVariants as binding
 use Rattle.snapshots.specs.Snapshot.{IsSnapshotOf, IsTakenOf, AreHeldAs, LetsAllGo, Taken, Takes}
 use Rattle.snapshots.proofs.Kept.{snapshot_beside, snapshot_kept, snapshot_left}
 use Rattle.states.specs.State.{Library, State}
-use Rattle.store.specs.HeldVersions.{holders_of, AreFlagged, KeepsHeld}
+use Rattle.store.specs.Holds.{holders_of, AreFlagged, KeepsHeld}
 use Rattle.store.specs.Opened as stored
 use Rattle.store.specs.Opened.{Opened}
 use Rattle.store.specs.Stands.{HaveOwnNames, TellLengths, no_library}
@@ -347,7 +347,7 @@ not_begun facts store program base flags e reopen refusals = record {
   same = λ s at. at;
   others = λ binder flight flies. flies;
   held = λ sector library is. is;
-  versions = λ sector placed by. by;
+  holds = λ sector placed by. by;
   holders = tt;
   unheld = λ sector. refl;
   flags = flags;
@@ -378,7 +378,7 @@ module _ {D : Type 0} (facts : D → DiskFacts) (old new : Opened D) (program : 
     same = λ s at. record { stored = takes.same s at.stored; libraries = at.libraries };
     others = λ binder flight flies. flies_beside facts flies new takes;
     held = takes.others;
-    versions = takes.versions;
+    holds = takes.holds;
     holders = takes.holders;
     unheld = tt;
     flags = takes.flags;
@@ -397,7 +397,7 @@ module _ {D : Type 0} (facts : D → DiskFacts) (old new : Opened D) (program : 
     same = λ s at. record { stored = takes.same s at.stored; libraries = at.libraries };
     others = λ binder flight flies. flies_beside facts flies new takes;
     held = takes.others;
-    versions = takes.versions;
+    holds = takes.holds;
     holders = tt;
     unheld = takes.unheld;
     flags = takes.flags;

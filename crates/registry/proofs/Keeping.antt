@@ -1,8 +1,8 @@
--- What commands keep of held versions.
+-- What commands keep of held byte strings.
 use Rattle.std.proofs.Common.{List, [], ◌∷◌, IsTrue, refl, sym, subst, ◌∙◌}
 use Rattle.sector_disk.specs.Disk.{DiskFacts, Mixture, AreCalls}
 use Rattle.sector_disk.proofs.Moments.{left_now}
-use Rattle.store.specs.HeldVersions.{KeepsHeld, KeepsHolders}
+use Rattle.store.specs.Holds.{KeepsHeld, KeepsHolders}
 use Rattle.store.specs.Opened.{Opened}
 use Rattle.store.proofs.KeepsHolders.{keeps_reads, keeps_same}
 use Rattle.requests.specs.Request.{Request}
@@ -26,9 +26,9 @@ module _ {D : Type 0} (facts : D → DiskFacts) where
   keeps_held_more old mid new calls first second = record {
     holders = λ sector. second.holders sector ∙ first.holders sector;
     bytes = λ honest sector library is. second.bytes (subst IsTrue (sym calls.honest) honest) sector library (first.bytes honest sector library is);
-    versions = λ sector placed. (
-      λ by. (second.versions sector placed).0 ((first.versions sector placed).0 by),
-      λ by. (first.versions sector placed).1 ((second.versions sector placed).1 by),
+    holds = λ sector placed. (
+      λ by. (second.holds sector placed).0 ((first.holds sector placed).0 by),
+      λ by. (first.holds sector placed).1 ((second.holds sector placed).1 by),
     );
     none = λ none. second.none (first.none none);
   }

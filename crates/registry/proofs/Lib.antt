@@ -25,6 +25,7 @@ pub mod Flights
 pub mod Bindings
 pub mod Bounds
 pub mod Untested
+pub mod Updating
 pub mod Upgrades
 pub mod Owned
 pub mod Closed

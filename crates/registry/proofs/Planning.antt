@@ -8,9 +8,11 @@ use Rattle.sector_disk.proofs.Moments.{at_rest}
 use Rattle.hash_check.specs.FileRefusal.{ReadNeedsMemory}
 use Rattle.states.specs.Changes.{with_bytes, with_new}
 use Rattle.states.specs.State.{State, has_name, names_of}
-use Rattle.store.specs.Draft.{Drafted, IsDraftedAt, IsLine, IsSameDraft, StaysBeside, beside, drafted, longest_drafted, room_drafted}
+use Rattle.store.specs.Draft.{Drafted, IsDraftedAt, IsLine, IsSameDraft, StaysBeside, beside, drafted, longest_drafted, room_drafted, touched_preloads}
 use Rattle.store.specs.Stands.{Stands}
 use Rattle.store.specs.Step.{IsAnswer, IsExactAnswer, IsRefusalOfPutNew, IsRefusalOfPutOver, refusal_of_new, refusal_of_put}
+use Rattle.store.specs.declared.draft.Touched.{Touched}
+use Rattle.store.specs.declared.draft.Touched.TheVariants.{Nothing, Preloads, List as Listed}
 use Rattle.store.specs.declared.refusal.StoreRefusal.{StoreRefusal}
 use Rattle.store.specs.declared.refusal.StoreRefusal.TheVariants as e
 use Rattle.requests.specs.Library.{library_refusal, name_of}
@@ -223,23 +225,30 @@ module _ {D : Type 0} (facts : D → DiskFacts) (u : Drafted D) where
     beside = beside_same;
     changed = changed_none facts u.store refusal reopen other may;
     refused = draft_same;
+    planned = tt;
   }
 
 module _ {D : Type 0} (facts : D → DiskFacts) (u : Drafted D) {most : ℕ} {Refuses : Refusal → Type 0} where
   -- because it has to be given up,
   pub planned_reopen : IsTrue u.store.failed → Refuses Reopen → IsPlanned facts u u most Refuses (Err Reopen)
-  planned_reopen failed may = record { beside = beside_same facts u; changed = changed_reopen facts u.store failed may; refused = draft_same facts u }
+  planned_reopen failed may = record { beside = beside_same facts u; changed = changed_reopen facts u.store failed may; refused = draft_same facts u; planned = tt }
 
   -- or for another reason,
   pub planned_refused : (refusal : Refusal) → IsFalse u.store.failed → refusal ≢ Reopen → refusal ≢ Device → Refuses refusal → IsPlanned facts u u most Refuses (Err refusal)
-  planned_refused refusal usable opened other may = record { beside = beside_same facts u; changed = changed_refused facts u.store refusal usable opened other may; refused = draft_same facts u }
+  planned_refused refusal usable opened other may = record { beside = beside_same facts u; changed = changed_refused facts u.store refusal usable opened other may; refused = draft_same facts u; planned = tt }
 
 -- or the store answered.
 pub planned_in_words : {D : Type 0} (facts : D → DiskFacts) {old new : Drafted D} {most : ℕ} {May : StoreRefusal → Type 0} (Refuses : Refusal → Type 0)
     → ((refusal : StoreRefusal) → May refusal → Refuses (refusal_of refusal)) → (answer : Result (Unit {0}) StoreRefusal) → IsLine facts old new most May answer
-    → IsPlanned facts old new most Refuses (in_words answer)
-planned_in_words facts Refuses may (Ok done) line = record { beside = line.beside; changed = changed_in_words facts Refuses may (Ok done) line.changed; refused = tt }
-planned_in_words facts Refuses may (Err r) line = record { beside = line.beside; changed = changed_in_words facts Refuses may (Err r) line.changed; refused = line.refused }
+    → OnOk answer (new.touched ≢ Nothing) → IsPlanned facts old new most Refuses (in_words answer)
+planned_in_words facts Refuses may (Ok done) line touched = record { beside = line.beside; changed = changed_in_words facts Refuses may (Ok done) line.changed; refused = tt; planned = touched }
+planned_in_words facts Refuses may (Err r) line touched = record { beside = line.beside; changed = changed_in_words facts Refuses may (Err r) line.changed; refused = line.refused; planned = tt }
+
+-- preloads that are set count as a change, whatever was changed before
+pub preloads_change : (t : Touched) → touched_preloads t ≢ Nothing
+preloads_change Nothing is = cc is
+preloads_change Preloads is = cc is
+preloads_change Listed is = cc is
 
 -- refusals of one kind are of another
 pub refusals_may : {May Might : StoreRefusal → Type 0} → ((refusal : StoreRefusal) → May refusal → Might refusal) → (answer : Result (Unit {0}) StoreRefusal) → IfErr answer May → IfErr answer Might
@@ -247,14 +256,15 @@ refusals_may may (Ok done) is = tt
 refusals_may may (Err refusal) is = may refusal is
 
 -- What an answer leaves of the draft.
-pub plan_leaves : {D : Type 0} (old new : Drafted D) (q : Request) → IsChange q → (answer : Result (Unit {0}) Refusal) → OnErr answer (IsSameDraft old new) → LeavesDraft old new q (answer_of answer)
-plan_leaves old new q is (Err refusal) same = same
-plan_leaves old new (install bytes) is (Ok done) same = tt
-plan_leaves old new (replace bytes) is (Ok done) same = tt
-plan_leaves old new (remove name) is (Ok done) same = tt
-plan_leaves old new (set_preloads names) is (Ok done) same = tt
-plan_leaves old new (bind program base) is (Ok done) same = absurd is
-plan_leaves old new list is (Ok done) same = absurd is
+pub plan_leaves : {D : Type 0} (old new : Drafted D) (q : Request) → IsChange q → (answer : Result (Unit {0}) Refusal) → OnErr answer (IsSameDraft old new)
+    → OnOk answer (new.touched ≢ Nothing) → LeavesDraft old new q (answer_of answer)
+plan_leaves old new q is (Err refusal) same touched = same
+plan_leaves old new (install bytes) is (Ok done) same touched = touched
+plan_leaves old new (replace bytes) is (Ok done) same touched = touched
+plan_leaves old new (remove name) is (Ok done) same touched = touched
+plan_leaves old new (set_preloads names) is (Ok done) same touched = touched
+plan_leaves old new (bind program base) is (Ok done) same touched = absurd is
+plan_leaves old new list is (Ok done) same touched = absurd is
 
 pub bind_leaves : {D : Type 0} (old new : Drafted D) (program : List ℕ) (base : ℕ) (answer : Reply) → IsSameDraft old new → LeavesDraft old new (bind program base) answer
 bind_leaves old new program base Done same = same

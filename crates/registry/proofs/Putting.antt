@@ -9,11 +9,11 @@ use Rattle.hash_check.specs.declared.file_refusal.FileRefusal.{FileRefusal}
 use Rattle.sector_disk.specs.Disk.{DiskFacts, LeavesOnly}
 use Rattle.states.specs.Changes.{with_new, with_bytes}
 use Rattle.store.specs.Changed.{Changed}
-use Rattle.store.specs.HeldVersions.{lone_sectors, room_of}
+use Rattle.store.specs.Holds.{lone_sectors, room_of}
 use Rattle.store.specs.Opened.{Opened, IsAt}
 use Rattle.store.specs.Stands as sectors
 use Rattle.store.specs.Stands.{no_library}
-use Rattle.store.specs.Step.{longest_free, refusal_of_new, refusal_of_put, IsAnswer, IsExactAnswer, IsRefusalOfPutOver, IsRefusalOfPutNew}
+use Rattle.store.specs.Step.{longest_unused, refusal_of_new, refusal_of_put, IsAnswer, IsExactAnswer, IsRefusalOfPutOver, IsRefusalOfPutNew}
 use Rattle.store.specs.declared.refusal.StoreRefusal.{StoreRefusal}
 use Rattle.store.specs.declared.refusal.StoreRefusal.TheVariants as store_refusal
 use Rattle.requests.specs.Library.{library_refusal, name_of}
@@ -110,24 +110,24 @@ module _ {D : Type 0} (facts : D → DiskFacts) (old : Opened D) (s : State) (at
       -- it is put behind the others,
       pub installed_as : has_name (names_of s.libraries) name ≡ false
           → LeavesOnly (facts old.disk) (facts new.disk) (λ m. sectors.Stands m s ⊎ sectors.Stands m (with_new name bytes s))
-          → IsAnswer (refusal_of_new (room_of old) (longest_free old) s bytes) answer → Changed facts store_refusal.Device store_refusal.Reopen old new calls IsRefusalOfPutNew answer
+          → IsAnswer (refusal_of_new (room_of old) (longest_unused old) s bytes) answer → Changed facts store_refusal.Device store_refusal.Reopen old new calls IsRefusalOfPutNew answer
           → OnOk answer (IsAt facts new (with_new name bytes s)) → AppliesUntested facts old new s (install bytes) (answer_of (in_words answer))
       installed_as absent leaves is changed after =
-          store_changed facts old new s at (install bytes) tt (refusal_of_new (room_of old) (longest_free old) s bytes)
+          store_changed facts old new s at (install bytes) tt (refusal_of_new (room_of old) (longest_unused old) s bytes)
           (install_refusal (phase_of facts old s) bytes taken (subst (λ n. has_name (names_of s.libraries) n ≡ false) named absent)
-          ∙ ap (λ n. option_map refusal_of (refusal_of_new (n - length (lone_sectors old.held)) (longest_free old) s bytes)) (sym root))
-          (no_failed_new (room_of old) (longest_free old) s bytes) (with_new name bytes s) (ap (λ n. with_new n bytes s) named)
+          ∙ ap (λ n. option_map refusal_of (refusal_of_new (n - length (lone_sectors old.held)) (longest_unused old) s bytes)) (sym root))
+          (no_failed_new (room_of old) (longest_unused old) s bytes) (with_new name bytes s) (ap (λ n. with_new n bytes s) named)
           leaves answer is changed (λ r may. may) (λ lacks. memory) after
 
       -- or in the place of the one of its name
       pub replaced_as : has_name (names_of s.libraries) name ≡ true
           → LeavesOnly (facts old.disk) (facts new.disk) (λ m. sectors.Stands m s ⊎ sectors.Stands m (with_bytes name bytes s))
-          → IsExactAnswer (refusal_of_put (room_of old) (longest_free old) s bytes) answer → Changed facts store_refusal.Device store_refusal.Reopen old new calls IsRefusalOfPutOver answer
+          → IsExactAnswer (refusal_of_put (room_of old) (longest_unused old) s bytes) answer → Changed facts store_refusal.Device store_refusal.Reopen old new calls IsRefusalOfPutOver answer
           → OnOk answer (IsAt facts new (with_bytes name bytes s)) → AppliesUntested facts old new s (replace bytes) (answer_of (in_words answer))
       replaced_as there leaves is changed after =
-          let first = refusal_of_put (room_of old) (longest_free old) s bytes in
+          let first = refusal_of_put (room_of old) (longest_unused old) s bytes in
           store_changed facts old new s at (replace bytes) tt first
           (replace_refusal (phase_of facts old s) bytes taken (subst (λ n. has_name (names_of s.libraries) n ≡ true) named there)
-          ∙ ap (λ n. option_map refusal_of (refusal_of_put (n - length (lone_sectors old.held)) (longest_free old) s bytes)) (sym root))
-          (no_failed_put (room_of old) (longest_free old) s bytes) (with_bytes name bytes s) (ap (λ n. with_bytes n bytes s) named)
+          ∙ ap (λ n. option_map refusal_of (refusal_of_put (n - length (lone_sectors old.held)) (longest_unused old) s bytes)) (sym root))
+          (no_failed_put (room_of old) (longest_unused old) s bytes) (with_bytes name bytes s) (ap (λ n. with_bytes n bytes s) named)
           leaves answer (exact_answer first answer is) changed over_is_new (λ lacks. memory) after

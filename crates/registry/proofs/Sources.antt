@@ -8,7 +8,7 @@ use Rattle.sector_disk.proofs.Moments.{exactly_sum}
 use Rattle.roots.specs.Root.{listed_preloads}
 use Rattle.roots.specs.declared.root.Root.{Root}
 use Rattle.states.specs.State.{Library, State}
-use Rattle.store.specs.declared.held_versions.HeldRow.{HeldRow}
+use Rattle.store.specs.declared.holds.HeldRow.{HeldRow}
 use Rattle.store.specs.declared.placed_entry.PlacedEntry.{PlacedEntry}
 use Rattle.store.specs.Opened.{Opened, IsAt}
 use Rattle.store.specs.Stands.{HaveOwnNames, no_library}

@@ -1,7 +1,7 @@
 -- What an answer says on any disk, also on one that lies (own).
 use Rattle.std.specs.Prelude.{◌≡◌, ◌≢◌, ◌<◌, ◌↔◌, IsTrue, IsFalse, List, [], ◌∷◌, None}
 use Rattle.sector_disk.specs.Disk.{DiskFacts, AreCalls}
-use Rattle.store.specs.HeldVersions.{KeepsHeld, AreVersions}
+use Rattle.store.specs.Holds.{KeepsHeld, AreHolds}
 use Rattle.store.specs.Opened.{Opened}
 use Rattle.image.specs.Refusal.{program_refusal}
 use Rattle.image.specs.declared.refusal.BindRefusal.TheVariants as binding
@@ -119,9 +119,9 @@ pub record Answered {D : Type 0} (facts : D → DiskFacts) (old new : Opened D) 
   pub leaves : Leaves old new request answer
   -- what somebody holds stays held by as many, and on an honest disk its bytes are what they were
   pub held : KeepsHeld facts old new
-  -- before and after, what is held is a version each: listed exactly where the state lists it
-  pub versions_before : AreVersions old
-  pub versions_after : AreVersions new
+  -- before and after, what is held has a row each: listed exactly where the state lists it
+  pub holds_before : AreHolds old
+  pub holds_after : AreHolds new
   pub calls : AreCalls (facts old.disk) (facts new.disk)
 
 -- commands were answered so, one after the other, one answer each

@@ -1,10 +1,11 @@
 -- What the commands of an update do to its draft: the state as it will be, which nothing on the disk
 -- holds before the commit (own).
-use Rattle.std.specs.Prelude.{◌≡◌, ◌⊎◌, ◌<◌, ◌↔◌, IsTrue, IsFalse, None}
+use Rattle.std.specs.Prelude.{◌≡◌, ◌≢◌, ◌⊎◌, ◌<◌, ◌↔◌, IsTrue, IsFalse, None}
 use Rattle.sector_disk.specs.Disk.{DiskFacts, AreCalls, LeavesOnly}
 use Rattle.states.specs.State.{State}
 use Rattle.store.specs.Draft.{Drafted, IsDraftedAt, IsSameDraft, StaysBeside, beside, drafted, longest_drafted}
 use Rattle.store.specs.Stands.{Stands}
+use Rattle.store.specs.declared.draft.Touched.TheVariants.{Nothing}
 use Rattle.requests.specs.Phase.{Phase}
 use Rattle.requests.specs.Request.{Request, bind, list}
 use Rattle.requests.specs.Step.{Step, Leads, accepted, refusal_at}
@@ -15,7 +16,7 @@ use Rattle.registry.specs.Answered.{IsAnswerTo}
 use Rattle.registry.specs.Untested.{UntestedStep}
 
 -- Where a draft stands, in the words of the step table: beside its state are the sectors of what stands
--- and isn't in it, and those of versions that only binders hold.
+-- and isn't in it, and those of byte strings that only binders hold.
 abbrev pub draft_phase : {D : Type 0} → (D → DiskFacts) → Drafted D → State → Phase
 draft_phase facts u d = record {
   sectors = (facts u.store.disk).sectors;
@@ -60,12 +61,13 @@ pub record AppliedDraft {D : Type 0} (facts : D → DiskFacts) (old new : Drafte
 abbrev pub AppliesDraft : {D : Type 0} → (D → DiskFacts) → Drafted D → Drafted D → State → State → Request → Reply → Type 0
 AppliesDraft facts old new s d request answer = (d' : State) × AppliedDraft facts old new s d d' request answer
 
--- what an answer leaves of a draft: a refusal leaves it as it was, and so do a bind and a listing
+-- What an answer leaves of a draft: a refusal leaves it as it was, and so do a bind and a listing;
+-- of a change that is planned the draft counts as changed.
 abbrev pub LeavesDraft : {D : Type 0} → Drafted D → Drafted D → Request → Reply → Type 0
 LeavesDraft old new request (Refused refusal) = IsSameDraft old new
 LeavesDraft old new (bind program base) answer = IsSameDraft old new
 LeavesDraft old new list answer = new ≡ old
-LeavesDraft old new request answer = Unit {0}
+LeavesDraft old new request answer = new.touched ≢ Nothing
 
 -- A command of an update was answered so, on any disk.
 pub record AnsweredDraft {D : Type 0} (facts : D → DiskFacts) (old new : Drafted D) (request : Request) (answer : Reply) : Type 0 where

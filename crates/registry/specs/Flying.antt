@@ -6,7 +6,7 @@ use Rattle.image.specs.declared.refusal.BindRefusal.TheVariants as binding
 use Rattle.snapshots.specs.Snapshot.{IsSnapshotOf, LetsAllGo, times}
 use Rattle.store.specs.declared.placed_entry.PlacedEntry.{PlacedEntry}
 use Rattle.states.specs.State.{Library, State}
-use Rattle.store.specs.HeldVersions.{IsHeldBy, holders_of, AreFlagged, HeldIs, KeepsHeld}
+use Rattle.store.specs.Holds.{IsHeldBy, holders_of, AreFlagged, HeldIs, KeepsHeld}
 use Rattle.store.specs.Opened.{Opened}
 use Rattle.store.specs.Stands.{HaveOwnNames, TellLengths}
 use Rattle.requests.specs.declared.refusal.Refusal.{Refusal}
@@ -43,7 +43,7 @@ pub record Begins {D : Type 0} (facts : D → DiskFacts) (old new : Opened D) (p
   -- on any disk: other binders stay on their flights
   pub others : (binder : Binding) (flight : Flight) → Flies facts old binder flight → Flies facts new binder flight
   pub held : (sector : ℕ) (library : Library) → HeldIs facts old sector library → HeldIs facts new sector library
-  pub versions : (sector : ℕ) (placed : PlacedEntry) → IsHeldBy old.held sector placed → IsHeldBy new.held sector placed
+  pub holds : (sector : ℕ) (placed : PlacedEntry) → IsHeldBy old.held sector placed → IsHeldBy new.held sector placed
   pub holders : IfOk result (λ binder. (sector : ℕ) → holders_of new.held sector ≡ holders_of old.held sector + times sector (handles_of binder))
   pub unheld : OnErr result ((sector : ℕ) → holders_of new.held sector ≡ holders_of old.held sector)
   pub flags : AreFlagged new

@@ -15,5 +15,6 @@ pub mod Ran
 pub mod Rounds
 pub mod Refusals
 pub mod Untested
+pub mod Updating
 pub mod Upgraded
 pub mod inside

@@ -1,9 +1,9 @@
 -- A registry on a disk between two commands, in the words of the step table (own).
 use Rattle.std.specs.Prelude.{length}
 use Rattle.sector_disk.specs.Disk.{DiskFacts}
-use Rattle.store.specs.HeldVersions.{lone_sectors}
+use Rattle.store.specs.Holds.{lone_sectors}
 use Rattle.store.specs.Opened.{Opened}
-use Rattle.store.specs.Step.{longest_free}
+use Rattle.store.specs.Step.{longest_unused}
 use Rattle.states.specs.State.{State}
 use Rattle.requests.specs.Phase.{Phase}
 
@@ -12,7 +12,7 @@ abbrev pub phase_of : {D : Type 0} → (D → DiskFacts) → Opened D → State 
 phase_of facts registry s = record {
   sectors = (facts registry.disk).sectors;
   lone = length (lone_sectors registry.held);
-  longest = longest_free registry;
+  longest = longest_unused registry;
   failures = (facts registry.disk).failures;
   failed = registry.failed;
   state = s;

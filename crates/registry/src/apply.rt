@@ -29,7 +29,7 @@ impl<D: Disk> Registry<D> {
     ghost use Rattle.registry.specs.Opened.{IsAt};
     ghost use Rattle.registry.specs.Ran.{RunsOver};
     ghost use Rattle.registry.specs.Untested.{AppliesUntested};
-    ghost use Rattle.store.specs.HeldVersions.{AreVersions};
+    ghost use Rattle.store.specs.Holds.{AreHolds};
 
     // The reply to a command, by what it asks.
     fn reply_to(&mut self, command: &Command<'_>) -> Reply
@@ -39,8 +39,8 @@ impl<D: Disk> Registry<D> {
             (AreCallsExactly (calls_of s (request_of command.now))
             (D.facts self.old.disk) (D.facts self.new.disk)) }
 
-        // That what is held is a version each is told by `versions_are_sound`.
-        ensures on_any_disk { AreVersions self.old → AreVersions self.new
+        // That what is held has a row each is told by `holds_are_sound`.
+        ensures on_any_disk { AreHolds self.old → AreHolds self.new
             → Answered D.facts self.old self.new (request_of command.now) result }
     {
         match command {
@@ -72,9 +72,9 @@ impl<D: Disk> Registry<D> {
 
         ensures on_any_disk { Answered D.facts self.old self.new (request_of command.now) result }
     {
-        self.versions_are_sound();
+        self.holds_are_sound();
         let reply = self.reply_to(command);
-        self.versions_are_sound();
+        self.holds_are_sound();
         reply
     }
 

@@ -27,7 +27,7 @@ impl<D: Disk> Registry<D> {
     ghost use Rattle.std.specs.Prelude.{◌≡◌, ◌≢◌, ◌<◌, Err, None, IsTrue, IfOk, IfErr};
     ghost use Rattle.sector_disk.specs.Disk.{AreCalls, AreCallsExactly};
     ghost use Rattle.image.specs.Refusal.{program_refusal};
-    ghost use Rattle.store.specs.HeldVersions.{KeepsHeld};
+    ghost use Rattle.store.specs.Holds.{KeepsHeld};
     ghost use Rattle.store.specs.Opened.{IsAt};
     ghost use Rattle.requests.specs.Request.{bind};
     ghost use Rattle.states.specs.State.{State};

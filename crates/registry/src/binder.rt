@@ -197,7 +197,7 @@ impl<D: Disk> Registry<D> {
     {
         // No two libraries have one name, and what is held counts as listed where it is.
         self.store.entries_are_sound();
-        self.store.versions_are_sound();
+        self.store.holds_are_sound();
         if self.store.has_failed() {
             return Err(Refusal::Reopen);
         }

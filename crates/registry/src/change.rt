@@ -10,7 +10,7 @@ impl<D: Disk> Registry<D> {
     ghost use Rattle.states.specs.Cost.{catalogues_for};
     ghost use Rattle.states.specs.State.{State};
     ghost use Rattle.store.specs.Changed.{Changed};
-    ghost use Rattle.store.specs.HeldVersions.{KeepsHeld};
+    ghost use Rattle.store.specs.Holds.{KeepsHeld};
     ghost use Rattle.store.specs.Opened.{IsAt};
     ghost use Rattle.requests.specs.Request.{remove, set_preloads};
     ghost use Rattle.requests.specs.Step.{answer_of};

@@ -10,7 +10,7 @@ impl<D: Disk> Registry<D> {
     ghost use Rattle.sector_disk.specs.Disk.{sector_bytes};
     ghost use Rattle.states.specs.Cost.{catalogues_for};
     ghost use Rattle.store.specs.Changed.{Changed};
-    ghost use Rattle.store.specs.HeldVersions.{KeepsHeld};
+    ghost use Rattle.store.specs.Holds.{KeepsHeld};
     ghost use Rattle.store.specs.Opened.{IsAt};
     ghost use Rattle.requests.specs.Request.{install, replace};
     ghost use Rattle.states.specs.State.{State};
@@ -18,7 +18,7 @@ impl<D: Disk> Registry<D> {
     ghost use Rattle.registry.specs.Answered.{IsInstallRefusal, IsReplaceRefusal};
     ghost use Rattle.registry.specs.Untested.{AppliesUntested};
 
-    /// Installs a library: its file goes into free sectors, behind the others. It makes a call of
+    /// Installs a library: its file goes into unused sectors, behind the others. It makes a call of
     /// the disk for each of its sectors, for its entry, for each catalogue of the new list, for the
     /// root, and two to sync.
     pub(crate) fn install(&mut self, bytes: &[u8]) -> Result<(), Refusal>
@@ -42,7 +42,7 @@ impl<D: Disk> Registry<D> {
         in_words(self.store.put_new(name, bytes))
     }
 
-    /// Replaces a library's file, which keeps its place. The sectors of the old one are free once
+    /// Replaces a library's file, which keeps its place. The sectors of the old one are unused once
     /// it is done, and not before. It makes as many calls of the disk as `install`, with the
     /// catalogues of as many libraries as before.
     pub(crate) fn replace(&mut self, bytes: &[u8]) -> Result<(), Refusal>

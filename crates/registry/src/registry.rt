@@ -22,7 +22,7 @@ impl<D: Disk> Model for Registry<D> {
 }
 
 impl<D: Disk> Registry<D> {
-    ghost use Rattle.store.specs.HeldVersions.{AreVersions};
+    ghost use Rattle.store.specs.Holds.{AreHolds};
 
     /// Whether a write or a sync failed. Then every command answers S2, until the disk is opened
     /// again.
@@ -32,12 +32,12 @@ impl<D: Disk> Registry<D> {
         self.store.has_failed()
     }
 
-    /// Does nothing: it tells proofs that on any disk, after any call, what is held is a version
+    /// Does nothing: it tells proofs that on any disk, after any call, what is held has a row
     /// each.
-    pub fn versions_are_sound(&self)
-        ensures { AreVersions self.now }
+    pub fn holds_are_sound(&self)
+        ensures { AreHolds self.now }
     {
-        self.store.versions_are_sound();
+        self.store.holds_are_sound();
     }
 
     /// The disk.

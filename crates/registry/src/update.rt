@@ -56,7 +56,7 @@ impl<D: Disk> Update<D> {
     ghost use Rattle.states.specs.State.{State};
     ghost use Rattle.store.specs.Changed.{Changed};
     ghost use Rattle.store.specs.Draft.{IsDraftedAt, commit_calls, committed};
-    ghost use Rattle.store.specs.HeldVersions.{KeepsHeld};
+    ghost use Rattle.store.specs.Holds.{KeepsHeld};
     ghost use Rattle.store.specs.Opened.{IsAt};
     ghost use Rattle.store.specs.Stands.{Stands};
     ghost use Rattle.store.specs.declared.draft.Touched.TheVariants.{Nothing};

@@ -33,8 +33,8 @@ impl<D: Disk> Update<D> {
     }
 
     /// Applies a command to the draft. The answer is a step of the step table at the draft's state:
-    /// a change is planned or refused, a listing and a bind are over the draft as it is. What stands
-    /// stays as it is, and after a refusal so does the draft.
+    /// a change is planned or refused, a listing and a bind are over the draft as it is. What
+    /// stands stays as it is, and after a refusal so does the draft.
     pub fn apply(&mut self, command: &Command<'_>) -> Reply
         ensures applied { (s d : State) → IsDraftedAt D.facts self.old s d
             → AppliesDraft D.facts self.old self.new s d (request_of command.now) result }

@@ -7,6 +7,7 @@
 mod answer;
 mod course;
 mod cut;
+mod draft;
 mod event;
 mod file_cuts;
 mod mixture;
@@ -17,6 +18,7 @@ mod run;
 mod seen;
 mod sides;
 mod tally;
+mod updates;
 mod upgrades;
 mod wanted;
 

@@ -23,19 +23,26 @@ struct Version {
     until: usize,
 }
 
-// A binder: the event that began it, how many changes were done then, how many sectors each of its
-// steps reads, the next one last, and its last answer.
+impl Version {
+    // Whether it stood behind so many changes.
+    fn stood(&self, changes: usize) -> bool {
+        self.since <= changes && changes < self.until
+    }
+}
+
+/// A binder: the event that began it, how many changes were done then, how many sectors each of its
+/// steps reads, the next one last, and its last answer.
 #[derive(Drop)]
-struct Flight {
+pub(crate) struct Flight {
     event: Rc<Event>,
     begun: usize,
     steps: Vec<u64>,
-    answer: Vec<u8>,
+    pub(crate) answer: Vec<u8>,
 }
 
 /// A plain registry with binders, on a disk of so many sectors.
 pub(crate) struct Plain {
-    alloc: Global,
+    pub(crate) alloc: Global,
     sectors: u32,
     // Whether binders keep what they were begun at. Where they don't, on purpose, they hold nothing
     // and are answered what stands at their last step.
@@ -43,6 +50,12 @@ pub(crate) struct Plain {
     registry: PlainRegistry,
     versions: Vec<Version>,
     flights: Vec<Option<Flight>>,
+    /// How many changes stand on the disk while an update goes on: the others are its draft's.
+    pub(crate) stands: Option<usize>,
+    /// Whether a write or a sync failed.
+    pub(crate) failed: bool,
+    /// Whether its generation is the greatest, so that it can't be changed.
+    pub(crate) is_last: bool,
     // The changes that were done.
     old: Vec<Rc<Event>>,
     // The same, and behind them the one that failed, if one did.
@@ -61,6 +74,9 @@ impl Drop for Plain {
             registry: _registry,
             versions: _versions,
             flights: _flights,
+            stands: _,
+            failed: _,
+            is_last: _,
             old: _old,
             new: _new,
             wanted: _,
@@ -68,14 +84,14 @@ impl Drop for Plain {
     }
 }
 
-// What an event is answered, and how many calls of the disk it makes.
-type Told = (Vec<u8>, u64);
+/// What an event is answered, and how many calls of the disk it makes.
+pub(crate) type Told = (Vec<u8>, u64);
 
-fn told(alloc: Global, reply: EventReply, calls: u64) -> Result<Told> {
+pub(crate) fn told(alloc: Global, reply: EventReply, calls: u64) -> Result<Told> {
     Ok((event_answer(alloc, &reply)?, calls))
 }
 
-fn refused(alloc: Global, refusal: Refusal) -> Result<Told> {
+pub(crate) fn refused(alloc: Global, refusal: Refusal) -> Result<Told> {
     told(alloc, EventReply::Replied(Reply::Refused(refusal)), 0)
 }
 
@@ -105,6 +121,9 @@ impl Plain {
             registry: PlainRegistry::new(alloc, sectors),
             versions: Vec::new(alloc),
             flights: Vec::new(alloc),
+            stands: None,
+            failed: false,
+            is_last: false,
             old: Vec::new(alloc),
             new: Vec::new(alloc),
             wanted: Wanted::only(Which::New),
@@ -116,10 +135,6 @@ impl Plain {
             let _ = plain.happen(change, None)?;
         }
         Ok(plain)
-    }
-
-    fn has_failed(&self) -> bool {
-        self.new.len() > self.old.len()
     }
 
     // Notes a change that is done.
@@ -146,19 +161,48 @@ impl Plain {
         Ok(())
     }
 
-    // How many sectors there are but for those of versions that only binders keep.
-    fn room(&self) -> u32 {
+    // Whether a version is kept by a binder, or by what stands while an update goes on.
+    fn is_kept(&self, version: &Version) -> bool {
+        let is_held = self.flights.iter().any(|flight| match flight {
+            Some(flight) => version.stood(flight.begun),
+            None => false,
+        });
+        self.keeps && is_held || self.stands.is_some_and(|changes| version.stood(changes))
+    }
+
+    // How many sectors there are but for those of versions that are kept and listed no more.
+    fn kept_room(&self) -> u32 {
         let mut room = self.sectors;
         for version in &self.versions {
-            let is_held = self.flights.iter().any(|flight| match flight {
-                Some(flight) => version.since <= flight.begun && flight.begun < version.until,
-                None => false,
-            });
-            if self.keeps && is_held && version.until <= self.old.len() {
+            if version.until <= self.old.len() && self.is_kept(version) {
                 room = room.saturating_sub(version.sectors);
             }
         }
         room
+    }
+
+    /// How many libraries there are.
+    pub(crate) fn libraries(&self) -> Result<usize> {
+        Ok(self.registry.list()?.libraries.len())
+    }
+
+    // How many libraries stood behind so many changes.
+    fn stood(&self, changes: usize) -> usize {
+        self.versions
+            .iter()
+            .filter(|version| version.stood(changes))
+            .count()
+    }
+
+    // How many sectors there are for a change. The catalogues that stand keep theirs in an update,
+    // where its draft has fewer, twice.
+    fn room(&self) -> Result<u32> {
+        let stands = self.stood(self.stands.unwrap_or(self.old.len()));
+        let fewer = stands
+            .div_ceil(64)
+            .saturating_sub(self.libraries()?.div_ceil(64));
+        let catalogues = u32::try_from(fewer.saturating_mul(2))?;
+        Ok(self.kept_room().saturating_sub(catalogues))
     }
 
     // How many sectors each step of a bind of a program reads, the first one last. The first reads
@@ -185,7 +229,10 @@ impl Plain {
     // others make none where they aren't done.
     fn calls(&self, event: &Event, is_done: bool) -> Result<u64> {
         if is_done {
-            return Ok(event.calls(self.registry.list()?.libraries.len()));
+            return Ok(match self.stands {
+                Some(_) => event.line_calls(),
+                None => event.calls(self.libraries()?),
+            });
         }
         let mut all = 0u64;
         if event.what == What::Bind {
@@ -201,9 +248,24 @@ impl Plain {
         answer(self.alloc, &self.registry.apply(&event.command()))
     }
 
-    // A command of which a call is cut, a change if it was done.
+    // What a change is answered at the greatest generation: S10, where no test that comes before it
+    // refuses.
+    fn ask_last(&self, event: &Event) -> Result<Vec<u8>> {
+        let mut other = PlainRegistry::new(self.alloc, u32::MAX);
+        for change in &self.old {
+            let _ = other.apply(&change.command());
+        }
+        let text = answer(self.alloc, &other.apply(&event.command()))?;
+        if text.as_slice() == DONE {
+            return Ok(refused(self.alloc, Refusal::GenerationEnd)?.0);
+        }
+        Ok(text)
+    }
+
+    // A command of which a call is cut, a change if it was done. In an update it changes nothing.
     fn fail(&mut self, event: &Rc<Event>, is_done: bool, calls: u64, cut: Cut) -> Result<Told> {
-        if is_done {
+        self.failed = self.failed || is_done;
+        if is_done && self.stands.is_none() {
             self.new.push(Rc::clone(event)?)?;
             self.wanted = by_table(cut, calls);
         }
@@ -212,9 +274,13 @@ impl Plain {
 
     // A command; one of its calls is cut, if it makes any.
     fn give(&mut self, event: &Rc<Event>, cut: Option<Cut>) -> Result<Told> {
-        let room = self.room();
+        let room = self.room()?;
         self.registry.set_sectors(room);
-        let text = self.ask(event)?;
+        let text = if self.is_last && event.is_change() {
+            self.ask_last(event)?
+        } else {
+            self.ask(event)?
+        };
         let is_done = text.as_slice() == DONE;
         let calls = self.calls(event, is_done)?;
         match cut {
@@ -267,7 +333,7 @@ impl Plain {
             Some(Some(flight)) => flight.steps.last().copied().unwrap_or(0),
             _ => return refused(self.alloc, Refusal::NoSuchBinder),
         };
-        if self.has_failed() {
+        if self.failed {
             return refused(self.alloc, Refusal::Reopen);
         }
         if calls > 0 && cut.is_some() {
@@ -279,8 +345,8 @@ impl Plain {
         Ok((self.end(slot)?, calls))
     }
 
-    // Takes the binder out of a slot, if one lives there.
-    fn take(&mut self, slot: usize) -> Option<Flight> {
+    /// Takes the binder out of a slot, if one lives there.
+    pub(crate) fn take(&mut self, slot: usize) -> Option<Flight> {
         self.flights.get_mut(slot)?.take()
     }
 
@@ -292,7 +358,7 @@ impl Plain {
                 Some(_) => told(self.alloc, EventReply::Replied(Reply::Done), 0),
                 None => refused(self.alloc, Refusal::NoSuchBinder),
             },
-            _ if self.has_failed() => refused(self.alloc, Refusal::Reopen),
+            _ if self.failed => refused(self.alloc, Refusal::Reopen),
             What::Begin => self.begin(event),
             _ => self.give(event, cut),
         }
@@ -308,15 +374,21 @@ impl Plain {
         Ok(answers)
     }
 
+    // The changes that stand on the disk: in an update those before it.
+    fn standing(&self) -> &[Rc<Event>] {
+        let count = self.stands.unwrap_or(self.old.len());
+        self.old.get(..count).unwrap_or(&self.old)
+    }
+
     /// The changes behind which the one state stands, or the other.
     pub(crate) fn changes(&self, is_new: bool) -> &[Rc<Event>] {
-        if is_new { &self.new } else { &self.old }
+        if is_new { &self.new } else { self.standing() }
     }
 
     /// What is seen of the two states, where no binder lives.
     pub(crate) fn sides<'b>(&self, probe: &'b Probe) -> Result<Sides<'b>> {
         Ok(Sides {
-            old: Seen::of(self.alloc, self.sectors, &self.old, probe)?,
+            old: Seen::of(self.alloc, self.sectors, self.standing(), probe)?,
             new: Seen::of(self.alloc, self.sectors, &self.new, probe)?,
             probe,
         })

@@ -5,6 +5,7 @@ use crate::event::Event;
 use crate::rounds::play_rounds;
 use crate::run::{Beginning, disk_after};
 use crate::tally::Tally;
+use crate::updates::cut_updates;
 use crate::upgrades::cut_making;
 use anyhow::{Context, Result, bail};
 use std::fs;
@@ -71,6 +72,18 @@ fn run_lists(tally: &mut Tally, sizes: &str, start: &[Rc<Event>], file: &str) ->
     Ok(())
 }
 
+// An update of these lines, on disks of these sizes behind these events.
+fn run_update(
+    tally: &mut Tally,
+    sizes: &str,
+    before: &[Rc<Event>],
+    text: &str,
+    ends: bool,
+) -> Result<()> {
+    let lines = Event::all(tally.rt.alloc(), text)?;
+    cut_updates(tally, sizes, before, &lines, ends)
+}
+
 // What a word has done with a disk, after these changes.
 fn run_word(
     tally: &mut Tally,
@@ -87,6 +100,8 @@ fn run_word(
         "rounds" => play_rounds(tally, disk.parse::<u32>()?, start, rest),
         "list" | "file" | "follow" | "binders" => run_events(tally, word, disk, start, rest),
         "lists" => run_lists(tally, disk, start, rest),
+        "update" => run_update(tally, disk, start, rest, false),
+        "last" => run_update(tally, disk, start, rest, true),
         _ => bail!("the word {word}"),
     }
 }

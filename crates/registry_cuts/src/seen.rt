@@ -108,6 +108,21 @@ fn ask<D: Disk + Drop>(
     }
 }
 
+/// Asks a registry.
+pub(crate) fn look_at<D: Disk + Drop>(
+    alloc: Global,
+    registry: Registry<D>,
+    probe: &Probe,
+) -> Result<Seen> {
+    match probe.looks(alloc) {
+        Ok(looks) => ask(alloc, Ok(registry), &looks),
+        Err(fault) => {
+            let _ = registry.into_disk();
+            Err(fault)
+        }
+    }
+}
+
 /// Upgrades a disk, as it stands behind its fuse, and asks.
 pub(crate) fn look_upgraded(alloc: Global, disk: Powered, probe: &Probe) -> Result<Seen> {
     let looks = probe.looks(alloc)?;

@@ -40,7 +40,7 @@ sectors_for s = root_sectors + taken_by s
 abbrev pub IsBehind : List Request → Phase → Type 0
 IsBehind front p = p.state ≡ fold accepted empty_state front
 
--- the longest runs of free sectors are too short for the bytes of the file
+-- the longest runs of unused sectors are too short for the bytes of the file
 abbrev pub HasShortRuns : Phase → Request → Type 0
 HasShortRuns p (install bytes) = p.longest < div_ceil (length bytes) sector_bytes
 HasShortRuns p request = ⊥

@@ -35,7 +35,7 @@ pub enum Refusal {
     /// S7: the file, and twice the catalogues that a longer list has more, cost more sectors than
     /// are free.
     Full,
-    /// S8: the longest runs of free sectors are too short for the file.
+    /// S8: the longest runs of unused sectors are too short for the file.
     Fragmented,
     /// S9: 2,048 libraries are installed.
     TooMany,

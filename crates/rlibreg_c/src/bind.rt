@@ -2,7 +2,7 @@
 ghost use Rattle.std.specs.Prelude.{◌≡◌, ◌≢◌};
 ghost use Rattle.requests.specs.Request.{bind};
 ghost use Rattle.c_answers.specs.Answers.{IsBindAnswered};
-ghost use Rattle.c_answers.specs.Layout.{IsImageOf};
+ghost use Rattle.c_answers.specs.Buffers.{IsImageOf};
 
 use c_answers::{Answer, ObjectPlace, SegmentPlace, bind_on};
 use requests::Command;

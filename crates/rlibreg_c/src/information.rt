@@ -15,7 +15,7 @@ pub extern "C" fn rlibreg_info(
     text: &mut [u8],
     answer: &mut Answer,
 ) -> u32
-    // It is told of the state that the bytes hold, and of the sectors that are free in them.
+    // It is told of the state that the bytes hold, and of the sectors that are unused in them.
     ensures info { result ≡ 0 → IsInfoOf disk.now information.new }
     ensures answered { IsInfoAnswered disk.now information.new text.new answer.new result }
     ensures left { result ≢ 0 → information.new ≡ information.old }

@@ -8,6 +8,7 @@
 #![tactic(auto)]
 
 mod bind;
+mod bound;
 mod change;
 mod check;
 mod digest;
@@ -16,4 +17,6 @@ mod format;
 mod information;
 mod list;
 mod preload;
+mod symbols;
+mod update;
 mod upgrade;

@@ -1,5 +1,6 @@
 //! The program `rlibreg-tool`: tells what the disk of a registry has, gives a library's bytes and
-//! the script that makes the registry anew, and mends a registry of which libraries are damaged.
+//! the script that makes the registry anew, mends a registry of which libraries are damaged, and
+//! makes several changes at once.
 #![tactic(auto)]
 
 use program_parts::{StandardStreams, read_arguments};
@@ -7,6 +8,7 @@ use std::process::ExitCode;
 use tool_commands::{cannot_hold, run_arguments};
 
 fn main(rt: HostRuntime) -> ExitCode {
+    let mut input = rt.stdin();
     let mut output = rt.stdout();
     let mut errors = rt.stderr();
     let streams = match StandardStreams::hold(&rt) {
@@ -14,7 +16,7 @@ fn main(rt: HostRuntime) -> ExitCode {
         Err(_) => return ExitCode::from(cannot_hold(&mut errors)),
     };
     let words = read_arguments(&rt);
-    let status = run_arguments(&rt, rt.alloc(), words, &mut output, &mut errors);
+    let status = run_arguments(&rt, rt.alloc(), words, &mut input, &mut output, &mut errors);
     streams.release();
     ExitCode::from(status)
 }

@@ -7,8 +7,8 @@ use Rattle.sector_disk.specs.Disk.{DiskFacts}
 use Rattle.store.specs.declared.placed_entry.PlacedEntry.{PlacedEntry}
 use Rattle.store.specs.declared.refusal.StoreRefusal.{StoreRefusal}
 use Rattle.store.specs.declared.refusal.StoreRefusal.TheVariants.{OutOfMemory}
-use Rattle.store.specs.declared.held_versions.HeldRow.{HeldRow}
-use Rattle.store.specs.HeldVersions.{AreFlagged, AreVersions, HeldIs, HoldsVersion, IsHeldBy, KeepsHeld, holders_of}
+use Rattle.store.specs.declared.holds.HeldRow.{HeldRow}
+use Rattle.store.specs.Holds.{AreFlagged, AreHolds, HeldIs, TakesHold, IsHeldBy, KeepsHeld, holders_of}
 use Rattle.store.specs.Opened.{Opened}
 use Rattle.store.specs.Stands.{no_library}
 use Rattle.store.proofs.HeldRows.{by_one}
@@ -21,7 +21,7 @@ times-push sector handle handles =
     let one : ℕ → ℕ = λ h. if h == sector then 1 else 0 in
     omega (arith, sum_by-append one handles (handle ∷ []), sum_by-cons one handle [])
 
--- a version that somebody holds has a row,
+-- a byte string that somebody holds has a row,
 some_row : (held : List HeldRow) (sector : ℕ) → 0 < holders_of held sector → (placed : PlacedEntry) × IsHeldBy held sector placed
 some_row [] sector some = absurd (omega (arith, some))
 some_row (row ∷ rows) sector some = ⊎_elim
@@ -44,7 +44,7 @@ module _ {D : Type 0} (facts : D → DiskFacts) {old : Opened D} where
   pub stays : AreFlagged old → StaysBeside facts old old
   stays flags = record {
     others = λ sector library is. is;
-    versions = λ sector placed by. by;
+    holds = λ sector placed by. by;
     flags = flags;
     kept = (refl, refl, refl, refl);
     same = λ s at. at;
@@ -61,7 +61,7 @@ module _ {D : Type 0} (facts : D → DiskFacts) {old : Opened D} where
   }
 
   -- and one more is
-  module _ {between new : Opened D} (count handle : ℕ) (handles : List ℕ) (before : HoldsFirst facts old between count handles) (now : HoldsVersion facts between new count (Ok handle)) where
+  module _ {between new : Opened D} (count handle : ℕ) (handles : List ℕ) (before : HoldsFirst facts old between count handles) (now : TakesHold facts between new count (Ok handle)) where
     abbrev more : List ℕ
     more = handles ++ handle ∷ []
 
@@ -75,12 +75,12 @@ module _ {D : Type 0} (facts : D → DiskFacts) {old : Opened D} where
     more_held = record {
       size = omega (arith, length-append handles (handle ∷ []), before.size);
       each = λ i d lt. ⊎_elim
-          (λ early. subst (λ h. IsHeldBy new.held h (get_or old.entries i d)) (its i early) (now.versions (get_or handles i 0) (get_or old.entries i d) (before.each i d early)))
+          (λ early. subst (λ h. IsHeldBy new.held h (get_or old.entries i d)) (its i early) (now.holds (get_or handles i 0) (get_or old.entries i d) (before.each i d early)))
           (λ from.
           let is : count ≡ i = omega (arith, from, lt) in
           subst (λ h. IsHeldBy new.held h (get_or old.entries i d)) (last i from lt)
           (subst (λ k. IsHeldBy new.held handle (get_or old.entries k d)) is
-          (subst (λ l. IsHeldBy new.held handle (get_or l count d)) before.beside.kept.2 (now.version d))))
+          (subst (λ l. IsHeldBy new.held handle (get_or l count d)) before.beside.kept.2 (now.hold d))))
           (cases_lt i count);
       libraries = λ s at i lt. ⊎_elim
           (λ early. subst (λ h. HeldIs facts new h (get_or s.libraries i no_library)) (its i early) (now.others (get_or handles i 0) (get_or s.libraries i no_library) (before.libraries s at i early)))
@@ -93,15 +93,15 @@ module _ {D : Type 0} (facts : D → DiskFacts) {old : Opened D} where
       holders = λ sector. omega (arith, now.holders sector, before.holders sector, times-push sector handle handles);
       beside = record {
         others = λ sector library is. now.others sector library (before.beside.others sector library is);
-        versions = λ sector placed by. now.versions sector placed (before.beside.versions sector placed by);
+        holds = λ sector placed by. now.holds sector placed (before.beside.holds sector placed by);
         flags = now.flags;
         kept = (now.kept.0 ∙ before.beside.kept.0, now.kept.1 ∙ before.beside.kept.1, now.kept.2 ∙ before.beside.kept.2, now.kept.3 ∙ before.beside.kept.3);
         same = λ s at. now.same s (before.beside.same s at);
       };
     }
 
-  -- Once the handles let their versions go again, as many hold each as before,
-  module _ {between new : Opened D} {count : ℕ} {handles : List ℕ} (sound : AreVersions old) (before : HoldsFirst facts old between count handles) (gone : LetsAllGo facts between new handles) where
+  -- Once the handles let their byte strings go again, as many hold each as before,
+  module _ {between new : Opened D} {count : ℕ} {handles : List ℕ} (sound : AreHolds old) (before : HoldsFirst facts old between count handles) (gone : LetsAllGo facts between new handles) where
     pub undone : (sector : ℕ) → holders_of new.held sector ≡ holders_of old.held sector
     undone sector = omega (arith, gone.holders sector, before.holders sector)
 
@@ -112,30 +112,30 @@ module _ {D : Type 0} (facts : D → DiskFacts) {old : Opened D} where
     pub undone_beside : StaysBeside facts old new
     undone_beside = record {
       others = λ sector library is. gone.others sector library (still sector is.placed is.by) (before.beside.others sector library is);
-      versions = λ sector placed by. (gone.versions sector placed).1 (before.beside.versions sector placed by, still sector placed by);
+      holds = λ sector placed by. (gone.holds sector placed).1 (before.beside.holds sector placed by, still sector placed by);
       flags = gone.flags;
       kept = (gone.kept.0 ∙ before.beside.kept.0, gone.kept.1 ∙ before.beside.kept.1, gone.kept.2 ∙ before.beside.kept.2, gone.kept.3 ∙ before.beside.kept.3);
       same = λ s at. gone.same s (before.beside.same s at);
     }
 
-    -- and nothing else, since each version has one row.
-    module _ (own : AreVersions new) where
-      undone_versions : (sector : ℕ) (placed : PlacedEntry) → IsHeldBy new.held sector placed → IsHeldBy old.held sector placed
-      undone_versions sector placed by =
-          let was = some_row old.held sector (omega (arith, undone sector, ((gone.versions sector placed).0 by).1)) in
-          subst (IsHeldBy old.held sector) (by_one own.rows (undone_beside.versions sector was.0 was.1) by) was.1
+    -- and nothing else, since each has one row.
+    module _ (own : AreHolds new) where
+      undone_holds : (sector : ℕ) (placed : PlacedEntry) → IsHeldBy new.held sector placed → IsHeldBy old.held sector placed
+      undone_holds sector placed by =
+          let was = some_row old.held sector (omega (arith, undone sector, ((gone.holds sector placed).0 by).1)) in
+          subst (IsHeldBy old.held sector) (by_one own.rows (undone_beside.holds sector was.0 was.1) by) was.1
 
       pub undone_held : KeepsHeld facts old new
       undone_held = record {
         holders = undone;
         bytes = λ honest sector library is. undone_beside.others sector library is;
-        versions = λ sector placed. (undone_beside.versions sector placed, undone_versions sector placed);
-        none = none_after old.held new.held undone_versions;
+        holds = λ sector placed. (undone_beside.holds sector placed, undone_holds sector placed);
+        none = none_after old.held new.held undone_holds;
       }
 
 -- A refusal to hold in a store that hasn't failed is want of memory, and changes nothing.
 pub memory_refused : {D : Type 0} (facts : D → DiskFacts) {between new : Opened D} {position : ℕ} {e : StoreRefusal} → IsFalse between.failed
-    → HoldsVersion facts between new position (Err e) → e ≡ OutOfMemory
+    → TakesHold facts between new position (Err e) → e ≡ OutOfMemory
 memory_refused facts usable refused = ⊎_elim
     (λ reopen. absurd (false≢true (sym usable ∙ refused.reopen.0 (ap (λ e. Err e) reopen))))
     (λ memory. memory)

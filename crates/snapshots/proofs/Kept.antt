@@ -4,7 +4,7 @@ use Rattle.sector_disk.specs.Disk.{DiskFacts}
 use Rattle.states.specs.State.{Library}
 use Rattle.store.specs.declared.placed_entry.PlacedEntry.{PlacedEntry}
 use Rattle.store.specs.declared.refusal.StoreRefusal.{StoreRefusal}
-use Rattle.store.specs.HeldVersions.{IsHeldBy, holders_of, HeldIs, KeepsHeld}
+use Rattle.store.specs.Holds.{IsHeldBy, holders_of, HeldIs, KeepsHeld}
 use Rattle.store.specs.Opened.{Opened}
 use Rattle.store.specs.Stands.{no_library}
 use Rattle.snapshots.specs.Snapshot.{AreHeldAs, IsSnapshotOf, LetsAllGo, Taken, Takes}
@@ -14,17 +14,17 @@ same_honest : {D : Type 0} (facts : D → DiskFacts) {old new : D} → new ≡ o
 same_honest facts same = subst (λ disk. IsTrue (facts disk).honest) (sym same)
 
 module _ {D : Type 0} (facts : D → DiskFacts) {taken now new : Opened D} {snapshot : Taken} (is : IsSnapshotOf facts taken now snapshot) where
-  -- It stays one where its versions are held as they were, as byte strings too while the disk was honest and is.
+  -- It stays one where its byte strings are held as they were, as byte strings too while the disk was honest and is.
   moved : (IsTrue (facts now.disk).honest → IsTrue (facts new.disk).honest)
       → ((i : ℕ) (placed : PlacedEntry) → i < length snapshot.handles → IsHeldBy now.held (get_or snapshot.handles i 0) placed → IsHeldBy new.held (get_or snapshot.handles i 0) placed)
       → (IsTrue (facts now.disk).honest → (i : ℕ) (library : Library) → i < length snapshot.handles
       → HeldIs facts now (get_or snapshot.handles i 0) library → HeldIs facts new (get_or snapshot.handles i 0) library)
       → IsSnapshotOf facts taken new snapshot
-  moved honest versions bytes = record {
+  moved honest holds bytes = record {
     entries = record {
       held = record {
         count = is.entries.held.count;
-        each = λ i d lt. versions i (get_or taken.entries i d) (omega (arith, lt, is.entries.held.count)) (is.entries.held.each i d lt);
+        each = λ i d lt. holds i (get_or taken.entries i d) (omega (arith, lt, is.entries.held.count)) (is.entries.held.each i d lt);
       };
       order = is.entries.order;
     };
@@ -41,18 +41,18 @@ module _ {D : Type 0} (facts : D → DiskFacts) {taken now new : Opened D} {snap
   -- Whatever keeps what is held keeps a snapshot,
   pub snapshot_kept : KeepsHeld facts now new → (IsTrue (facts now.disk).honest → IsTrue (facts new.disk).honest) → IsSnapshotOf facts taken new snapshot
   snapshot_kept keeps honest = moved honest
-      (λ i placed lt. (keeps.versions (get_or snapshot.handles i 0) placed).0)
+      (λ i placed lt. (keeps.holds (get_or snapshot.handles i 0) placed).0)
       (λ was i library lt. keeps.bytes was (get_or snapshot.handles i 0) library)
 
   -- so does taking another one,
   pub snapshot_beside : {result : Result Taken StoreRefusal} → Takes facts now new result → IsSnapshotOf facts taken new snapshot
   snapshot_beside takes = moved (same_honest facts takes.kept.0)
-      (λ i placed lt. takes.versions (get_or snapshot.handles i 0) placed)
+      (λ i placed lt. takes.holds (get_or snapshot.handles i 0) placed)
       (λ was i library lt. takes.others (get_or snapshot.handles i 0) library)
 
-  -- and so does letting others go, where somebody still holds each of its versions.
+  -- and so does letting others go, where somebody still holds each of its byte strings.
   pub snapshot_left : {handles : List ℕ} → LetsAllGo facts now new handles
       → ((i : ℕ) → i < length snapshot.handles → 0 < holders_of new.held (get_or snapshot.handles i 0)) → IsSnapshotOf facts taken new snapshot
   snapshot_left gone still = moved (same_honest facts gone.kept.0)
-      (λ i placed lt by. (gone.versions (get_or snapshot.handles i 0) placed).1 (by, still i lt))
+      (λ i placed lt by. (gone.holds (get_or snapshot.handles i 0) placed).1 (by, still i lt))
       (λ was i library lt. gone.others (get_or snapshot.handles i 0) library (still i lt))

@@ -4,7 +4,7 @@ ghost use Rattle.std.specs.Prelude.{slice_index_or};
 ghost use Rattle.std.specs.Ordering.{is_lt};
 ghost use Rattle.snapshots.specs.Snapshot.{AreHeldBy};
 ghost use Rattle.store.specs.declared.placed_entry.PlacedEntry.{PlacedEntry};
-ghost use Rattle.store.specs.HeldVersions.{IsHeldBy};
+ghost use Rattle.store.specs.Holds.{IsHeldBy};
 ghost use Rattle.store.specs.NameOrder.{IsOrderOf, entry_names, name_at};
 ghost use Rattle.store.specs.Stands.{name_of};
 ghost use Rattle.store.specs.inside.NameIndex.{IsPlace, order_to};
@@ -12,26 +12,26 @@ ghost use Rattle.store.specs.inside.NameIndex.{IsPlace, order_to};
 use sector_disk::Disk;
 use store::{Held, Store};
 
-/// The name of a version; the empty one where nobody holds it in this store.
-pub(crate) fn version_name<'a, D: Disk>(store: &'a Store<D>, held: &Held) -> &'a [u8]
+/// The name of what is held; the empty one where nobody holds it in this store.
+pub(crate) fn held_name<'a, D: Disk>(store: &'a Store<D>, held: &Held) -> &'a [u8]
     ensures { (placed : PlacedEntry) → IsHeldBy store.now.held held.now placed
         → result.now ≡ name_of placed.entry }
 {
-    // What is held has holders, so a version without a name is held by nobody.
-    store.versions_are_sound();
+    // What is held has holders, so what has no name is held by nobody.
+    store.holds_are_sound();
     match store.held_name(held) {
         Some(name) => name,
         None => &[],
     }
 }
 
-/// The name of the version at a position; the empty one where there is none.
+/// The name of what is held at a position; the empty one where there is none.
 fn name_at<'a, D: Disk>(store: &'a Store<D>, handles: &[Held], position: u16) -> &'a [u8]
     ensures { (entries : List PlacedEntry) → AreHeldBy store.now.held handles.now entries
         → result.now ≡ name_at (entry_names entries) position }
 {
     match handles.get(usize::from(position)) {
-        Some(held) => version_name(store, held),
+        Some(held) => held_name(store, held),
         None => &[],
     }
 }
@@ -53,7 +53,7 @@ fn place_of<D: Disk>(store: &Store<D>, handles: &[Held], order: &[u16], name: &[
     order.partition_point(|position| precedes(store, handles, *position, name))
 }
 
-/// The position of the handle whose version has this name.
+/// The position of the handle whose byte string has this name.
 pub(crate) fn find<D: Disk>(
     store: &Store<D>,
     handles: &[Held],
@@ -71,7 +71,7 @@ pub(crate) fn find<D: Disk>(
     let place = place_of(store, handles, order, name);
     let position = usize::from(*order.get(place)?);
     let held = handles.get(position)?;
-    if version_name(store, held) == name {
+    if held_name(store, held) == name {
         Some(position)
     } else {
         None

@@ -1,7 +1,7 @@
 // Holding all byte strings of a store.
 ghost use Rattle.std.specs.Prelude.{◌≡◌, ◌≤◌, [], IsFalse, length, vec_capacity};
 ghost use Rattle.snapshots.specs.inside.HoldsAll.{HoldsAll};
-ghost use Rattle.store.specs.HeldVersions.{AreVersions};
+ghost use Rattle.store.specs.Holds.{AreHolds};
 
 use crate::release::release;
 use sector_disk::Disk;
@@ -16,7 +16,7 @@ pub(crate) fn hold_all<D: Disk>(
     requires empty { room.items ≡ [] }
     requires room { length store.old.entries ≤ vec_capacity room }
     requires usable { IsFalse store.old.failed }
-    requires sound { AreVersions store.old }
+    requires sound { AreHolds store.old }
     ensures { HoldsAll D.facts store.old store.new result }
 {
     let mut handles = room;
@@ -29,7 +29,7 @@ pub(crate) fn hold_all<D: Disk>(
             Err(refusal) => {
                 release(store, handles);
                 // What is held has one row, so it is what was held before.
-                store.versions_are_sound();
+                store.holds_are_sound();
                 return Err(refusal);
             }
         }

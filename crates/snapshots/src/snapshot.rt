@@ -1,4 +1,4 @@
-use crate::find::{find, version_name};
+use crate::find::{find, held_name};
 use crate::hold_all::hold_all;
 use crate::release::release;
 use sector_disk::Disk;
@@ -37,7 +37,7 @@ impl Snapshot {
     ghost use Rattle.std.specs.List.{IsDistinct};
     ghost use Rattle.snapshots.specs.Snapshot.{Takes, LetsAllGo, IsTakenOf};
     ghost use Rattle.store.specs.declared.placed_entry.PlacedEntry.{PlacedEntry};
-    ghost use Rattle.store.specs.HeldVersions.{IsHeldBy, ReadsVersion};
+    ghost use Rattle.store.specs.Holds.{IsHeldBy, ReadsHeld};
     ghost use Rattle.store.specs.Stands.{name_of};
 
     /// Holds all byte strings of a store as they are now. It makes no call of the disk, and copies
@@ -46,7 +46,7 @@ impl Snapshot {
         ensures { Takes D.facts store.old store.new result }
     {
         // Also after a refusal what is held counts as listed just where it is.
-        store.versions_are_sound();
+        store.holds_are_sound();
         let count = store.count();
         if store.has_failed() {
             return Err(StoreRefusal::Reopen);
@@ -89,11 +89,11 @@ impl Snapshot {
             → IsHeldBy store.now.held (slice_index_or self.now.handles position 0) placed
             → result.now ≡ name_of placed.entry }
     {
-        version_name(store, &self.handles[position])
+        held_name(store, &self.handles[position])
     }
 
     /// The position of the byte string of this name. It halves the order of the names: 13
-    /// comparisons at most, each with a look into the store's table of held versions.
+    /// comparisons at most, each with a look into the store's table of holds.
     pub fn position<D: Disk>(&self, store: &Store<D>, name: &[u8]) -> Option<usize>
         ensures within { IfSome result (λ i. i < length self.now.handles) }
         ensures few { length self.now.handles ≤ 2048 }
@@ -115,7 +115,7 @@ impl Snapshot {
         position: usize,
     ) -> Result<Vec<u8>, StoreRefusal>
         requires { position < length self.now.handles }
-        ensures { ReadsVersion D.facts store.old store.new
+        ensures { ReadsHeld D.facts store.old store.new
             (slice_index_or self.now.handles position 0) result }
     {
         store.read_held(alloc, &self.handles[position])

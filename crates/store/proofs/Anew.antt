@@ -10,8 +10,8 @@ use Rattle.extents.specs.Used.{ClaimsJust}
 use Rattle.extents.proofs.UsedLemmas.{claims-same_elements}
 use Rattle.roots.specs.declared.root.Root.{Root}
 use Rattle.store.specs.declared.placed_entry.PlacedEntry.{PlacedEntry}
-use Rattle.store.specs.declared.held_versions.HeldRow.{HeldRow}
-use Rattle.store.specs.HeldVersions.{in_use, lone_sectors}
+use Rattle.store.specs.declared.holds.HeldRow.{HeldRow}
+use Rattle.store.specs.Holds.{in_use, lone_sectors}
 use Rattle.store.specs.Stands.{UsesApart, extents_of, sectors_of, used}
 use Rattle.store.specs.inside.Claimed.{IsUsable, IsClaimedBeside}
 use Rattle.store.specs.inside.Kept.{AreClaimed, IsKept}

@@ -16,7 +16,7 @@ use Rattle.store.specs.declared.refusal.StoreRefusal.TheVariants.{Device, Reopen
 use Rattle.store.specs.Opened.{IsAtBy, Opened}
 use Rattle.store.specs.Reads.{ReadsBlob}
 use Rattle.store.specs.Stands.{library_of}
-use Rattle.store.proofs.HeldVersions.{err_is}
+use Rattle.store.proofs.Holding.{err_is}
 use Rattle.store.proofs.KeepsHolders.{keeps_reads}
 use Rattle.store.proofs.Queries.{library_is}
 

@@ -1,5 +1,5 @@
 -- The draft of an update that begins, and what giving a draft up leaves.
-use Rattle.std.proofs.Common.{◌≡◌, ◌≢◌, ℕ, Bool, List, length, All, IsTrue, IsFalse, sym, ap, subst, ◌∙◌, arith}
+use Rattle.std.proofs.Common.{◌≡◌, ℕ, Bool, List, length, All, IsTrue, IsFalse, sym, ap, subst, ◌∙◌, arith}
 use Rattle.std.specs.List.{flat_map}
 use Rattle.std.proofs.lemmas.List.{length-take-le}
 use Rattle.std.proofs.lemmas.List.Elements.{Contains-get_or}
@@ -8,12 +8,10 @@ use Rattle.roots.specs.Entry.{SpellsEntry}
 use Rattle.roots.specs.Root.{listed_preloads}
 use Rattle.states.specs.State.{State}
 use Rattle.store.specs.declared.draft.Draft.{Draft}
-use Rattle.store.specs.declared.draft.Touched.{Touched}
 use Rattle.store.specs.declared.draft.Touched.TheVariants as touched
 use Rattle.store.specs.declared.kept.Kept.{Kept}
 use Rattle.store.specs.declared.placed_entry.PlacedEntry.{PlacedEntry}
-use Rattle.states.specs.Limits.{last_generation}
-use Rattle.store.specs.Draft.{IsDraftedAt, draft_state, touched_preloads}
+use Rattle.store.specs.Draft.{IsDraftedAt, draft_state}
 use Rattle.store.specs.NameOrder.{IsOrderOf, entry_names}
 use Rattle.store.specs.Opened.{IsAt}
 use Rattle.store.specs.Stands.{catalogues_of, entry_sectors, sectors_of, used}
@@ -107,27 +105,3 @@ given_up kept draft is layout released = (
   λ _. is.listed,
   is.two,
 )
-
--- where preloads were chosen something was changed
-never_nothing : (t : Touched) → touched_preloads t ≢ touched.Nothing
-never_nothing touched.Nothing is = cc is
-never_nothing touched.Preloads is = cc is
-never_nothing touched.List is = cc is
-
--- other preloads of a draft are chosen
-pub chosen : {sectors : ℕ} {kept : Kept} {old new : Draft} → IsDrafting sectors kept old → new.entries ≡ old.entries → new.sectors ≡ old.sectors → new.index ≡ old.index
-    → ArePreloads (length old.entries.items) new.preloads.items → kept.root.generation ≢ last_generation → new.touched ≡ touched_preloads old.touched → IsDrafting sectors kept new
-chosen {kept = kept} {old = old} {new = new} is entries sectors index preloads later touched = record {
-  staged = subst (λ v. IsStagedIn kept v.items) (sym entries) is.staged;
-  indexed = is.indexed;
-  size = is.size;
-  listed = is.listed;
-  two = is.two;
-  list = subst (λ v. IsDraftList kept.entries.items v.items) (sym entries) is.list;
-  index = subst (λ l. IsOrderOf (entry_names l) new.index.positions) (sym (ap (λ v. v.items) entries)) (subst (λ x. IsOrderOf (entry_names old.entries.items) x.positions) (sym index) is.index);
-  places = ap (λ v. v.items) sectors ∙ is.places ∙ ap (λ v. entry_sectors v.items) (sym entries);
-  preloads = subst (λ v. ArePreloads (length v.items) new.preloads.items) (sym entries) preloads;
-  later = λ _. later;
-  same = λ other. ap (λ v. v.items) entries ∙ is.same (λ list. other (touched ∙ ap touched_preloads list));
-  first = λ nothing. absurd (never_nothing old.touched (sym touched ∙ nothing));
-}

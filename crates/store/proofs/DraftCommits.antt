@@ -1,5 +1,5 @@
 -- Committing a draft: the root that follows what stands, what is kept with it, and what it makes of sectors.
-use Rattle.std.proofs.Common.{◌≡◌, ◌≢◌, ◌⊎◌, inr, ⊎_elim, IsFalse, IsTrue, Ok, Err, ℕ, zero, suc, ◌+◌, ◌-◌, ◌^◌, ◌<◌, ◌≤◌, Bool, false, List, [], ◌∷◌, ◌++◌, length, get_or, map, take, sum_by, All, refl, sym, ap, subst, ◌∙◌, arith}
+use Rattle.std.proofs.Common.{◌≡◌, ◌≢◌, ◌⊎◌, ⊎_elim, IsFalse, Ok, ℕ, zero, suc, ◌+◌, ◌-◌, ◌^◌, ◌<◌, ◌≤◌, Bool, false, List, [], ◌∷◌, ◌++◌, length, get_or, map, take, sum_by, All, refl, sym, ap, subst, ◌∙◌, arith}
 use Rattle.std.specs.Prelude.{Contains}
 use Rattle.std.specs.List.{flat_map}
 use Rattle.std.proofs.lemmas.Bool.{cases_Bool, false≢true}
@@ -10,10 +10,10 @@ use Rattle.std.proofs.lemmas.List.FromFn.{length-map-range_with_len}
 use Rattle.sector_disk.specs.Disk.{DiskFacts, HoldsNow, LeavesOnly, Sector, sector}
 use Rattle.sector_disk.proofs.Moments.{exactly_none}
 use Rattle.extents.specs.Extent.{AreDistinct, places}
-use Rattle.extents.specs.Layout.{free_count}
+use Rattle.extents.specs.Layout.{unused_count}
 use Rattle.extents.specs.Limits.{root_sectors}
 use Rattle.extents.specs.Used.{layout_of}
-use Rattle.extents.proofs.UsedLemmas.{free_count-used, layout_of-claims, same-from_used}
+use Rattle.extents.proofs.UsedLemmas.{unused_count-used, layout_of-claims, same-from_used}
 use Rattle.passes.proofs.Runs.{bytes_at_same}
 use Rattle.roots.specs.declared.root.Root.{Root}
 use Rattle.roots.specs.declared.version.Version.TheVariants.{Two}
@@ -27,21 +27,21 @@ use Rattle.store.specs.declared.draft.Draft.{Draft}
 use Rattle.store.specs.declared.draft.Touched.{Touched}
 use Rattle.store.specs.declared.draft.Touched.TheVariants as touched
 use Rattle.store.specs.declared.edit.Edit.TheVariants as edit
-use Rattle.store.specs.declared.held_versions.HeldRow.{HeldRow}
+use Rattle.store.specs.declared.holds.HeldRow.{HeldRow}
 use Rattle.store.specs.declared.kept.Kept.{Kept}
 use Rattle.store.specs.declared.placed_entry.PlacedEntry.{PlacedEntry}
 use Rattle.store.specs.declared.prepared.Prepared.{Prepared}
 use Rattle.store.specs.declared.refusal.StoreRefusal.TheVariants.{Device, Reopen}
 use Rattle.store.specs.Changed.{Changed}
 use Rattle.store.specs.Draft.{IsDraftedAt, apart_from, commit_calls, committed, lists, staged}
-use Rattle.store.specs.HeldVersions.{in_use, lone_sectors}
+use Rattle.store.specs.Holds.{in_use, lone_sectors}
 use Rattle.store.specs.Opened.{IsAt}
 use Rattle.store.specs.Stands.{HasRoom, Stands, StandsBy, catalogues_of, entries_cost, entry_sectors, extents_of, library_of, name_of, names_at, sectors_of, used}
 use Rattle.store.specs.Taken.{AreTaken}
 use Rattle.store.specs.inside.Change.{AreWritten, CanBeStaged, IsFollowed}
 use Rattle.store.specs.inside.Claimed.{IsClaimedBeside, IsUsable}
 use Rattle.store.specs.inside.Committed.{Commits}
-use Rattle.store.specs.inside.Draft.{IsDrafting, drafting, own_in, own_sectors_in, with_layout}
+use Rattle.store.specs.inside.Draft.{IsDrafting, drafting, own_in, own_sectors_in}
 use Rattle.store.specs.inside.Kept.{IsKept}
 use Rattle.store.specs.inside.Moved.{IsMoved}
 use Rattle.store.specs.inside.Next.{IsNext, next_root}
@@ -62,7 +62,7 @@ use Rattle.store.proofs.KeepsHolders.{keeps_same}
 use Rattle.store.proofs.Outcomes.{still}
 use Rattle.store.proofs.Placing.{singles_same}
 use Rattle.store.proofs.Preloads.{preloads_followed, preloads_next, preloads_prepared}
-use Rattle.store.proofs.Releases.{held_rest, held_some, released_rest, released_some}
+use Rattle.store.proofs.Releases.{held_rest, released_rest, released_some}
 use Rattle.store.proofs.Rooms.{costs_are}
 use Rattle.store.proofs.Untouched.{untouched}
 
@@ -130,15 +130,15 @@ module _ {sectors : ℕ} {kept : Kept} {draft : Draft} (is : IsDrafting sectors 
   commit_later changed = omega (arith, is.later changed, stands.root_fits.generation)
 
   -- There is room for the catalogues,
-  pub commit_enough : catalogues_for (length entries) ≤ free_count kept.layout
+  pub commit_enough : catalogues_for (length entries) ≤ unused_count kept.layout
   commit_enough = omega (arith, is.staged.room)
 
   -- and all sectors are counted.
-  pub commit_counted : root_sectors + length (catalogues_of kept.root) + entries_cost entries + length gone + length (lone_sectors kept.held) + free_count kept.layout ≡ kept.root.sectors
+  pub commit_counted : root_sectors + length (catalogues_of kept.root) + entries_cost entries + length gone + length (lone_sectors kept.held) + unused_count kept.layout ≡ kept.root.sectors
   commit_counted =
       let before = in_use kept.root standing kept.held in
       let claimed = is.staged.claimed in
-      let free = free_count-used kept.layout (before ++ own) (claimed.once before stands.claimed.claims stands.claimed.once)
+      let free = unused_count-used kept.layout (before ++ own) (claimed.once before stands.claimed.claims stands.claimed.once)
       (λ k d lt. (drafted_usable stands claimed k d lt).0) (claimed.each before stands.claimed.claims) in
       omega (
         arith,
@@ -189,12 +189,9 @@ module _ {sectors : ℕ} {kept : Kept} {draft : Draft} (is : IsDrafting sectors 
     pub commit_room : (size : ℕ) → kept.root.sectors ≤ size + (length (lone_sectors kept.held) + length gone) → HasRoom size next.list entries
     commit_room size enough = subst (λ r. HasRoom size r.list entries) (sym is_next) (omega (arith, commit_counted, is.staged.room, enough))
 
-    -- Where a call fails all that was taken is given back,
+    -- Where a call fails all that was taken is given back.
     turned : IsClaimedBeside is.staged.standing mid (taken ++ own)
     turned = claimed_as is.staged.standing mid (own ++ taken) (taken ++ own) (λ k. omega (arith, occurs-append k own taken, occurs-append k taken own)) with_own
-
-    pub back_taken : AreClaimedOnce mid taken
-    back_taken = held_some mid taken own (more_held stands turned)
 
     module _ {then : List Bool} (released : IsReleased mid then taken) where
       pub back_own : AreClaimedOnce then own
@@ -368,59 +365,35 @@ module _ {sectors : ℕ} {kept : Kept} {draft : Draft} (is : IsDrafting sectors 
         subst (λ t. Makes now [] kept choice [] s t) (λ i. next_state s (libraries i) (preloads i))
         (preloads_followed chosen_next stands.root_fits is.two now s [] (entry_sectors standing))
 
--- A commit that makes no call.
-module _ {D : Type 0} (facts : D → DiskFacts) (disk : D) {sectors : ℕ} {kept : Kept} {draft : Draft} (is : IsDrafting sectors kept draft) where
-  -- A store that failed is opened again,
-  pub commits_reopen : IsTrue kept.failed → (layout : List Bool) → Commits facts (drafting disk kept draft) (opened disk (with_layout kept layout)) (Err Reopen)
-  commits_reopen failed layout = record {
-    any_moment = λ s d at. absurd (false≢true (sym at.stands.usable ∙ failed));
-    ok = λ s d at. tt;
+-- A commit of a draft of which nothing was changed makes no call, and the store is as it was.
+module _ {D : Type 0} (facts : D → DiskFacts) (disk : D) {sectors : ℕ} {kept : Kept} {draft : Draft} (is : IsDrafting sectors kept draft)
+    (nothing : draft.touched ≡ touched.Nothing) where
+  not_list : draft.touched ≢ touched.List
+  not_list list = let never : touched.Nothing ≡ touched.List = sym nothing ∙ list in cc never
+
+  pub nothing_stored : IsStored sectors kept
+  nothing_stored = given_up kept draft is kept.layout
+      (subst (IsReleased kept.layout kept.layout) (sym (ap (own_sectors_in kept.entries.items) (is.same not_list) ∙ own_same kept.entries.items)) (released_nothing kept.layout))
+
+  pub commits_nothing : IsFalse kept.failed → Commits facts (drafting disk kept draft) (opened disk kept) (Ok tt)
+  commits_nothing usable = record {
+    any_moment = λ s d at. subst (λ t. LeavesOnly (facts disk) (facts disk) (λ m. Stands m s ⊎ Stands m (committed t s d))) (sym nothing)
+        (untouched facts (opened disk kept) (opened disk kept) s s refl at.stands);
+    ok = λ s d at. subst (λ t. IsAt facts (opened disk kept) (committed t s d)) (sym nothing) at.stands;
     held = keeps_same facts {old = opened disk kept} refl;
-    on_any_disk = record {
-      reopen = (λ _. failed, λ _. refl);
-      device = λ device. absurd (cc device);
-      same = λ _. refl;
-      usable = tt;
-      refusals = inr refl;
-      all_calls = tt;
+    on_any_disk = subst (λ t. Changed facts Device Reopen (opened disk kept) (opened disk kept) (commit_calls t (length draft.entries.items)) (λ e. (e ≡ Device) ⊎ (e ≡ Reopen)) (Ok tt)) (sym nothing) (record {
+      reopen = (λ reopen. absurd (cc reopen), λ failed. absurd (false≢true (sym usable ∙ failed)));
+      device = tt;
+      same = tt;
+      usable = usable;
+      refusals = tt;
+      all_calls = exactly_none (facts disk);
       calls = still facts {old = opened disk kept} refl;
-    };
-    entries = tt;
-    preloads = tt;
-    placed = tt;
-    catalogues = tt;
-    given_up = (refl, refl, refl);
+    });
+    entries = sym (is.same not_list);
+    preloads = sym (is.first nothing);
+    placed = λ list. absurd (not_list list);
+    catalogues = λ _. refl;
+    given_up = tt;
     same = λ _. refl;
   }
-
-  module _ (nothing : draft.touched ≡ touched.Nothing) where
-    not_list : draft.touched ≢ touched.List
-    not_list list = let never : touched.Nothing ≡ touched.List = sym nothing ∙ list in cc never
-
-    -- and one of which nothing was changed is as it was.
-    pub nothing_stored : IsStored sectors kept
-    nothing_stored = given_up kept draft is kept.layout
-        (subst (IsReleased kept.layout kept.layout) (sym (ap (own_sectors_in kept.entries.items) (is.same not_list) ∙ own_same kept.entries.items)) (released_nothing kept.layout))
-
-    pub commits_nothing : IsFalse kept.failed → Commits facts (drafting disk kept draft) (opened disk kept) (Ok tt)
-    commits_nothing usable = record {
-      any_moment = λ s d at. subst (λ t. LeavesOnly (facts disk) (facts disk) (λ m. Stands m s ⊎ Stands m (committed t s d))) (sym nothing)
-          (untouched facts (opened disk kept) (opened disk kept) s s refl at.stands);
-      ok = λ s d at. subst (λ t. IsAt facts (opened disk kept) (committed t s d)) (sym nothing) at.stands;
-      held = keeps_same facts {old = opened disk kept} refl;
-      on_any_disk = subst (λ t. Changed facts Device Reopen (opened disk kept) (opened disk kept) (commit_calls t (length draft.entries.items)) (λ e. (e ≡ Device) ⊎ (e ≡ Reopen)) (Ok tt)) (sym nothing) (record {
-        reopen = (λ reopen. absurd (cc reopen), λ failed. absurd (false≢true (sym usable ∙ failed)));
-        device = tt;
-        same = tt;
-        usable = usable;
-        refusals = tt;
-        all_calls = exactly_none (facts disk);
-        calls = still facts {old = opened disk kept} refl;
-      });
-      entries = sym (is.same not_list);
-      preloads = sym (is.first nothing);
-      placed = λ list. absurd (not_list list);
-      catalogues = λ _. refl;
-      given_up = tt;
-      same = λ _. refl;
-    }

@@ -9,9 +9,9 @@ use Rattle.sector_disk.specs.Disk.{DiskFacts, HasWholeSectors, HoldsNow, IsWhole
 use Rattle.sector_disk.proofs.Mixtures.{whole_mixture}
 use Rattle.extents.specs.declared.extent.Extent.{Extent}
 use Rattle.extents.specs.Extent.{AreDistinct, sector_count}
-use Rattle.extents.specs.Layout.{free_count}
+use Rattle.extents.specs.Layout.{unused_count}
 use Rattle.extents.specs.Used.{ClaimsJust, layout_of}
-use Rattle.extents.proofs.UsedLemmas.{free_count-used, layout_of-claims, longest_runs-same, same-from_used}
+use Rattle.extents.proofs.UsedLemmas.{unused_count-used, layout_of-claims, longest_runs-same, same-from_used}
 use Rattle.passes.specs.Bytes.{IsOnDisk}
 use Rattle.roots.specs.Entry.{EntryHasSpelling, IsDataExtent}
 use Rattle.states.specs.Cost.{catalogues_for, taken_by}
@@ -21,7 +21,7 @@ use Rattle.store.specs.declared.kept.Kept.{Kept}
 use Rattle.store.specs.declared.placed_entry.PlacedEntry.{PlacedEntry}
 use Rattle.store.specs.declared.refusal.StoreRefusal.{StoreRefusal}
 use Rattle.store.specs.Draft.{Drafted, IsDraftedAt, apart_from, layout_drafted, lists, longest_drafted, room_drafted}
-use Rattle.store.specs.HeldVersions.{in_use, lone_sectors}
+use Rattle.store.specs.Holds.{in_use, lone_sectors}
 use Rattle.store.specs.Stands.{catalogues_of, entries_cost, entry_sectors, sectors_of, used}
 use Rattle.store.specs.Taken.{IsTaken}
 use Rattle.store.specs.inside.Claimed.{IsUsable}
@@ -86,10 +86,10 @@ module _ {sectors : ℕ} {kept : Kept} {draft : Draft} (is : IsDrafting sectors 
   )
 
   -- What is claimed and what is free are all sectors.
-  claimed_free : 2 + length (catalogues_of kept.root) + entries_cost standing + length (lone_sectors kept.held) + length own + free_count kept.layout ≡ kept.root.sectors
+  claimed_free : 2 + length (catalogues_of kept.root) + entries_cost standing + length (lone_sectors kept.held) + length own + unused_count kept.layout ≡ kept.root.sectors
   claimed_free = omega (
     arith,
-    free_count-used kept.layout all all_once (λ k d lt. (all_inside k d lt).0) all_claims,
+    unused_count-used kept.layout all all_once (λ k d lt. (all_inside k d lt).0) all_claims,
     size,
     is.staged.stands.root_fits.sectors,
     length-append (in_use kept.root standing kept.held) own,

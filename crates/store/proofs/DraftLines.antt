@@ -7,7 +7,7 @@ use Rattle.store.specs.declared.refusal.StoreRefusal.{StoreRefusal}
 use Rattle.store.specs.declared.refusal.StoreRefusal.TheVariants.{Device, Reopen}
 use Rattle.store.specs.Draft.{Drafted, IsDraftedAt, IsLine, IsSameDraft, StaysBeside}
 use Rattle.store.specs.Stands.{Stands}
-use Rattle.store.proofs.HeldVersions.{err_is}
+use Rattle.store.proofs.Holding.{err_is}
 use Rattle.store.proofs.KeepsHolders.{keeps_same}
 use Rattle.store.proofs.Outcomes.{still}
 

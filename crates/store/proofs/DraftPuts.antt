@@ -19,7 +19,7 @@ use Rattle.store.specs.declared.placed_entry.PlacedEntry.{PlacedEntry}
 use Rattle.store.specs.declared.refusal.StoreRefusal.{StoreRefusal}
 use Rattle.store.specs.declared.refusal.StoreRefusal.TheVariants.{Device}
 use Rattle.store.specs.Draft.{Drafted, IsLine, IsSameDraft, lists}
-use Rattle.store.specs.HeldVersions.{in_use, lone_sectors}
+use Rattle.store.specs.Holds.{in_use, lone_sectors}
 use Rattle.store.specs.Opened.{IsAt}
 use Rattle.store.specs.Stands.{catalogues_of, extents_of, library_of, sectors_of, used}
 use Rattle.store.specs.inside.Claimed.{IsClaimedBeside, IsUsable}

@@ -22,7 +22,7 @@ use Rattle.store.specs.declared.refusal.StoreRefusal.TheVariants.{Device, OutOfM
 use Rattle.store.specs.declared.kept.Kept.{Kept}
 use Rattle.store.specs.declared.draft.Draft.{Draft}
 use Rattle.store.specs.Draft.{Drafted, IsDraftedAt, IsNewToDraft, ReadsDraft, draft_state, listing}
-use Rattle.store.specs.HeldVersions.{in_use}
+use Rattle.store.specs.Holds.{in_use}
 use Rattle.store.specs.Stands.{HaveOwnNames, extents_of, library_of, name_of, names_at, no_library}
 use Rattle.store.specs.inside.Claimed.{IsUsable}
 use Rattle.store.specs.inside.Draft.{IsDrafting, own_sectors_in}

@@ -5,14 +5,14 @@ use Rattle.std.proofs.lemmas.List.{length-append}
 use Rattle.std.proofs.lemmas.List.Elements.{All-append, All-contains, Contains-append_cases, Contains-append_left, Contains-append_right}
 use Rattle.std.proofs.lemmas.List.Sums.{sum_by-cons, sum_by-remove, sum_by-set, sum_by_push}
 use Rattle.extents.specs.Extent.{AreDistinct}
-use Rattle.extents.specs.Layout.{free_count}
+use Rattle.extents.specs.Layout.{unused_count}
 use Rattle.extents.specs.Used.{ClaimsJust}
 use Rattle.extents.proofs.PlacesLemmas.{distinct-append}
-use Rattle.extents.proofs.UsedLemmas.{free_count-used}
+use Rattle.extents.proofs.UsedLemmas.{unused_count-used}
 use Rattle.passes.proofs.Parts.{distinct-first, distinct-last, distinct-parts}
 use Rattle.store.specs.declared.kept.Kept.{Kept}
 use Rattle.store.specs.declared.placed_entry.PlacedEntry.{PlacedEntry}
-use Rattle.store.specs.HeldVersions.{in_use}
+use Rattle.store.specs.Holds.{in_use}
 use Rattle.store.specs.Stands.{catalogues_of}
 use Rattle.store.specs.inside.Claimed.{IsClaimedBeside, IsUsable}
 use Rattle.store.specs.inside.Draft.{IsStagedIn, KeepsList, own_in, own_sectors_in, spare_of}
@@ -79,7 +79,7 @@ staged_as {old = old} {new = new} {entries = entries} same layout is = record {
       (subst (λ held. IsKept old.root old.entries.items held is.standing) (sym same.held) is.stands));
   claimed = subst (λ l. IsClaimedBeside is.standing l (own_sectors_in new.entries.items entries)) (sym layout)
       (subst (λ l. IsClaimedBeside is.standing old.layout (own_sectors_in l.items entries)) (sym same.entries) is.claimed);
-  room = omega (arith, is.room, ap free_count layout, ap (λ root. length (catalogues_of root)) same.root);
+  room = omega (arith, is.room, ap unused_count layout, ap (λ root. length (catalogues_of root)) same.root);
 }
 
 -- A line takes these sectors beside all that is staged, and of what is claimed then frees those, so
@@ -167,11 +167,11 @@ module _ {kept : Kept} {entries : List PlacedEntry} {mid : List Bool} {more gone
     new_size = released.size ∙ is.claimed.size ∙ size
 
     -- with so much room.
-    pub restaged_free : free_count new + length more ≡ free_count kept.layout + length gone
+    pub restaged_free : unused_count new + length more ≡ unused_count kept.layout + length gone
     restaged_free = omega (
       arith,
-      free_count-used kept.layout (used ++ own) own_once (λ k d lt. (own_inside k d lt).0) own_claims,
-      free_count-used new (used ++ left) left_once (λ k d lt. (left_inside k d lt).0) left_claims,
+      unused_count-used kept.layout (used ++ own) own_once (λ k d lt. (own_inside k d lt).0) own_claims,
+      unused_count-used new (used ++ left) left_once (λ k d lt. (left_inside k d lt).0) left_claims,
       size,
       new_size,
       length-append used own,
@@ -180,7 +180,7 @@ module _ {kept : Kept} {entries : List PlacedEntry} {mid : List Bool} {more gone
     )
 
     pub restaged : {after : Kept} → KeepsList kept after → after.layout ≡ new
-        → spare_of (length (catalogues_of kept.root)) (length others) + length more ≤ free_count kept.layout + length gone → IsStagedIn after others
+        → spare_of (length (catalogues_of kept.root)) (length others) + length more ≤ unused_count kept.layout + length gone → IsStagedIn after others
     restaged {after = after} same layout room = record {
       standing = is.staged.standing;
       stands = subst (λ root. IsKept root after.entries.items after.held is.staged.standing) (sym same.root)
@@ -191,5 +191,5 @@ module _ {kept : Kept} {entries : List PlacedEntry} {mid : List Bool} {more gone
           (claimed_beside is.staged.standing new used left (new_size ∙ sym is.staged.stands.size) is.staged.stands.claimed.claims left_claims left_once
           (subst (λ n. All (IsUsable n) left) (sym is.staged.stands.size)
           (all-part (IsUsable kept.root.sectors) left (used ++ left) (λ s found. Contains-append_right used left s found) left_inside))));
-      room = omega (arith, room, restaged_free, ap free_count layout, ap (λ root. length (catalogues_of root)) same.root);
+      room = omega (arith, room, restaged_free, ap unused_count layout, ap (λ root. length (catalogues_of root)) same.root);
     }

@@ -11,9 +11,9 @@ use Rattle.extents.specs.Extent.{AreDistinct}
 use Rattle.extents.specs.Used.{ClaimsJust}
 use Rattle.roots.specs.declared.root.Root.{Root}
 use Rattle.store.specs.declared.placed_entry.PlacedEntry.{PlacedEntry}
-use Rattle.store.specs.declared.held_versions.HeldRow.{HeldRow}
+use Rattle.store.specs.declared.holds.HeldRow.{HeldRow}
 use Rattle.store.specs.Draft.{lists}
-use Rattle.store.specs.HeldVersions.{lone_sectors, own_sectors}
+use Rattle.store.specs.Holds.{lone_sectors, own_sectors}
 use Rattle.store.specs.Stands.{catalogues_of, entry_sectors, sectors_of, used}
 use Rattle.store.specs.inside.Claimed.{IsUsable}
 use Rattle.store.specs.inside.Draft.{IsOneOrApart, own_in, own_sectors_in}
@@ -73,45 +73,45 @@ first_or e rest p found = place found.0 found.1 found.2
     place zero lt is = inl is
     place (suc n) lt is = inr (n, omega (arith, lt), is)
 
--- The row of a version holds without an entry, where the version isn't that or the draft has it.
-moves_on : (drafted : List PlacedEntry) (e : PlacedEntry) (rest : List PlacedEntry) (version : HeldRow) → IsHeldRow (drafted ++ e ∷ rest) version
-    → (e ≡ version.placed → Contains (drafted ++ rest) version.placed) → IsHeldRow (drafted ++ rest) version
-moves_on drafted e rest version row first = record {
+-- The row of a hold holds without an entry, where that isn't the held one or the draft has it.
+moves_on : (drafted : List PlacedEntry) (e : PlacedEntry) (rest : List PlacedEntry) (hold : HeldRow) → IsHeldRow (drafted ++ e ∷ rest) hold
+    → (e ≡ hold.placed → Contains (drafted ++ rest) hold.placed) → IsHeldRow (drafted ++ rest) hold
+moves_on drafted e rest hold row first = record {
   fits = row.fits;
   some = row.some;
   listed = λ is. ⊎_elim
-      (λ among. Contains-append_left drafted rest version.placed among)
-      (λ behind. ⊎_elim first (λ others. Contains-append_right drafted rest version.placed others) (first_or e rest version.placed behind))
-      (Contains-append_cases drafted (e ∷ rest) version.placed (row.listed is));
+      (λ among. Contains-append_left drafted rest hold.placed among)
+      (λ behind. ⊎_elim first (λ others. Contains-append_right drafted rest hold.placed others) (first_or e rest hold.placed behind))
+      (Contains-append_cases drafted (e ∷ rest) hold.placed (row.listed is));
 }
 
 -- rows that are the same after each of two changes are the same after both
 keeps_on : {a b c : List HeldRow} → KeepsRows a b → KeepsRows b c → KeepsRows a c
 keeps_on first second = record {
   holders = λ k. second.holders k ∙ first.holders k;
-  versions = λ k p. (λ by. (second.versions k p).0 ((first.versions k p).0 by), λ by. (first.versions k p).1 ((second.versions k p).1 by));
+  holds = λ k p. (λ by. (second.holds k p).0 ((first.holds k p).0 by), λ by. (first.holds k p).1 ((second.holds k p).1 by));
   none = λ is. second.none (first.none is);
 }
 
 rows_same : (held : List HeldRow) → KeepsRows held held
-rows_same held = record { holders = λ k. refl; versions = λ k p. (λ by. by, λ by. by); none = λ is. is }
+rows_same held = record { holders = λ k. refl; holds = λ k p. (λ by. by, λ by. by); none = λ is. is }
 
 rows_left : {old new : List HeldRow} {at : ℕ} → IsLeft old new at → KeepsRows old new
 rows_left left = record {
   holders = holders_left left;
-  versions = λ k p. (λ by. by_left left by, λ by. by_left_back left by);
+  holds = λ k p. (λ by. by_left left by, λ by. by_left_back left by);
   none = λ none. absurd (omega (arith, left.at.inside, ap length none));
 }
 
--- a version that the state doesn't list has its sectors alone
-lone_row : {held : List HeldRow} {at place : ℕ} {version : HeldRow} → IsAtPlace held at place version → version.listed ≡ false → 1 ≤ occurs at (lone_sectors held)
-lone_row {held = held} {at = at} {place = place} {version = version} row isnt =
-    let its : occurs at (own_sectors (get_or held place no_row)) ≡ occurs at (sectors_of version.placed) =
-    ap (λ h. occurs at (own_sectors h)) (row.is no_row) ∙ ap (λ b. occurs at (if b then [] else sectors_of version.placed)) isnt in
+-- a byte string that the state doesn't list has its sectors alone
+lone_row : {held : List HeldRow} {at place : ℕ} {hold : HeldRow} → IsAtPlace held at place hold → hold.listed ≡ false → 1 ≤ occurs at (lone_sectors held)
+lone_row {held = held} {at = at} {place = place} {hold = hold} row isnt =
+    let its : occurs at (own_sectors (get_or held place no_row)) ≡ occurs at (sectors_of hold.placed) =
+    ap (λ h. occurs at (own_sectors h)) (row.is no_row) ∙ ap (λ b. occurs at (if b then [] else sectors_of hold.placed)) isnt in
     omega (
       arith,
       its,
-      contains_occurs at (sectors_of version.placed) (0, omega arith, row.its),
+      contains_occurs at (sectors_of hold.placed) (0, omega arith, row.its),
       occurs-flat_map at own_sectors held,
       get_or-le-sum_by (λ (h : HeldRow). occurs at (own_sectors h)) held place no_row row.inside,
     )
@@ -242,12 +242,12 @@ module _ {root : Root} {standing drafted : List PlacedEntry} {held : List HeldRo
           )) can.claimed to.released
 
       -- rows hold without it,
-      other_rows : (version : HeldRow) → IsHeldRow (drafted ++ e ∷ rest) version → version.placed.at ≢ e.at → IsHeldRow (drafted ++ rest) version
-      other_rows version row other = moves_on drafted e rest version row (λ same. absurd (other (ap (λ (p : PlacedEntry). p.at) (sym same))))
+      other_rows : (hold : HeldRow) → IsHeldRow (drafted ++ e ∷ rest) hold → hold.placed.at ≢ e.at → IsHeldRow (drafted ++ rest) hold
+      other_rows hold row other = moves_on drafted e rest hold row (λ same. absurd (other (ap (λ (p : PlacedEntry). p.at) (sym same))))
 
-      module _ {place : ℕ} {version : HeldRow} (row : IsAtPlace mid e.at place version) where
+      module _ {place : ℕ} {hold : HeldRow} (row : IsAtPlace mid e.at place hold) where
         -- the state listed it where it is held,
-        row_listed : version.listed ≡ true
+        row_listed : hold.listed ≡ true
         row_listed = ⊎_elim
             (λ is. is)
             (λ not_listed. absurd (omega (
@@ -260,19 +260,19 @@ module _ {root : Root} {standing drafted : List PlacedEntry} {held : List HeldRo
               to.lone e.at,
               apart e.at,
             )))
-            (cases_Bool version.listed)
+            (cases_Bool hold.listed)
 
         -- and the row has it
-        row_is : version.placed ≡ e
+        row_is : hold.placed ≡ e
         row_is = ⊎_elim
             (λ among.
             let its = ap (λ (p : PlacedEntry). p.at) among.2 ∙ row.its in
-            absurd (false≢true (sym isnt ∙ list_any_at (λ (other : PlacedEntry). other.at == e.at) drafted among.0 version.placed among.1 (eq-eqb (get_or drafted among.0 version.placed).at e.at its))))
+            absurd (false≢true (sym isnt ∙ list_any_at (λ (other : PlacedEntry). other.at == e.at) drafted among.0 hold.placed among.1 (eq-eqb (get_or drafted among.0 hold.placed).at e.at its))))
             (λ behind. ⊎_elim
             (λ same. sym same)
-            (λ others. absurd (first_apart e rest to.once others.0 version.placed others.1 (sym (ap (λ (p : PlacedEntry). p.at) others.2 ∙ row.its))))
-            (first_or e rest version.placed behind))
-            (Contains-append_cases drafted (e ∷ rest) version.placed ((row_of to.rows row).listed row_listed))
+            (λ others. absurd (first_apart e rest to.once others.0 hold.placed others.1 (sym (ap (λ (p : PlacedEntry). p.at) others.2 ∙ row.its))))
+            (first_or e rest hold.placed behind))
+            (Contains-append_cases drafted (e ∷ rest) hold.placed ((row_of to.rows row).listed row_listed))
 
       -- and it goes, or its holders keep it.
       pub settled_given : {left : List HeldRow} {new : List Bool} → IsGivenUp mid left now new e [] → IsSettledTo standing drafted held left old new rest

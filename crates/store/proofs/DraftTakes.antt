@@ -19,7 +19,7 @@ use Rattle.store.specs.inside.Prepared.{IsTestedChange}
 use Rattle.store.specs.inside.Room.{IsPutTaken}
 use Rattle.store.specs.inside.Stored.{longest_in}
 use Rattle.store.proofs.Frees.{Takes, bytes_refused, bytes_taken, if_no, if_yes, new_as_put}
-use Rattle.store.proofs.HeldVersions.{err_is}
+use Rattle.store.proofs.Holding.{err_is}
 use Rattle.store.proofs.Outcomes.{memory_wants}
 use Rattle.store.proofs.Refusals.{end-device, end-reopen}
 

@@ -12,11 +12,11 @@ use Rattle.roots.specs.declared.root.Root.{Root}
 use Rattle.roots.specs.declared.version.Version.TheVariants.{Two}
 use Rattle.states.specs.State.{State}
 use Rattle.store.specs.declared.placed_entry.PlacedEntry.{PlacedEntry}
-use Rattle.store.specs.declared.held_versions.HeldRow.{HeldRow}
+use Rattle.store.specs.declared.holds.HeldRow.{HeldRow}
 use Rattle.store.specs.declared.refusal.StoreRefusal.{StoreRefusal}
 use Rattle.store.specs.declared.refusal.StoreRefusal.TheVariants.{Device}
 use Rattle.store.specs.Draft.{Drafted, IsLine, IsSameDraft, StaysBeside, lists}
-use Rattle.store.specs.HeldVersions.{KeepsHolders, in_use, lone_sectors}
+use Rattle.store.specs.Holds.{KeepsHolders, in_use, lone_sectors}
 use Rattle.store.specs.Opened.{IsAt}
 use Rattle.store.specs.Stands.{Stands, StandsBy, sectors_of, used}
 use Rattle.store.specs.inside.Claimed.{IsClaimedBeside, IsUsable}
@@ -26,7 +26,7 @@ use Rattle.store.specs.inside.Room.{IsRootOr}
 use Rattle.store.proofs.Anew.{all_usable, more_free, more_inside}
 use Rattle.store.proofs.Claiming.{claims_more}
 use Rattle.store.proofs.Drafts.{own_unlisted}
-use Rattle.store.proofs.HeldVersions.{err_is}
+use Rattle.store.proofs.Holding.{err_is}
 use Rattle.store.proofs.KeepsHolders.{keeps_table, listed_used}
 use Rattle.store.proofs.UsedAlone.{same_used}
 use Rattle.passes.proofs.Parts.{distinct-parts}

@@ -16,8 +16,8 @@ use Rattle.store.specs.declared.placed_entry.PlacedEntry.{PlacedEntry}
 use Rattle.states.specs.State.{State}
 use Rattle.store.specs.Stands.{AreListed, AreCatalogued, UsesApart, HasRoom, StandsBy, entry_sectors, catalogues_of, sectors_of, used, library_of, names_at}
 use Rattle.store.specs.inside.Claimed.{IsUsable}
-use Rattle.store.specs.declared.held_versions.HeldRow.{HeldRow}
-use Rattle.store.specs.HeldVersions.{lone_sectors}
+use Rattle.store.specs.declared.holds.HeldRow.{HeldRow}
+use Rattle.store.specs.Holds.{lone_sectors}
 use Rattle.store.specs.inside.HeldRows.{AreHeldRows}
 use Rattle.store.specs.inside.Kept.{AreClaimed, IsKept}
 use Rattle.store.specs.inside.Next.{IsNext}

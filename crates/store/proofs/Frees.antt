@@ -12,7 +12,7 @@ use Rattle.sector_disk.specs.Disk.{Sector, DiskFacts, HoldsNow, HasWholeSectors,
 use Rattle.sector_disk.proofs.Mixtures.{whole_mixture}
 use Rattle.extents.specs.Limits.{root_sectors}
 use Rattle.extents.specs.Extent.{places, sector_count}
-use Rattle.extents.specs.Layout.{free_count}
+use Rattle.extents.specs.Layout.{unused_count}
 use Rattle.extents.specs.Longest.{longest_runs}
 use Rattle.extents.specs.Used.{layout_of, ClaimsSame}
 use Rattle.extents.proofs.UsedLemmas.{layout_of-claims, same-from_used, longest_runs-same}
@@ -28,8 +28,8 @@ use Rattle.states.specs.State.{Library, State}
 use Rattle.store.specs.declared.placed_entry.PlacedEntry.{PlacedEntry}
 use Rattle.store.specs.declared.refusal.StoreRefusal.{StoreRefusal}
 use Rattle.store.specs.declared.refusal.StoreRefusal.TheVariants.{Full, Fragmented, GenerationEnd}
-use Rattle.store.specs.declared.held_versions.HeldRow.{HeldRow}
-use Rattle.store.specs.HeldVersions.{in_use, lone_sectors}
+use Rattle.store.specs.declared.holds.HeldRow.{HeldRow}
+use Rattle.store.specs.Holds.{in_use, lone_sectors}
 use Rattle.store.specs.Opened.{Opened, IsAtBy}
 use Rattle.store.specs.Stands.{StandsBy, catalogues_of, entries_cost, extents_of, library_of, sectors_of, used}
 use Rattle.store.specs.Step.{refusal_of_bytes, refusal_of_put, refusal_of_new, refusal_of_upgrade, refusal_of_take, refusal_of_change, IsAnswer, IsExactAnswer}
@@ -86,7 +86,7 @@ module _ (root : Root) (entries : List PlacedEntry) (held : List HeldRow) (layou
 
   -- What a state of version 2 leaves free beside what is held, and its catalogues once more, are what the layout has free.
   pub free_is : (m : List Sector) (s : State) → All IsWhole m → StandsBy Two m root entries s
-      → free (root.sectors - length (lone_sectors held)) s + catalogues_for (length entries) ≡ free_count layout
+      → free (root.sectors - length (lone_sectors held)) s + catalogues_for (length entries) ≡ unused_count layout
   free_is m s whole by = omega (
     arith,
     taken_is Two m root entries s kept.entries_fit whole by,
@@ -97,7 +97,7 @@ module _ (root : Root) (entries : List PlacedEntry) (held : List HeldRow) (layou
 
   -- Where nothing is held, a state of version 1 has no room for its catalogues twice exactly where it takes too much by version 2.
   pub old_free_is : held ≡ [] → (m : List Sector) (s : State) → All IsWhole m → StandsBy One m root entries s
-      → (free_count layout < 2 * catalogues_for (length entries)) ↔ (root.sectors < root_sectors + taken_by s)
+      → (unused_count layout < 2 * catalogues_for (length entries)) ↔ (root.sectors < root_sectors + taken_by s)
   old_free_is unheld m s whole by =
       let taken = taken_is One m root entries s kept.entries_fit whole by in
       let all = kept_sectors root entries held layout kept in
@@ -220,8 +220,8 @@ module _ {D : Type 0} (facts : D → DiskFacts) (holds : (disk : D) → IsTrue (
 
 -- What taking room says of a layout by its result, where it needs so many sectors for bytes and so many in all.
 pub record Takes {T : Type 0} (layout : List Bool) (sectors all : ℕ) (result : Result T TakeRefusal) : Type 0 where
-  pub full : (result ≡ Err take.Full) ↔ (free_count layout < all)
-  pub fragmented : (result ≡ Err take.Fragmented) ↔ ((all ≤ free_count layout) × (sector_count (longest_runs layout) < sectors))
+  pub full : (result ≡ Err take.Full) ↔ (unused_count layout < all)
+  pub fragmented : (result ≡ Err take.Fragmented) ↔ ((all ≤ unused_count layout) × (sector_count (longest_runs layout) < sectors))
 
 -- The first refusal of bytes that replace others, or are put behind them, by what taking room says.
 module _ {root : Root} {entries : List PlacedEntry} {held : List HeldRow} {layout : List Bool} {s : State}

@@ -9,7 +9,7 @@ use Rattle.extents.specs.Taken.{IsGiven}
 use Rattle.extents.specs.Used.{ClaimsJust}
 use Rattle.extents.proofs.LayoutLemmas.{length-with_flags}
 use Rattle.extents.proofs.PlacesLemmas.{distinct-append, distinct-places}
-use Rattle.extents.proofs.UsedLemmas.{claims-take, claims-same_elements, free-unused}
+use Rattle.extents.proofs.UsedLemmas.{claims-take, claims-same_elements, unused-not_used}
 use Rattle.passes.proofs.Extents.{in_extent}
 use Rattle.store.specs.inside.Claimed.{IsClaimedBeside}
 
@@ -29,7 +29,7 @@ module _ {need : ℕ} {old mid : List Bool} {extents : List Extent} (given : IsG
         (λ s. (swap (places extents) used s, swap used (places extents) s))
         (claims-take old used extents given.inside just));
     once = λ used just once. distinct-append used (places extents) once (distinct-places extents given.apart)
-        (λ s in_used here. let of = in_extent extents s none here in free-unused old used s just (given.free of.0 none of.1 s of.2) in_used);
+        (λ s in_used here. let of = in_extent extents s none here in unused-not_used old used s just (given.unused of.0 none of.1 s of.2) in_used);
     inside = λ k d lt.
         let of = in_extent extents (get_or (places extents) k d) none (Contains-get_or (places extents) k d lt) in
         let inside = given.inside of.0 none of.1 in

@@ -11,8 +11,8 @@ use Rattle.sector_disk.specs.Disk.{Sector, DiskFacts, Mixture, IsMixtureBut}
 use Rattle.extents.specs.Extent.{AreDistinct}
 use Rattle.roots.specs.declared.root.Root.{Root}
 use Rattle.store.specs.declared.placed_entry.PlacedEntry.{PlacedEntry}
-use Rattle.store.specs.declared.held_versions.HeldRow.{HeldRow}
-use Rattle.store.specs.HeldVersions.{lone_sectors, own_sectors, KeepsHolders}
+use Rattle.store.specs.declared.holds.HeldRow.{HeldRow}
+use Rattle.store.specs.Holds.{lone_sectors, own_sectors, KeepsHolders}
 use Rattle.store.specs.Stands.{catalogues_of, sectors_of, used}
 use Rattle.store.specs.inside.Claimed.{IsClaimedBeside}
 use Rattle.store.specs.inside.HeldRows.{IsAtPlace, IsHeldRow, IsLeft, AreHeldRows}
@@ -59,25 +59,25 @@ module _ {root : Root} {entries : List PlacedEntry} {held : List HeldRow} {layou
   entries_once = occurs_distinct (flat_map sectors_of entries)
       (λ k. omega (arith, distinct_occurs k (used root entries) kept.apart.once, occurs-append k (catalogues_of root) (flat_map sectors_of entries)))
 
-  -- A held version whose sector the state uses is one that it lists,
-  pub row_listed : {at place : ℕ} {version : HeldRow} → IsAtPlace held at place version → Contains (used root entries) at → version.listed ≡ true
-  row_listed {at = at} {place = place} {version = version} row found = ⊎_elim
+  -- A held byte string whose sector the state uses is one that it lists,
+  pub row_listed : {at place : ℕ} {hold : HeldRow} → IsAtPlace held at place hold → Contains (used root entries) at → hold.listed ≡ true
+  row_listed {at = at} {place = place} {hold = hold} row found = ⊎_elim
       (λ is. is)
       (λ isnt.
-      let its : occurs at (own_sectors (get_or held place no_row)) ≡ occurs at (sectors_of version.placed) =
-      ap (λ h. occurs at (own_sectors h)) (row.is no_row) ∙ ap (λ b. occurs at (if b then [] else sectors_of version.placed)) isnt in
+      let its : occurs at (own_sectors (get_or held place no_row)) ≡ occurs at (sectors_of hold.placed) =
+      ap (λ h. occurs at (own_sectors h)) (row.is no_row) ∙ ap (λ b. occurs at (if b then [] else sectors_of hold.placed)) isnt in
       let lone : Contains (lone_sectors held) at = occurs_contains at (lone_sectors held) (omega (
         arith,
         its,
-        contains_occurs at (sectors_of version.placed) (0, omega arith, row.its),
+        contains_occurs at (sectors_of hold.placed) (0, omega arith, row.its),
         occurs-flat_map at own_sectors held,
         get_or-le-sum_by (λ (h : HeldRow). occurs at (own_sectors h)) held place no_row row.inside,
       )) in
       absurd (distinct-parts (used root entries) (lone_sectors held) at kept.claimed.once found lone))
-      (cases_Bool version.listed)
+      (cases_Bool hold.listed)
 
   -- so each counts as listed exactly where it is one of the state's,
-  pub flags : All (λ version. (version.listed ≡ true) ↔ Contains entries version.placed) held
+  pub flags : All (λ hold. (hold.listed ≡ true) ↔ Contains entries hold.placed) held
   flags i d lt =
       let row = get_or held i d in (
         (kept.rows.each i d lt).listed,
@@ -89,12 +89,12 @@ module _ {root : Root} {entries : List PlacedEntry} {held : List HeldRow} {layou
     old = get_or entries gone no_entry
 
     -- and has its entry.
-    pub row_is : {place : ℕ} {version : HeldRow} → IsAtPlace held old.at place version → version.placed ≡ old
-    row_is {place = place} {version = version} row =
+    pub row_is : {place : ℕ} {hold : HeldRow} → IsAtPlace held old.at place hold → hold.placed ≡ old
+    row_is {place = place} {hold = hold} row =
         let listed = row_listed row (own_used root entries gone no_entry lt) in
         let rows = subst (IsHeldRow entries) (row.is no_row) (kept.rows.each place no_row row.inside) in
         let among = rows.listed listed in
-        let there : get_or entries among.0 no_entry ≡ version.placed = get_or_default entries among.0 no_entry version.placed among.1 ∙ among.2 in
+        let there : get_or entries among.0 no_entry ≡ hold.placed = get_or_default entries among.0 no_entry hold.placed among.1 ∙ among.2 in
         let here : among.0 ≡ gone = same_place entries entries_once among.0 gone no_entry among.1 lt (ap (λ (p : PlacedEntry). p.at) there ∙ row.its) in
         sym there ∙ ap (λ i. get_or entries i no_entry) here
 
@@ -111,7 +111,7 @@ module _ {root : Root} {entries : List PlacedEntry} {held : List HeldRow} {layou
       lone_count = left_length is (row_listed is.at (own_used root entries gone no_entry lt)) ∙ ap (λ (p : PlacedEntry). length (lone_sectors held) + length (sectors_of p)) (row_is is.at)
 
     module _ {mid new : List Bool} {left : List HeldRow} {catalogues : List ℕ} (given : IsGivenUp held left mid new old catalogues) where
-      pub given_rows : (others : List PlacedEntry) → ((version : HeldRow) → IsHeldRow entries version → version.placed.at ≢ old.at → IsHeldRow others version) → AreHeldRows others left
+      pub given_rows : (others : List PlacedEntry) → ((hold : HeldRow) → IsHeldRow entries hold → hold.placed.at ≢ old.at → IsHeldRow others hold) → AreHeldRows others left
       given_rows others moves = ⊎_elim
           (λ both. held_left kept.rows both.0 moves)
           (λ all. subst (AreHeldRows others) (sym all.1) (held_unheld kept.rows all.0 moves))
@@ -141,34 +141,34 @@ module _ {root : Root} {entries : List PlacedEntry} {held : List HeldRow} {layou
             (λ all. subst (KeepsHolders before after held) (sym all.1) (keeps_table kept more (more_free kept claimed) others))
             given
 
--- What a row says of the entries holds of those of the next state, where the version is another one.
+-- What a row says of the entries holds of those of the next state, where it is of another one.
 module _ (entries : List PlacedEntry) (place : ℕ) (lt : place < length entries) where
   elsewhere : (placed : PlacedEntry) (found : Contains entries placed) → placed.at ≢ (get_or entries place no_entry).at → found.0 ≢ place
   elsewhere placed found other same = other (ap (λ (p : PlacedEntry). p.at) (sym found.2 ∙ ap (λ i. get_or entries i placed) same ∙ get_or_default entries place placed no_entry lt))
 
-  pub still_removed : (version : HeldRow) → IsHeldRow entries version → version.placed.at ≢ (get_or entries place no_entry).at → IsHeldRow (remove entries place) version
-  still_removed version row other = record {
+  pub still_removed : (hold : HeldRow) → IsHeldRow entries hold → hold.placed.at ≢ (get_or entries place no_entry).at → IsHeldRow (remove entries place) hold
+  still_removed hold row other = record {
     fits = row.fits;
     some = row.some;
     listed = λ is.
         let found = row.listed is in
-        let apart = elsewhere version.placed found other in
+        let apart = elsewhere hold.placed found other in
         let fewer = length-remove entries place lt in (
           closed_up place found.0,
           closed_inside place (length (remove entries place)) found.0 apart (omega (arith, found.1, fewer)) (omega (arith, lt, fewer)),
-          at_closed entries place found.0 version.placed apart lt ∙ found.2,
+          at_closed entries place found.0 hold.placed apart lt ∙ found.2,
         );
   }
 
-  pub still_set : (put : PlacedEntry) → (version : HeldRow) → IsHeldRow entries version → version.placed.at ≢ (get_or entries place no_entry).at → IsHeldRow (set entries place put) version
-  still_set put version row other = record {
+  pub still_set : (put : PlacedEntry) → (hold : HeldRow) → IsHeldRow entries hold → hold.placed.at ≢ (get_or entries place no_entry).at → IsHeldRow (set entries place put) hold
+  still_set put hold row other = record {
     fits = row.fits;
     some = row.some;
     listed = λ is.
         let found = row.listed is in (
           found.0,
           omega (arith, found.1, length-set entries place put),
-          get_or-set_other entries place found.0 put version.placed (elsewhere version.placed found other) ∙ found.2,
+          get_or-set_other entries place found.0 put hold.placed (elsewhere hold.placed found other) ∙ found.2,
         );
   }
 

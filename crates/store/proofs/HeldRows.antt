@@ -1,4 +1,4 @@
--- The rows of held versions: what each change of them keeps.
+-- The rows of held byte strings: what each change of them keeps.
 use Rattle.std.proofs.Common.{◌≡◌, ◌≢◌, ⊎_elim, ℕ, zero, suc, ◌+◌, ◌<◌, ◌==◌, nat_eq, Bool, true, false, if◌then◌else◌, sum_by, List, []}
 use Rattle.std.proofs.Common.{◌∷◌, ◌++◌, length, get_or, set, take, drop, refl, sym, ap, subst, ◌∙◌, arith}
 use Rattle.std.specs.Prelude.{Contains}
@@ -15,8 +15,8 @@ use Rattle.std.proofs.lemmas.List.Quantifiers.{all_pairs_remove}
 use Rattle.std.proofs.lemmas.List.Sums.{get_or-le-sum_by, sum_by-cons, sum_by-insert, sum_by-remove, sum_by-set}
 use Rattle.roots.specs.Entry.{EntryHasSpelling}
 use Rattle.store.specs.declared.placed_entry.PlacedEntry.{PlacedEntry}
-use Rattle.store.specs.declared.held_versions.HeldRow.{HeldRow}
-use Rattle.store.specs.HeldVersions.{HaveOwnRows, own_sectors, lone_sectors, holders_of, IsHeldBy}
+use Rattle.store.specs.declared.holds.HeldRow.{HeldRow}
+use Rattle.store.specs.Holds.{HaveOwnRows, own_sectors, lone_sectors, holders_of, IsHeldBy}
 use Rattle.store.specs.Stands.{sectors_of}
 use Rattle.store.specs.inside.NameIndex.{closed_up}
 use Rattle.store.specs.inside.HeldRows.{IsUnheld, IsAtPlace, IsHeldOnce, IsHeldMore, IsLeft, IsHeldLess, IsLetGo, IsHeldRow, AreHeldRows, with_holders, unlisted, first_row}
@@ -49,10 +49,10 @@ own_set held place row same own i j d less fits = λ equal.
 -- The rows of a store.
 module _ {entries : List PlacedEntry} {old : List HeldRow} (are : AreHeldRows entries old) where
   -- the row of a sector
-  pub row_of : {sector place : ℕ} {version : HeldRow} → IsAtPlace old sector place version → IsHeldRow entries version
+  pub row_of : {sector place : ℕ} {hold : HeldRow} → IsAtPlace old sector place hold → IsHeldRow entries hold
   row_of {place = place} at = subst (IsHeldRow entries) (at.is no_row) (are.each place no_row at.inside)
 
-  -- a listed version is held for the first time
+  -- a listed byte string is held for the first time
   pub held_once : {new : List HeldRow} → {placed : PlacedEntry} → IsHeldOnce old new placed → EntryHasSpelling placed.entry → Contains entries placed → AreHeldRows entries new
   held_once {placed = placed} once fits listed =
       let row = first_row placed in
@@ -63,23 +63,23 @@ module _ {entries : List PlacedEntry} {old : List HeldRow} (are : AreHeldRows en
             (λ k d behind lt same. once.absent k d lt (sym same));
       })
 
-  -- the same version with another count
-  counted : {sector place : ℕ} {version : HeldRow} (holders : ℕ) → 0 < holders → IsAtPlace old sector place version → AreHeldRows entries (set old place (with_holders holders version))
-  counted {place = place} {version = version} holders some at =
+  -- the same row with another count
+  counted : {sector place : ℕ} {hold : HeldRow} (holders : ℕ) → 0 < holders → IsAtPlace old sector place hold → AreHeldRows entries (set old place (with_holders holders hold))
+  counted {place = place} {hold = hold} holders some at =
       let was = row_of at in
-      let row = with_holders holders version in record {
+      let row = with_holders holders hold in record {
         each = All-set (IsHeldRow entries) old place row (record { fits = was.fits; some = some; listed = was.listed }) are.each;
         own = own_set old place row (λ d. ap (λ (h : HeldRow). h.placed.at) (sym (at.is d))) are.own;
       }
 
   pub held_more : {new : List HeldRow} → {sector : ℕ} → IsHeldMore old new sector → AreHeldRows entries new
-  held_more more = subst (AreHeldRows entries) (sym more.is) (counted (more.version.holders + 1) (omega arith) more.at)
+  held_more more = subst (AreHeldRows entries) (sym more.is) (counted (more.hold.holders + 1) (omega arith) more.at)
 
   pub held_less : {new : List HeldRow} → {sector : ℕ} → IsHeldLess old new sector → AreHeldRows entries new
   held_less less = subst (AreHeldRows entries) (sym less.is) (counted less.holders less.some less.at)
 
-  -- the last holder lets a version go
-  pub held_gone : {new : List HeldRow} → {sector : ℕ} {version : HeldRow} → IsLetGo old new sector version → AreHeldRows entries new
+  -- the last holder lets a byte string go
+  pub held_gone : {new : List HeldRow} → {sector : ℕ} {hold : HeldRow} → IsLetGo old new sector hold → AreHeldRows entries new
   held_gone gone = subst (AreHeldRows entries) (sym gone.is) (record {
     each = all_remove (IsHeldRow entries) old gone.place are.each;
     own = all_pairs_remove (λ (a b : HeldRow). a.placed.at ≢ b.placed.at) old gone.place gone.at.inside are.own;
@@ -91,7 +91,7 @@ module _ {entries : List PlacedEntry} {old : List HeldRow} (are : AreHeldRows en
     pub held_left : {new : List HeldRow} → {at : ℕ} → IsLeft old new at → ((h : HeldRow) → IsHeldRow entries h → h.placed.at ≢ at → IsHeldRow others h) → AreHeldRows others new
     held_left left moves =
         let was = row_of left.at in
-        let row = unlisted left.version in
+        let row = unlisted left.hold in
         let sector = λ (h : HeldRow). h.placed.at in
         subst (AreHeldRows others) (sym left.is) (record {
           each = λ k d lt.
@@ -119,27 +119,27 @@ sum_once : (f : HeldRow → ℕ) {old new : List HeldRow} {placed : PlacedEntry}
 sum_once f {old = old} {placed = placed} once = omega (arith, ap (sum_by f) once.is, sum_by-insert f old once.place (first_row placed))
 
 -- another row in a place,
-sum_set : (f : HeldRow → ℕ) {old : List HeldRow} {sector place : ℕ} {version : HeldRow} → IsAtPlace old sector place version → (row : HeldRow)
-    → sum_by f (set old place row) + f version ≡ sum_by f old + f row
+sum_set : (f : HeldRow → ℕ) {old : List HeldRow} {sector place : ℕ} {hold : HeldRow} → IsAtPlace old sector place hold → (row : HeldRow)
+    → sum_by f (set old place row) + f hold ≡ sum_by f old + f row
 sum_set f {old = old} {place = place} at row = omega (arith, ap f (at.is no_row), sum_by-set f old place row no_row at.inside)
 
 -- and one row less.
-sum_gone : (f : HeldRow → ℕ) {old new : List HeldRow} {sector : ℕ} {version : HeldRow} → IsLetGo old new sector version → sum_by f new + f version ≡ sum_by f old
+sum_gone : (f : HeldRow → ℕ) {old new : List HeldRow} {sector : ℕ} {hold : HeldRow} → IsLetGo old new sector hold → sum_by f new + f hold ≡ sum_by f old
 sum_gone f {old = old} gone = omega (arith, ap (sum_by f) gone.is, sum_by-remove f old gone.place no_row gone.at.inside, ap f (gone.at.is no_row))
 
--- a row keeps all sectors of its version where the state doesn't list it, and else none
-own_all : (version : HeldRow) → version.listed ≡ false → own_sectors version ≡ sectors_of version.placed
-own_all version is = ap (λ b. if b then [] else sectors_of version.placed) is
+-- a row keeps all sectors of its byte string where the state doesn't list it, and else none
+own_all : (hold : HeldRow) → hold.listed ≡ false → own_sectors hold ≡ sectors_of hold.placed
+own_all hold is = ap (λ b. if b then [] else sectors_of hold.placed) is
 
-own_none : (version : HeldRow) → version.listed ≡ true → own_sectors version ≡ []
-own_none version is = ap (λ b. if b then [] else sectors_of version.placed) is
+own_none : (hold : HeldRow) → hold.listed ≡ true → own_sectors hold ≡ []
+own_none hold is = ap (λ b. if b then [] else sectors_of hold.placed) is
 
 flat_map-set_same : {X : Type 0} (f : X → List ℕ) (xs : List X) (i : ℕ) (x d : X) → f x ≡ f (get_or xs i d) → flat_map f (set xs i x) ≡ flat_map f xs
 flat_map-set_same f [] i x d same = refl
 flat_map-set_same f (y ∷ xs) zero x d same = ap (λ l. l ++ flat_map f xs) same
 flat_map-set_same f (y ∷ xs) (suc i) x d same = ap (λ l. f y ++ l) (flat_map-set_same f xs i x d same)
 
--- The first holder of a version keeps no sectors, since the state lists it,
+-- The first holder of a byte string keeps no sectors, since the state lists it,
 pub lone_once : {old new : List HeldRow} {placed : PlacedEntry} → IsHeldOnce old new placed → lone_sectors new ≡ lone_sectors old
 lone_once {old = old} {placed = placed} once =
     let before = take once.place old in
@@ -147,73 +147,73 @@ lone_once {old = old} {placed = placed} once =
     ap lone_sectors once.is ∙ flat_map-append own_sectors before (first_row placed ∷ behind) ∙ sym (flat_map-append own_sectors before behind) ∙ ap lone_sectors (take-append-drop once.place old)
 
 -- and how many hold it changes none.
-lone_counted : {old : List HeldRow} {sector place : ℕ} {version : HeldRow} (holders : ℕ) → IsAtPlace old sector place version
-    → lone_sectors (set old place (with_holders holders version)) ≡ lone_sectors old
-lone_counted {old = old} {place = place} {version = version} holders at = flat_map-set_same own_sectors old place (with_holders holders version) no_row (ap own_sectors (sym (at.is no_row)))
+lone_counted : {old : List HeldRow} {sector place : ℕ} {hold : HeldRow} (holders : ℕ) → IsAtPlace old sector place hold
+    → lone_sectors (set old place (with_holders holders hold)) ≡ lone_sectors old
+lone_counted {old = old} {place = place} {hold = hold} holders at = flat_map-set_same own_sectors old place (with_holders holders hold) no_row (ap own_sectors (sym (at.is no_row)))
 
 pub lone_more : {old new : List HeldRow} {sector : ℕ} → IsHeldMore old new sector → lone_sectors new ≡ lone_sectors old
-lone_more more = ap lone_sectors more.is ∙ lone_counted (more.version.holders + 1) more.at
+lone_more more = ap lone_sectors more.is ∙ lone_counted (more.hold.holders + 1) more.at
 
 pub lone_less : {old new : List HeldRow} {sector : ℕ} → IsHeldLess old new sector → lone_sectors new ≡ lone_sectors old
 lone_less less = ap lone_sectors less.is ∙ lone_counted less.holders less.at
 
 -- What counts sectors, one by one:
-module _ (f : List ℕ → ℕ) (none : f [] ≡ 0) (adds : (held : List HeldRow) → f (lone_sectors held) ≡ sum_by (λ version. f (own_sectors version)) held) where
-  left_adds : {old new : List HeldRow} {sector : ℕ} (left : IsLeft old new sector) → left.version.listed ≡ true → f (lone_sectors new) ≡ f (lone_sectors old) + f (sectors_of left.version.placed)
+module _ (f : List ℕ → ℕ) (none : f [] ≡ 0) (adds : (held : List HeldRow) → f (lone_sectors held) ≡ sum_by (λ hold. f (own_sectors hold)) held) where
+  left_adds : {old new : List HeldRow} {sector : ℕ} (left : IsLeft old new sector) → left.hold.listed ≡ true → f (lone_sectors new) ≡ f (lone_sectors old) + f (sectors_of left.hold.placed)
   left_adds {old = old} {new = new} left listed =
-      let g = λ (version : HeldRow). f (own_sectors version) in
-      omega (arith, none, adds old, adds new, ap (sum_by g) left.is, sum_set g left.at (unlisted left.version), ap f (own_none left.version listed))
+      let g = λ (hold : HeldRow). f (own_sectors hold) in
+      omega (arith, none, adds old, adds new, ap (sum_by g) left.is, sum_set g left.at (unlisted left.hold), ap f (own_none left.hold listed))
 
-  gone_takes : {old new : List HeldRow} {sector : ℕ} {version : HeldRow} → IsLetGo old new sector version → version.listed ≡ false
-      → f (lone_sectors new) + f (sectors_of version.placed) ≡ f (lone_sectors old)
-  gone_takes {old = old} {new = new} {version = version} gone listed =
-      omega (arith, adds old, adds new, sum_gone (λ (row : HeldRow). f (own_sectors row)) gone, ap f (own_all version listed))
+  gone_takes : {old new : List HeldRow} {sector : ℕ} {hold : HeldRow} → IsLetGo old new sector hold → hold.listed ≡ false
+      → f (lone_sectors new) + f (sectors_of hold.placed) ≡ f (lone_sectors old)
+  gone_takes {old = old} {new = new} {hold = hold} gone listed =
+      omega (arith, adds old, adds new, sum_gone (λ (row : HeldRow). f (own_sectors row)) gone, ap f (own_all hold listed))
 
-  gone_leaves : {old new : List HeldRow} {sector : ℕ} {version : HeldRow} → IsLetGo old new sector version → version.listed ≡ true → f (lone_sectors new) ≡ f (lone_sectors old)
-  gone_leaves {old = old} {new = new} {version = version} gone listed =
-      omega (arith, none, adds old, adds new, sum_gone (λ (row : HeldRow). f (own_sectors row)) gone, ap f (own_none version listed))
+  gone_leaves : {old new : List HeldRow} {sector : ℕ} {hold : HeldRow} → IsLetGo old new sector hold → hold.listed ≡ true → f (lone_sectors new) ≡ f (lone_sectors old)
+  gone_leaves {old = old} {new = new} {hold = hold} gone listed =
+      omega (arith, none, adds old, adds new, sum_gone (λ (row : HeldRow). f (own_sectors row)) gone, ap f (own_none hold listed))
 
--- once the state lists a version no longer, its holders keep its sectors,
-pub left_occurs : {old new : List HeldRow} {sector : ℕ} (left : IsLeft old new sector) → left.version.listed ≡ true → (k : ℕ)
-    → occurs k (lone_sectors new) ≡ occurs k (lone_sectors old) + occurs k (sectors_of left.version.placed)
+-- once the state lists a byte string no longer, its holders keep its sectors,
+pub left_occurs : {old new : List HeldRow} {sector : ℕ} (left : IsLeft old new sector) → left.hold.listed ≡ true → (k : ℕ)
+    → occurs k (lone_sectors new) ≡ occurs k (lone_sectors old) + occurs k (sectors_of left.hold.placed)
 left_occurs left listed k = left_adds (occurs k) refl (occurs-flat_map k own_sectors) left listed
 
-pub left_length : {old new : List HeldRow} {sector : ℕ} (left : IsLeft old new sector) → left.version.listed ≡ true
-    → length (lone_sectors new) ≡ length (lone_sectors old) + length (sectors_of left.version.placed)
+pub left_length : {old new : List HeldRow} {sector : ℕ} (left : IsLeft old new sector) → left.hold.listed ≡ true
+    → length (lone_sectors new) ≡ length (lone_sectors old) + length (sectors_of left.hold.placed)
 left_length left listed = left_adds length refl (length-flat_map own_sectors) left listed
 
 -- until the last of them lets it go.
-pub gone_occurs : {old new : List HeldRow} {sector : ℕ} {version : HeldRow} → IsLetGo old new sector version → version.listed ≡ false → (k : ℕ)
-    → occurs k (lone_sectors new) + occurs k (sectors_of version.placed) ≡ occurs k (lone_sectors old)
+pub gone_occurs : {old new : List HeldRow} {sector : ℕ} {hold : HeldRow} → IsLetGo old new sector hold → hold.listed ≡ false → (k : ℕ)
+    → occurs k (lone_sectors new) + occurs k (sectors_of hold.placed) ≡ occurs k (lone_sectors old)
 gone_occurs gone listed k = gone_takes (occurs k) refl (occurs-flat_map k own_sectors) gone listed
 
-pub gone_length : {old new : List HeldRow} {sector : ℕ} {version : HeldRow} → IsLetGo old new sector version → version.listed ≡ false
-    → length (lone_sectors new) + length (sectors_of version.placed) ≡ length (lone_sectors old)
+pub gone_length : {old new : List HeldRow} {sector : ℕ} {hold : HeldRow} → IsLetGo old new sector hold → hold.listed ≡ false
+    → length (lone_sectors new) + length (sectors_of hold.placed) ≡ length (lone_sectors old)
 gone_length gone listed = gone_takes length refl (length-flat_map own_sectors) gone listed
 
 -- One that the state lists goes with no sector.
-pub gone_listed_occurs : {old new : List HeldRow} {sector : ℕ} {version : HeldRow} → IsLetGo old new sector version → version.listed ≡ true → (k : ℕ)
+pub gone_listed_occurs : {old new : List HeldRow} {sector : ℕ} {hold : HeldRow} → IsLetGo old new sector hold → hold.listed ≡ true → (k : ℕ)
     → occurs k (lone_sectors new) ≡ occurs k (lone_sectors old)
 gone_listed_occurs gone listed k = gone_leaves (occurs k) refl (occurs-flat_map k own_sectors) gone listed
 
-pub gone_listed_length : {old new : List HeldRow} {sector : ℕ} {version : HeldRow} → IsLetGo old new sector version → version.listed ≡ true → length (lone_sectors new) ≡ length (lone_sectors old)
+pub gone_listed_length : {old new : List HeldRow} {sector : ℕ} {hold : HeldRow} → IsLetGo old new sector hold → hold.listed ≡ true → length (lone_sectors new) ≡ length (lone_sectors old)
 gone_listed_length gone listed = gone_leaves length refl (length-flat_map own_sectors) gone listed
 
--- by a row alone, how many hold the version with this entry sector
+-- by a row alone, how many hold the byte string with this entry sector
 abbrev holders_at : ℕ → HeldRow → ℕ
-holders_at sector version = if version.placed.at == sector then version.holders else 0
+holders_at sector hold = if hold.placed.at == sector then hold.holders else 0
 
 one_more : (b : Bool) (n : ℕ) → (if b then n + 1 else 0) ≡ (if b then n else 0) + (if b then 1 else 0)
 one_more true n = refl
 one_more false n = refl
 
--- How many hold a version: one more where it is held once more,
+-- How many hold a byte string: one more where it is held once more,
 pub holders_once : {old new : List HeldRow} {placed : PlacedEntry} → IsHeldOnce old new placed → (sector : ℕ) → holders_of new sector ≡ holders_of old sector + (if placed.at == sector then 1 else 0)
 holders_once once sector = sum_once (holders_at sector) once
 
 pub holders_more : {old new : List HeldRow} {at : ℕ} → IsHeldMore old new at → (sector : ℕ) → holders_of new sector ≡ holders_of old sector + (if at == sector then 1 else 0)
 holders_more {old = old} {at = at} more sector =
-    let row = more.version in
+    let row = more.hold in
     omega (
       arith,
       ap (λ l. holders_of l sector) more.is,
@@ -225,12 +225,12 @@ holders_more {old = old} {at = at} more sector =
 -- as many once the state lists it no longer,
 pub holders_left : {old new : List HeldRow} {at : ℕ} → IsLeft old new at → (sector : ℕ) → holders_of new sector ≡ holders_of old sector
 holders_left left sector =
-    omega (arith, ap (λ l. holders_of l sector) left.is, sum_set (holders_at sector) left.at (unlisted left.version))
+    omega (arith, ap (λ l. holders_of l sector) left.is, sum_set (holders_at sector) left.at (unlisted left.hold))
 
 -- one less where one lets it go,
 pub holders_less : {old new : List HeldRow} {at : ℕ} → IsHeldLess old new at → (sector : ℕ) → holders_of old sector ≡ holders_of new sector + (if at == sector then 1 else 0)
 holders_less less sector =
-    let row = less.version in
+    let row = less.hold in
     omega (
       arith,
       ap (λ l. holders_of l sector) less.is,
@@ -241,14 +241,14 @@ holders_less less sector =
     )
 
 -- also where it is the last,
-pub holders_gone : {entries : List PlacedEntry} {old new : List HeldRow} {at : ℕ} {version : HeldRow} → AreHeldRows entries old
-    → IsLetGo old new at version → (sector : ℕ) → holders_of old sector ≡ holders_of new sector + (if at == sector then 1 else 0)
-holders_gone {version = version} are gone sector =
-    let one : version.holders ≡ 1 = omega (arith, gone.last, (row_of are gone.at).some) in
+pub holders_gone : {entries : List PlacedEntry} {old new : List HeldRow} {at : ℕ} {hold : HeldRow} → AreHeldRows entries old
+    → IsLetGo old new at hold → (sector : ℕ) → holders_of old sector ≡ holders_of new sector + (if at == sector then 1 else 0)
+holders_gone {hold = hold} are gone sector =
+    let one : hold.holders ≡ 1 = omega (arith, gone.last, (row_of are gone.at).some) in
     omega (
       arith,
       sum_gone (holders_at sector) gone,
-      ap (λ n. if version.placed.at == sector then n else 0) one,
+      ap (λ n. if hold.placed.at == sector then n else 0) one,
       ap {B = ℕ} (λ k. if k == sector then 1 else 0) gone.at.its,
     )
 
@@ -264,8 +264,8 @@ holders_unheld (row ∷ held) sector absent =
       holders_unheld held sector (λ k d lt. absent (suc k) d (omega (arith, lt))),
     )
 
--- The entry of a held version stands in its row,
-pub by_place : {held : List HeldRow} {sector place : ℕ} {version : HeldRow} → IsAtPlace held sector place version → IsHeldBy held sector version.placed
+-- The entry of a held byte string stands in its row,
+pub by_place : {held : List HeldRow} {sector place : ℕ} {hold : HeldRow} → IsAtPlace held sector place hold → IsHeldBy held sector hold.placed
 by_place {place = place} at = record { place = place; inside = at.inside; is = λ d. ap (λ (h : HeldRow). h.placed) (at.is d); its = at.its }
 
 pub by_first : {old new : List HeldRow} {placed : PlacedEntry} → IsHeldOnce old new placed → IsHeldBy new placed.at placed
@@ -286,7 +286,7 @@ by_one {held = held} own first second =
     let is : first.place ≡ second.place = same_place held first.place second.place no_row own first.inside second.inside same in
     sym (first.is no_row) ∙ ap (λ k. (get_or held k no_row).placed) is ∙ second.is no_row
 
--- It stands there once another version is held,
+-- It stands there once another one is held,
 pub by_once : {old new : List HeldRow} {sector : ℕ} {p placed : PlacedEntry} → IsHeldOnce old new placed → IsHeldBy old sector p → IsHeldBy new sector p
 by_once {old = old} {sector = sector} {p = p} {placed = placed} once by =
     let row = first_row placed in
@@ -307,8 +307,8 @@ by_once {old = old} {sector = sector} {p = p} {placed = placed} once by =
     (cases_lt by.place once.place))
 
 -- or the row of one is written,
-by_set : {old : List HeldRow} {sector at place : ℕ} {p : PlacedEntry} {version : HeldRow} → IsAtPlace old at place version → (row : HeldRow)
-    → row.placed ≡ version.placed → IsHeldBy old sector p → IsHeldBy (set old place row) sector p
+by_set : {old : List HeldRow} {sector at place : ℕ} {p : PlacedEntry} {hold : HeldRow} → IsAtPlace old at place hold → (row : HeldRow)
+    → row.placed ≡ hold.placed → IsHeldBy old sector p → IsHeldBy (set old place row) sector p
 by_set {old = old} {place = place} at row same by =
     let entry = λ (h : HeldRow). h.placed in record {
       place = by.place;
@@ -318,21 +318,21 @@ by_set {old = old} {place = place} at row same by =
     }
 
 pub by_more : {old new : List HeldRow} {sector at : ℕ} {p : PlacedEntry} → IsHeldMore old new at → IsHeldBy old sector p → IsHeldBy new sector p
-by_more {sector = sector} {p = p} more by = subst (λ l. IsHeldBy l sector p) (sym more.is) (by_set more.at (with_holders (more.version.holders + 1) more.version) refl by)
+by_more {sector = sector} {p = p} more by = subst (λ l. IsHeldBy l sector p) (sym more.is) (by_set more.at (with_holders (more.hold.holders + 1) more.hold) refl by)
 
 pub by_left : {old new : List HeldRow} {sector at : ℕ} {p : PlacedEntry} → IsLeft old new at → IsHeldBy old sector p → IsHeldBy new sector p
-by_left {sector = sector} {p = p} left by = subst (λ l. IsHeldBy l sector p) (sym left.is) (by_set left.at (unlisted left.version) refl by)
+by_left {sector = sector} {p = p} left by = subst (λ l. IsHeldBy l sector p) (sym left.is) (by_set left.at (unlisted left.hold) refl by)
 
 pub by_less : {old new : List HeldRow} {sector at : ℕ} {p : PlacedEntry} → IsHeldLess old new at → IsHeldBy old sector p → IsHeldBy new sector p
-by_less {sector = sector} {p = p} less by = subst (λ l. IsHeldBy l sector p) (sym less.is) (by_set less.at (with_holders less.holders less.version) refl by)
+by_less {sector = sector} {p = p} less by = subst (λ l. IsHeldBy l sector p) (sym less.is) (by_set less.at (with_holders less.holders less.hold) refl by)
 
 -- or that of another one goes.
-pub by_gone_other : {old new : List HeldRow} {sector at : ℕ} {p : PlacedEntry} {version : HeldRow} → IsLetGo old new at version → sector ≢ at → IsHeldBy old sector p → IsHeldBy new sector p
-by_gone_other {old = old} {sector = sector} {at = at} {p = p} {version = version} gone apart by =
+pub by_gone_other : {old new : List HeldRow} {sector at : ℕ} {p : PlacedEntry} {hold : HeldRow} → IsLetGo old new at hold → sector ≢ at → IsHeldBy old sector p → IsHeldBy new sector p
+by_gone_other {old = old} {sector = sector} {at = at} {p = p} {hold = hold} gone apart by =
     let entry = λ (h : HeldRow). h.placed in
     let fewer = length-remove old gone.place gone.at.inside in
     let other : by.place ≢ gone.place = (λ same.
-    let is : p ≡ version.placed = sym (by.is no_row) ∙ ap (λ k. (get_or old k no_row).placed) same ∙ ap entry (gone.at.is no_row) in
+    let is : p ≡ hold.placed = sym (by.is no_row) ∙ ap (λ k. (get_or old k no_row).placed) same ∙ ap entry (gone.at.is no_row) in
     apart (sym by.its ∙ ap (λ (placed : PlacedEntry). placed.at) is ∙ gone.at.its)) in
     subst (λ l. IsHeldBy l sector p) (sym gone.is) (record {
       place = closed_up gone.place by.place;
@@ -342,22 +342,22 @@ by_gone_other {old = old} {sector = sector} {at = at} {p = p} {version = version
     })
 
 -- Where a row goes there is none of its sector,
-pub gone_unheld : {old new : List HeldRow} {at : ℕ} {version : HeldRow} → HaveOwnRows old → IsLetGo old new at version → IsUnheld new at
+pub gone_unheld : {old new : List HeldRow} {at : ℕ} {hold : HeldRow} → HaveOwnRows old → IsLetGo old new at hold → IsUnheld new at
 gone_unheld {old = old} {at = at} own gone =
     let sector = λ (h : HeldRow). h.placed.at in
     subst (λ l. IsUnheld l at) (sym gone.is) (λ k d lt same.
     let stood = stood_at old gone.place k gone.at.inside lt in
     stood.2 (same_place old stood.0 gone.place d own stood.1 gone.at.inside (ap sector (sym (stood.3 d)) ∙ same ∙ sym (ap sector (gone.at.is d) ∙ gone.at.its))))
 
--- so a version that somebody holds still has its row.
-pub by_gone : {old new : List HeldRow} {sector at : ℕ} {p : PlacedEntry} {version : HeldRow} → HaveOwnRows old → IsLetGo old new at version
+-- so a byte string that somebody holds still has its row.
+pub by_gone : {old new : List HeldRow} {sector at : ℕ} {p : PlacedEntry} {hold : HeldRow} → HaveOwnRows old → IsLetGo old new at hold
     → 0 < holders_of new sector → IsHeldBy old sector p → IsHeldBy new sector p
 by_gone {new = new} {sector = sector} {at = at} own gone some by =
     by_gone_other gone (λ same. absurd (omega (arith, some, ap (holders_of new) same, holders_unheld new at (gone_unheld own gone)))) by
 
 -- What stands in a row afterwards stood in one before.
-by_set_back : {old : List HeldRow} {sector at place : ℕ} {p : PlacedEntry} {version : HeldRow} → IsAtPlace old at place version → (row : HeldRow)
-    → row.placed ≡ version.placed → IsHeldBy (set old place row) sector p → IsHeldBy old sector p
+by_set_back : {old : List HeldRow} {sector at place : ℕ} {p : PlacedEntry} {hold : HeldRow} → IsAtPlace old at place hold → (row : HeldRow)
+    → row.placed ≡ hold.placed → IsHeldBy (set old place row) sector p → IsHeldBy old sector p
 by_set_back {old = old} {place = place} at row same by =
     let entry = λ (h : HeldRow). h.placed in record {
       place = by.place;
@@ -367,12 +367,12 @@ by_set_back {old = old} {place = place} at row same by =
     }
 
 pub by_left_back : {old new : List HeldRow} {sector at : ℕ} {p : PlacedEntry} → IsLeft old new at → IsHeldBy new sector p → IsHeldBy old sector p
-by_left_back {sector = sector} {p = p} left by = by_set_back left.at (unlisted left.version) refl (subst (λ l. IsHeldBy l sector p) left.is by)
+by_left_back {sector = sector} {p = p} left by = by_set_back left.at (unlisted left.hold) refl (subst (λ l. IsHeldBy l sector p) left.is by)
 
 pub by_less_back : {old new : List HeldRow} {sector at : ℕ} {p : PlacedEntry} → IsHeldLess old new at → IsHeldBy new sector p → IsHeldBy old sector p
-by_less_back {sector = sector} {p = p} less by = by_set_back less.at (with_holders less.holders less.version) refl (subst (λ l. IsHeldBy l sector p) less.is by)
+by_less_back {sector = sector} {p = p} less by = by_set_back less.at (with_holders less.holders less.hold) refl (subst (λ l. IsHeldBy l sector p) less.is by)
 
-pub by_gone_back : {old new : List HeldRow} {sector at : ℕ} {p : PlacedEntry} {version : HeldRow} → IsLetGo old new at version → IsHeldBy new sector p → IsHeldBy old sector p
+pub by_gone_back : {old new : List HeldRow} {sector at : ℕ} {p : PlacedEntry} {hold : HeldRow} → IsLetGo old new at hold → IsHeldBy new sector p → IsHeldBy old sector p
 by_gone_back {old = old} {sector = sector} {p = p} gone by_new =
     let by = subst (λ l. IsHeldBy l sector p) gone.is by_new in
     let stood = stood_at old gone.place by.place gone.at.inside by.inside in record {

@@ -1,4 +1,4 @@
--- What calls keep of held versions.
+-- What calls keep of held byte strings.
 use Rattle.std.proofs.Common.{◌≡◌, ⊎_elim, ℕ, Bool, List, [], ◌∷◌, length, get_or, take, IsTrue, refl, sym, ap, subst, ◌∙◌, arith}
 use Rattle.std.specs.Prelude.{Contains, if◌then◌else◌}
 use Rattle.std.proofs.lemmas.Bool.{cases_Bool}
@@ -10,9 +10,9 @@ use Rattle.passes.proofs.Runs.{bytes_at_same}
 use Rattle.roots.specs.declared.root.Root.{Root}
 use Rattle.states.specs.State.{Library}
 use Rattle.store.specs.declared.placed_entry.PlacedEntry.{PlacedEntry}
-use Rattle.store.specs.declared.held_versions.HeldRow.{HeldRow}
+use Rattle.store.specs.declared.holds.HeldRow.{HeldRow}
 use Rattle.store.specs.Stands.{extents_of, library_of, name_of, sectors_of, used}
-use Rattle.store.specs.HeldVersions.{in_use, lone_sectors, own_sectors, IsHeldBy, KeepsHolders}
+use Rattle.store.specs.Holds.{in_use, lone_sectors, own_sectors, IsHeldBy, KeepsHolders}
 use Rattle.store.specs.Opened.{Opened}
 use Rattle.store.specs.inside.Claimed.{IsUsable}
 use Rattle.store.specs.inside.HeldRows.{IsLeft}
@@ -39,7 +39,7 @@ apart_from {root = root} {entries = entries} {held = held} kept changed apart k 
     either
 
 module _ {root : Root} {entries : List PlacedEntry} {held : List HeldRow} {layout : List Bool} (kept : IsKept root entries held layout) where
-  -- The sectors of a held version are in use, by the state or by its holders.
+  -- The sectors of a held byte string are in use, by the state or by its holders.
   pub held_in_use : {at : ℕ} {placed : PlacedEntry} → IsHeldBy held at placed → (k : ℕ) → Contains (sectors_of placed) k → Contains (in_use root entries held) k
   held_in_use {placed = placed} by k found = ⊎_elim
       (λ listed.
@@ -73,7 +73,7 @@ module _ {root : Root} {entries : List PlacedEntry} {held : List HeldRow} {layou
     keeps_table = record {
       holders = λ sector. refl;
       bytes = λ honest at library is. record { placed = is.placed; by = is.by; stands = held_bytes honest is.by library is.stands };
-      versions = λ at placed. (λ by. by, λ by. by);
+      holds = λ at placed. (λ by. by, λ by. by);
       none = λ none. none;
     }
 
@@ -81,17 +81,17 @@ module _ {root : Root} {entries : List PlacedEntry} {held : List HeldRow} {layou
     pub keeps_rows : {new : List HeldRow} → KeepsRows held new → KeepsHolders before after held new
     keeps_rows rows = record {
       holders = rows.holders;
-      bytes = λ honest at library is. record { placed = is.placed; by = (rows.versions at is.placed).0 is.by; stands = held_bytes honest is.by library is.stands };
-      versions = rows.versions;
+      bytes = λ honest at library is. record { placed = is.placed; by = (rows.holds at is.placed).0 is.by; stands = held_bytes honest is.by library is.stands };
+      holds = rows.holds;
       none = rows.none;
     }
 
-    -- and so does one after which the state lists a version no longer.
+    -- and so does one after which the state lists a byte string no longer.
     pub keeps_left : {new : List HeldRow} → {at : ℕ} → IsLeft held new at → KeepsHolders before after held new
     keeps_left {new = new} left = record {
       holders = holders_left left;
       bytes = λ honest at library is. record { placed = is.placed; by = by_left left is.by; stands = held_bytes honest is.by library is.stands };
-      versions = λ at placed. (λ by. by_left left by, λ by. by_left_back left by);
+      holds = λ at placed. (λ by. by_left left by, λ by. by_left_back left by);
       none = λ none. absurd (omega (arith, left.at.inside, ap length none));
     }
 
@@ -100,7 +100,7 @@ pub keeps_reads : {before after : DiskFacts} (held : List HeldRow) → (IsTrue b
 keeps_reads held still = record {
   holders = λ sector. refl;
   bytes = λ honest sector library is. record { placed = is.placed; by = is.by; stands = λ m mixture. is.stands m (still honest m mixture) };
-  versions = λ at placed. (λ by. by, λ by. by);
+  holds = λ at placed. (λ by. by, λ by. by);
   none = λ none. none;
 }
 

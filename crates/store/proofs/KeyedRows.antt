@@ -1,4 +1,4 @@
--- The rows of the table of held versions, as the map keeps them under the sectors of their entries.
+-- The rows of the table of held byte strings, as the map keeps them under the sectors of their entries.
 use Rattle.std.proofs.Common.{◌≡◌, ◌≢◌, ⊎_elim, ℕ, suc, ◌<◌, ◌≤◌, Bool, false, is_some, unwrap_or, IsSome, Option, None, Some, List, [], ◌∷◌, length}
 use Rattle.std.proofs.Common.{get_or, set, map, refl, sym, ap, subst, ◌∙◌, arith}
 use Rattle.std.specs.List.{insert, remove}
@@ -14,7 +14,7 @@ use Rattle.std.proofs.lemmas.List.{get_or-map, length-map, map-set}
 use Rattle.std.proofs.lemmas.Map.{keys-set_value, none_passes_from_lookup, NonePasses}
 use Rattle.std.proofs.lemmas.Map.Lookups.{exact_unsigned}
 use Rattle.std.proofs.lemmas.Map.Views.{All-keys_from_lookup, tells_apart}
-use Rattle.store.specs.declared.held_versions.HeldRow.{HeldRow}
+use Rattle.store.specs.declared.holds.HeldRow.{HeldRow}
 use Rattle.store.specs.inside.HeldRows.{IsUnheld, IsAtPlace}
 use Rattle.store.proofs.Inserted.{map_insert}
 use Rattle.store.proofs.Removed.{drop_none, map_remove}

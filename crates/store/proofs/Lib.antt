@@ -29,12 +29,12 @@ pub mod EntryReads
 pub mod First
 pub mod Following
 pub mod Founds
-pub mod FreeSpaces
+pub mod UnusedSpaces
 pub mod Frees
 pub mod Given
 pub mod GivenUp
 pub mod HeldRows
-pub mod HeldVersions
+pub mod Holding
 pub mod Inserted
 pub mod IsReadLemmas
 pub mod KeepsHolders

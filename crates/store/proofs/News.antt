@@ -12,7 +12,7 @@ use Rattle.extents.specs.declared.extent.Extent.{Extent}
 use Rattle.extents.specs.declared.refusal.TakeRefusal.{TakeRefusal}
 use Rattle.extents.specs.declared.refusal.TakeRefusal.TheVariants as take
 use Rattle.extents.specs.Extent.{places, sector_count, IsApart}
-use Rattle.extents.specs.Layout.{free_count}
+use Rattle.extents.specs.Layout.{unused_count}
 use Rattle.passes.specs.Bytes.{IsOnDisk, bytes_at, padded}
 use Rattle.roots.specs.declared.root.Root.{Root}
 use Rattle.roots.specs.declared.version.Version.TheVariants.{Two}
@@ -26,8 +26,8 @@ use Rattle.states.specs.State.{Library, State}
 use Rattle.store.specs.declared.placed_entry.PlacedEntry.{PlacedEntry}
 use Rattle.store.specs.Stands.{HasRoom, HaveOwnNames, catalogues_of, entry_sectors, name_of, extents_of, sectors_of, used, library_of, no_library, names_at}
 use Rattle.store.specs.inside.Claimed.{IsClaimedBeside, IsUsable}
-use Rattle.store.specs.declared.held_versions.HeldRow.{HeldRow}
-use Rattle.store.specs.HeldVersions.{lone_sectors}
+use Rattle.store.specs.declared.holds.HeldRow.{HeldRow}
+use Rattle.store.specs.Holds.{lone_sectors}
 use Rattle.store.specs.inside.Kept.{IsKept}
 use Rattle.store.specs.declared.change.Staged.TheVariants.{Put}
 use Rattle.store.specs.declared.edit.Edit.TheVariants.{Behind}
@@ -53,7 +53,7 @@ pub record IsNew (root : Root) (entries : List PlacedEntry) (held : List HeldRow
   pub few : length entries < most_libraries
   pub later : root.generation + 1 < 2 ^ 64
   pub enough : length catalogues ≡ catalogues_for (length entries + 1)
-  pub room : cost put.entry.file_length + length catalogues + (length catalogues - length (catalogues_of root)) ≤ free_count old
+  pub room : cost put.entry.file_length + length catalogues + (length catalogues - length (catalogues_of root)) ≤ unused_count old
   pub is_next : next ≡ next_root root (length entries + 1) catalogues (listed_preloads root)
 
 -- where room was given there was as much of it free

@@ -14,7 +14,7 @@ use Rattle.roots.specs.declared.version.Version.{Version}
 use Rattle.states.specs.Cost.{catalogue_cost, cost, free}
 use Rattle.states.specs.Limits.{most_libraries, last_generation}
 use Rattle.states.specs.State.{State}
-use Rattle.store.specs.declared.held_versions.HeldRow.{HeldRow}
+use Rattle.store.specs.declared.holds.HeldRow.{HeldRow}
 use Rattle.store.specs.declared.placed_entry.PlacedEntry.{PlacedEntry}
 use Rattle.store.specs.declared.refusal.StoreRefusal.{StoreRefusal}
 use Rattle.store.specs.declared.refusal.StoreRefusal.TheVariants.{Device, Reopen, Full, Fragmented, TooMany, GenerationEnd, OutOfMemory}
@@ -22,7 +22,7 @@ use Rattle.store.specs.Changed.{Changed}
 use Rattle.store.specs.Opened.{Opened, IsAtBy}
 use Rattle.store.specs.Step.{refusal_of_change, refusal_of_put, refusal_of_new, refusal_of_upgrade, refusal_of_take}
 use Rattle.store.specs.Step.{IsAnswer, IsExactAnswer, IsRefusalOfPutOver, IsRefusalOfPutNew}
-use Rattle.store.proofs.HeldVersions.{err_is}
+use Rattle.store.proofs.Holding.{err_is}
 use Rattle.store.specs.inside.Stored.{IsCounted}
 use Rattle.store.proofs.Frees.{if_no, if_yes, new_as_put, change_refused, generation_of}
 

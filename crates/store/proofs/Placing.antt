@@ -3,17 +3,17 @@ use Rattle.std.proofs.Common.{◌≡◌, ⊎_elim, inl, inr, ℕ, ◌<◌, Bool,
 use Rattle.std.proofs.lemmas.List.FromFn.{length-map-range_with_len}
 use Rattle.extents.specs.declared.extent.Extent.{Extent}
 use Rattle.extents.specs.Extent.{one_sector, places}
-use Rattle.extents.specs.Layout.{IsFree, IsInside, IsLowestFree, with_flag, with_flags}
+use Rattle.extents.specs.Layout.{IsUnused, IsInside, IsLowestUnused, with_flag, with_flags}
 use Rattle.extents.specs.Used.{layout_of, ClaimsJust, ClaimsSame}
-use Rattle.extents.proofs.LayoutLemmas.{claimed-claim, free-inside, length-with_flag, length-with_flags}
-use Rattle.extents.proofs.UsedLemmas.{claims-take, layout_of-claims, same-from_used, taken-same, free-same}
+use Rattle.extents.proofs.LayoutLemmas.{claimed-claim, unused-inside, length-with_flag, length-with_flags}
+use Rattle.extents.proofs.UsedLemmas.{claims-take, layout_of-claims, same-from_used, taken-same, unused-same}
 use Rattle.passes.specs.Bytes.{IsOnDisk}
 use Rattle.roots.specs.declared.root.Root.{Root}
 use Rattle.roots.specs.Entry.{IsDataExtent}
 use Rattle.store.specs.declared.placed_entry.PlacedEntry.{PlacedEntry}
 use Rattle.store.specs.Taken.{AreTaken, IsTaken}
-use Rattle.store.specs.declared.held_versions.HeldRow.{HeldRow}
-use Rattle.store.specs.HeldVersions.{in_use}
+use Rattle.store.specs.declared.holds.HeldRow.{HeldRow}
+use Rattle.store.specs.Holds.{in_use}
 use Rattle.store.specs.inside.Kept.{IsKept}
 use Rattle.store.proofs.Anew.{all_usable}
 
@@ -21,13 +21,13 @@ back : {a b : List Bool} → ClaimsSame a b → ClaimsSame b a
 back same = record { size = sym same.size; each = λ s. ((same.each s).1, (same.each s).0) }
 
 -- Layouts with the same claimed sectors have the same lowest free one,
-lowest_same : (a b : List Bool) (at : ℕ) → ClaimsSame a b → IsLowestFree a at → IsLowestFree b at
-lowest_same a b at same lowest = (free-same a b at same lowest.0, λ lower lt free. lowest.1 lower lt (free-same b a lower (back same) free))
+lowest_same : (a b : List Bool) (at : ℕ) → ClaimsSame a b → IsLowestUnused a at → IsLowestUnused b at
+lowest_same a b at same lowest = (unused-same a b at same lowest.0, λ lower lt free. lowest.1 lower lt (unused-same b a lower (back same) free))
 
 -- are still the same once it is claimed in both,
-same_more : (a b : List Bool) (at : ℕ) → ClaimsSame a b → IsFree a at → ClaimsSame (with_flag true (one_sector at) a) (with_flag true (one_sector at) b)
+same_more : (a b : List Bool) (at : ℕ) → ClaimsSame a b → IsUnused a at → ClaimsSame (with_flag true (one_sector at) a) (with_flag true (one_sector at) b)
 same_more a b at same free =
-    let lt : at < length a = (free-inside a at free).1 in
+    let lt : at < length a = (unused-inside a at free).1 in
     let in_a : IsInside a (one_sector at) = (omega arith, free.0, omega (arith, lt)) in
     let in_b : IsInside b (one_sector at) = (omega arith, free.0, omega (arith, lt, same.size)) in
     record {

@@ -19,15 +19,15 @@ use Rattle.store.specs.declared.edit.Edit.TheVariants as edit
 use Rattle.store.specs.declared.kept.Kept.{Kept}
 use Rattle.store.specs.declared.prepared.Prepared.{Prepared}
 use Rattle.store.specs.declared.placed_entry.PlacedEntry.{PlacedEntry}
-use Rattle.store.specs.declared.held_versions.HeldRow.{HeldRow}
+use Rattle.store.specs.declared.holds.HeldRow.{HeldRow}
 use Rattle.store.specs.declared.refusal.StoreRefusal.{StoreRefusal}
 use Rattle.store.specs.declared.refusal.StoreRefusal.TheVariants.{Device, Reopen, TooMany, GenerationEnd}
 use Rattle.store.specs.Changed.{Changed}
-use Rattle.store.specs.HeldVersions.{KeepsHolders, layout_in_use, lone_sectors, room_of}
+use Rattle.store.specs.Holds.{KeepsHolders, layout_in_use, lone_sectors, room_of}
 use Rattle.store.specs.Opened.{Opened, IsAt}
 use Rattle.store.specs.Stands.{Stands, catalogues_of, entry_sectors, extents_of}
 use Rattle.store.specs.Taken.{HaveBytes, IsTaken}
-use Rattle.store.specs.Step.{IsAnswer, IsExactAnswer, longest_free}
+use Rattle.store.specs.Step.{IsAnswer, IsExactAnswer, longest_unused}
 use Rattle.store.specs.inside.Change.{CanBeStaged, HasBytes, HasSpelling, IsFollowed, staged_sectors}
 use Rattle.store.specs.inside.Edit.{IsSettled, IsWithin, edited, edited_by}
 use Rattle.store.specs.inside.Kept.{IsKept}
@@ -37,7 +37,7 @@ use Rattle.store.specs.inside.Stored.{IsStored, ShowsSame, longest_in, opened, s
 use Rattle.store.proofs.Anew.{more_free, moved_claimed, moved_size}
 use Rattle.store.proofs.Following.{following_kept}
 use Rattle.store.proofs.GivenUp.{given_claimed, given_few, given_keeps, given_rows, given_size, rows_more, still_removed, still_set}
-use Rattle.store.proofs.HeldVersions.{err_is}
+use Rattle.store.proofs.Holding.{err_is}
 use Rattle.store.proofs.KeepsHolders.{keeps_same, keeps_table}
 use Rattle.store.proofs.Outcomes.{still}
 use Rattle.store.proofs.Refusals.{end-device, end-reopen, many-device, many-reopen}
@@ -248,6 +248,6 @@ module _ {D : Type 0} (facts : D → DiskFacts) {store : Opened D} {disk : D} {k
 
   -- A first refusal by the room that the store tells is one by what is kept.
   pub first_as : (First : (sectors longest : ℕ) → Option StoreRefusal) → sector_count (longest_runs (layout_in_use (opened disk kept))) ≡ sector_count (longest_runs kept.layout)
-      → First (sectors_for kept) (longest_in kept) ≡ First (room_of store) (longest_free store)
+      → First (sectors_for kept) (longest_in kept) ≡ First (room_of store) (longest_unused store)
   first_as First longest =
-      ap (First (sectors_for kept)) (sym longest) ∙ ap (λ o. First (room_of o) (longest_free o)) is
+      ap (First (sectors_for kept)) (sym longest) ∙ ap (λ o. First (room_of o) (longest_unused o)) is

@@ -3,7 +3,7 @@ use Rattle.std.proofs.Common.{◌≡◌, ℕ, ◌+◌, ◌*◌, ◌^◌, ◌<◌
 use Rattle.std.specs.List.{flat_map}
 use Rattle.sector_disk.specs.Disk.{Sector}
 use Rattle.std.proofs.lemmas.List.{length-take-le}
-use Rattle.extents.specs.Layout.{free_count}
+use Rattle.extents.specs.Layout.{unused_count}
 use Rattle.extents.specs.Used.{layout_of}
 use Rattle.roots.specs.declared.entry_list.EntryList.{EntryList}
 use Rattle.roots.specs.declared.entry_list.EntryList.TheVariants.{InRoot, InCatalogues}
@@ -19,8 +19,8 @@ use Rattle.store.specs.Stands.{HasRoom, catalogues_in, catalogues_of, entry_sect
 use Rattle.store.specs.Taken.{AreTaken}
 use Rattle.store.specs.Upgraded.{upgraded}
 use Rattle.store.specs.inside.Claimed.{IsClaimedBeside}
-use Rattle.store.specs.declared.held_versions.HeldRow.{HeldRow}
-use Rattle.store.specs.HeldVersions.{in_use, lone_sectors}
+use Rattle.store.specs.declared.holds.HeldRow.{HeldRow}
+use Rattle.store.specs.Holds.{in_use, lone_sectors}
 use Rattle.store.specs.inside.Kept.{IsKept}
 use Rattle.store.specs.declared.change.Staged.TheVariants.{Catalogues}
 use Rattle.store.specs.inside.Change.{IsFollowed}
@@ -47,7 +47,7 @@ pub record IsRelist (root : Root) (entries : List PlacedEntry) (held : List Held
   pub one : version_of root ≡ One
   pub claimed : IsClaimedBeside layout mid catalogues
   pub enough : length catalogues ≡ catalogues_for (length entries)
-  pub free : 2 * catalogues_for (length entries) ≤ free_count layout
+  pub free : 2 * catalogues_for (length entries) ≤ unused_count layout
   pub later : root.generation + 1 < 2 ^ 64
   pub is_next : next ≡ next_root root (length entries) catalogues (listed_preloads root)
 

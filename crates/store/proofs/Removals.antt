@@ -10,7 +10,7 @@ use Rattle.std.proofs.lemmas.List.Quantifiers.{all_pairs_remove}
 use Rattle.std.proofs.lemmas.List.Sums.{sum_by-remove}
 use Rattle.std.proofs.lemmas.Slice.Eq.{bytes_eq-Decides}
 use Rattle.sector_disk.specs.Disk.{Sector, sector}
-use Rattle.extents.specs.Layout.{free_count}
+use Rattle.extents.specs.Layout.{unused_count}
 use Rattle.roots.specs.declared.root.Root.{Root}
 use Rattle.roots.specs.declared.version.Version.TheVariants.{Two}
 use Rattle.states.specs.Cost.{catalogues_for, cost}
@@ -23,8 +23,8 @@ use Rattle.states.specs.Changes.{libraries_without, without}
 use Rattle.store.specs.declared.placed_entry.PlacedEntry.{PlacedEntry}
 use Rattle.store.specs.Stands.{HasRoom, catalogues_of, entry_sectors, name_of, sectors_of, used, library_of, no_library, names_at}
 use Rattle.store.specs.inside.Claimed.{IsClaimedBeside}
-use Rattle.store.specs.declared.held_versions.HeldRow.{HeldRow}
-use Rattle.store.specs.HeldVersions.{lone_sectors}
+use Rattle.store.specs.declared.holds.HeldRow.{HeldRow}
+use Rattle.store.specs.Holds.{lone_sectors}
 use Rattle.store.specs.inside.Kept.{IsKept}
 use Rattle.store.specs.inside.NameIndex.{closed_up}
 use Rattle.store.specs.declared.change.Staged.TheVariants.{Catalogues}
@@ -67,7 +67,7 @@ names_closed libraries gone (p ∷ positions) fits others =
 
 -- A store of version 2 has room for the catalogues of the next change, and for those of fewer byte strings.
 pub catalogues_fit : (root : Root) (entries : List PlacedEntry) (held : List HeldRow) (layout : List Bool) → IsKept root entries held layout
-    → version_of root ≡ Two → catalogues_for (length entries) ≤ free_count layout
+    → version_of root ≡ Two → catalogues_for (length entries) ≤ unused_count layout
 catalogues_fit root entries held layout kept two = omega (
   arith,
   kept_sectors root entries held layout kept,

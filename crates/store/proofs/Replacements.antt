@@ -10,7 +10,7 @@ use Rattle.std.proofs.lemmas.List.Sums.{sum_by-set}
 use Rattle.std.proofs.lemmas.Slice.Eq.{bytes_eq-Decides}
 use Rattle.sector_disk.specs.Disk.{Sector, sector, sector_bytes}
 use Rattle.extents.specs.Extent.{places, sector_count}
-use Rattle.extents.specs.Layout.{free_count}
+use Rattle.extents.specs.Layout.{unused_count}
 use Rattle.passes.specs.Bytes.{bytes_at, padded}
 use Rattle.roots.specs.declared.root.Root.{Root}
 use Rattle.roots.specs.declared.version.Version.TheVariants.{Two}
@@ -23,8 +23,8 @@ use Rattle.states.specs.State.{Library, State}
 use Rattle.store.specs.declared.placed_entry.PlacedEntry.{PlacedEntry}
 use Rattle.store.specs.Stands.{HasRoom, HaveOwnNames, catalogues_of, entry_sectors, name_of, extents_of, sectors_of, used, library_of, no_library, names_at}
 use Rattle.store.specs.inside.Claimed.{IsClaimedBeside}
-use Rattle.store.specs.declared.held_versions.HeldRow.{HeldRow}
-use Rattle.store.specs.HeldVersions.{lone_sectors}
+use Rattle.store.specs.declared.holds.HeldRow.{HeldRow}
+use Rattle.store.specs.Holds.{lone_sectors}
 use Rattle.store.specs.inside.Kept.{IsKept}
 use Rattle.store.specs.declared.change.Staged.TheVariants.{Put}
 use Rattle.store.specs.declared.edit.Edit.TheVariants.{Over}
@@ -111,7 +111,7 @@ pub record IsReplacement (root : Root) (entries : List PlacedEntry) (held : List
   pub its_name : name_of put.entry ≡ name
   pub later : root.generation + 1 < 2 ^ 64
   pub enough : length catalogues ≡ catalogues_for (length entries)
-  pub room : cost put.entry.file_length + length catalogues ≤ free_count layout
+  pub room : cost put.entry.file_length + length catalogues ≤ unused_count layout
   pub is_next : next ≡ next_root root (length entries) catalogues (listed_preloads root)
 
 module _ {root : Root} {entries : List PlacedEntry} {held : List HeldRow} {layout mid : List Bool} {name : List ℕ} {place : ℕ} {catalogues : List ℕ}

@@ -1,7 +1,7 @@
 -- Single sectors that are taken one after the other.
 use Rattle.std.proofs.Common.{◌≡◌, ℕ, Bool, true, List, [], ◌∷◌, ◌++◌, refl}
 use Rattle.extents.specs.Extent.{one_sector}
-use Rattle.extents.specs.Layout.{IsLowestFree, with_flag}
+use Rattle.extents.specs.Layout.{IsLowestUnused, with_flag}
 use Rattle.store.specs.Taken.{AreTaken}
 
 -- the layout with these sectors claimed
@@ -15,6 +15,6 @@ singles_more [] at layout = refl
 singles_more (k ∷ ks) at layout = singles_more ks at (with_flag true (one_sector k) layout)
 
 -- and where it is the lowest free one, they are taken with it
-pub taken_more : (ks : List ℕ) (at : ℕ) (layout : List Bool) → AreTaken layout ks → IsLowestFree (with_singles ks layout) at → AreTaken layout (ks ++ at ∷ [])
+pub taken_more : (ks : List ℕ) (at : ℕ) (layout : List Bool) → AreTaken layout ks → IsLowestUnused (with_singles ks layout) at → AreTaken layout (ks ++ at ∷ [])
 taken_more [] at layout taken lowest = (lowest, tt)
 taken_more (k ∷ ks) at layout taken lowest = (taken.0, taken_more ks at (with_flag true (one_sector k) layout) taken.1 lowest)

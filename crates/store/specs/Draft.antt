@@ -20,7 +20,7 @@ use Rattle.store.specs.declared.placed_entry.PlacedEntry.{PlacedEntry}
 use Rattle.store.specs.declared.refusal.StoreRefusal.{StoreRefusal}
 use Rattle.store.specs.declared.refusal.StoreRefusal.TheVariants.{Device, Reopen}
 use Rattle.store.specs.Changed.{Changed}
-use Rattle.store.specs.HeldVersions.{KeepsHeld, in_use, lone_sectors}
+use Rattle.store.specs.Holds.{KeepsHeld, in_use, lone_sectors}
 use Rattle.store.specs.Opened.{Opened, IsAt}
 use Rattle.store.specs.Reads.{ReadsBlob}
 use Rattle.roots.specs.declared.version.Version.TheVariants.{Two}
@@ -58,7 +58,7 @@ left_out u = apart_from u.entries u.store.entries
 abbrev pub layout_drafted : {D : Type 0} → Drafted D → List Bool
 layout_drafted u = layout_of u.store.root.sectors (in_use u.store.root u.store.entries u.store.held ++ flat_map sectors_of (staged u))
 
--- how many sectors the 32 longest free runs have
+-- how many sectors the 32 longest unused runs have
 abbrev pub longest_drafted : {D : Type 0} → Drafted D → ℕ
 longest_drafted u = sector_count (longest_runs (layout_drafted u))
 

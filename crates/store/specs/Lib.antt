@@ -1,7 +1,7 @@
 pub mod Stands
 pub mod NameOrder
 pub mod Opened
-pub mod HeldVersions
+pub mod Holds
 pub mod Opening
 pub mod Opens
 pub mod Looked

@@ -7,7 +7,7 @@ use Rattle.roots.specs.declared.version.Version.TheVariants.{One, Two}
 use Rattle.store.specs.declared.placed_entry.PlacedEntry.{PlacedEntry}
 use Rattle.store.specs.declared.refusal.StoreRefusal.{StoreRefusal}
 use Rattle.states.specs.State.{State}
-use Rattle.store.specs.declared.held_versions.HeldRow.{HeldRow}
+use Rattle.store.specs.declared.holds.HeldRow.{HeldRow}
 use Rattle.store.specs.Stands.{StandsBy}
 
 -- what a store keeps: its disk, the current root, its entries with their sectors, what is held,

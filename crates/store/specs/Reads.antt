@@ -7,7 +7,7 @@ use Rattle.roots.specs.declared.version.Version.{Version}
 use Rattle.store.specs.declared.placed_entry.PlacedEntry.{PlacedEntry}
 use Rattle.store.specs.declared.refusal.StoreRefusal.{StoreRefusal}
 use Rattle.store.specs.declared.refusal.StoreRefusal.TheVariants.{Device, Reopen, OutOfMemory}
-use Rattle.store.specs.HeldVersions.{KeepsHeld}
+use Rattle.store.specs.Holds.{KeepsHeld}
 use Rattle.store.specs.Opened.{Opened, IsAtBy}
 use Rattle.store.specs.Stands.{no_library}
 use Rattle.states.specs.State.{State}

@@ -12,11 +12,11 @@ use Rattle.extents.specs.declared.refusal.TakeRefusal.TheVariants as take
 use Rattle.states.specs.State.{State}
 use Rattle.states.specs.Cost.{cost, catalogue_cost, free, taken_by}
 use Rattle.store.specs.Opened.{Opened}
-use Rattle.store.specs.HeldVersions.{layout_in_use}
+use Rattle.store.specs.Holds.{layout_in_use}
 
--- how many sectors the 32 longest free runs have: as many runs as a byte string may have extents
-abbrev pub longest_free : {D : Type 0} → Opened D → ℕ
-longest_free store = sector_count (longest_runs (layout_in_use store))
+-- how many sectors the 32 longest unused runs have: as many runs as a byte string may have extents
+abbrev pub longest_unused : {D : Type 0} → Opened D → ℕ
+longest_unused store = sector_count (longest_runs (layout_in_use store))
 
 -- the first reason to refuse bytes beside which so many sectors more are taken, by the size of the
 -- disk and its longest runs

@@ -1,4 +1,4 @@
--- What a change takes for bytes, their entry and the catalogues: which of the free sectors.
+-- What a change takes for bytes, their entry and the catalogues: which of the unused sectors.
 use Rattle.std.specs.Prelude.{◌≡◌, ℕ, ◌*◌, ◌<◌, Bool, true, List, [], ◌∷◌, ◌++◌, length, set}
 use Rattle.std.specs.Prelude.{slice_index_or, IsTrue}
 use Rattle.std.specs.Int.{div_ceil}
@@ -6,25 +6,25 @@ use Rattle.std.specs.List.{remove}
 use Rattle.sector_disk.specs.Disk.{Sector, sector_bytes, DiskFacts, Mixture}
 use Rattle.extents.specs.declared.extent.Extent.{Extent}
 use Rattle.extents.specs.Extent.{one_sector, places}
-use Rattle.extents.specs.Layout.{IsLowestFree, with_flag, with_flags}
+use Rattle.extents.specs.Layout.{IsLowestUnused, with_flag, with_flags}
 use Rattle.extents.specs.Taken.{taken}
 use Rattle.extents.specs.Used.{layout_of}
 use Rattle.passes.specs.Bytes.{bytes_at, padded}
 use Rattle.store.specs.declared.placed_entry.PlacedEntry.{PlacedEntry}
 use Rattle.store.specs.Opened.{Opened}
-use Rattle.store.specs.HeldVersions.{layout_in_use}
+use Rattle.store.specs.Holds.{layout_in_use}
 use Rattle.store.specs.Stands.{name_of, extents_of, catalogues_of, used}
 
--- single sectors of this layout are taken: each in its turn is the lowest free one
+-- single sectors of this layout are taken: each in its turn is the lowest unused one
 abbrev pub AreTaken : List Bool → List ℕ → Type 0
 AreTaken layout [] = Unit
-AreTaken layout (k ∷ ks) = IsLowestFree layout k × AreTaken (with_flag true (one_sector k) layout) ks
+AreTaken layout (k ∷ ks) = IsLowestUnused layout k × AreTaken (with_flag true (one_sector k) layout) ks
 
--- sectors of this layout are taken: the extents by `take`, then the entry's, the lowest free one,
+-- sectors of this layout are taken: the extents by `take`, then the entry's, the lowest unused one,
 -- then those of the catalogues
 pub record IsTaken (layout : List Bool) (need : ℕ) (extents : List Extent) (at : ℕ) (catalogues : List ℕ) : Type 0 where
   pub bytes : extents ≡ taken need layout
-  pub entry : IsLowestFree (with_flags true extents layout) at
+  pub entry : IsLowestUnused (with_flags true extents layout) at
   pub listed : AreTaken (with_flag true (one_sector at) (with_flags true extents layout)) catalogues
 
 -- in every mixture of the disk the extents have the bytes, then zeros up to whole sectors

@@ -24,7 +24,7 @@ abbrev pub IsUpgradeOf : {D : Type 0} → (D → DiskFacts) → Opened D → Lis
 IsUpgradeOf facts store m s = (Stands m s × IsAt facts store s) ⊎ (StandsOld m s × IsAt facts store (upgraded s))
 
 -- The store has the entries by which these sectors held the state by the old rules, and its
--- catalogues are in sectors that weren't in use then: each in its turn in the lowest free one.
+-- catalogues are in sectors that weren't in use then: each in its turn in the lowest unused one.
 pub record IsRelistedFrom {D : Type 0} (m : List Sector) (s : State) (store : Opened D) : Type 0 where
   pub root : Root
   pub stood : StandsBy One m root store.entries s

@@ -19,7 +19,7 @@ use crate::catalogues::Singles;
 use crate::placed_entry::PlacedEntry;
 use crate::room::{CatalogueSectors, give_back_room, release_sectors};
 use extents::Layout;
-use passes::{commit, stage};
+use passes::{stage, switch_root};
 use roots::{Root, encode_root, slot_of};
 use sector_disk::{Disk, DiskFault};
 
@@ -125,7 +125,7 @@ impl Change {
             → IsMixtureBut (IsRootOr (staged_sectors self.now.staged)) (D.facts disk.old) m }
     {
         write_staged(disk, singles, &self.staged, bytes, listed)?;
-        commit(
+        switch_root(
             disk,
             slot_of(self.root.generation),
             &encode_root(&self.root),

@@ -60,7 +60,7 @@ impl<D: Disk> Store<D> {
     ghost use Rattle.sector_disk.specs.Disk.{LeavesOnly};
     ghost use Rattle.states.specs.Cost.{catalogues_for};
     ghost use Rattle.store.specs.Changed.{Changed};
-    ghost use Rattle.store.specs.HeldVersions.{KeepsHeld};
+    ghost use Rattle.store.specs.Holds.{KeepsHeld};
     ghost use Rattle.store.specs.Names.{HasName, IsNoPreload};
     ghost use Rattle.store.specs.Opened.{IsAt};
     ghost use Rattle.store.specs.Taken.{IsTakenOut};

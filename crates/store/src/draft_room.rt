@@ -23,7 +23,7 @@ ghost use Rattle.store.specs.inside.Room.{AreClaimedOnce, HasPlace, IsReleased};
 ghost use Rattle.store.specs.inside.Settled.{CanSettle, IsSettledIn};
 
 use crate::draft::{Draft, has_entry};
-use crate::held_versions::HeldVersions;
+use crate::holds::Holds;
 use crate::kept::Kept;
 use crate::listed::catalogues;
 use crate::placed_entry::PlacedEntry;
@@ -35,7 +35,7 @@ use passes::write_unsynced;
 use roots::{MOST_LIBRARIES, Root, catalogues_for};
 use sector_disk::Disk;
 
-/// How many sectors have to stay free beside a draft of so many byte strings: for the commit's
+/// How many sectors have to stay unused beside a draft of so many byte strings: for the commit's
 /// catalogues, and for those of the change that follows it.
 fn spare_for(root: &Root, libraries: usize) -> usize
     requires root { RootHasSpelling root.now }
@@ -52,7 +52,7 @@ fn settle(
     root: &Root,
     entries: &[PlacedEntry],
     draft: &Draft,
-    held: &mut HeldVersions,
+    held: &mut Holds,
     layout: &mut Layout,
 )
     requires index { IsIndex draft.now.entries.items draft.now.index }
@@ -223,7 +223,7 @@ impl Kept {
         }
     }
 
-    /// The store's list is that of a draft now, and what it uses no longer is free.
+    /// The store's list is that of a draft now, and what it uses no longer is unused.
     pub(crate) fn enter(&mut self, root: Root, draft: Draft)
         requires index { IsIndex draft.entries.items draft.index }
         requires can { CanSettle self.old.root self.old.entries.items draft.entries.items

@@ -7,7 +7,7 @@ ghost use Rattle.store.specs.inside.Kept.{HaveSpellings};
 ghost use Rattle.store.specs.inside.NameIndex.{IsIndex};
 ghost use Rattle.store.specs.inside.Room.{AreClaimedOnce};
 
-use crate::held_versions::HeldVersions;
+use crate::holds::Holds;
 use crate::listed::catalogues;
 use crate::name_index::NameIndex;
 use crate::placed_entry::PlacedEntry;
@@ -73,7 +73,7 @@ impl Edit {
         &self,
         root: &Root,
         entries: &[PlacedEntry],
-        held: &mut HeldVersions,
+        held: &mut Holds,
         layout: &mut Layout,
     )
         requires root { RootHasSpelling root.now }

@@ -7,7 +7,7 @@ ghost use Rattle.store.specs.inside.Found.{IsFound};
 ghost use Rattle.store.specs.inside.Kept.{HaveSpellings};
 
 use crate::catalogues::Singles;
-use crate::held_versions::HeldVersions;
+use crate::holds::Holds;
 use crate::kept::Kept;
 use crate::name_index::NameIndex;
 use crate::placed_entry::PlacedEntry;
@@ -39,7 +39,7 @@ fn sectors_of_entries(alloc: Global, entries: &[PlacedEntry]) -> Result<Vec<u32>
 
 impl Found {
     /// What is kept of entries that were read, and of their root. Damaged where a name stands
-    /// twice, a sector is used twice or can't be used, or too few are free.
+    /// twice, a sector is used twice or can't be used, or too few are unused.
     pub(crate) fn over(
         alloc: Global,
         root: Root,
@@ -99,7 +99,7 @@ impl Found {
             sectors,
             singles,
             index,
-            held: HeldVersions::new(alloc),
+            held: Holds::new(alloc),
             layout,
             failed: false,
         };

@@ -1,6 +1,6 @@
 // What a store keeps beside its disk.
 use crate::catalogues::Singles;
-use crate::held_versions::HeldVersions;
+use crate::holds::Holds;
 use crate::name_index::NameIndex;
 use crate::placed_entry::PlacedEntry;
 use extents::Layout;
@@ -16,7 +16,7 @@ pub(crate) struct Kept {
     /// Room for what a change writes one by one.
     pub singles: Singles,
     pub index: NameIndex,
-    pub held: HeldVersions,
+    pub held: Holds,
     pub layout: Layout,
     /// A write or a sync failed: what the disk holds is known again once it is opened.
     pub failed: bool,

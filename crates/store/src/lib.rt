@@ -4,7 +4,7 @@
 //! moment. Byte strings are put behind the others by `put_new`, in the place of those under a name
 //! by `put_over`, and taken out by `delete`; `set_preloads` chooses the preloads. `Store::look`
 //! looks at a disk of either version, and `OldStore::commit` makes one of version 1 one of version
-//! 2.
+//! 2. `Store::update` begins an update: several changes of a draft, and one commit.
 //! Which state sectors hold is defined in specs/Stands.antt.
 #![tactic(auto)]
 
@@ -19,9 +19,8 @@ mod entries;
 mod find;
 mod format;
 mod found;
-mod free_space;
 mod held;
-mod held_versions;
+mod holds;
 mod kept;
 mod listed;
 mod look;
@@ -43,6 +42,7 @@ mod room;
 mod slots;
 mod store;
 mod test_change;
+mod unused_space;
 mod update;
 mod update_commit;
 mod update_lines;
@@ -51,12 +51,12 @@ mod upgrade;
 mod used;
 
 pub use draft::Touched;
-pub use free_space::FreeSpace;
 pub use held::Held;
-pub use held_versions::HeldRow;
+pub use holds::HeldRow;
 pub use look::Look;
 pub use old_store::OldStore;
 pub use placed_entry::PlacedEntry;
 pub use refusal::StoreRefusal;
 pub use store::Store;
+pub use unused_space::UnusedSpace;
 pub use update::Update;

@@ -57,7 +57,7 @@ impl<D: Disk> Store<D> {
     ghost use Rattle.states.specs.Limits.{most_preloads};
     ghost use Rattle.sector_disk.specs.Disk.{LeavesOnly};
     ghost use Rattle.store.specs.Changed.{Changed};
-    ghost use Rattle.store.specs.HeldVersions.{KeepsHeld};
+    ghost use Rattle.store.specs.Holds.{KeepsHeld};
     ghost use Rattle.store.specs.Opened.{IsAt};
     ghost use Rattle.store.specs.Stands.{Stands, catalogues_of, names_at};
     ghost use Rattle.states.specs.State.{State};

@@ -18,7 +18,7 @@ impl Kept {
     ghost use Rattle.states.specs.State.{State};
     ghost use Rattle.store.specs.declared.placed_entry.PlacedEntry.{PlacedEntry};
     ghost use Rattle.store.specs.Changed.{Changed};
-    ghost use Rattle.store.specs.HeldVersions.{KeepsHolders};
+    ghost use Rattle.store.specs.Holds.{KeepsHolders};
     ghost use Rattle.store.specs.Opened.{IsAt};
     ghost use Rattle.store.specs.Stands.{Stands};
     ghost use Rattle.store.specs.inside.Change.{HasBytes, staged_calls};

@@ -3,7 +3,7 @@ ghost use Rattle.std.specs.Prelude.{◌≡◌, ◌+◌, ◌*◌, ◌<◌, ◌≤
 ghost use Rattle.std.specs.Prelude.{vec_len, vec_capacity};
 ghost use Rattle.std.specs.Int.{div_ceil};
 ghost use Rattle.extents.specs.Extent.{sector_count};
-ghost use Rattle.extents.specs.Layout.{free_count};
+ghost use Rattle.extents.specs.Layout.{unused_count};
 ghost use Rattle.extents.specs.Limits.{most_extents, most_sectors};
 ghost use Rattle.extents.specs.Longest.{longest_runs};
 ghost use Rattle.sector_disk.specs.Disk.{sector_bytes};
@@ -74,7 +74,7 @@ fn new_entry(name: &[u8], bytes: &[u8], room: &Room) -> PlacedEntry
 }
 
 /// Claims room for a byte string of this name, and for so many catalogues. It refuses where so many
-/// sectors more wouldn't stay free, and then none is claimed.
+/// sectors more wouldn't stay unused, and then none is claimed.
 pub(crate) fn take_put(
     layout: &mut Layout,
     name: &[u8],
@@ -89,11 +89,11 @@ pub(crate) fn take_put(
     requires spare { spare ≤ 2 * most_catalogues }
     ensures taken { IfOk result (λ room. IsPutTaken layout.old layout.new name.now bytes.now
         catalogues spare room.put room.catalogues) }
-    ensures full { (result ≡ Err TakeRefusal.Full) ↔ (free_count layout.old
+    ensures full { (result ≡ Err TakeRefusal.Full) ↔ (unused_count layout.old
         < div_ceil (length bytes.now) sector_bytes + 1 + catalogues + spare) }
     ensures fragmented { (result ≡ Err TakeRefusal.Fragmented)
         ↔ ((div_ceil (length bytes.now) sector_bytes + 1 + catalogues + spare
-        ≤ free_count layout.old) × (sector_count (longest_runs layout.old)
+        ≤ unused_count layout.old) × (sector_count (longest_runs layout.old)
         < div_ceil (length bytes.now) sector_bytes)) }
     ensures err { OnErr result (layout.new ≡ layout.old) }
 {

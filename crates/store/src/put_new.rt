@@ -67,14 +67,14 @@ impl<D: Disk> Store<D> {
     ghost use Rattle.sector_disk.specs.Disk.{sector_bytes, LeavesOnly};
     ghost use Rattle.states.specs.Cost.{catalogues_for};
     ghost use Rattle.store.specs.Changed.{Changed};
-    ghost use Rattle.store.specs.HeldVersions.{KeepsHeld, room_of};
+    ghost use Rattle.store.specs.Holds.{KeepsHeld, room_of};
     ghost use Rattle.store.specs.Names.{IsName, IsFileSize, LacksName};
     ghost use Rattle.store.specs.Opened.{IsAt};
     ghost use Rattle.store.specs.Taken.{IsPutBehind};
     ghost use Rattle.store.specs.Stands.{Stands};
     ghost use Rattle.states.specs.State.{State};
     ghost use Rattle.states.specs.Changes.{with_new};
-    ghost use Rattle.store.specs.Step.{longest_free, refusal_of_new, IsAnswer, IsRefusalOfPutNew};
+    ghost use Rattle.store.specs.Step.{longest_unused, refusal_of_new, IsAnswer, IsRefusalOfPutNew};
 
     /// Puts a byte string of 64 bytes to 16 MiB, with a name that no other has, behind the others.
     /// It refuses with S2, S9, S10, S7, S8, S11 or S1, of which S1 alone may come after the first
@@ -91,7 +91,7 @@ impl<D: Disk> Store<D> {
         ensures ok { (s : State) → IsAt D.facts self.old s
             → OnOk result (IsAt D.facts self.new (with_new name.now bytes.now s)) }
         ensures refused { (s : State) → IsAt D.facts self.old s → IsAnswer
-            (refusal_of_new (room_of self.old) (longest_free self.old) s bytes.now) result }
+            (refusal_of_new (room_of self.old) (longest_unused self.old) s bytes.now) result }
 
         // It takes the sectors of the bytes first, then that of the entry, and then those of the
         // catalogues. On an honest disk the bytes are there then, and zeros behind them.

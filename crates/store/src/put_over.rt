@@ -38,7 +38,8 @@ impl Kept {
             × Puts self.old prepared (Over position) (length self.old.entries.items) bytes.now) }
         ensures refused { IsFalse self.old.failed → (s : State)
             → IsCounted self.old.root self.old.entries.items self.old.held self.old.layout s
-            → IsExactAnswer (refusal_of_put (sectors_for self.old) (longest_in self.old) s bytes.now)
+            → IsExactAnswer
+            (refusal_of_put (sectors_for self.old) (longest_in self.old) s bytes.now)
             (done_of result) }
     {
         self.test_change()?;
@@ -66,18 +67,18 @@ impl<D: Disk> Store<D> {
     ghost use Rattle.sector_disk.specs.Disk.{sector_bytes, LeavesOnly};
     ghost use Rattle.states.specs.Cost.{catalogues_for};
     ghost use Rattle.store.specs.Changed.{Changed};
-    ghost use Rattle.store.specs.HeldVersions.{KeepsHeld, room_of};
+    ghost use Rattle.store.specs.Holds.{KeepsHeld, room_of};
     ghost use Rattle.store.specs.Names.{HasName, IsFileSize};
     ghost use Rattle.store.specs.Opened.{IsAt};
     ghost use Rattle.store.specs.Taken.{IsPutOver};
     ghost use Rattle.store.specs.Stands.{Stands};
     ghost use Rattle.states.specs.State.{State};
     ghost use Rattle.states.specs.Changes.{with_bytes};
-    ghost use Rattle.store.specs.Step.{longest_free, refusal_of_put};
+    ghost use Rattle.store.specs.Step.{longest_unused, refusal_of_put};
     ghost use Rattle.store.specs.Step.{IsExactAnswer, IsRefusalOfPutOver};
 
     /// Puts other bytes, 64 bytes to 16 MiB, in the place of those under this name. The sectors of
-    /// the old ones are free once it is done, and not before. It takes no memory. It refuses with
+    /// the old ones are unused once it is done, and not before. It takes no memory. It refuses with
     /// S2, S10, S7, S8 or S1, of which S1 alone may come after the first write.
     pub fn put_over(&mut self, name: &[u8], bytes: &[u8]) -> Result<(), StoreRefusal>
         requires present { HasName self.old name.now }
@@ -90,7 +91,7 @@ impl<D: Disk> Store<D> {
         ensures ok { (s : State) → IsAt D.facts self.old s
             → OnOk result (IsAt D.facts self.new (with_bytes name.now bytes.now s)) }
         ensures refused { (s : State) → IsAt D.facts self.old s → IsExactAnswer
-            (refusal_of_put (room_of self.old) (longest_free self.old) s bytes.now) result }
+            (refusal_of_put (room_of self.old) (longest_unused self.old) s bytes.now) result }
 
         // It takes the sectors of the bytes first, then that of the entry, and then those of the
         // catalogues. On an honest disk the bytes are there then, and zeros behind them.

@@ -98,7 +98,7 @@ impl<D: Disk> Update<D> {
     ghost use Rattle.states.specs.State.{State};
     ghost use Rattle.store.specs.Changed.{Changed};
     ghost use Rattle.store.specs.Draft.{IsDraftedAt, commit_calls, committed, layout_drafted};
-    ghost use Rattle.store.specs.HeldVersions.{KeepsHeld};
+    ghost use Rattle.store.specs.Holds.{KeepsHeld};
     ghost use Rattle.store.specs.Opened.{IsAt};
     ghost use Rattle.store.specs.Stands.{Stands, catalogues_of};
     ghost use Rattle.store.specs.Taken.{AreTaken};
@@ -126,7 +126,8 @@ impl<D: Disk> Update<D> {
         ensures entries { OnOk result.0 (result.1.entries ≡ self.entries) }
         ensures preloads { OnOk result.0 (listed_preloads result.1.root ≡ self.preloads) }
 
-        // It takes the sectors of the list's catalogues; over the same list it keeps the catalogues.
+        // It takes the sectors of the list's catalogues; over the same list it keeps the
+        // catalogues.
         ensures placed { OnOk result.0 (self.touched ≡ Touched.List
             → AreTaken (layout_drafted self) (catalogues_of result.1.root)) }
         ensures catalogues { OnOk result.0 (self.touched ≢ Touched.List

@@ -24,8 +24,9 @@ impl<D: Disk> Update<D> {
     ghost use Rattle.store.specs.Step.{refusal_of_change, refusal_of_new, refusal_of_put};
 
     /// Puts a byte string of 64 bytes to 16 MiB, with a name that no other of the draft has, behind
-    /// the draft's others. It writes its sectors and that of its entry, and doesn't sync. It refuses
-    /// with S2, S9, S10, S11, S7, S8 or S1, of which S1 alone may come after the first write.
+    /// the draft's others. It writes its sectors and that of its entry, and doesn't sync. It
+    /// refuses with S2, S9, S10, S11, S7, S8 or S1, of which S1 alone may come after the first
+    /// write.
     pub fn put_new(&mut self, name: &[u8], bytes: &[u8]) -> Result<(), StoreRefusal>
         requires name { IsName name.now }
         requires size { IsFileSize (length bytes.now) }
@@ -45,7 +46,7 @@ impl<D: Disk> Update<D> {
     }
 
     /// Puts other bytes, 64 bytes to 16 MiB, in the place of those that the draft has under this
-    /// name. The sectors of the old ones are free once it is done where the update wrote them, and
+    /// name. The sectors of the old ones are unused once it is done where the update wrote them, and
     /// else once it is committed. It takes no memory. It refuses with S2, S10, S7, S8 or S1, of
     /// which S1 alone may come after the first write.
     pub fn put_over(&mut self, name: &[u8], bytes: &[u8]) -> Result<(), StoreRefusal>

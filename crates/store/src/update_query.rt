@@ -34,7 +34,8 @@ impl<D: Disk> Update<D> {
         self.draft.entries.len()
     }
 
-    /// Does nothing: it tells proofs that on any disk no two byte strings of the draft have one name.
+    /// Does nothing: it tells proofs that on any disk no two byte strings of the draft have one
+    /// name.
     pub fn entries_are_sound(&self)
         ensures { HaveOwnNames self.now.entries }
     {

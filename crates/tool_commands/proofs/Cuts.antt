@@ -9,13 +9,14 @@ use Rattle.program_parts.specs.declared.status.Status.{Status}
 use Rattle.tool_commands.specs.AnyDisk.{DumpTells, IsCut}
 use Rattle.tool_commands.specs.Dump.{install_text}
 use Rattle.tool_commands.specs.Ends.{DumpEnds, IsCutFor}
-use Rattle.tool_commands.specs.Streams.{Streams, Says, Tells}
+use Rattle.tool_parts.specs.Streams.{Streams, Says, Tells}
 use Rattle.tool_commands.specs.declared.dump.Cut.{Cut}
+use Rattle.tool_commands.specs.declared.form.Purpose.{Purpose}
 use Rattle.tool_commands.specs.declared.sound.Lack.{Lack}
 use Rattle.tool_commands.specs.declared.sound.Lack.TheVariants.{Found, OutOfMemory}
 use Rattle.tool_commands.specs.inside.Lack.{IsGone, IsLack, IsLacking, SaysCut, dump_status, end_text, lack_line, lack_status, libraries_text}
 
-module _ (old new : DiskFacts) (io : Streams) (status : Status) where
+module _ (old new : DiskFacts) (purpose : Purpose) (io : Streams) (status : Status) where
   lacked : (l : Library) (lack : Lack) → status ≡ lack_status lack → IsLack l lack → (lack ≡ Found Unreadable → old.failures < new.failures) → Says io (lack_line l lack)
       → IsCutFor old new l io status
   lacked l (Found finding) is h failed says = inl (finding, h.0, h.1, λ e. failed (ap Found e), is, says)
@@ -23,7 +24,7 @@ module _ (old new : DiskFacts) (io : Streams) (status : Status) where
 
   -- a script that was written, whole or cut
   pub ended : (s : State) (cut : Option Cut) → status ≡ dump_status cut → IsGone s cut → IsLacking old new cut → SaysCut s.libraries cut io.errors_before io.errors_after
-      → Tells io (libraries_text s cut ++ end_text s.preloads cut) → DumpEnds old new s io status
+      → Tells io (libraries_text s cut ++ end_text purpose s.preloads cut) → DumpEnds old new purpose s io status
   ended s None is gone lacks says put = inl (is, gone, put, says)
   ended s (Some cut) is gone lacks says put =
       inr (inl (cut.position, gone.0, lacked (get_or s.libraries cut.position no_library) cut.lack is gone.1 lacks.1 says, put))
@@ -34,6 +35,6 @@ module _ (old new : DiskFacts) (io : Streams) (status : Status) where
   some_cut l OutOfMemory is lacks says = inr (is, says)
 
   pub told : (listed : List Library) (cut : Option Cut) → status ≡ dump_status cut → IsLacking old new cut → SaysCut listed cut io.errors_before io.errors_after
-      → (libraries : List Library) (preloads : List (List ℕ)) → Tells io (flat_map install_text libraries ++ end_text preloads cut) → DumpTells old new io status
+      → (libraries : List Library) (preloads : List (List ℕ)) → Tells io (flat_map install_text libraries ++ end_text purpose preloads cut) → DumpTells old new purpose io status
   told listed None is lacks says libraries preloads put = inl (libraries, preloads, is, put, says)
   told listed (Some cut) is lacks says libraries preloads put = inr (inl (libraries, some_cut (get_or listed cut.position no_library) cut.lack is lacks says, put))

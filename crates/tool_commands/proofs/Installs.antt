@@ -7,7 +7,9 @@ use Rattle.std.specs.List.{flat_map}
 use Rattle.hex.specs.Hex.{encode_with}
 use Rattle.states.specs.State.{Library}
 use Rattle.store.specs.Stands.{no_library, names_at}
-use Rattle.tool_commands.specs.Dump.{behind_space, preload_text}
+use Rattle.tool_commands.specs.Dump.{behind_space, commit_text, last_text, preload_text}
+use Rattle.tool_commands.specs.declared.form.Purpose.{Purpose}
+use Rattle.tool_commands.specs.declared.form.Purpose.TheVariants.{Script, Update}
 
 -- the digits of bytes behind others
 pub encode-append : (t xs ys : List ℕ) → encode_with t (xs ++ ys) ≡ encode_with t xs ++ encode_with t ys
@@ -42,3 +44,8 @@ pub preload-line : (libraries : List Library) (positions : List ℕ) → (length
     → codes "preload" ++ flat_map behind_space (names_at libraries positions) ++ codes "\n" ≡ preload_text (names_at libraries positions)
 preload-line libraries [] h = absurd (false≢true (sym h))
 preload-line libraries (p ∷ ps) h = refl
+
+-- what stands behind the libraries of a script, in two parts
+pub last_line : (purpose : Purpose) (preloads : List (List ℕ)) → preload_text preloads ++ commit_text purpose ≡ last_text purpose preloads
+last_line Script preloads = append-nil (preload_text preloads)
+last_line Update preloads = refl

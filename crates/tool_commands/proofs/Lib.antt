@@ -4,6 +4,5 @@ pub mod Installs
 pub mod Lines
 pub mod Listing
 pub mod Outcomes
-pub mod Sent
 pub mod Within
 pub mod Known

@@ -33,6 +33,14 @@ use Rattle.program_parts.specs.declared.file.FileFault.{FileFault}
 use Rattle.program_parts.specs.declared.file.FileFault.TheVariants as read_file
 use Rattle.program_parts.specs.declared.status.Status.{Status}
 use Rattle.program_parts.specs.declared.status.Status.TheVariants.{Done, Refused, BadWords, Failed, NoMemory}
+use Rattle.requests.specs.Step.{answer_of}
+use Rattle.scripts.specs.declared.fault.ScriptFault.{ScriptFault}
+use Rattle.scripts.specs.declared.fault.ScriptFault.TheVariants as script_fault
+use Rattle.updates.specs.Ends.{IsRun}
+use Rattle.updates.specs.Status.{update_status}
+use Rattle.updates.specs.Streams as updates
+use Rattle.updates.specs.declared.answer.UpdateRefusal.{UpdateRefusal}
+use Rattle.updates.specs.declared.answer.UpdateRefusal.TheVariants as update_refusal
 use Rattle.tool_commands.specs.AnyDisk.{FormTells, IsCut}
 use Rattle.tool_commands.specs.Bindings.{BindingsTell, OrderTells, PlacedTells, SaysRefusal, bindings_status}
 use Rattle.tool_commands.specs.Check.{check_status, is_sound}
@@ -40,10 +48,11 @@ use Rattle.tool_commands.specs.Digest.{TellsDigests, are_read}
 use Rattle.tool_commands.specs.Dump.{cut_status}
 use Rattle.tool_commands.specs.Ends.{EndsUnopened}
 use Rattle.tool_commands.specs.Executable.{TellsExecutable, executable_status}
-use Rattle.tool_commands.specs.Form.{CommandLine, Deed, Question, info, check, digest, file, dump, tell, replace, remove, executable, bindings}
-use Rattle.tool_commands.specs.Outcome.{AskEnds, BindingsAskEnds, DeedEnds, IsApartDeed, IsSilentDeed, LineEnds, ReadEnds, TellEnds, open_status, read_status}
+use Rattle.tool_commands.specs.Form.{CommandLine, Deed, Question, info, check, digest, file, dump, tell, replace, remove, update, executable, bindings}
+use Rattle.tool_commands.specs.Outcome.{AskEnds, BindingsAskEnds, DeedEnds, IsApartDeed, IsSilentDeed, LineEnds, ReadEnds, TellEnds}
+use Rattle.tool_commands.specs.Outcome.{UpdateAskEnds, open_status, read_status, with_input}
 use Rattle.tool_commands.specs.Request.{RequestEnds}
-use Rattle.tool_commands.specs.Streams.{Streams, IsSilent, IsUntold, SaysOnly, TellsOnly}
+use Rattle.tool_parts.specs.Streams.{Streams, IsSilent, IsUntold, SaysOnly, TellsOnly}
 use Rattle.tool_commands.specs.Telling.{TellsReply}
 use Rattle.tool_commands.specs.declared.telling.Telling.{Telling}
 use Rattle.tool_commands.specs.declared.telling.Telling.TheVariants.{Text, Executable}
@@ -86,6 +95,10 @@ refusal_fault other = refused_fault
 reply_words : (r : Reply) → reply_status r ≢ BadWords
 reply_words (reply.Refused r) = (refusal_fault r).1
 reply_words other = done_words
+
+update_words : (r : UpdateRefusal) → update_status r ≢ BadWords
+update_words (update_refusal.Refused r) = (refusal_fault r).1
+update_words other = refused_fault.1
 
 executable_fault : (r : ExecutableRefusal) → IsFault (executable_status r)
 executable_fault executable_refusal.OutOfMemory = memory_fault
@@ -130,7 +143,7 @@ module _ (io : Streams) (status : Status) where
   -- of a script that was cut, and of digests, both streams have something
   abbrev FormKind : Question → Type 0
   FormKind digest = ((status ≢ BadWords) × IsSilent io) ⊎ IsFault status
-  FormKind dump = ((status ≢ BadWords) × IsSilent io) ⊎ IsFault status
+  FormKind (dump purpose) = ((status ≢ BadWords) × IsSilent io) ⊎ IsFault status
   FormKind question = Plain
 
   -- and of an executable file
@@ -138,10 +151,15 @@ module _ (io : Streams) (status : Status) where
   ReplyKind Text = Plain
   ReplyKind Executable = status ≢ BadWords
 
+  -- and of an update whose lines a fault ended
+  abbrev UpdateKind : Type 0
+  UpdateKind = ((status ≢ BadWords) × IsSilent io) ⊎ IsFault status
+
   abbrev Kind : Deed → Type 0
   Kind (tell question) = FormKind question
   Kind (replace path) = ReplyKind Text
   Kind (remove name) = ReplyKind Text
+  Kind update = UpdateKind
   Kind (executable path base) = ReplyKind Executable
   Kind (bindings path base) = Plain
 
@@ -177,17 +195,17 @@ module _ (io : Streams) (status : Status) where
   form_kind old new (file name) (inr (inl h)) = said Refused _ refused_fault h
   form_kind old new (file name) (inr (inr (inl h))) = said Failed _ failed_fault h.1
   form_kind old new (file name) (inr (inr (inr h))) = said NoMemory _ memory_fault h
-  form_kind old new dump (inl h) = inl (same_words Done status done_words h.2, h.4)
-  form_kind old new dump (inr (inl h)) = inr (cut old new h.1)
-  form_kind old new dump (inr (inr h)) = inr (same_fault Failed status failed_fault h.0)
+  form_kind old new (dump purpose) (inl h) = inl (same_words Done status done_words h.2, h.4)
+  form_kind old new (dump purpose) (inr (inl h)) = inr (cut old new h.1)
+  form_kind old new (dump purpose) (inr (inr h)) = inr (same_fault Failed status failed_fault h.0)
 
   unopened_kind : (question : Question) (ends : Status) → IsFault ends → EndsUnopened question ends io.before io.after status → FormKind question
   unopened_kind info ends fault h = untold ends fault h.0 h.1
   unopened_kind check ends fault h = untold ends fault h.0 h.1
   unopened_kind digest ends fault h = inr (same_fault ends status fault h.0)
   unopened_kind (file name) ends fault h = untold ends fault h.0 h.1
-  unopened_kind dump ends fault (inl h) = inr (same_fault ends status fault h.0)
-  unopened_kind dump ends fault (inr h) = inr (same_fault Failed status failed_fault h)
+  unopened_kind (dump purpose) ends fault (inl h) = inr (same_fault ends status fault h.0)
+  unopened_kind (dump purpose) ends fault (inr h) = inr (same_fault Failed status failed_fault h)
 
   file_words : (image : MemoryImage) → TellsExecutable image io status → status ≢ BadWords
   file_words image (inl h) = ⊎_elim (λ done. same_words Done status done_words done.0) (λ failed. same_words Failed status failed_fault.1 failed.0) h.2
@@ -253,12 +271,35 @@ module _ (io : Streams) (status : Status) where
   read_bindings_kind base (inl h) = bindings_kind h.0 base h.2
   read_bindings_kind base (inr h) = untold (read_status h.0) (read_fault h.0) h.1 h.2
 
-  deed_kind : (deed : Deed) → DeedEnds deed io status → Kind deed
-  deed_kind (tell question) h = tell_kind question h
-  deed_kind (replace path) h = read_kind request.replace Text h
-  deed_kind (remove name) h = ask_kind _ Text h
-  deed_kind (executable path base) h = read_kind (λ bytes. request.bind bytes base) Executable h
-  deed_kind (bindings path base) h = read_bindings_kind base h
+  module _ (unread : Option (List ℕ)) where
+    planned : (ends : Status) (text : List ℕ) → ends ≢ BadWords → updates.TellsOnly ends text (with_input unread io) status → UpdateKind
+    planned ends text other (inl h) = inl (same_words ends status other h.0, h.2)
+    planned ends text other (inr h) = inr (same_fault Failed status failed_fault h.0)
+
+    broken : (fault : ScriptFault) (text : List ℕ) → updates.BreaksOff fault text (with_input unread io) status → UpdateKind
+    broken script_fault.Write text h = inr (same_fault Failed status failed_fault h.0)
+    broken script_fault.Read text (inl h) = inr (same_fault Failed status failed_fault h.0)
+    broken script_fault.Read text (inr h) = inr (same_fault Failed status failed_fault h.0)
+    broken script_fault.OutOfMemory text (inl h) = inr (same_fault NoMemory status memory_fault h.0)
+    broken script_fault.OutOfMemory text (inr h) = inr (same_fault Failed status failed_fault h.0)
+
+    module _ {O : Type 0} (contents : O → Option (List ℕ)) where
+      run_kind : {D : Type 0} (facts : D → DiskFacts) (disk left : D) → IsRun facts disk contents (with_input unread io) status left → UpdateKind
+      run_kind facts disk left (lines, answers, u, begun, inl h) = planned (reply_status (answer_of h.answer)) _ (reply_words (answer_of h.answer)) h.told
+      run_kind facts disk left (lines, answers, u, begun, inr (inl h)) = planned (update_status h.refusal) _ (update_words h.refusal) h.told
+      run_kind facts disk left (lines, answers, u, begun, inr (inr h)) = broken h.fault _ h.told
+
+      update_kind : UpdateAskEnds contents unread io status → UpdateKind
+      update_kind (inl h) = ⊎_elim (run_kind file_facts h.0 h.1) (λ refused. inr (same_fault (disk_status refused.0) status (disk_fault refused.0) refused.2.0)) h.3
+      update_kind (inr h) = inr (same_fault (open_status h.0) status (open_fault h.0) h.1)
+
+      deed_kind : (deed : Deed) → DeedEnds contents deed unread io status → Kind deed
+      deed_kind (tell question) h = tell_kind question h
+      deed_kind (replace path) h = read_kind request.replace Text h
+      deed_kind (remove name) h = ask_kind _ Text h
+      deed_kind update h = update_kind h
+      deed_kind (executable path base) h = read_kind (λ bytes. request.bind bytes base) Executable h
+      deed_kind (bindings path base) h = read_bindings_kind base h
 
   -- ---- what follows from the kind
 
@@ -272,9 +313,10 @@ module _ (io : Streams) (status : Status) where
   kind_words (tell check) h = plain_words h
   kind_words (tell digest) h = ⊎_elim (λ silent. silent.0) (λ fault. fault.1) h
   kind_words (tell (file name)) h = plain_words h
-  kind_words (tell dump) h = ⊎_elim (λ silent. silent.0) (λ fault. fault.1) h
+  kind_words (tell (dump purpose)) h = ⊎_elim (λ silent. silent.0) (λ fault. fault.1) h
   kind_words (replace path) h = plain_words h
   kind_words (remove name) h = plain_words h
+  kind_words update h = ⊎_elim (λ silent. silent.0) (λ fault. fault.1) h
   kind_words (executable path base) h = h
   kind_words (bindings path base) h = plain_words h
 
@@ -289,10 +331,12 @@ module _ (io : Streams) (status : Status) where
   kind_silent (tell digest) is (inl h) = λ done. h.1
   kind_silent (tell digest) is (inr h) = λ done. absurd (h.0 done)
   kind_silent (tell (file name)) is h = plain_silent h
-  kind_silent (tell dump) is (inl h) = λ done. h.1
-  kind_silent (tell dump) is (inr h) = λ done. absurd (h.0 done)
+  kind_silent (tell (dump purpose)) is (inl h) = λ done. h.1
+  kind_silent (tell (dump purpose)) is (inr h) = λ done. absurd (h.0 done)
   kind_silent (replace path) is h = plain_silent h
   kind_silent (remove name) is h = plain_silent h
+  kind_silent update is (inl h) = λ done. h.1
+  kind_silent update is (inr h) = λ done. absurd (h.0 done)
   kind_silent (executable path base) is h = absurd is
   kind_silent (bindings path base) is h = plain_silent h
 
@@ -306,9 +350,10 @@ module _ (io : Streams) (status : Status) where
   kind_apart (tell check) is h = plain_apart h
   kind_apart (tell digest) is h = absurd is
   kind_apart (tell (file name)) is h = plain_apart h
-  kind_apart (tell dump) is h = absurd is
+  kind_apart (tell (dump purpose)) is h = absurd is
   kind_apart (replace path) is h = plain_apart h
   kind_apart (remove name) is h = plain_apart h
+  kind_apart update is h = absurd is
   kind_apart (executable path base) is h = absurd is
   kind_apart (bindings path base) is h = plain_apart h
 
@@ -328,19 +373,20 @@ number_done BadWords h = absurd (omega (arith, h))
 number_done Failed h = absurd (omega (arith, h))
 number_done NoMemory h = absurd (omega (arith, h))
 
-module _ (line : CommandLine) (io : Streams) (number : ℕ) (h : LineEnds line io number) where
+module _ {O : Type 0} (contents : O → Option (List ℕ)) (line : CommandLine) (unread : Option (List ℕ)) (io : Streams) (number : ℕ)
+    (h : LineEnds contents line unread io number) where
   -- a line ends with no such number
   pub line_words : number ≢ 2
   line_words is =
       number_words h.0
-      (⊎_elim (λ deed. kind_words io h.0 line.deed (deed_kind io h.0 line.deed deed)) (λ behind. same_words Failed h.0 failed_fault.1 behind.0) h.1)
+      (⊎_elim (λ deed. kind_words io h.0 line.deed (deed_kind io h.0 unread contents line.deed deed)) (λ behind. same_words Failed h.0 failed_fault.1 behind.0) h.1)
       (sym h.2 ∙ is)
 
   pub line_silent : IsSilentDeed line.deed → number ≡ 0 → IsSilent io
   line_silent deed is =
       let done = number_done h.0 (sym h.2 ∙ is) in
-      ⊎_elim (λ did. kind_silent io h.0 line.deed deed (deed_kind io h.0 line.deed did) done) (λ behind. cc (sym behind.0 ∙ done)) h.1
+      ⊎_elim (λ did. kind_silent io h.0 line.deed deed (deed_kind io h.0 unread contents line.deed did) done) (λ behind. cc (sym behind.0 ∙ done)) h.1
 
   pub line_apart : IsApartDeed line.deed → number ≢ 3 → IsSilent io ⊎ IsUntold io
   line_apart deed other =
-      ⊎_elim (λ did. kind_apart io h.0 line.deed deed (deed_kind io h.0 line.deed did) (λ failed. other (h.2 ∙ ap status_number failed))) (λ behind. inr behind.1) h.1
+      ⊎_elim (λ did. kind_apart io h.0 line.deed deed (deed_kind io h.0 unread contents line.deed did) (λ failed. other (h.2 ∙ ap status_number failed))) (λ behind. inr behind.1) h.1

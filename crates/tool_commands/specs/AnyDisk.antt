@@ -12,16 +12,18 @@ use Rattle.program_parts.specs.declared.status.Status.{Status}
 use Rattle.program_parts.specs.declared.status.Status.TheVariants.{Done, Refused, Failed, NoMemory}
 use Rattle.tool_commands.specs.Check.{HaveFailed, check_text, check_status, finding_line}
 use Rattle.tool_commands.specs.Digest.{TellsDigests}
-use Rattle.tool_commands.specs.Dump.{cut_status, install_text, preload_text}
+use Rattle.tool_commands.specs.Dump.{cut_status, install_text, last_text}
 use Rattle.tool_commands.specs.Form.{Question, info, check, digest, file, dump}
 use Rattle.tool_commands.specs.Info.{info_text}
-use Rattle.tool_commands.specs.Said.{device_line, memory_line, not_installed_line, said_line}
-use Rattle.tool_commands.specs.Streams.{Streams, CannotWrite, IsSilent, Says, SaysOnly, Tells, TellsOnly}
+use Rattle.tool_parts.specs.Said.{device_line, memory_line, said_line}
+use Rattle.tool_commands.specs.Said.{not_installed_line}
+use Rattle.tool_parts.specs.Streams.{Streams, CannotWrite, IsSilent, Says, SaysOnly, Tells, TellsOnly}
+use Rattle.tool_commands.specs.declared.form.Purpose.{Purpose}
 
 -- `info`: the lines of some numbers
 abbrev pub InfoTells : Streams → Status → Type 0
 InfoTells io status = (told : Info)
-    × TellsOnly Done (info_text told.sectors told.generation told.libraries told.preloads told.free.sectors told.free.runs told.free.largest) io status
+    × TellsOnly Done (info_text told.sectors told.generation told.libraries told.preloads told.unused.sectors told.unused.free told.unused.runs told.unused.largest) io status
 
 -- what is told by reading byte strings, which took a disk from the one to the other
 module _ (old new : DiskFacts) where
@@ -59,11 +61,11 @@ module _ (old new : DiskFacts) where
       × (status ≡ cut_status finding) × Says io (said_line (finding_line name size finding)))
       ⊎ ((status ≡ NoMemory) × Says io memory_line)
 
-  -- `dump`: the script of some libraries and preloads; or of some libraries, cut; or the output failed
-  abbrev pub DumpTells : Streams → Status → Type 0
-  DumpTells io status =
+  -- `dump`: the script for this of some libraries and preloads; or of some libraries, cut; or the output failed
+  abbrev pub DumpTells : Purpose → Streams → Status → Type 0
+  DumpTells purpose io status =
       ((libraries : List Library) × (preloads : List (List ℕ)) × (status ≡ Done)
-      × Tells io (flat_map install_text libraries ++ preload_text preloads) × IsSilent io)
+      × Tells io (flat_map install_text libraries ++ last_text purpose preloads) × IsSilent io)
       ⊎ (((libraries : List Library) × IsCut io status × Tells io (flat_map install_text libraries ++ codes "cut"))
       ⊎ CannotWrite io status)
 
@@ -73,4 +75,4 @@ FormTells old new info io status = InfoTells io status
 FormTells old new check io status = CheckTells old new io status
 FormTells old new digest io status = DigestTells old new io status
 FormTells old new (file name) io status = FileTells old new io status
-FormTells old new dump io status = DumpTells old new io status
+FormTells old new (dump purpose) io status = DumpTells old new purpose io status

@@ -23,8 +23,8 @@ use Rattle.store.specs.Opened.{IsAt, Opened}
 use Rattle.store.specs.Opens.{Opens}
 use Rattle.store.specs.Stands.{Stands, catalogues_of}
 use Rattle.store.specs.declared.refusal.StoreRefusal.{StoreRefusal}
-use Rattle.tool_commands.specs.Said.{memory_line, refusal_line, said_line}
-use Rattle.tool_commands.specs.Streams.{Streams, SaysOnly, TellsOnly}
+use Rattle.tool_parts.specs.Said.{memory_line, refusal_line, said_line}
+use Rattle.tool_parts.specs.Streams.{Streams, SaysOnly, TellsOnly}
 
 -- a refusal is said as that of a bind, and nothing is told
 abbrev pub SaysRefusal : Refusal → Streams → Status → Type 0

@@ -9,8 +9,8 @@ use Rattle.program_parts.specs.declared.status.Status.{Status}
 use Rattle.program_parts.specs.declared.status.Status.TheVariants.{Done, Refused}
 use Rattle.tool_commands.specs.Check.{unreadable_line}
 use Rattle.tool_commands.specs.Lines.{lines_of}
-use Rattle.tool_commands.specs.Said.{said_line}
-use Rattle.tool_commands.specs.Streams.{Streams, CannotWrite, IsSilent, Says, Tells}
+use Rattle.tool_parts.specs.Said.{said_line}
+use Rattle.tool_parts.specs.Streams.{Streams, CannotWrite, IsSilent, Says, Tells}
 
 -- a backslash, a newline or a carriage return
 abbrev pub is_escaped : ℕ → Bool

@@ -7,6 +7,8 @@ use Rattle.contents.specs.declared.finding.Finding.{Finding}
 use Rattle.contents.specs.declared.finding.Finding.TheVariants.{Sound, Unreadable}
 use Rattle.program_parts.specs.declared.status.Status.{Status}
 use Rattle.program_parts.specs.declared.status.Status.TheVariants as status
+use Rattle.tool_commands.specs.declared.form.Purpose.{Purpose}
+use Rattle.tool_commands.specs.declared.form.Purpose.TheVariants.{Script, Update}
 
 -- the line that installs a file of these bytes
 abbrev pub install_line : List ℕ → List ℕ
@@ -28,6 +30,20 @@ preload_text (name ∷ names) = codes "preload" ++ flat_map behind_space (name �
 -- the script: the libraries in their order, and then the preloads
 abbrev pub dump_text : State → List ℕ
 dump_text s = flat_map install_text s.libraries ++ preload_text s.preloads
+
+-- the line `commit` of a script for an update
+abbrev pub commit_text : Purpose → List ℕ
+commit_text Script = []
+commit_text Update = codes "commit\n"
+
+-- what stands behind the libraries of a script
+abbrev pub last_text : Purpose → List (List ℕ) → List ℕ
+last_text Script preloads = preload_text preloads
+last_text Update preloads = preload_text preloads ++ commit_text Update
+
+-- the script for this: `dump_text`, and `commit` behind it for an update
+abbrev pub script_text : Purpose → State → List ℕ
+script_text purpose s = flat_map install_text s.libraries ++ last_text purpose s.preloads
 
 -- the script of the first k libraries, cut: its last line has no newline
 abbrev pub cut_text : State → ℕ → List ℕ

@@ -1,17 +1,18 @@
 -- What the forms end with, over a state, and what a disk ends with: what was told and said, and the status (own).
 use Rattle.std.specs.Prelude.{◌≡◌, ◌≢◌, ◌⊎◌, ◌↔◌, ◌+◌, ◌≤◌, ◌<◌, ℕ, List, All, Option, None, Ok, Err, length, slice_index_or, codes, count_by, is_none}
-use Rattle.extents.specs.Layout.{free_count}
-use Rattle.extents.specs.Runs.{free_runs}
+use Rattle.extents.specs.Layout.{unused_count}
+use Rattle.extents.specs.Runs.{unused_runs}
 use Rattle.requests.specs.Library.{IsLibrary}
 use Rattle.sector_disk.specs.Disk.{AreCallsExactly, DiskFacts}
+use Rattle.states.specs.Cost.{free}
 use Rattle.states.specs.State.{Library, State}
-use Rattle.store.specs.HeldVersions.{layout_in_use}
+use Rattle.store.specs.Holds.{layout_in_use}
 use Rattle.store.specs.IsRead.{IsRead}
 use Rattle.store.specs.Names.{IsFileSize}
 use Rattle.store.specs.Opened.{IsAt, Opened}
 use Rattle.store.specs.Opens.{Opens}
 use Rattle.store.specs.Stands.{Stands, catalogues_of, no_library}
-use Rattle.store.specs.Step.{longest_free, refusal_of_new}
+use Rattle.store.specs.Step.{longest_unused, refusal_of_new}
 use Rattle.store.specs.declared.refusal.StoreRefusal.{StoreRefusal}
 use Rattle.contents.specs.File.{HasFile}
 use Rattle.contents.specs.Finding.{IsFinding, is_unreadable}
@@ -24,24 +25,26 @@ use Rattle.program_parts.specs.declared.status.Status.TheVariants.{Done, Refused
 use Rattle.tool_commands.specs.AnyDisk.{FormTells, IsUnread}
 use Rattle.tool_commands.specs.Check.{AreFindings, HaveFailed, check_text, check_status, finding_text}
 use Rattle.tool_commands.specs.Digest.{AreDigests, TellsDigests}
-use Rattle.tool_commands.specs.Dump.{cut_status, cut_text, dump_text}
+use Rattle.tool_commands.specs.Dump.{cut_status, cut_text, script_text}
 use Rattle.tool_commands.specs.Form.{Question, info, check, digest, file, dump}
 use Rattle.tool_commands.specs.Info.{info_text}
-use Rattle.tool_commands.specs.Said.{memory_line, not_installed_line, refusal_line, said_line}
-use Rattle.tool_commands.specs.Streams.{Streams, CannotWrite, IsSilent, Says, SaysOnly, Tells, TellsOnly}
+use Rattle.tool_parts.specs.Said.{memory_line, refusal_line, said_line}
+use Rattle.tool_commands.specs.Said.{not_installed_line}
+use Rattle.tool_parts.specs.Streams.{Streams, CannotWrite, IsSilent, Says, SaysOnly, Tells, TellsOnly}
+use Rattle.tool_commands.specs.declared.form.Purpose.{Purpose}
 
 -- An install of a file of a new name meets no refusal exactly up to this length: it is 0, or the
 -- length of a file.
 pub record IsLargest {D : Type 0} (facts : D → DiskFacts) (store : Opened D) (s : State) (largest : ℕ) : Type 0 where
   pub exact : (bytes : List ℕ) → IsFileSize (length bytes)
-      → (length bytes ≤ largest) ↔ (refusal_of_new (facts store.disk).sectors (longest_free store) s bytes ≡ None)
+      → (length bytes ≤ largest) ↔ (refusal_of_new (facts store.disk).sectors (longest_unused store) s bytes ≡ None)
   pub form : (largest ≡ 0) ⊎ IsFileSize largest
 
 -- `info`: each number by its definition
 abbrev pub InfoEnds : {D : Type 0} → (D → DiskFacts) → Opened D → State → Streams → Status → Type 0
 InfoEnds facts store s io status = (largest : ℕ) × IsLargest facts store s largest
     × TellsOnly Done (info_text (facts store.disk).sectors s.generation (length s.libraries) (length s.preloads)
-    (free_count (layout_in_use store)) (length (free_runs (layout_in_use store))) largest) io status
+    (unused_count (layout_in_use store)) (free (facts store.disk).sectors s) (length (unused_runs (layout_in_use store))) largest) io status
 
 -- what is told by reading byte strings, which took a disk from the one to the other
 module _ (old new : DiskFacts) where
@@ -76,11 +79,11 @@ module _ (old new : DiskFacts) where
       × (status ≡ cut_status finding) × Says io (said_line (finding_text l finding)))
       ⊎ ((status ≡ NoMemory) × Says io memory_line)
 
-  -- `dump`: exactly the script, and each library is one of its name; or exactly the script up to a
+  -- `dump`: exactly the script for this, and each library is one of its name; or exactly the script up to a
   -- library, cut there; or the output failed
-  abbrev pub DumpEnds : State → Streams → Status → Type 0
-  DumpEnds s io status =
-      ((status ≡ Done) × All IsLibrary s.libraries × Tells io (dump_text s) × IsSilent io)
+  abbrev pub DumpEnds : Purpose → State → Streams → Status → Type 0
+  DumpEnds purpose s io status =
+      ((status ≡ Done) × All IsLibrary s.libraries × Tells io (script_text purpose s) × IsSilent io)
       ⊎ (((k : ℕ) × (k < length s.libraries) × IsCutFor (slice_index_or s.libraries k no_library) io status × Tells io (cut_text s k))
       ⊎ CannotWrite io status)
 
@@ -90,11 +93,11 @@ FormEnds facts store left s info io status = InfoEnds facts store s io status
 FormEnds facts store left s check io status = CheckEnds (facts store.disk) (facts left) s io status
 FormEnds facts store left s digest io status = DigestEnds (facts store.disk) (facts left) s io status
 FormEnds facts store left s (file name) io status = FileEnds (facts store.disk) (facts left) s name io status
-FormEnds facts store left s dump io status = DumpEnds (facts store.disk) (facts left) s io status
+FormEnds facts store left s (dump purpose) io status = DumpEnds (facts store.disk) (facts left) purpose s io status
 
 -- a disk that isn't opened: nothing is told, but of a script that it is cut, unless the output failed
 abbrev pub EndsUnopened : Question → Status → Option (List ℕ) → Option (List ℕ) → Status → Type 0
-EndsUnopened dump ends before after status = IsTold ends (codes "cut") before after status
+EndsUnopened (dump purpose) ends before after status = IsTold ends (codes "cut") before after status
 EndsUnopened question ends before after status = (status ≡ ends) × (after ≡ before)
 
 -- A disk was opened, whatever named byte strings it holds, what is asked of it was told, and it is

@@ -1,5 +1,5 @@
 -- Which form the words of a command line are (own).
-use Rattle.std.specs.Prelude.{ℕ, List, [], ◌∷◌, Option, Some, None, if◌then◌else◌, bytes_eq, codes}
+use Rattle.std.specs.Prelude.{ℕ, List, [], ◌∷◌, Bool, true, false, Option, Some, None, if◌then◌else◌, bytes_eq, codes}
 use Rattle.std.specs.Option.{option_map}
 use Rattle.program_parts.specs.Base.{base_of}
 use Rattle.tool_commands.specs.declared.form.Action.{Action}
@@ -7,21 +7,24 @@ use Rattle.tool_commands.specs.declared.form.Action.TheVariants as action
 use Rattle.tool_commands.specs.declared.form.Asked.{Asked}
 use Rattle.tool_commands.specs.declared.form.Form.{Form}
 use Rattle.tool_commands.specs.declared.form.Form.TheVariants as form
+use Rattle.tool_commands.specs.declared.form.Purpose.{Purpose}
+use Rattle.tool_commands.specs.declared.form.Purpose.TheVariants.{Script, Update}
 
--- what is to be told of a disk; of a file by its name
+-- what is to be told of a disk; of a file by its name, and of a script what it is for
 pub data Question : Type 0 where
   info : Question
   check : Question
   digest : Question
   file : List ℕ → Question
-  dump : Question
+  dump : Purpose → Question
 
--- what is to be done: to tell, to replace by a path's file, to remove a name, to bind a path's file,
--- and to tell what its symbols are bound to
+-- what is to be done: to tell, to replace by a path's file, to remove a name, to update, to bind a
+-- path's file, and to tell what its symbols are bound to
 pub data Deed : Type 0 where
   tell : Question → Deed
   replace : List ℕ → Deed
   remove : List ℕ → Deed
+  update : Deed
   executable : List ℕ → ℕ → Deed
   bindings : List ℕ → ℕ → Deed
 
@@ -31,9 +34,19 @@ pub record CommandLine : Type 0 where
   pub deed : Deed
 
 -- DISK alone
-abbrev pub of_one : Question → List (List ℕ) → Option CommandLine
-of_one asked (disk ∷ []) = Some (record { disk = disk; deed = tell asked })
-of_one asked words = None
+abbrev pub of_one : Deed → List (List ℕ) → Option CommandLine
+of_one deed (disk ∷ []) = Some (record { disk = disk; deed = deed })
+of_one deed words = None
+
+-- what a word behind DISK says that a dump is for
+abbrev pub purpose_of : List ℕ → Option Purpose
+purpose_of word = if bytes_eq word (codes "commit") then Some Update else None
+
+-- DISK alone, or with `commit` behind it
+abbrev pub of_dump : List (List ℕ) → Option CommandLine
+of_dump (disk ∷ []) = Some (record { disk = disk; deed = tell (dump Script) })
+of_dump (disk ∷ word ∷ []) = option_map (λ purpose. record { disk = disk; deed = tell (dump purpose) }) (purpose_of word)
+of_dump words = None
 
 -- DISK and one word more
 abbrev pub of_two : (List ℕ → Deed) → List (List ℕ) → Option CommandLine
@@ -48,13 +61,14 @@ of_program deed words = None
 -- the command line that words are: the first is the form's name
 abbrev pub command_line : List (List ℕ) → Option CommandLine
 command_line (name ∷ words) =
-    if bytes_eq name (codes "info") then of_one info words
-    else if bytes_eq name (codes "check") then of_one check words
-    else if bytes_eq name (codes "digest") then of_one digest words
+    if bytes_eq name (codes "info") then of_one (tell info) words
+    else if bytes_eq name (codes "check") then of_one (tell check) words
+    else if bytes_eq name (codes "digest") then of_one (tell digest) words
     else if bytes_eq name (codes "file") then of_two (λ name. tell (file name)) words
-    else if bytes_eq name (codes "dump") then of_one dump words
+    else if bytes_eq name (codes "dump") then of_dump words
     else if bytes_eq name (codes "replace") then of_two replace words
     else if bytes_eq name (codes "remove") then of_two remove words
+    else if bytes_eq name (codes "update") then of_one update words
     else if bytes_eq name (codes "executable") then of_program executable words
     else if bytes_eq name (codes "bindings") then of_program bindings words
     else None
@@ -66,16 +80,22 @@ question_of form.Info = info
 question_of form.Check = check
 question_of form.Digest = digest
 question_of (form.File name) = file name.now
-question_of form.Dump = dump
+question_of (form.Dump purpose) = dump purpose
 
 -- what the code does
 abbrev pub deed_of : Action → Deed
 deed_of (action.Tell form) = tell (question_of form)
 deed_of (action.Replace path) = replace path.now
 deed_of (action.Remove name) = remove name.now
+deed_of action.Update = update
 deed_of (action.Executable program base) = executable program.now base
 deed_of (action.Bindings program base) = bindings program.now base
 
 -- the command line that the code reads
 abbrev pub line_of : Asked → CommandLine
 line_of asked = record { disk = asked.disk.now; deed = deed_of asked.action }
+
+-- it reads the input
+abbrev pub reads_input : Deed → Bool
+reads_input update = true
+reads_input deed = false

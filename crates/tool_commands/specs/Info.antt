@@ -12,13 +12,14 @@ abbrev pub count_lines : (libraries preloads : ℕ) → List ℕ
 count_lines libraries preloads =
     codes "libraries " ++ decimal libraries ++ codes " of 2048\n" ++ (codes "preloads " ++ decimal preloads ++ codes " of 16\n")
 
--- the lines of what is free: how many sectors, in how many runs, and the greatest file that goes in
-abbrev pub free_lines : (free runs largest : ℕ) → List ℕ
-free_lines free runs largest =
-    codes "free " ++ decimal free ++ codes "\n" ++ (codes "runs " ++ decimal runs ++ codes "\n")
+-- the lines of what is unused: how many sectors, how many of them are free, in how many runs all
+-- of them are, and the greatest file that goes in
+abbrev pub room_lines : (unused free runs largest : ℕ) → List ℕ
+room_lines unused free runs largest =
+    codes "unused " ++ decimal unused ++ codes "\n" ++ (codes "free " ++ decimal free ++ codes "\n") ++ (codes "runs " ++ decimal runs ++ codes "\n")
     ++ (codes "largest " ++ decimal largest ++ codes "\nend\n")
 
 -- all of it
-abbrev pub info_text : (sectors generation libraries preloads free runs largest : ℕ) → List ℕ
-info_text sectors generation libraries preloads free runs largest =
-    disk_lines sectors generation ++ count_lines libraries preloads ++ free_lines free runs largest
+abbrev pub info_text : (sectors generation libraries preloads unused free runs largest : ℕ) → List ℕ
+info_text sectors generation libraries preloads unused free runs largest =
+    disk_lines sectors generation ++ count_lines libraries preloads ++ room_lines unused free runs largest

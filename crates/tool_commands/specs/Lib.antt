@@ -11,6 +11,5 @@ pub mod Lines
 pub mod Outcome
 pub mod Request
 pub mod Said
-pub mod Streams
 pub mod Telling
 pub mod inside

@@ -18,12 +18,14 @@ use Rattle.program_parts.specs.declared.status.Status.TheVariants.{Refused, Fail
 use Rattle.store.specs.declared.refusal.StoreRefusal.TheVariants.{BadGeometry}
 use Rattle.tool_commands.specs.Bindings.{BindingsEnds}
 use Rattle.tool_commands.specs.Ends.{DiskEnds, EndsUnopened}
-use Rattle.tool_commands.specs.Form.{CommandLine, Deed, Question, digest, dump, tell, replace, remove, executable, bindings}
+use Rattle.tool_commands.specs.Form.{CommandLine, Deed, Question, digest, dump, tell, replace, remove, update, executable, bindings}
 use Rattle.tool_commands.specs.Request.{RequestEnds}
-use Rattle.tool_commands.specs.Said.{memory_line, refusal_line}
-use Rattle.tool_commands.specs.Streams.{Streams, IsUntold}
+use Rattle.tool_parts.specs.Said.{memory_line, refusal_line}
+use Rattle.tool_parts.specs.Streams.{Streams, IsUntold}
 use Rattle.tool_commands.specs.declared.telling.Telling.{Telling}
 use Rattle.tool_commands.specs.declared.telling.Telling.TheVariants.{Text, Executable}
+use Rattle.updates.specs.Ends.{UpdateEnds}
+use Rattle.updates.specs.Streams as updates
 
 -- what a file ends with that isn't opened as a disk
 abbrev pub open_status : OpenFault → Status
@@ -78,30 +80,43 @@ ReadEnds Ends io status =
     ((bytes : List ℕ) × (length bytes < read_limit) × Ends bytes)
     ⊎ ((fault : FileFault) × (status ≡ read_status fault) × IsUntold io × SaysUnread fault io.errors_before io.errors_after)
 
--- what is done
-abbrev pub DeedEnds : Deed → Streams → Status → Type 0
-DeedEnds (tell question) io status = TellEnds question io status
-DeedEnds (replace path) io status = ReadEnds (λ bytes. AskEnds (request.replace bytes) Text io status) io status
-DeedEnds (remove name) io status = AskEnds (request.remove name) Text io status
-DeedEnds (executable path base) io status = ReadEnds (λ bytes. AskEnds (request.bind bytes base) Executable io status) io status
-DeedEnds (bindings path base) io status = ReadEnds (λ bytes. BindingsAskEnds bytes base io status) io status
+-- the streams of an update, whose input has this yet to give
+abbrev pub with_input : Option (List ℕ) → Streams → updates.Streams
+with_input unread io =
+    record { unread = unread; before = io.before; after = io.after; errors_before = io.errors_before; errors_after = io.errors_after }
 
--- a command line is done; or its disk is the file behind a standard stream, and nothing was told
-abbrev pub IsEnd : CommandLine → Streams → Status → Type 0
-IsEnd line io status = DeedEnds line.deed io status ⊎ ((status ≡ Failed) × IsUntold io)
+-- what an output holds, where that is known
+module _ {O : Type 0} (contents : O → Option (List ℕ)) where
+  -- an update was run over it
+  abbrev pub UpdateAskEnds : Option (List ℕ) → Streams → Status → Type 0
+  UpdateAskEnds unread io status = OpenEnds (λ disk left. UpdateEnds file_facts disk contents (with_input unread io) status left) io status
 
--- with the number that the process exits with
-abbrev pub LineEnds : CommandLine → Streams → ℕ → Type 0
-LineEnds line io number = (status : Status) × IsEnd line io status × (number ≡ status_number status)
+  -- what is done, with what the input has yet to give
+  abbrev pub DeedEnds : Deed → Option (List ℕ) → Streams → Status → Type 0
+  DeedEnds (tell question) unread io status = TellEnds question io status
+  DeedEnds (replace path) unread io status = ReadEnds (λ bytes. AskEnds (request.replace bytes) Text io status) io status
+  DeedEnds (remove name) unread io status = AskEnds (request.remove name) Text io status
+  DeedEnds update unread io status = UpdateAskEnds unread io status
+  DeedEnds (executable path base) unread io status = ReadEnds (λ bytes. AskEnds (request.bind bytes base) Executable io status) io status
+  DeedEnds (bindings path base) unread io status = ReadEnds (λ bytes. BindingsAskEnds bytes base io status) io status
+
+  -- a command line is done; or its disk is the file behind a standard stream, and nothing was told
+  abbrev pub IsEnd : CommandLine → Option (List ℕ) → Streams → Status → Type 0
+  IsEnd line unread io status = DeedEnds line.deed unread io status ⊎ ((status ≡ Failed) × IsUntold io)
+
+  -- with the number that the process exits with
+  abbrev pub LineEnds : CommandLine → Option (List ℕ) → Streams → ℕ → Type 0
+  LineEnds line unread io number = (status : Status) × IsEnd line unread io status × (number ≡ status_number status)
 
 -- what is done is silent at status 0: all but an executable file, beside which more may be said
 abbrev pub IsSilentDeed : Deed → Type 0
 IsSilentDeed (executable path base) = ⊥
 IsSilentDeed deed = Unit {0}
 
--- something is said only where nothing is told, but for a script that is cut, and for digests, of
--- which some library has none
+-- something is said only where nothing is told, but for a script that is cut, for digests, of which
+-- some library has none, and for an update whose lines a fault ended
 abbrev pub IsApartDeed : Deed → Type 0
 IsApartDeed (tell digest) = ⊥
-IsApartDeed (tell dump) = ⊥
+IsApartDeed (tell (dump purpose)) = ⊥
+IsApartDeed update = ⊥
 IsApartDeed deed = IsSilentDeed deed

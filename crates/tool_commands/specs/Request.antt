@@ -21,8 +21,8 @@ use Rattle.registry.specs.Phase.{phase_of}
 use Rattle.registry.specs.Untested.{AppliedUntested, AppliesUntested}
 use Rattle.program_parts.specs.Status.{disk_status}
 use Rattle.program_parts.specs.declared.status.Status.{Status}
-use Rattle.tool_commands.specs.Said.{refusal_line}
-use Rattle.tool_commands.specs.Streams.{Streams, SaysOnly}
+use Rattle.tool_parts.specs.Said.{refusal_line}
+use Rattle.tool_parts.specs.Streams.{Streams, SaysOnly}
 use Rattle.tool_commands.specs.Telling.{TellsReply}
 use Rattle.tool_commands.specs.declared.telling.Telling.{Telling}
 

@@ -5,8 +5,8 @@ use Rattle.program_parts.specs.Reply.{reply_text}
 use Rattle.program_parts.specs.Status.{reply_status}
 use Rattle.program_parts.specs.declared.status.Status.{Status}
 use Rattle.tool_commands.specs.Executable.{TellsExecutable}
-use Rattle.tool_commands.specs.Said.{said_line}
-use Rattle.tool_commands.specs.Streams.{Streams, SaysOnly, TellsOnly}
+use Rattle.tool_parts.specs.Said.{said_line}
+use Rattle.tool_parts.specs.Streams.{Streams, SaysOnly, TellsOnly}
 use Rattle.tool_commands.specs.declared.telling.Telling.{Telling}
 use Rattle.tool_commands.specs.declared.telling.Telling.TheVariants.{Text, Executable}
 

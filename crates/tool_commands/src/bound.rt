@@ -2,22 +2,19 @@
 
 ghost use Rattle.std.specs.Prelude.{◌≡◌, ◌≤◌, ◌++◌, OnOk};
 ghost use Rattle.elf_file.specs.Header.{header_count};
+ghost use Rattle.executable.specs.Outcome.{executable_refusal_text};
 ghost use Rattle.program_parts.specs.Said.{AppendsFront};
-ghost use Rattle.text_output.specs.Sends.{Sends};
-ghost use Rattle.tool_commands.specs.Executable.{TellsExecutable, executable_status};
-ghost use Rattle.tool_commands.specs.Executable.{TellsFile, executable_refusal_text};
+ghost use Rattle.tool_commands.specs.Executable.{TellsExecutable, TellsFile, executable_status};
 ghost use Rattle.tool_commands.specs.Executable.{many_headers_line};
-ghost use Rattle.tool_commands.specs.Said.{said_line};
+ghost use Rattle.tool_parts.specs.Said.{said_line};
 
-use crate::finding::put_around;
-use crate::said::cannot_write;
-use executable::{Executable, ExecutableRefusal, executable_of};
+use executable::{Executable, ExecutableRefusal, executable_of, put_executable_refusal};
 use image::Image;
-use program_parts::{Line, Status, put_disk_refusal, say};
+use program_parts::{Line, Status, say};
 use std::alloc::Global;
 use std::io::Write;
-use store::StoreRefusal;
 use text_output::WriteFault;
+use tool_parts::cannot_write;
 
 /// The most program headers that one page of 4,096 bytes has.
 const MOST_IN_A_PAGE: u16 = 73;
@@ -52,35 +49,6 @@ fn write_executable<O: Write, E: Write>(file: &Executable, output: &mut O, error
             Status::Done
         }
         Err(_) => cannot_write(errors),
-    }
-}
-
-/// The line of why there is no executable file.
-fn put_executable_refusal<W: Write>(
-    line: &mut Line,
-    out: &mut W,
-    refusal: &ExecutableRefusal,
-) -> Result<(), WriteFault>
-    ensures { OnOk result (Sends (W.contents out.old) line.old (W.contents out.new) line.new
-        (executable_refusal_text refusal.now)) }
-{
-    match refusal {
-        ExecutableRefusal::NoEntry => line.put(out, b"refused NoEntry\n"),
-        ExecutableRefusal::StaticPie => line.put(out, b"refused StaticPie\n"),
-        ExecutableRefusal::PreInitializers => line.put(out, b"refused PreInitializers\n"),
-        ExecutableRefusal::Initializers { name } => {
-            put_around(line, out, b"refused Initializers ", name.as_bytes(), b"\n")
-        }
-        ExecutableRefusal::Finalizers { name } => {
-            put_around(line, out, b"refused Finalizers ", name.as_bytes(), b"\n")
-        }
-        ExecutableRefusal::OutOfOrder => line.put(out, b"refused OutOfOrder\n"),
-        ExecutableRefusal::TooManyHeaders => line.put(out, b"refused TooManyHeaders\n"),
-        ExecutableRefusal::WritableCode { name } => {
-            put_around(line, out, b"refused WritableCode ", name.as_bytes(), b"\n")
-        }
-        ExecutableRefusal::NoRoom => line.put(out, b"refused NoRoom\n"),
-        ExecutableRefusal::OutOfMemory => put_disk_refusal(line, out, StoreRefusal::OutOfMemory),
     }
 }
 

@@ -11,10 +11,9 @@ ghost use Rattle.tool_commands.specs.AnyDisk.{CheckTells};
 ghost use Rattle.tool_commands.specs.Check.{check_status, check_text, findings_text, is_sound};
 ghost use Rattle.tool_commands.specs.Ends.{CheckEnds};
 ghost use Rattle.tool_commands.specs.inside.Listed.{Lists};
-ghost use Rattle.tool_commands.specs.Streams.{TellsOnly};
+ghost use Rattle.tool_parts.specs.Streams.{TellsOnly};
 
 use crate::finding::{Line, put_finding};
-use crate::said::{cannot_write, say_refusal};
 use contents::{Contents, Finding};
 use program_parts::Status;
 use sector_disk::Disk;
@@ -22,6 +21,7 @@ use std::alloc::Global;
 use std::io::Write;
 use store::{Store, StoreRefusal};
 use text_output::WriteFault;
+use tool_parts::{cannot_write, say_refusal};
 
 /// The line of each library, in their order.
 fn put_findings<D: Disk, W: Write>(

@@ -1,37 +1,41 @@
 // A command line.
 
-ghost use Rattle.std.specs.Prelude.{◌≡◌, ◌≢◌, ◌≤◌, ◌⊎◌, IfSome, None, map, string_bytes};
+ghost use Rattle.std.specs.Prelude.{◌≡◌, ◌≢◌, ◌≤◌, ◌⊎◌, IfSome, None, false, map};
+ghost use Rattle.std.specs.Prelude.{string_bytes};
 ghost use Rattle.program_parts.specs.Said.{AppendsFront};
-ghost use Rattle.tool_commands.specs.Form.{command_line, line_of};
+ghost use Rattle.tool_commands.specs.Form.{command_line, deed_of, line_of, reads_input};
 ghost use Rattle.tool_commands.specs.Outcome.{IsApartDeed, IsEnd, IsSilentDeed, LineEnds};
 ghost use Rattle.tool_commands.specs.Said.{usage_line};
 
-use crate::form::{Asked, read_words};
+use crate::form::{Action, Asked, read_words};
 use crate::on_file::run_asked;
 use crate::said::{bad_words, cannot_read};
 use program_parts::{Behind, Status, behind_streams};
 use std::alloc::Global;
 use std::fs::File;
-use std::io::Write;
+use std::io::{Read, Write};
 use std::rt::{Clock, Files};
 
-/// Does what is asked, unless what is told would be written into the disk.
-fn run_apart<R: Files<File = File> + Clock, O: Write, E: Write>(
+/// Does what is asked, unless what is told would be written into the disk, or read from it.
+fn run_apart<R: Files<File = File> + Clock, I: Read, O: Write, E: Write>(
     rt: &R,
     alloc: Global,
     asked: &Asked<'_>,
+    input: &mut I,
     output: &mut O,
     errors: &mut E,
 ) -> Status
-    ensures { IsEnd (line_of asked.now) (record {
+    ensures ends { IsEnd O.contents (line_of asked.now) (I.remaining input.old) (record {
       before = O.contents output.old;
       after = O.contents output.new;
       errors_before = E.contents errors.old;
       errors_after = E.contents errors.new;
     }) result }
+    ensures unread { reads_input (deed_of asked.now.action) ≡ false → input.new ≡ input.old }
 {
-    match behind_streams(rt, asked.disk, false) {
-        Behind::Other => run_asked(rt, alloc, asked, output, errors),
+    let reads_input = matches!(asked.action, Action::Update);
+    match behind_streams(rt, asked.disk, reads_input) {
+        Behind::Other => run_asked(rt, alloc, asked, input, output, errors),
         Behind::OtherStream => cannot_read(errors, asked.disk),
         Behind::Errors => Status::Failed,
     }
@@ -39,11 +43,12 @@ fn run_apart<R: Files<File = File> + Clock, O: Write, E: Write>(
 
 /// Does what the program does with these words after its name, and gives its exit status: 0 done,
 /// 1 refused, 2 the words are none of the forms, 3 the disk, its file or a stream failed, 4 memory
-/// was refused.
-pub fn run_words<R: Files<File = File> + Clock, O: Write, E: Write>(
+/// was refused. Only `update` reads the input.
+pub fn run_words<R: Files<File = File> + Clock, I: Read, O: Write, E: Write>(
     rt: &R,
     alloc: Global,
     words: &[String],
+    input: &mut I,
     output: &mut O,
     errors: &mut E,
 ) -> u8
@@ -59,7 +64,7 @@ pub fn run_words<R: Files<File = File> + Clock, O: Write, E: Write>(
 
     // Words of a form: what is told and said, and the status that goes with it.
     ensures ends { IfSome (command_line (map (λ word. string_bytes word) words.now)) (λ line.
-        LineEnds line (record {
+        LineEnds O.contents line (I.remaining input.old) (record {
           before = O.contents output.old;
           after = O.contents output.new;
           errors_before = E.contents errors.old;
@@ -76,11 +81,17 @@ pub fn run_words<R: Files<File = File> + Clock, O: Write, E: Write>(
         ⊎ (O.contents output.new ≡ O.contents output.old)) }
     ensures same { command_line (map (λ word. string_bytes word) words.now) ≡ None
         → output.new ≡ output.old }
+
+    // Only an update reads the input.
+    ensures unread { IfSome (command_line (map (λ word. string_bytes word) words.now)) (λ line.
+        reads_input line.deed ≡ false → input.new ≡ input.old) }
+    ensures left_alone { command_line (map (λ word. string_bytes word) words.now) ≡ None
+        → input.new ≡ input.old }
     ensures told { command_line (map (λ word. string_bytes word) words.now) ≡ None
         → AppendsFront (E.contents errors.old) (E.contents errors.new) usage_line }
 {
     match read_words(words) {
-        Some(asked) => run_apart(rt, alloc, &asked, output, errors).number(),
+        Some(asked) => run_apart(rt, alloc, &asked, input, output, errors).number(),
         None => bad_words(errors).number(),
     }
 }

@@ -16,7 +16,6 @@ ghost use Rattle.tool_commands.specs.inside.Sums.{stream_text};
 
 use crate::digest_line::put_stream_line;
 use crate::finding::Line;
-use crate::said::{cannot_write, say_refusal};
 use crate::stream::Stream;
 use contents::Contents;
 use program_parts::{Status, say};
@@ -25,6 +24,7 @@ use std::alloc::Global;
 use std::io::Write;
 use store::{Store, StoreRefusal};
 use text_output::WriteFault;
+use tool_parts::{cannot_write, say_refusal};
 
 /// What goes to a stream of each library, in their order.
 fn put_stream<D: Disk, W: Write>(

@@ -13,18 +13,18 @@ ghost use Rattle.program_parts.specs.Said.{AppendsFront};
 ghost use Rattle.text_output.specs.Sends.{Sends};
 ghost use Rattle.tool_commands.specs.AnyDisk.{DumpTells};
 ghost use Rattle.tool_commands.specs.Check.{finding_line};
-ghost use Rattle.tool_commands.specs.Dump.{behind_space, cut_status, install_line, install_text};
-ghost use Rattle.tool_commands.specs.Dump.{preload_text};
+ghost use Rattle.tool_commands.specs.Dump.{behind_space, commit_text, cut_status, install_line};
+ghost use Rattle.tool_commands.specs.Dump.{install_text, preload_text};
 ghost use Rattle.tool_commands.specs.Ends.{DumpEnds};
 ghost use Rattle.text_output.specs.Pieces.{EndsWithinLine};
-ghost use Rattle.tool_commands.specs.Said.{said_line};
-ghost use Rattle.tool_commands.specs.inside.Lack.{IsGone, IsLacking, SaysCut, dump_status, end_text};
-ghost use Rattle.tool_commands.specs.inside.Lack.{lack_line, lack_status, libraries_text};
+ghost use Rattle.tool_parts.specs.Said.{said_line};
+ghost use Rattle.tool_commands.specs.inside.Lack.{IsGone, IsLacking, SaysCut, dump_status};
+ghost use Rattle.tool_commands.specs.inside.Lack.{end_text, lack_line, lack_status, libraries_text};
 ghost use Rattle.tool_commands.specs.inside.Listed.{Lists};
 
 use crate::finding::{Line, put_finding};
+use crate::form::Purpose;
 use crate::hexadecimal::put_hex;
-use crate::said::{cannot_write, say_refusal};
 use crate::sound::{Lack, sound_file};
 use contents::{Contents, Finding};
 use program_parts::{Status, say};
@@ -33,6 +33,7 @@ use std::alloc::Global;
 use std::io::Write;
 use store::{Store, StoreRefusal};
 use text_output::{PieceBuffer, WriteFault};
+use tool_parts::{cannot_write, say_refusal};
 
 /// Where a script was cut, and why.
 #[derive(Clone, Copy, PartialEq, Eq)]
@@ -124,20 +125,44 @@ fn put_preloads<D: Disk, W: Write>(
     Ok(())
 }
 
-/// What stands behind the libraries: the preloads, or `cut`, without a line's end.
+/// The line `commit`, where a script has one.
+fn put_commit<W: Write>(
+    purpose: Purpose,
+    script: &mut PieceBuffer,
+    out: &mut W,
+) -> Result<(), WriteFault>
+    ensures { OnOk result (Sends (W.contents out.old) script.old (W.contents out.new) script.new
+        (commit_text purpose)) }
+{
+    match purpose {
+        Purpose::Script => Ok(()),
+        Purpose::Update => {
+            script.put(out, b"commit")?;
+            script.end_line();
+            Ok(())
+        }
+    }
+}
+
+/// What stands behind the libraries: the preloads and perhaps `commit`, or `cut`, without a line's
+/// end.
 fn put_end<D: Disk, W: Write>(
     store: &Store<D>,
+    purpose: Purpose,
     cut: &Option<Cut>,
     script: &mut PieceBuffer,
     out: &mut W,
 ) -> Result<(), WriteFault>
     ensures { (libraries : List Library) → Lists D.facts store.now libraries → OnOk result
         (Sends (W.contents out.old) script.old (W.contents out.new) script.new
-        (end_text (names_at libraries (listed_preloads store.now.root)) cut.now)) }
+        (end_text purpose (names_at libraries (listed_preloads store.now.root)) cut.now)) }
 {
     match cut {
         Some(_) => script.put(out, b"cut"),
-        None => put_preloads(store, script, out),
+        None => {
+            put_preloads(store, script, out)?;
+            put_commit(purpose, script, out)
+        }
     }
 }
 
@@ -145,6 +170,7 @@ fn put_end<D: Disk, W: Write>(
 fn write_script<D: Disk, W: Write>(
     contents: &mut Contents<D>,
     alloc: Global,
+    purpose: Purpose,
     out: &mut W,
 ) -> Result<Option<Cut>, WriteFault>
     ensures read { IsRead D.facts contents.old contents.new }
@@ -152,15 +178,15 @@ fn write_script<D: Disk, W: Write>(
         c.position < length contents.new.entries)) }
     ensures ok { (s : State) → IsAt D.facts contents.old s → IfOk result (λ cut.
         IsGone s cut × Appends (W.contents out.old) (W.contents out.new)
-        (libraries_text s cut ++ end_text s.preloads cut)) }
+        (libraries_text s cut ++ end_text purpose s.preloads cut)) }
     ensures told { IfOk result (λ cut. (libraries : List Library) × (preloads : List (List ℕ))
         × IsLacking (D.facts contents.old.disk) (D.facts contents.new.disk) cut
         × Appends (W.contents out.old) (W.contents out.new)
-        (flat_map install_text libraries ++ end_text preloads cut)) }
+        (flat_map install_text libraries ++ end_text purpose preloads cut)) }
 {
     let mut script = PieceBuffer::new();
     let cut = put_libraries(contents, alloc, &mut script, out)?;
-    put_end(contents.store(), &cut, &mut script, out)?;
+    put_end(contents.store(), purpose, &cut, &mut script, out)?;
     script.finish(out)?;
     Ok(cut)
 }
@@ -251,18 +277,19 @@ fn end_dump<D: Disk, E: Write>(
 }
 
 /// Writes the script that makes the registry anew: an `install` line for each library, in their
-/// order, and a `preload` line where there are preloads. One library is in memory at a time, and
-/// its sectors are read once. Where one can't be read, or isn't one of its name, or memory is
-/// refused, the script ends with `cut`, without a line's end.
+/// order, a `preload` line where there are preloads, and for an update the line `commit`. One
+/// library is in memory at a time, and its sectors are read once. Where one can't be read, or isn't
+/// one of its name, or memory is refused, the script ends with `cut`, without a line's end.
 pub fn run_dump<D: Disk, O: Write, E: Write>(
     contents: &mut Contents<D>,
     alloc: Global,
+    purpose: Purpose,
     output: &mut O,
     errors: &mut E,
 ) -> Status
     ensures read { IsRead D.facts contents.old contents.new }
     ensures ends { (s : State) → IsAt D.facts contents.old s
-        → DumpEnds (D.facts contents.old.disk) (D.facts contents.new.disk) s (record {
+        → DumpEnds (D.facts contents.old.disk) (D.facts contents.new.disk) purpose s (record {
           before = O.contents output.old;
           after = O.contents output.new;
           errors_before = E.contents errors.old;
@@ -270,14 +297,15 @@ pub fn run_dump<D: Disk, O: Write, E: Write>(
         }) result }
 
     // On any disk
-    ensures told { DumpTells (D.facts contents.old.disk) (D.facts contents.new.disk) (record {
-      before = O.contents output.old;
-      after = O.contents output.new;
-      errors_before = E.contents errors.old;
-      errors_after = E.contents errors.new;
-    }) result }
+    ensures told { DumpTells (D.facts contents.old.disk) (D.facts contents.new.disk) purpose
+        (record {
+          before = O.contents output.old;
+          after = O.contents output.new;
+          errors_before = E.contents errors.old;
+          errors_after = E.contents errors.new;
+        }) result }
 {
-    match write_script(contents, alloc, output) {
+    match write_script(contents, alloc, purpose, output) {
         Ok(cut) => end_dump(contents.store(), alloc, cut, errors),
         Err(_) => cannot_write(errors),
     }

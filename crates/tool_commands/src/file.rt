@@ -8,16 +8,17 @@ ghost use Rattle.program_parts.specs.declared.status.Status.TheVariants.{Done};
 ghost use Rattle.tool_commands.specs.AnyDisk.{FileTells};
 ghost use Rattle.tool_commands.specs.Ends.{FileEnds};
 ghost use Rattle.program_parts.specs.Said.{AppendsFront};
-ghost use Rattle.tool_commands.specs.Streams.{TellsOnly};
+ghost use Rattle.tool_parts.specs.Streams.{TellsOnly};
 ghost use Rattle.tool_commands.specs.inside.Unread.{unread_line, unread_status};
 
-use crate::said::{cannot_write, say_not_installed, say_refusal};
+use crate::said::say_not_installed;
 use contents::{Contents, Unread};
 use program_parts::Status;
 use sector_disk::Disk;
 use std::alloc::Global;
 use std::io::Write;
 use store::StoreRefusal;
+use tool_parts::{cannot_write, say_refusal};
 
 /// Writes bytes.
 fn write_bytes<O: Write, E: Write>(bytes: &[u8], output: &mut O, errors: &mut E) -> Status

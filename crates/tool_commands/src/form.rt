@@ -2,11 +2,21 @@
 
 ghost use Rattle.std.specs.Prelude.{◌≡◌, ◌∷◌, map, string_bytes};
 ghost use Rattle.std.specs.Option.{option_map};
-ghost use Rattle.tool_commands.specs.Form.{command_line, line_of, question_of};
-ghost use Rattle.tool_commands.specs.Form.{of_one, of_program, of_two};
+ghost use Rattle.tool_commands.specs.Form.{command_line, line_of};
+ghost use Rattle.tool_commands.specs.Form.{deed_of, of_dump, of_one, of_program, of_two};
 ghost use Rattle.tool_commands.specs.Form.{bindings, executable, file, remove, replace, tell};
+ghost use Rattle.tool_commands.specs.Form.{purpose_of};
 
 use program_parts::parse_base;
+
+/// What a script is written for.
+#[derive(Clone, Copy, PartialEq, Eq)]
+pub enum Purpose {
+    /// `rlibreg script`, which does what each line asks before it reads the next.
+    Script,
+    /// An update, which does what all lines ask at their end: its last line is `commit`.
+    Update,
+}
 
 /// What is told of a disk.
 #[derive(Clone, Copy, PartialEq, Eq)]
@@ -20,7 +30,7 @@ pub enum Form<'a> {
     /// Gives the bytes of the library of this name.
     File(&'a str),
     /// Gives the script that makes the registry anew.
-    Dump,
+    Dump(Purpose),
 }
 
 /// What is done with a disk.
@@ -32,6 +42,8 @@ pub enum Action<'a> {
     Replace(&'a str),
     /// Removes the library of this name.
     Remove(&'a str),
+    /// Makes all changes at once that the lines of the input ask for.
+    Update,
     /// Gives the executable file of a bound program.
     Executable {
         /// The path of the program's file.
@@ -57,16 +69,41 @@ pub struct Asked<'a> {
     pub action: Action<'a>,
 }
 
-/// What is told of DISK, where it stands alone.
-fn read_disk<'a>(form: Form<'a>, words: &'a [String]) -> Option<Asked<'a>>
+/// What is done with DISK, where it stands alone.
+fn read_disk<'a>(action: Action<'a>, words: &'a [String]) -> Option<Asked<'a>>
     ensures { option_map line_of result
-        ≡ of_one (question_of form.entry) (map (λ word. string_bytes word) words.now) }
+        ≡ of_one (deed_of action.entry) (map (λ word. string_bytes word) words.now) }
+{
+    match words {
+        [disk] => Some(Asked { disk, action }),
+        _ => None,
+    }
+}
+
+/// What a word behind DISK says that a dump is for.
+fn read_purpose(word: &str) -> Option<Purpose>
+    ensures { result ≡ purpose_of word.now }
+{
+    match word {
+        "commit" => Some(Purpose::Update),
+        _ => None,
+    }
+}
+
+/// `dump` of DISK, or of DISK `commit`.
+fn read_dump(words: &[String]) -> Option<Asked<'_>>
+    ensures { option_map line_of result ≡ of_dump (map (λ word. string_bytes word) words.now) }
 {
     match words {
         [disk] => Some(Asked {
             disk,
-            action: Action::Tell(form),
+            action: Action::Tell(Form::Dump(Purpose::Script)),
         }),
+        [disk, word] => {
+            let purpose = read_purpose(word)?;
+            let action = Action::Tell(Form::Dump(purpose));
+            Some(Asked { disk, action })
+        }
         _ => None,
     }
 }
@@ -149,13 +186,14 @@ fn read_form<'a>(name: &str, words: &'a [String]) -> Option<Asked<'a>>
         ≡ command_line (name.now ∷ map (λ word. string_bytes word) words.now) }
 {
     match name {
-        "info" => read_disk(Form::Info, words),
-        "check" => read_disk(Form::Check, words),
-        "digest" => read_disk(Form::Digest, words),
+        "info" => read_disk(Action::Tell(Form::Info), words),
+        "check" => read_disk(Action::Tell(Form::Check), words),
+        "digest" => read_disk(Action::Tell(Form::Digest), words),
         "file" => read_file(words),
-        "dump" => read_disk(Form::Dump, words),
+        "dump" => read_dump(words),
         "replace" => read_replace(words),
         "remove" => read_remove(words),
+        "update" => read_disk(Action::Update, words),
         "executable" => read_executable(words),
         "bindings" => read_bindings(words),
         _ => None,

@@ -9,15 +9,15 @@ ghost use Rattle.text_output.specs.Sends.{Sends};
 ghost use Rattle.program_parts.specs.declared.status.Status.TheVariants.{Done};
 ghost use Rattle.tool_commands.specs.AnyDisk.{InfoTells};
 ghost use Rattle.tool_commands.specs.Ends.{InfoEnds};
-ghost use Rattle.tool_commands.specs.Info.{disk_lines, count_lines, free_lines, info_text};
-ghost use Rattle.tool_commands.specs.Streams.{TellsOnly};
+ghost use Rattle.tool_commands.specs.Info.{disk_lines, count_lines, room_lines, info_text};
+ghost use Rattle.tool_parts.specs.Streams.{TellsOnly};
 
-use crate::said::cannot_write;
 use contents::{Contents, Info};
 use program_parts::Status;
 use sector_disk::Disk;
 use std::io::Write;
 use text_output::{LINE, OutputBuffer, WriteFault};
+use tool_parts::cannot_write;
 
 /// A line on its way to a writer.
 type Line = OutputBuffer<LINE>;
@@ -63,18 +63,20 @@ fn put_counts<W: Write>(line: &mut Line, out: &mut W, info: &Info) -> Result<(),
     put_number(line, out, b"preloads ", info.preloads as u64, b" of 16\n")
 }
 
-/// The lines of what is free.
-fn put_free<W: Write>(line: &mut Line, out: &mut W, info: &Info) -> Result<(), WriteFault>
+/// The lines of what is unused, and of what goes in.
+fn put_room<W: Write>(line: &mut Line, out: &mut W, info: &Info) -> Result<(), WriteFault>
     ensures { OnOk result (Sends (W.contents out.old) line.old (W.contents out.new) line.new
-        (free_lines info.now.free.sectors info.now.free.runs info.now.free.largest)) }
+        (room_lines info.now.unused.sectors info.now.unused.free info.now.unused.runs
+        info.now.unused.largest)) }
 {
-    put_number(line, out, b"free ", info.free.sectors as u64, b"\n")?;
-    put_number(line, out, b"runs ", info.free.runs as u64, b"\n")?;
+    put_number(line, out, b"unused ", info.unused.sectors as u64, b"\n")?;
+    put_number(line, out, b"free ", info.unused.free as u64, b"\n")?;
+    put_number(line, out, b"runs ", info.unused.runs as u64, b"\n")?;
     put_number(
         line,
         out,
         b"largest ",
-        u64::from(info.free.largest),
+        u64::from(info.unused.largest),
         b"\nend\n",
     )
 }
@@ -83,18 +85,20 @@ fn put_free<W: Write>(line: &mut Line, out: &mut W, info: &Info) -> Result<(), W
 fn put_info<W: Write>(line: &mut Line, out: &mut W, info: &Info) -> Result<(), WriteFault>
     ensures { OnOk result (Sends (W.contents out.old) line.old (W.contents out.new) line.new
         (info_text info.now.sectors info.now.generation info.now.libraries info.now.preloads
-        info.now.free.sectors info.now.free.runs info.now.free.largest)) }
+        info.now.unused.sectors info.now.unused.free info.now.unused.runs
+        info.now.unused.largest)) }
 {
     put_disk(line, out, info)?;
     put_counts(line, out, info)?;
-    put_free(line, out, info)
+    put_room(line, out, info)
 }
 
 /// Writes it, with one write.
 fn write_info<W: Write>(out: &mut W, info: &Info) -> Result<(), WriteFault>
     ensures { OnOk result (Appends (W.contents out.old) (W.contents out.new)
         (info_text info.now.sectors info.now.generation info.now.libraries info.now.preloads
-        info.now.free.sectors info.now.free.runs info.now.free.largest)) }
+        info.now.unused.sectors info.now.unused.free info.now.unused.runs
+        info.now.unused.largest)) }
 {
     let mut line = Line::new();
     put_info(&mut line, out, info)?;
@@ -104,7 +108,8 @@ fn write_info<W: Write>(out: &mut W, info: &Info) -> Result<(), WriteFault>
 /// Writes what is told of the whole, or says that the output failed.
 fn tell_info<O: Write, E: Write>(info: &Info, output: &mut O, errors: &mut E) -> Status
     ensures { TellsOnly Done (info_text info.now.sectors info.now.generation info.now.libraries
-        info.now.preloads info.now.free.sectors info.now.free.runs info.now.free.largest)
+        info.now.preloads info.now.unused.sectors info.now.unused.free info.now.unused.runs
+        info.now.unused.largest)
         (record {
           before = O.contents output.old;
           after = O.contents output.new;

@@ -1,13 +1,13 @@
 //! What the program `rlibreg-tool` does with words and disks, for whoever links it.
 //!
 //! `run_info`, `run_check`, `run_digest`, `run_file` and `run_dump` tell what a disk has: how much
-//! of it is free, whether its libraries are libraries, their digests, the bytes of one, and the
+//! of it is unused, whether its libraries are libraries, their digests, the bytes of one, and the
 //! script that makes them all anew.
 //! `run_form` opens a disk, whatever it is, and does one of these; `run_request` applies a command
 //! to its registry, whatever its libraries are, and tells the reply as `Telling` says;
 //! `run_bindings` tells what the symbols of a program are bound to. `run_words`
-//! reads the words of a command line and opens the file that is the disk, and `run_arguments` does
-//! the same with the words of the process.
+//! reads the words of a command line and opens the file that is the disk, also for an update, which
+//! the crate `updates` runs; `run_arguments` does the same with the words of the process.
 #![tactic(auto)]
 
 mod arguments;
@@ -38,7 +38,7 @@ pub use command::run_words;
 pub use digest::run_digest;
 pub use dump::run_dump;
 pub use file::run_file;
-pub use form::{Action, Asked, Form, read_words};
+pub use form::{Action, Asked, Form, Purpose, read_words};
 pub use info::run_info;
 pub use request::run_request;
 pub use run::run_form;

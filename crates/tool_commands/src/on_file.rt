@@ -1,17 +1,18 @@
 // What is done with the disk that a file is.
 
-ghost use Rattle.std.specs.Prelude.{◌≡◌, IfOk};
+ghost use Rattle.std.specs.Prelude.{◌≡◌, IfOk, false};
 ghost use Rattle.requests.specs.Request.{request_of};
 ghost use Rattle.file_disk.specs.FileDisk.{IsNew};
-ghost use Rattle.tool_commands.specs.Form.{deed_of, question_of};
+ghost use Rattle.tool_commands.specs.Form.{deed_of, question_of, reads_input};
 ghost use Rattle.tool_commands.specs.Outcome.{AskEnds, BindingsAskEnds, DeedEnds, TellEnds};
-ghost use Rattle.tool_commands.specs.Outcome.{SaysFault, SaysUnread, open_status, read_status};
+ghost use Rattle.tool_commands.specs.Outcome.{SaysFault, SaysUnread, UpdateAskEnds};
+ghost use Rattle.tool_commands.specs.Outcome.{open_status, read_status};
 ghost use Rattle.tool_commands.specs.inside.WithFile.{AskEndsWith, BindingsEndWith};
 
 use crate::form::{Action, Asked, Form};
 use crate::request::run_request;
 use crate::run::{end_unopened, run_form};
-use crate::said::{cannot_read, say_refusal};
+use crate::said::cannot_read;
 use crate::symbols::run_bindings;
 use crate::telling::Telling;
 use crate::with_file::WithFile;
@@ -20,9 +21,11 @@ use program_parts::{FileFault, Status, read_file};
 use requests::Command;
 use std::alloc::Global;
 use std::fs::File;
-use std::io::Write;
+use std::io::{Read, Write};
 use std::rt::{Clock, Files};
 use store::StoreRefusal;
+use tool_parts::say_refusal;
+use updates::run_update;
 
 /// Says why the file of a disk isn't opened.
 fn not_opened<E: Write>(alloc: Global, path: &str, fault: OpenFault, errors: &mut E) -> Status
@@ -199,21 +202,50 @@ fn tell_file_bindings<R: Files<File = File> + Clock, O: Write, E: Write>(
     }
 }
 
-/// Does what is asked.
-pub(crate) fn run_asked<R: Files<File = File> + Clock, O: Write, E: Write>(
+/// Opens a disk with a lock that nobody else may hold, and runs an update over it. The lock is held
+/// until the output is written.
+fn update<R: Files<File = File> + Clock, I: Read, O: Write, E: Write>(
     rt: &R,
     alloc: Global,
-    asked: &Asked<'_>,
+    path: &str,
+    input: &mut I,
     output: &mut O,
     errors: &mut E,
 ) -> Status
-    ensures { DeedEnds (deed_of asked.now.action)
+    ensures { UpdateAskEnds O.contents (I.remaining input.old) (record {
+      before = O.contents output.old;
+      after = O.contents output.new;
+      errors_before = E.contents errors.old;
+      errors_after = E.contents errors.new;
+    }) result }
+{
+    match FileDisk::open(rt, alloc, path) {
+        Ok(disk) => {
+            let (status, disk) = run_update(alloc, disk, input, output, errors);
+            drop(disk);
+            status
+        }
+        Err(fault) => not_opened(alloc, path, fault, errors),
+    }
+}
+
+/// Does what is asked.
+pub(crate) fn run_asked<R: Files<File = File> + Clock, I: Read, O: Write, E: Write>(
+    rt: &R,
+    alloc: Global,
+    asked: &Asked<'_>,
+    input: &mut I,
+    output: &mut O,
+    errors: &mut E,
+) -> Status
+    ensures ends { DeedEnds O.contents (deed_of asked.now.action) (I.remaining input.old)
         (record {
           before = O.contents output.old;
           after = O.contents output.new;
           errors_before = E.contents errors.old;
           errors_after = E.contents errors.new;
         }) result }
+    ensures unread { reads_input (deed_of asked.now.action) ≡ false → input.new ≡ input.old }
 {
     let disk = asked.disk;
     match asked.action {
@@ -225,6 +257,7 @@ pub(crate) fn run_asked<R: Files<File = File> + Clock, O: Write, E: Write>(
             let command = Command::Remove(name.as_bytes());
             ask(rt, alloc, disk, &command, Telling::Text, output, errors)
         }
+        Action::Update => update(rt, alloc, disk, input, output, errors),
         Action::Executable { program, base } => {
             let asking = WithFile::Executable { base };
             ask_with(rt, alloc, disk, asking, program, output, errors)

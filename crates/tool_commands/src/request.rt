@@ -5,7 +5,6 @@ ghost use Rattle.requests.specs.declared.reply.Reply.{Reply};
 ghost use Rattle.tool_commands.specs.Request.{DiskStep, RequestEnds};
 ghost use Rattle.tool_commands.specs.Telling.{TellsReply};
 
-use crate::said::say_refusal;
 use crate::telling::{Telling, tell};
 use program_parts::Status;
 use registry::Registry;
@@ -13,6 +12,7 @@ use requests::Command;
 use sector_disk::Disk;
 use std::alloc::Global;
 use std::io::Write;
+use tool_parts::say_refusal;
 
 /// Applies a command to a registry, and tells the reply.
 fn answer<D: Disk, O: Write, E: Write>(

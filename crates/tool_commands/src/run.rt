@@ -15,13 +15,13 @@ use crate::dump::run_dump;
 use crate::file::run_file;
 use crate::form::Form;
 use crate::info::run_info;
-use crate::said::say_refusal;
 use contents::Contents;
 use program_parts::Status;
 use sector_disk::Disk;
 use std::alloc::Global;
 use std::io::Write;
 use text_output::{OutputBuffer, PIECE, WriteFault};
+use tool_parts::say_refusal;
 
 /// Cuts a script of which there is nothing: it is none that could be taken for a whole one.
 fn cut_script<O: Write>(output: &mut O) -> Result<(), WriteFault>
@@ -38,7 +38,7 @@ pub(crate) fn end_unopened<O: Write>(form: &Form<'_>, status: Status, output: &m
         (O.contents output.old) (O.contents output.new) result }
 {
     match form {
-        Form::Dump => match cut_script(output) {
+        Form::Dump(_) => match cut_script(output) {
             Ok(()) => status,
             Err(_) => Status::Failed,
         },
@@ -76,7 +76,7 @@ fn run_opened<D: Disk, O: Write, E: Write>(
         Form::Check => run_check(contents, alloc, output, errors),
         Form::Digest => run_digest(contents, alloc, output, errors),
         Form::File(name) => run_file(contents, alloc, name.as_bytes(), output, errors),
-        Form::Dump => run_dump(contents, alloc, output, errors),
+        Form::Dump(purpose) => run_dump(contents, alloc, purpose, output, errors),
     }
 }
 

@@ -14,10 +14,9 @@ ghost use Rattle.program_parts.specs.declared.status.Status.TheVariants.{Refused
 ghost use Rattle.tool_commands.specs.Bindings.{BindingsEnds, FoundTells, LackingTells};
 ghost use Rattle.tool_commands.specs.Bindings.{PlacedTells, ToldBindings, WholeTells};
 ghost use Rattle.tool_commands.specs.Bindings.{bindings_status};
-ghost use Rattle.tool_commands.specs.Said.{said_line};
-ghost use Rattle.tool_commands.specs.Streams.{TellsOnly};
+ghost use Rattle.tool_parts.specs.Said.{said_line};
+ghost use Rattle.tool_parts.specs.Streams.{TellsOnly};
 
-use crate::said::{cannot_write, say_refusal};
 use crate::telling::say_reply;
 use bindings::{Bindings, Dependencies};
 use hash_check::Admitted;
@@ -30,6 +29,7 @@ use sector_disk::Disk;
 use std::alloc::Global;
 use std::io::Write;
 use store::StoreRefusal;
+use tool_parts::{cannot_write, say_refusal};
 
 /// Says why nothing is told of a program.
 fn say_refused<E: Write>(alloc: Global, refusal: Refusal, errors: &mut E) -> Status

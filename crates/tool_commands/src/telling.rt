@@ -4,17 +4,17 @@ ghost use Rattle.std.specs.Prelude.{◌≡◌, ◌++◌, OnOk};
 ghost use Rattle.program_parts.specs.Reply.{reply_text};
 ghost use Rattle.program_parts.specs.Said.{AppendsFront};
 ghost use Rattle.program_parts.specs.Status.{reply_status};
-ghost use Rattle.tool_commands.specs.Said.{said_line};
-ghost use Rattle.tool_commands.specs.Streams.{TellsOnly};
+ghost use Rattle.tool_parts.specs.Said.{said_line};
+ghost use Rattle.tool_parts.specs.Streams.{TellsOnly};
 ghost use Rattle.tool_commands.specs.Telling.{TellsReply};
 
 use crate::bound::tell_executable;
-use crate::said::cannot_write;
 use program_parts::{Line, Status, put_reply, say, write_reply};
 use requests::Reply;
 use std::alloc::Global;
 use std::io::Write;
 use text_output::WriteFault;
+use tool_parts::cannot_write;
 
 /// How a reply is told.
 #[derive(Clone, Copy, PartialEq, Eq)]

@@ -1,10 +1,11 @@
 -- What the parts of an update do to its draft.
-use Rattle.std.specs.Prelude.{◌≡◌, ℕ, Result, OnErr}
+use Rattle.std.specs.Prelude.{◌≡◌, ◌≢◌, ℕ, Result, OnErr, OnOk}
 use Rattle.sector_disk.specs.Disk.{DiskFacts}
 use Rattle.states.specs.State.{State}
 use Rattle.store.specs.Changed.{Changed}
 use Rattle.store.specs.Draft.{Drafted, IsDraftedAt, IsSameDraft, StaysBeside, listing}
 use Rattle.store.specs.IsRead.{IsRead}
+use Rattle.store.specs.declared.draft.Touched.TheVariants.{Nothing}
 use Rattle.requests.specs.declared.refusal.Refusal.{Refusal}
 use Rattle.requests.specs.declared.refusal.Refusal.TheVariants.{Device, Reopen}
 use Rattle.store.specs.declared.refusal.StoreRefusal.{StoreRefusal}
@@ -16,6 +17,8 @@ pub record IsPlanned {D : Type 0} (facts : D → DiskFacts) (old new : Drafted D
   pub beside : StaysBeside facts old new
   pub changed : Changed facts Device Reopen old.store new.store most Refuses result
   pub refused : OnErr result (IsSameDraft old new)
+  -- the draft counts as changed
+  pub planned : OnOk result (new.touched ≢ Nothing)
 
 -- Files of the draft are read, whatever comes of it.
 pub record ReadsBeside {D : Type 0} (facts : D → DiskFacts) (old new : Drafted D) : Type 0 where

@@ -6,7 +6,7 @@ use Rattle.states.specs.State.{Library, State}
 use Rattle.store.specs.declared.placed_entry.PlacedEntry.{PlacedEntry}
 use Rattle.store.specs.declared.refusal.StoreRefusal.{StoreRefusal}
 use Rattle.store.specs.declared.refusal.StoreRefusal.TheVariants.{OutOfMemory}
-use Rattle.store.specs.HeldVersions.{IsHeldBy, holders_of, AreFlagged, HeldIs, KeepsHeld}
+use Rattle.store.specs.Holds.{IsHeldBy, holders_of, AreFlagged, HeldIs, KeepsHeld}
 use Rattle.store.specs.Opened.{Opened, IsAt}
 use Rattle.store.specs.Stands.{no_library}
 use Rattle.snapshots.specs.Snapshot.{times}
@@ -14,7 +14,7 @@ use Rattle.snapshots.specs.Snapshot.{times}
 -- whatever was held before is held as it was, and all else of the store is as it was
 pub record StaysBeside {D : Type 0} (facts : D → DiskFacts) (old new : Opened D) : Type 0 where
   pub others : (sector : ℕ) (library : Library) → HeldIs facts old sector library → HeldIs facts new sector library
-  pub versions : (sector : ℕ) (placed : PlacedEntry) → IsHeldBy old.held sector placed → IsHeldBy new.held sector placed
+  pub holds : (sector : ℕ) (placed : PlacedEntry) → IsHeldBy old.held sector placed → IsHeldBy new.held sector placed
   pub flags : AreFlagged new
   pub kept : (new.disk ≡ old.disk) × (new.root ≡ old.root) × (new.entries ≡ old.entries) × (new.failed ≡ old.failed)
   pub same : (s : State) → IsAt facts old s → IsAt facts new s

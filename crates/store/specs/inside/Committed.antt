@@ -8,7 +8,7 @@ use Rattle.store.specs.declared.refusal.StoreRefusal.{StoreRefusal}
 use Rattle.store.specs.declared.refusal.StoreRefusal.TheVariants.{Device, Reopen}
 use Rattle.store.specs.Changed.{Changed}
 use Rattle.store.specs.Draft.{Drafted, IsDraftedAt, commit_calls, committed, layout_drafted}
-use Rattle.store.specs.HeldVersions.{KeepsHeld}
+use Rattle.store.specs.Holds.{KeepsHeld}
 use Rattle.store.specs.Opened.{IsAt, Opened}
 use Rattle.store.specs.Stands.{Stands, catalogues_of}
 use Rattle.store.specs.Taken.{AreTaken}

@@ -3,7 +3,7 @@ use Rattle.std.specs.Prelude.{◌≡◌, ◌≢◌, ◌↔◌, ℕ, ◌+◌, ◌
 use Rattle.std.specs.Prelude.{Result, Ok, Err, IfOk, IfErr, OnErr}
 use Rattle.std.specs.List.{flat_map}
 use Rattle.extents.specs.Extent.{AreDistinct}
-use Rattle.extents.specs.Layout.{free_count}
+use Rattle.extents.specs.Layout.{unused_count}
 use Rattle.roots.specs.declared.version.Version.TheVariants.{Two}
 use Rattle.roots.specs.Root.{listed_preloads, version_of}
 use Rattle.states.specs.Cost.{catalogues_for, free}
@@ -53,7 +53,7 @@ pub record ArePreloads (libraries : ℕ) (preloads : List ℕ) : Type 0 where
   pub inside : All (λ position. position < libraries) preloads
   pub once : AreDistinct preloads
 
--- How many sectors stay free beside a draft of so many byte strings, over so many catalogues that
+-- How many sectors stay unused beside a draft of so many byte strings, over so many catalogues that
 -- stand: for the commit's catalogues, and for those of the change that follows it.
 abbrev pub spare_of : (standing libraries : ℕ) → ℕ
 spare_of standing libraries = standing + 2 * (catalogues_for libraries - standing)
@@ -63,7 +63,7 @@ pub record IsStagedIn (kept : Kept) (entries : List PlacedEntry) : Type 0 where
   pub standing : List Bool
   pub stands : IsKept kept.root kept.entries.items kept.held standing
   pub claimed : IsClaimedBeside standing kept.layout (own_sectors_in kept.entries.items entries)
-  pub room : spare_of (length (catalogues_of kept.root)) (length entries) ≤ free_count kept.layout
+  pub room : spare_of (length (catalogues_of kept.root)) (length entries) ≤ unused_count kept.layout
 
 -- What an update keeps beside a disk of so many sectors.
 pub record IsDrafting (sectors : ℕ) (kept : Kept) (draft : Draft) : Type 0 where
@@ -115,7 +115,7 @@ pub record TakesBeside (old new : Kept) (name bytes : List ℕ) (spare : ℕ) (R
 pub record IsDraftCounted (kept : Kept) (libraries sectors : ℕ) (d : State) : Type 0 where
   pub generation : d.generation ≡ kept.root.generation
   pub count : length d.libraries ≡ libraries
-  pub free : free sectors d + spare_of (length (catalogues_of kept.root)) libraries ≡ free_count kept.layout
+  pub free : free sectors d + spare_of (length (catalogues_of kept.root)) libraries ≡ unused_count kept.layout
 
 -- the result without the entry
 abbrev pub taken_of : Result PlacedEntry StoreRefusal → Result (Unit {0}) StoreRefusal

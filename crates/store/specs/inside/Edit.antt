@@ -7,7 +7,7 @@ use Rattle.roots.specs.Entry.{EntryHasSpelling}
 use Rattle.store.specs.declared.edit.Edit.{Edit}
 use Rattle.store.specs.declared.edit.Edit.TheVariants.{Nothing, Behind, Over, Out}
 use Rattle.store.specs.declared.placed_entry.PlacedEntry.{PlacedEntry}
-use Rattle.store.specs.declared.held_versions.HeldRow.{HeldRow}
+use Rattle.store.specs.declared.holds.HeldRow.{HeldRow}
 use Rattle.store.specs.Stands.{catalogues_of, name_of, sectors_of}
 use Rattle.store.specs.inside.Room.{IsGivenUp, IsReleased}
 
@@ -92,7 +92,7 @@ gone_catalogues (Out position) root = catalogues_of root
 abbrev pub gone_sectors : Edit → Root → List PlacedEntry → List ℕ
 gone_sectors edit root entries = gone_entry edit entries ++ gone_catalogues edit root
 
--- That is free now, but for what somebody holds.
+-- That is unused now, but for what somebody holds.
 abbrev pub IsSettled : Edit → Root → List PlacedEntry → (held left : List HeldRow) (old new : List Bool) → Type 0
 IsSettled Nothing root entries held left old new = (left ≡ held) × IsReleased old new []
 IsSettled (Behind put) root entries held left old new = (left ≡ held) × IsReleased old new (catalogues_of root)

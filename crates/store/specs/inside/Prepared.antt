@@ -16,10 +16,10 @@ use Rattle.store.specs.declared.edit.Edit.TheVariants.{Out}
 use Rattle.store.specs.declared.kept.Kept.{Kept}
 use Rattle.store.specs.declared.prepared.Prepared.{Prepared}
 use Rattle.store.specs.declared.placed_entry.PlacedEntry.{PlacedEntry}
-use Rattle.store.specs.declared.held_versions.HeldRow.{HeldRow}
+use Rattle.store.specs.declared.holds.HeldRow.{HeldRow}
 use Rattle.store.specs.declared.refusal.StoreRefusal.{StoreRefusal}
 use Rattle.store.specs.declared.refusal.StoreRefusal.TheVariants.{Device, Reopen, TooMany, GenerationEnd}
-use Rattle.store.specs.HeldVersions.{in_use, lone_sectors}
+use Rattle.store.specs.Holds.{in_use, lone_sectors}
 use Rattle.store.specs.Stands.{HasRoom, catalogues_of, entry_sectors, extents_of, name_of, used}
 use Rattle.store.specs.Taken.{AreTaken, IsTaken}
 use Rattle.store.specs.inside.Change.{CanBeStaged, IsFollowed, staged_sectors}

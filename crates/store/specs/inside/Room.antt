@@ -4,7 +4,7 @@ use Rattle.std.specs.Int.{div_ceil}
 use Rattle.sector_disk.specs.Disk.{sector_bytes}
 use Rattle.extents.specs.Limits.{root_sectors}
 use Rattle.extents.specs.Extent.{AreDistinct, IsApart, sector_count}
-use Rattle.extents.specs.Layout.{free_count}
+use Rattle.extents.specs.Layout.{unused_count}
 use Rattle.extents.specs.Used.{ClaimsJust}
 use Rattle.passes.specs.Bytes.{IsOnDisk}
 use Rattle.roots.specs.Entry.{EntryHasSpelling, IsDataExtent}
@@ -12,7 +12,7 @@ use Rattle.states.specs.Cost.{cost}
 use Rattle.store.specs.declared.placed_entry.PlacedEntry.{PlacedEntry}
 use Rattle.store.specs.Stands.{extents_of, name_of, sectors_of}
 use Rattle.store.specs.Taken.{IsTaken}
-use Rattle.store.specs.declared.held_versions.HeldRow.{HeldRow}
+use Rattle.store.specs.declared.holds.HeldRow.{HeldRow}
 use Rattle.store.specs.inside.Claimed.{IsClaimedBeside, IsUsable}
 use Rattle.store.specs.inside.HeldRows.{IsLeft, IsUnheld}
 
@@ -24,12 +24,12 @@ IsRootOr places k = (k < root_sectors) ⊎ Contains places k
 abbrev pub AreClaimedOnce : List Bool → List ℕ → Type 0
 AreClaimedOnce layout gone = (kept : List ℕ) × ClaimsJust layout (kept ++ gone) × AreDistinct (kept ++ gone) × All (IsUsable (length layout)) gone
 
--- These sectors are free now, and the others are claimed as they were.
+-- These sectors are unused now, and the others are claimed as they were.
 pub record IsReleased (old new : List Bool) (gone : List ℕ) : Type 0 where
   pub size : length new ≡ length old
   pub each : (kept : List ℕ) → ClaimsJust old (kept ++ gone) → AreDistinct (kept ++ gone) → ClaimsJust new kept
 
--- The state uses an entry's sectors and those of catalogues no longer. They are free now, but for
+-- The state uses an entry's sectors and those of catalogues no longer. They are unused now, but for
 -- the entry's where somebody holds it.
 abbrev pub IsGivenUp : (held left : List HeldRow) (old new : List Bool) (placed : PlacedEntry) (catalogues : List ℕ) → Type 0
 IsGivenUp held left old new placed catalogues =
@@ -50,7 +50,7 @@ pub record HasPlace (sectors : ℕ) (placed : PlacedEntry) (catalogues : List �
   pub once : AreDistinct (sectors_of placed ++ catalogues)
 
 -- Bytes of a name got room for their entry and for so many catalogues, where so many sectors more
--- stay free.
+-- stay unused.
 pub record IsPutTaken (old new : List Bool) (name bytes : List ℕ) (catalogues spare : ℕ) (put : PlacedEntry) (listed : List ℕ) : Type 0 where
   pub taken : IsTaken old (div_ceil (length bytes) sector_bytes) (extents_of put.entry) put.at listed
   pub claimed : IsClaimedBeside old new (sectors_of put ++ listed)
@@ -62,4 +62,4 @@ pub record IsPutTaken (old new : List Bool) (name bytes : List ℕ) (catalogues 
   pub filled : All IsDataExtent (extents_of put.entry)
   pub on_disk : All (IsOnDisk (length old)) (extents_of put.entry)
   pub apart : AllPairs IsApart (extents_of put.entry)
-  pub room : cost (length bytes) + catalogues + spare ≤ free_count old
+  pub room : cost (length bytes) + catalogues + spare ≤ unused_count old

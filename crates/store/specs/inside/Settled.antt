@@ -2,8 +2,8 @@
 use Rattle.std.specs.Prelude.{◌≡◌, ◌↔◌, ℕ, ◌+◌, ◌≤◌, Bool, List, [], ◌++◌, length}
 use Rattle.roots.specs.declared.root.Root.{Root}
 use Rattle.store.specs.declared.placed_entry.PlacedEntry.{PlacedEntry}
-use Rattle.store.specs.declared.held_versions.HeldRow.{HeldRow}
-use Rattle.store.specs.HeldVersions.{IsHeldBy, holders_of, lone_sectors}
+use Rattle.store.specs.declared.holds.HeldRow.{HeldRow}
+use Rattle.store.specs.Holds.{IsHeldBy, holders_of, lone_sectors}
 use Rattle.store.specs.Stands.{catalogues_of}
 use Rattle.store.specs.inside.Draft.{IsDraftList, own_sectors_in}
 use Rattle.store.specs.inside.HeldRows.{AreHeldRows}
@@ -11,10 +11,10 @@ use Rattle.store.specs.inside.Kept.{IsKept}
 use Rattle.store.specs.inside.Moved.{occurs}
 use Rattle.store.specs.inside.Room.{AreClaimedOnce, IsReleased}
 
--- The rows of held versions are the same, but for whether the state lists them.
+-- The rows of what is held are the same, but for whether the state lists them.
 pub record KeepsRows (old new : List HeldRow) : Type 0 where
   pub holders : (sector : ℕ) → holders_of new sector ≡ holders_of old sector
-  pub versions : (sector : ℕ) (placed : PlacedEntry) → IsHeldBy old sector placed ↔ IsHeldBy new sector placed
+  pub holds : (sector : ℕ) (placed : PlacedEntry) → IsHeldBy old sector placed ↔ IsHeldBy new sector placed
   pub none : old ≡ [] → new ≡ []
 
 -- What stands is kept, and what it has beside a draft's list is claimed still, with its catalogues.
@@ -24,7 +24,7 @@ pub record CanSettle (root : Root) (standing drafted : List PlacedEntry) (held :
   pub list : IsDraftList standing drafted
   pub claimed : AreClaimedOnce layout (own_sectors_in drafted standing ++ catalogues_of root)
 
--- That is free now, but for what somebody holds: it is in use by its holders alone.
+-- That is unused now, but for what somebody holds: it is in use by its holders alone.
 pub record IsSettledIn (root : Root) (standing drafted : List PlacedEntry) (held left : List HeldRow) (old new : List Bool) : Type 0 where
   pub freed : List ℕ
   pub parts : (k : ℕ) → occurs k (lone_sectors left) + occurs k freed ≡ occurs k (lone_sectors held) + occurs k (own_sectors_in drafted standing)

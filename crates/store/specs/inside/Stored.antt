@@ -1,7 +1,7 @@
 -- What a store keeps beside its disk, as one thing.
 use Rattle.std.specs.Prelude.{◌≡◌, ◌+◌, ◌-◌, ℕ, Bool, List, length, IsFalse}
 use Rattle.extents.specs.Extent.{sector_count}
-use Rattle.extents.specs.Layout.{free_count}
+use Rattle.extents.specs.Layout.{unused_count}
 use Rattle.extents.specs.Longest.{longest_runs}
 use Rattle.extents.specs.Used.{layout_of}
 use Rattle.roots.specs.declared.root.Root.{Root}
@@ -11,8 +11,8 @@ use Rattle.states.specs.Cost.{catalogues_for, free}
 use Rattle.states.specs.State.{State}
 use Rattle.store.specs.declared.kept.Kept.{Kept}
 use Rattle.store.specs.declared.placed_entry.PlacedEntry.{PlacedEntry}
-use Rattle.store.specs.declared.held_versions.HeldRow.{HeldRow}
-use Rattle.store.specs.HeldVersions.{in_use, lone_sectors}
+use Rattle.store.specs.declared.holds.HeldRow.{HeldRow}
+use Rattle.store.specs.Holds.{in_use, lone_sectors}
 use Rattle.store.specs.Opened.{Opened}
 use Rattle.store.specs.Stands.{entry_sectors}
 use Rattle.store.specs.inside.Kept.{IsKept}
@@ -34,7 +34,7 @@ IsStored sectors kept = IsKept kept.root kept.entries.items kept.held kept.layou
 abbrev pub sectors_for : Kept → ℕ
 sectors_for kept = kept.root.sectors - length (lone_sectors kept.held)
 
--- how many sectors the longest free runs have, as many as a byte string may lie in
+-- how many sectors the longest unused runs have, as many as a byte string may lie in
 abbrev pub longest_in : Kept → ℕ
 longest_in kept = sector_count (longest_runs kept.layout)
 
@@ -49,5 +49,5 @@ pub record ShowsSame (old new : Kept) : Type 0 where
 pub record IsCounted (root : Root) (entries : List PlacedEntry) (held : List HeldRow) (layout : List Bool) (s : State) : Type 0 where
   pub generation : s.generation ≡ root.generation
   pub count : length s.libraries ≡ length entries
-  pub room : free (root.sectors - length (lone_sectors held)) s + catalogues_for (length entries) ≡ free_count layout
+  pub room : free (root.sectors - length (lone_sectors held)) s + catalogues_for (length entries) ≡ unused_count layout
   pub longest : sector_count (longest_runs (layout_of root.sectors (in_use root entries held))) ≡ sector_count (longest_runs layout)

@@ -11,9 +11,10 @@ use Rattle.program_parts.specs.Said.{AppendsFront}
 use Rattle.program_parts.specs.declared.status.Status.{Status}
 use Rattle.program_parts.specs.declared.status.Status.TheVariants.{Done, NoMemory}
 use Rattle.tool_commands.specs.Check.{finding_text}
-use Rattle.tool_commands.specs.Dump.{cut_status, install_text, preload_text}
-use Rattle.tool_commands.specs.Said.{memory_line, said_line}
+use Rattle.tool_commands.specs.Dump.{cut_status, install_text, last_text}
+use Rattle.tool_parts.specs.Said.{memory_line, said_line}
 use Rattle.tool_commands.specs.declared.dump.Cut.{Cut}
+use Rattle.tool_commands.specs.declared.form.Purpose.{Purpose}
 use Rattle.tool_commands.specs.declared.sound.Lack.{Lack}
 use Rattle.tool_commands.specs.declared.sound.Lack.TheVariants.{Found, OutOfMemory}
 
@@ -46,10 +47,10 @@ abbrev pub libraries_text : State → Option Cut → List ℕ
 libraries_text s None = flat_map install_text s.libraries
 libraries_text s (Some cut) = flat_map install_text (take cut.position s.libraries)
 
--- what stands behind them, by the preloads
-abbrev pub end_text : List (List ℕ) → Option Cut → List ℕ
-end_text preloads None = preload_text preloads
-end_text preloads (Some cut) = codes "cut"
+-- what stands behind them, by what it is for and the preloads
+abbrev pub end_text : Purpose → List (List ℕ) → Option Cut → List ℕ
+end_text purpose preloads None = last_text purpose preloads
+end_text purpose preloads (Some cut) = codes "cut"
 
 -- it was cut, if it was, at a library that isn't sound, and where it can't be read a call failed
 abbrev pub IsLacking : (old new : DiskFacts) → Option Cut → Type 0

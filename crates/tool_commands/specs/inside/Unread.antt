@@ -4,7 +4,8 @@ use Rattle.contents.specs.declared.unread.Unread.{Unread}
 use Rattle.contents.specs.declared.unread.Unread.TheVariants.{NotInstalled, Unreadable, OutOfMemory}
 use Rattle.program_parts.specs.declared.status.Status.{Status}
 use Rattle.program_parts.specs.declared.status.Status.TheVariants.{Refused, Failed, NoMemory}
-use Rattle.tool_commands.specs.Said.{device_line, memory_line, not_installed_line}
+use Rattle.tool_parts.specs.Said.{device_line, memory_line}
+use Rattle.tool_commands.specs.Said.{not_installed_line}
 
 -- what it ends with
 abbrev pub unread_status : Unread → Status

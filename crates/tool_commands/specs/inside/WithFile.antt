@@ -3,7 +3,7 @@ use Rattle.std.specs.Prelude.{ℕ, List}
 use Rattle.program_parts.specs.declared.status.Status.{Status}
 use Rattle.requests.specs.Request.{Request, replace, bind}
 use Rattle.tool_commands.specs.Outcome.{AskEnds, BindingsAskEnds, ReadEnds}
-use Rattle.tool_commands.specs.Streams.{Streams}
+use Rattle.tool_parts.specs.Streams.{Streams}
 use Rattle.tool_commands.specs.declared.telling.Telling.{Telling}
 use Rattle.tool_commands.specs.declared.telling.Telling.TheVariants as telling
 use Rattle.tool_commands.specs.declared.with_file.WithFile.{WithFile}

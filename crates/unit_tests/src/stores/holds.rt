@@ -1,4 +1,4 @@
-// Versions that are held: reads of them that fail, and handles of another store.
+// Byte strings that are held: reads of them that fail, and handles of another store.
 use crate::stores::calls::Change::{ChooseNone, Put};
 use crate::stores::calls::{disk_after, make, opened};
 use crate::stores::sectors::copy;
@@ -20,7 +20,7 @@ fn hold_first<D: Disk>(rt: &impl Abort, store: &mut Store<D>) -> Held {
     store.hold(0).expect(rt, "what is held")
 }
 
-// What a read of a version gives.
+// What a read of a hold gives.
 fn read<D: Disk>(
     rt: &impl AllocGlobal,
     store: &mut Store<D>,
@@ -29,7 +29,7 @@ fn read<D: Disk>(
     given(store.read_held(rt.alloc(), held))
 }
 
-// Lets a version go, and the store.
+// Lets a byte string go, and the store.
 fn end<D: Disk + Drop>(mut store: Store<D>, held: Held) {
     store.let_go(held);
     let _ = store.into_disk();

@@ -175,7 +175,7 @@ fn an_update_of_one_line_is_the_change(rt: HostRuntime) {
 #[test]
 fn what_is_given_up_leaves_no_sector(rt: HostRuntime) {
     let mut store = opened(&rt, one(&rt, 64));
-    let before = store.free_space();
+    let before = store.unused_space();
     let mut update = match store.update(rt.alloc()) {
         Ok(update) => update,
         Err(_) => panic!(rt; "an update refused"),
@@ -188,7 +188,7 @@ fn what_is_given_up_leaves_no_sector(rt: HostRuntime) {
     ];
     assert!(rt; draft_all(&rt, &mut update, &lines).is_none());
     store = update.give_up();
-    let after = store.free_space();
+    let after = store.unused_space();
     assert!(rt; before.sectors == after.sectors && before.largest == after.largest);
     assert!(rt; content(&rt, &mut store, 0) == (1, 1, 0, Ok((344, Some(1)))));
     let _ = store.into_disk();

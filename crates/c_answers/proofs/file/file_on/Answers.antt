@@ -17,7 +17,7 @@ returns-in-Ok-read c =
         c.in-Ok-read.file.items,
         c.in-Ok-read.ensures.ok ok.0 ok.2,
         subst
-            (λ l. IsFileGiven l c.put_file.new.bytes c.put_file.result c.put_file.result.status) c.deref.ensures.value c.put_file.ensures,
+            (λ l. IsFileGiven l c.give.new.bytes c.give.result c.give.result.status) c.deref.ensures.value c.give.ensures.given,
       ),
     )
 

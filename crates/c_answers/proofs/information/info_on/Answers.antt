@@ -1,7 +1,7 @@
 use Rattle.std.proofs.Common.{◌≡◌, ◌↔◌, ◌≤◌, None, ℕ, List, inl, length, ap, subst}
 use Rattle.contents.specs.Info.{IsInfo}
 use Rattle.store.specs.Names.{IsFileSize}
-use Rattle.store.specs.Step.{longest_free, refusal_of_new}
+use Rattle.store.specs.Step.{longest_unused, refusal_of_new}
 use Rattle.c_answers.specs.declared.answer.Answer.{Answer}
 use Rattle.c_answers.proofs.Given.{nothing_said}
 use Rattle.c_answers.proofs.information.info_on.Goals as goal
@@ -24,10 +24,10 @@ returns-in-Ok-clause-answered c =
         told = info;
         is = c.information_of.ensures;
         numbers = subst (λ n. IsInfo n s info) c.in-Ok.ensures.sectors (c.info.ensures.state s ok.2);
-        free = c.info.ensures.free;
+        unused = c.info.ensures.unused;
         runs = c.info.ensures.runs;
         largest = subst (λ n. (file : List ℕ) → IsFileSize (length file)
-            → (length file ≤ info.free.largest) ↔ (refusal_of_new n (longest_free c.in-Ok.contents) s file ≡ None)) c.in-Ok.ensures.sectors
+            → (length file ≤ info.unused.largest) ↔ (refusal_of_new n (longest_unused c.in-Ok.contents) s file ≡ None)) c.in-Ok.ensures.sectors
             (c.info.ensures.largest s ok.2);
         form = c.info.ensures.form;
       },

@@ -1,7 +1,7 @@
 use Rattle.std.proofs.Common.{◌≡◌, ◌++◌, ◌∙◌, inl, ap, subst}
 use Rattle.std.proofs.lemmas.Bool.{both_ways}
 use Rattle.program_parts.specs.Refusal.{disk_refusal_text}
-use Rattle.c_answers.specs.Answers.{Says}
+use Rattle.c_answers.specs.Answers.{HasText}
 use Rattle.c_answers.specs.declared.answer.Answer.{Answer}
 use Rattle.c_answers.proofs.Given.{nothing_said}
 use Rattle.c_answers.proofs.text.turn_away.Goals as goal
@@ -11,11 +11,11 @@ returns-in-Ok c =
     let all = disk_refusal_text c.args.refusal in
     let said = nothing_said c.of.result c.store_status.result c.of.ensures in
     let unsaid = said.0 in
-    let same : c.deref.result.now ≡ all = c.deref.ensures.value ∙ c.in-Ok.ensures ∙ ap (λ l. l ++ all) c.new-said.ensures.items in (
+    let same : c.deref.result.now ≡ all = c.deref.ensures.value ∙ c.in-Ok.ensures ∙ ap (λ l. l ++ all) c.new-whole.ensures.items in (
       inl (record {
         status = ap (λ (a : Answer). a.status) c.of.ensures ∙ c.store_status.ensures;
         file = said.1.file;
-        says = subst (λ said. Says said c.put_text.new.text c.put_text.result) same c.put_text.ensures;
+        has_text = subst (λ said. HasText said c.put_text.new.text c.put_text.result) same c.put_text.ensures;
         device = λ is. both_ways c.is_device.result c.if-is_device.false (c.is_device.ensures.1 is);
       }),
       record {

@@ -12,7 +12,8 @@ use Rattle.scripts.specs.declared.fault.ScriptFault.TheVariants.{Read}
 use Rattle.commands.specs.declared.summary.Summary.{Summary}
 use Rattle.scripts.proofs.Lines.{stops_line}
 use Rattle.commands.proofs.Scripts.{answered_none, answered_more, ends_cut, ends_here, breaks_cut, breaks_here}
-use Rattle.commands.proofs.Sent.{nothing_waits, told_none, held_told, off_reading, off_line, tells_on, ends_sent}
+use Rattle.program_parts.proofs.Sent.{nothing_waits}
+use Rattle.commands.proofs.Sent.{told_none, held_told, off_reading, off_line, tells_on, ends_sent}
 use Rattle.commands.proofs.script.run_lines.Goals as goal
 
 abbrev place : Option (List ℕ) → Option (List ℕ) → Place

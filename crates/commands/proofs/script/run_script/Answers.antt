@@ -6,7 +6,8 @@ use Rattle.commands.specs.Script.{Streams, Finishes, Stops, StopsWriting}
 use Rattle.scripts.specs.declared.fault.ScriptFault.TheVariants.{Write, OutOfMemory}
 use Rattle.scripts.proofs.Pages.{unread_pages}
 use Rattle.commands.proofs.Scripts.{breaks_none}
-use Rattle.commands.proofs.Sent.{all_sent, ends_sent, breaks_sent, breaks_writing, unsent}
+use Rattle.program_parts.proofs.Sent.{all_sent}
+use Rattle.commands.proofs.Sent.{ends_sent, breaks_sent, breaks_writing, unsent}
 use Rattle.commands.proofs.script.run_script.Goals as goal
 
 abbrev streams : Option (List ℕ) → Option (List ℕ) → Option (List ℕ) → Streams

@@ -7,7 +7,7 @@ use Rattle.elf_file.specs.Segment.{loads, contents}
 use Rattle.elf_file.specs.declared.segment.ProgramHeader.{ProgramHeader}
 use Rattle.image.specs.Image.{ImageSegment}
 use Rattle.image.specs.Loading.{loaded_at}
-use Rattle.image.specs.inside.Layout.{fresh, padded}
+use Rattle.image.specs.inside.Segments.{fresh, padded}
 use Rattle.image.proofs.Placing.{contents-fit, memory-small, reach-bounds}
 use Rattle.image.proofs.load.load.Goals as goal
 

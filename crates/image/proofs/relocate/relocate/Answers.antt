@@ -10,7 +10,7 @@ use Rattle.image.specs.Heading.{Heading}
 use Rattle.image.specs.Image.{segments_byte}
 use Rattle.image.specs.Loading.{heading_at}
 use Rattle.image.specs.Relocating.{last_write_at, write_with, written_or}
-use Rattle.image.specs.inside.Layout.{Lands, Rising, after}
+use Rattle.image.specs.inside.Segments.{Lands, Rising, after}
 use Rattle.image.proofs.Landing.{relocation-lands}
 use Rattle.image.proofs.Placing.{loads-rising, take_next}
 use Rattle.image.proofs.Relocating.{written_or-more}

@@ -35,7 +35,7 @@ returns-in-Err g c =
       ok = tt;
       err = (
         memory_refused g.D.Disk.facts (held.beside.kept.3 ∙ c.requires.usable) c.in-Err.ensures,
-        undone_held g.D.Disk.facts c.loop-position.invariant.sound held gone c.versions_are_sound.ensures,
+        undone_held g.D.Disk.facts c.loop-position.invariant.sound held gone c.holds_are_sound.ensures,
       );
       beside = undone_beside g.D.Disk.facts c.loop-position.invariant.sound held gone;
     }

@@ -5,7 +5,7 @@ use Rattle.snapshots.proofs.Releases.{none_gone, one_gone}
 use Rattle.snapshots.proofs.release.release.Goals as goal
 
 pub loop-held-init : goal.loop-held-init
-loop-held-init g c = ([], append-nil c.args.handles.items, none_gone g.D.Disk.facts c.versions_are_sound.ensures)
+loop-held-init g c = ([], append-nil c.args.handles.items, none_gone g.D.Disk.facts c.holds_are_sound.ensures)
 
 pub loop-held-preserved : goal.loop-held-preserved
 loop-held-preserved g c =

@@ -8,7 +8,7 @@ use Rattle.store.specs.Stands.{extents_of}
 use Rattle.store.specs.Taken.{IsTaken}
 use Rattle.store.proofs.Anew.{put_claimed}
 use Rattle.store.proofs.Frees.{ok_or_err}
-use Rattle.store.proofs.HeldVersions.{err_is}
+use Rattle.store.proofs.Holding.{err_is}
 use Rattle.store.proofs.News.{free_room}
 use Rattle.store.proofs.put.take_put.Goals as goal
 

@@ -1,7 +1,7 @@
 use Rattle.std.proofs.Common.{true, ◌∷◌, [], length, sym, ap, subst, ◌∙◌, arith}
 use Rattle.std.proofs.lemmas.List.{length-append}
 use Rattle.extents.specs.Extent.{one_sector}
-use Rattle.extents.specs.Layout.{IsLowestFree, with_flag}
+use Rattle.extents.specs.Layout.{IsLowestUnused, with_flag}
 use Rattle.store.specs.Taken.{AreTaken}
 use Rattle.store.specs.inside.Claimed.{IsClaimedBeside}
 use Rattle.store.proofs.Claiming.{claims_more}
@@ -33,7 +33,7 @@ loop-place-preserved c =
     let pushed = c.push.ensures in
     let one = ap length pushed ∙ length-append so_far (at ∷ []) in
     record {
-      taken = subst (AreTaken old) (sym pushed) (taken_more so_far at old c.loop-place.invariant.taken (subst (λ l. IsLowestFree l at) c.loop-place.invariant.now c.take_single-at.ensures.lowest));
+      taken = subst (AreTaken old) (sym pushed) (taken_more so_far at old c.loop-place.invariant.taken (subst (λ l. IsLowestUnused l at) c.loop-place.invariant.now c.take_single-at.ensures.lowest));
       now = c.take_single-at.ensures.now ∙ ap (with_flag true (one_sector at)) c.loop-place.invariant.now ∙ sym (singles_more so_far at old) ∙ ap (λ l. with_singles l old) (sym pushed);
       claimed = subst (IsClaimedBeside old new) (sym pushed) (claims_more old c.loop-place.layout new so_far (at ∷ []) c.loop-place.invariant.claimed c.take_single-at.ensures.claimed);
       count = omega (arith, one, c.loop-place.invariant.count);

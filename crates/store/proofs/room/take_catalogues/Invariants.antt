@@ -1,5 +1,5 @@
 use Rattle.std.proofs.Common.{◌≡◌, ◌+◌, length}
-use Rattle.extents.specs.Layout.{free_count}
+use Rattle.extents.specs.Layout.{unused_count}
 use Rattle.store.specs.Taken.{AreTaken}
 use Rattle.store.specs.inside.Claimed.{IsClaimedBeside}
 use Rattle.store.proofs.Taking.{with_singles}
@@ -11,5 +11,5 @@ invariant-loop-place l = record {
   now : l.layout ≡ with_singles l.taken l.initial.layout;
   claimed : IsClaimedBeside l.initial.layout l.layout l.taken;
   count : length l.taken ≡ l._place;
-  free : free_count l.layout + length l.taken ≡ free_count l.initial.layout;
+  free : unused_count l.layout + length l.taken ≡ unused_count l.initial.layout;
 }

@@ -1,8 +1,8 @@
-use Rattle.std.proofs.Common.{◌≡◌, map, None, Result, Ok, Err, refl, sym, subst}
+use Rattle.std.proofs.Common.{◌≡◌, map, false, None, Result, Ok, Err, refl, sym, subst}
 use Rattle.std.specs.Prelude.{◌≢◌, ◌⊎◌, IfOk, IfSome, OnErr, string_bytes}
-use Rattle.tool_commands.specs.Form.{command_line}
+use Rattle.tool_commands.specs.Form.{command_line, reads_input}
 use Rattle.tool_commands.specs.Outcome.{IsApartDeed, IsSilentDeed, LineEnds}
-use Rattle.tool_commands.specs.Streams.{Streams, IsSilent, IsUntold}
+use Rattle.tool_parts.specs.Streams.{Streams, IsSilent, IsUntold}
 use Rattle.tool_commands.proofs.arguments.run_arguments.Goals as goal
 
 -- words that were read
@@ -27,8 +27,8 @@ returns-in-Ok-clause-ends g c =
       errors_before = g.E.Write.contents c.args.errors.now;
       errors_after = g.E.Write.contents c.run_words.new.errors;
     } in
-    were_read c.args.words c.in-Ok.words c.in-Ok.is (λ list. IfSome (command_line (map (λ word. string_bytes word) list.items)) (λ line. LineEnds line io c.run_words.result))
-    (subst (λ l. IfSome (command_line (map (λ word. string_bytes word) l)) (λ line. LineEnds line io c.run_words.result)) c.deref.ensures.value c.run_words.ensures.ends)
+    were_read c.args.words c.in-Ok.words c.in-Ok.is (λ list. IfSome (command_line (map (λ word. string_bytes word) list.items)) (λ line. LineEnds g.O.Write.contents line (g.I.Read.remaining c.args.input.now) io c.run_words.result))
+    (subst (λ l. IfSome (command_line (map (λ word. string_bytes word) l)) (λ line. LineEnds g.O.Write.contents line (g.I.Read.remaining c.args.input.now) io c.run_words.result)) c.deref.ensures.value c.run_words.ensures.ends)
 
 pub returns-in-Ok-clause-silent : goal.returns-in-Ok-clause-silent
 returns-in-Ok-clause-silent g c =
@@ -51,6 +51,11 @@ returns-in-Ok-clause-apart g c =
     } in
     were_read c.args.words c.in-Ok.words c.in-Ok.is (λ list. IfSome (command_line (map (λ word. string_bytes word) list.items)) (λ line. IsApartDeed line.deed → c.run_words.result ≢ 3 → IsSilent io ⊎ IsUntold io))
     (subst (λ l. IfSome (command_line (map (λ word. string_bytes word) l)) (λ line. IsApartDeed line.deed → c.run_words.result ≢ 3 → IsSilent io ⊎ IsUntold io)) c.deref.ensures.value c.run_words.ensures.apart)
+
+pub returns-in-Ok-clause-unread : goal.returns-in-Ok-clause-unread
+returns-in-Ok-clause-unread g c =
+    were_read c.args.words c.in-Ok.words c.in-Ok.is (λ list. IfSome (command_line (map (λ word. string_bytes word) list.items)) (λ line. reads_input line.deed ≡ false → c.run_words.new.input ≡ c.args.input.now))
+    (subst (λ l. IfSome (command_line (map (λ word. string_bytes word) l)) (λ line. reads_input line.deed ≡ false → c.run_words.new.input ≡ c.args.input.now)) c.deref.ensures.value c.run_words.ensures.unread)
 
 -- words that weren't read, of which one thing is known where they were, and another where they weren't
 were_not : {T E : Type 0} (r : Result T E) (e : E) → r ≡ Err e → (P : T → Type 0) → IfOk r P
@@ -94,3 +99,15 @@ returns-in-Err-2-clause-silent g c = were_not c.args.words _ c.in-Err-2.is _
 
 pub returns-in-Err-2-clause-apart : goal.returns-in-Err-2-clause-apart
 returns-in-Err-2-clause-apart g c = were_not c.args.words _ c.in-Err-2.is _
+
+pub returns-in-Err-clause-unread : goal.returns-in-Err-clause-unread
+returns-in-Err-clause-unread g c = were_not c.args.words _ c.in-Err.is _
+
+pub returns-in-Err-clause-left_alone : goal.returns-in-Err-clause-left_alone
+returns-in-Err-clause-left_alone g c = failed c.args.words _ c.in-Err.is refl
+
+pub returns-in-Err-2-clause-unread : goal.returns-in-Err-2-clause-unread
+returns-in-Err-2-clause-unread g c = were_not c.args.words _ c.in-Err-2.is _
+
+pub returns-in-Err-2-clause-left_alone : goal.returns-in-Err-2-clause-left_alone
+returns-in-Err-2-clause-left_alone g c = failed c.args.words _ c.in-Err-2.is refl

@@ -1,9 +1,9 @@
 use Rattle.std.proofs.Common.{codes, Some, ap}
 use Rattle.std.specs.Io.KnownBytes.{append_known}
 use Rattle.std.proofs.KnownBytes.{Appends-trans}
-use Rattle.tool_commands.specs.Executable.{executable_refusal_text}
-use Rattle.tool_commands.specs.Said.{said_line}
-use Rattle.tool_commands.proofs.Sent.{sent}
+use Rattle.executable.specs.Outcome.{executable_refusal_text}
+use Rattle.tool_parts.specs.Said.{said_line}
+use Rattle.program_parts.proofs.Sent.{sent}
 use Rattle.tool_commands.proofs.bound.spell_executable_refusal.Goals as goal
 
 pub returns : goal.returns

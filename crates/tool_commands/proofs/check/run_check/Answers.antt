@@ -4,7 +4,7 @@ use Rattle.roots.specs.declared.version.Version.TheVariants.{Two}
 use Rattle.store.specs.Opened.{IsAt}
 use Rattle.store.proofs.Queries.{count_is}
 use Rattle.tool_commands.specs.Check.{check_status, check_text}
-use Rattle.tool_commands.specs.Streams.{Streams, TellsOnly}
+use Rattle.tool_parts.specs.Streams.{Streams, TellsOnly}
 use Rattle.tool_commands.proofs.Listing.{are_listed}
 use Rattle.tool_commands.specs.inside.Listed.{as_listed}
 use Rattle.tool_commands.proofs.check.run_check.Goals as goal

@@ -1,6 +1,6 @@
 use Rattle.std.proofs.Common.{ap}
 use Rattle.tool_commands.specs.Check.{check_text}
-use Rattle.tool_commands.proofs.Sent.{sent}
+use Rattle.program_parts.proofs.Sent.{sent}
 use Rattle.tool_commands.proofs.check.write_findings.Goals as goal
 
 pub returns : goal.returns

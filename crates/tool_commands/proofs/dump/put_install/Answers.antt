@@ -2,7 +2,7 @@ use Rattle.std.proofs.Common.{◌++◌, codes}
 use Rattle.std.specs.Io.KnownBytes.{append_known}
 use Rattle.std.proofs.KnownBytes.{Appends-trans}
 use Rattle.hex.specs.Hex.{encode_lower}
-use Rattle.tool_commands.proofs.Sent.{ended}
+use Rattle.program_parts.proofs.Sent.{ended}
 use Rattle.tool_commands.proofs.dump.put_install.Goals as goal
 
 pub returns : goal.returns

@@ -4,7 +4,7 @@ use Rattle.std.specs.Io.KnownBytes.{Appends, append_known}
 use Rattle.std.proofs.KnownBytes.{Appends-trans}
 use Rattle.roots.specs.Root.{listed_preloads}
 use Rattle.store.specs.Stands.{names_at}
-use Rattle.tool_commands.proofs.Sent.{ended}
+use Rattle.program_parts.proofs.Sent.{ended}
 use Rattle.tool_commands.specs.Dump.{behind_space, preload_text}
 use Rattle.tool_commands.proofs.Installs.{preload-line}
 use Rattle.tool_commands.proofs.dump.put_preloads.Goals as goal

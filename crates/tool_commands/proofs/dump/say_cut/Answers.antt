@@ -2,7 +2,7 @@ use Rattle.std.proofs.Common.{get_or, sym, subst}
 use Rattle.store.specs.Stands.{no_library}
 use Rattle.program_parts.specs.Said.{AppendsFront}
 use Rattle.tool_commands.specs.Check.{finding_line}
-use Rattle.tool_commands.specs.Said.{said_line}
+use Rattle.tool_parts.specs.Said.{said_line}
 use Rattle.tool_commands.specs.inside.Lack.{lack_line}
 use Rattle.tool_commands.proofs.Listing.{length_listed, name_listed}
 use Rattle.tool_commands.proofs.dump.say_cut.Goals as goal

@@ -2,8 +2,8 @@ use Rattle.std.proofs.Common.{codes, Some, ap}
 use Rattle.std.specs.Io.KnownBytes.{append_known}
 use Rattle.std.proofs.KnownBytes.{Appends-trans}
 use Rattle.tool_commands.specs.Check.{finding_line}
-use Rattle.tool_commands.specs.Said.{said_line}
-use Rattle.tool_commands.proofs.Sent.{sent}
+use Rattle.tool_parts.specs.Said.{said_line}
+use Rattle.program_parts.proofs.Sent.{sent}
 use Rattle.tool_commands.proofs.dump.spell_finding.Goals as goal
 
 pub returns : goal.returns

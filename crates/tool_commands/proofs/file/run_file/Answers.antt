@@ -9,7 +9,7 @@ use Rattle.program_parts.specs.declared.status.Status.{Status}
 use Rattle.program_parts.specs.declared.status.Status.TheVariants.{Done}
 use Rattle.tool_commands.specs.AnyDisk.{FileTells}
 use Rattle.tool_commands.specs.Ends.{FileEnds}
-use Rattle.tool_commands.specs.Streams.{Streams, IsUntold, Says, TellsOnly}
+use Rattle.tool_parts.specs.Streams.{Streams, IsUntold, Says, TellsOnly}
 use Rattle.tool_commands.specs.inside.Unread.{unread_line, unread_status}
 use Rattle.tool_commands.proofs.file.run_file.Goals as goal
 

@@ -2,7 +2,7 @@ use Rattle.std.proofs.Common.{◌++◌}
 use Rattle.std.specs.Io.KnownBytes.{append_known}
 use Rattle.std.proofs.KnownBytes.{Appends-trans}
 use Rattle.image.proofs.Then.{then}
-use Rattle.tool_commands.specs.Info.{disk_lines, count_lines, free_lines}
+use Rattle.tool_commands.specs.Info.{disk_lines, count_lines, room_lines}
 use Rattle.tool_commands.proofs.info.put_info.Goals as goal
 
 pub returns : goal.returns
@@ -15,4 +15,4 @@ returns g c =
     let disk = disk_lines info.sectors info.generation in
     let counts = count_lines info.libraries info.preloads in
     let a = Appends-trans start first second disk counts c.in_ok-put_disk.ensures c.in_ok-put_counts.ensures in
-    then c.put_free.result start second _ (disk ++ counts) (free_lines info.free.sectors info.free.runs info.free.largest) a c.put_free.ensures
+    then c.put_room.result start second _ (disk ++ counts) (room_lines info.unused.sectors info.unused.free info.unused.runs info.unused.largest) a c.put_room.ensures

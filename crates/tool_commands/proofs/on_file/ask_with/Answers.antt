@@ -1,7 +1,7 @@
 use Rattle.std.proofs.Common.{inl, inr, refl, subst, ap, ◌∙◌}
 use Rattle.requests.specs.Request.{Request}
 use Rattle.tool_commands.specs.Outcome.{AskEnds}
-use Rattle.tool_commands.specs.Streams.{Streams}
+use Rattle.tool_parts.specs.Streams.{Streams}
 use Rattle.tool_commands.specs.declared.telling.Telling.{Telling}
 use Rattle.tool_commands.specs.inside.WithFile.{request_with}
 use Rattle.tool_commands.proofs.on_file.ask_with.Goals as goal

@@ -1,6 +1,6 @@
 use Rattle.std.proofs.Common.{inl, inr, refl, subst}
 use Rattle.tool_commands.specs.Outcome.{BindingsAskEnds}
-use Rattle.tool_commands.specs.Streams.{Streams}
+use Rattle.tool_parts.specs.Streams.{Streams}
 use Rattle.tool_commands.proofs.on_file.tell_file_bindings.Goals as goal
 
 pub returns-in-Ok : goal.returns-in-Ok

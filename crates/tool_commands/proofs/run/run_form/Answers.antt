@@ -3,7 +3,7 @@ use Rattle.program_parts.specs.declared.status.Status.{Status}
 use Rattle.tool_commands.specs.AnyDisk.{FormTells}
 use Rattle.tool_commands.specs.Ends.{EndsUnopened, FormEnds}
 use Rattle.tool_commands.specs.Form.{question_of}
-use Rattle.tool_commands.specs.Streams.{Streams}
+use Rattle.tool_parts.specs.Streams.{Streams}
 use Rattle.tool_commands.proofs.run.run_form.Goals as goal
 
 pub returns-in-Ok : goal.returns-in-Ok

@@ -3,7 +3,7 @@ use Rattle.store.proofs.IsReadLemmas.{read_none}
 use Rattle.tool_commands.specs.AnyDisk.{FormTells}
 use Rattle.tool_commands.specs.Ends.{FileEnds, FormEnds}
 use Rattle.tool_commands.specs.Form.{question_of}
-use Rattle.tool_commands.specs.Streams.{Streams}
+use Rattle.tool_parts.specs.Streams.{Streams}
 use Rattle.tool_commands.proofs.run.run_opened.Goals as goal
 
 pub returns-in-Info-clause-read : goal.returns-in-Info-clause-read

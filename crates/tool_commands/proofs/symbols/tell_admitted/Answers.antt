@@ -1,6 +1,6 @@
 use Rattle.std.proofs.Common.{inl, inr, refl}
 use Rattle.image.proofs.Answering.{program-based}
-use Rattle.tool_commands.specs.Streams.{Streams}
+use Rattle.tool_parts.specs.Streams.{Streams}
 use Rattle.tool_commands.proofs.Known.{state-tells}
 use Rattle.tool_commands.proofs.symbols.tell_admitted.Goals as goal
 

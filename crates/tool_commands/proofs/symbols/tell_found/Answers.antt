@@ -3,7 +3,7 @@ use Rattle.image.specs.Placement.{place}
 use Rattle.requests.specs.Binding.{object_of}
 use Rattle.scope.specs.LoadOrder.{available}
 use Rattle.tool_commands.specs.Bindings.{WholeTells}
-use Rattle.tool_commands.specs.Streams.{Streams}
+use Rattle.tool_parts.specs.Streams.{Streams}
 use Rattle.tool_commands.proofs.Known.{lacks-none}
 use Rattle.tool_commands.proofs.symbols.tell_found.Goals as goal
 

@@ -2,7 +2,7 @@ use Rattle.std.proofs.Common.{inl, inr, refl, subst}
 use Rattle.bindings.specs.Dependencies.{Found, dependencies_text}
 use Rattle.program_parts.specs.declared.status.Status.TheVariants.{Refused}
 use Rattle.scope.specs.LoadOrder.{available, names_of}
-use Rattle.tool_commands.specs.Streams.{Streams, TellsOnly}
+use Rattle.tool_parts.specs.Streams.{Streams, TellsOnly}
 use Rattle.tool_commands.proofs.symbols.tell_lacking.Goals as goal
 
 pub returns-in-Ok : goal.returns-in-Ok

@@ -1,7 +1,7 @@
 use Rattle.std.proofs.Common.{inl, inr, refl, subst}
 use Rattle.bindings.specs.Bindings.{bindings_text}
 use Rattle.tool_commands.specs.Bindings.{SaysRefusal, bindings_status}
-use Rattle.tool_commands.specs.Streams.{Streams, TellsOnly}
+use Rattle.tool_parts.specs.Streams.{Streams, TellsOnly}
 use Rattle.tool_commands.proofs.symbols.tell_placed.Goals as goal
 
 pub returns-in-Ok : goal.returns-in-Ok

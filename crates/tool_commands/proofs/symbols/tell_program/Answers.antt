@@ -1,7 +1,7 @@
 use Rattle.std.proofs.Common.{inl, refl, subst}
 use Rattle.store.proofs.IsReadLemmas.{read_none}
 use Rattle.tool_commands.specs.Bindings.{SaysRefusal, ToldBindings}
-use Rattle.tool_commands.specs.Streams.{Streams}
+use Rattle.tool_parts.specs.Streams.{Streams}
 use Rattle.tool_commands.proofs.symbols.tell_program.Goals as goal
 
 pub returns-in-Ok : goal.returns-in-Ok

@@ -2,7 +2,7 @@ use Rattle.std.proofs.Common.{◌≡◌, true, inl, inr, refl, sym, subst}
 use Rattle.image.specs.Placement.{is_good_base, place}
 use Rattle.scope.specs.Objects.{file_at}
 use Rattle.tool_commands.specs.Bindings.{PlacedTells}
-use Rattle.tool_commands.specs.Streams.{Streams}
+use Rattle.tool_parts.specs.Streams.{Streams}
 use Rattle.tool_commands.proofs.symbols.tell_whole.Goals as goal
 
 pub tell_placed-requires : goal.tell_placed-requires

@@ -41,4 +41,4 @@ returns-clause-alone g c =
 pub returns-clause-counted : goal.returns-clause-counted
 returns-clause-counted g c =
     subst (λ (k : Slotted g.row.D.Denot). HoldAlone k → CountsOnce k) c.self.view_is
-    (counts_once (with_slots c.self.inside.registry c.self.inside.slots) c.versions_are_sound.ensures)
+    (counts_once (with_slots c.self.inside.registry c.self.inside.slots) c.holds_are_sound.ensures)

@@ -1,5 +1,5 @@
 use Rattle.std.proofs.Common.{refl}
 use Rattle.extents.proofs.layout.Layout.claim.Goals as goal
 
-pub returns-then-not-is_free-clause-err : goal.returns-then-not-is_free-clause-err
-returns-then-not-is_free-clause-err c = refl
+pub returns-then-not-is_unused-clause-err : goal.returns-then-not-is_unused-clause-err
+returns-then-not-is_unused-clause-err c = refl

@@ -4,14 +4,14 @@ use Rattle.extents.specs.Extent.{sector_count}
 use Rattle.extents.specs.Longest.{longest_first, longest_runs}
 use Rattle.extents.specs.Taken.{first_sectors}
 use Rattle.extents.proofs.Front.{first_sectors-front, front_enough}
-use Rattle.extents.proofs.FreeFlags.{free_runs-flags_of}
+use Rattle.extents.proofs.UnusedFlags.{unused_runs-flags_of}
 use Rattle.extents.proofs.layout.Layout.first_of_longest.Goals as goal
 use Rattle.extents.proofs.layout.Layout.first_of_longest.Goals.{After-front_of}
 
 -- the run is the first of the longest
 first_is : (c : After-front_of) → longest_runs c.args.self.now ≡ c.in-Some.run' ∷ take 31 c.in-Some.ensures.0
 first_is c =
-    sym (ap (λ runs. take 32 (longest_first runs)) (c.as_slice.ensures ∙ sym (free_runs-flags_of c.self.inside.sectors c.self.inside.runs.items c.self.invariant.apart))
+    sym (ap (λ runs. take 32 (longest_first runs)) (c.as_slice.ensures ∙ sym (unused_runs-flags_of c.self.inside.sectors c.self.inside.runs.items c.self.invariant.apart))
     ∙ ap longest_runs c.self.view_is)
     ∙ ap (take 32) c.in-Some.ensures.1
 

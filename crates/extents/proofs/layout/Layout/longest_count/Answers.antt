@@ -2,7 +2,7 @@ use Rattle.std.proofs.Common.{take, sym, ap, ◌∙◌, arith}
 use Rattle.extents.specs.Extent.{sector_count}
 use Rattle.extents.specs.Longest.{longest_first, longest_runs}
 use Rattle.extents.proofs.layout.Layout.longest_count.Goals as goal
-use Rattle.extents.proofs.FreeFlags.{free_runs-flags_of}
+use Rattle.extents.proofs.UnusedFlags.{unused_runs-flags_of}
 use Rattle.extents.proofs.Kept.{count_few}
 use Rattle.extents.proofs.LongestLemmas.{longest-few}
 
@@ -22,5 +22,5 @@ returns c =
     c.sector_count.ensures
     ∙ ap sector_count (
     c.longest_of.ensures
-    ∙ ap (λ l. take 32 (longest_first l)) (c.as_slice.ensures ∙ sym (free_runs-flags_of c.self.inside.sectors c.self.inside.runs.items c.self.invariant.apart))
+    ∙ ap (λ l. take 32 (longest_first l)) (c.as_slice.ensures ∙ sym (unused_runs-flags_of c.self.inside.sectors c.self.inside.runs.items c.self.invariant.apart))
     ∙ ap longest_runs c.self.view_is)

@@ -9,7 +9,7 @@ use Rattle.image.specs.Image.{ImageSegment, MemoryImage, heading, image_byte, se
 use Rattle.image.specs.Loading.{heading_at, loaded_at, loaded_of}
 use Rattle.image.specs.Relocating.{write_with}
 use Rattle.image.specs.declared.object.ImageObject.{ImageObject}
-use Rattle.image.specs.inside.Layout.{IsWhole}
+use Rattle.image.specs.inside.Segments.{IsWhole}
 use Rattle.image.proofs.Filled.{segments_byte-append, whole-more}
 use Rattle.image.proofs.image.Image.with.Goals as goal
 

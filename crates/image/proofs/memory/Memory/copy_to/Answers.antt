@@ -1,6 +1,6 @@
 use Rattle.std.proofs.Common.{◌≡◌, ℕ, List, ◌-◌, ◌≤◌, ◌++◌, length, take, sym, ap, ◌∙◌, arith}
 use Rattle.std.specs.Prelude.{replicate}
-use Rattle.image.specs.inside.Layout.{padded}
+use Rattle.image.specs.inside.Segments.{padded}
 use Rattle.image.proofs.Padding.{length_padded, padded-take}
 use Rattle.image.proofs.memory.Memory.copy_to.Goals as goal
 

@@ -1,5 +1,5 @@
 use Rattle.std.proofs.Common.{ap, ◌∙◌}
-use Rattle.image.specs.inside.Layout.{with_bases}
+use Rattle.image.specs.inside.Segments.{with_bases}
 use Rattle.image.proofs.Bases.{is-placed, with-place}
 use Rattle.image.proofs.placed.PlacedOrder.of.Goals as goal
 

@@ -14,4 +14,4 @@ pub returns-clause-all_calls : goal.returns-clause-all_calls
 returns-clause-all_calls g c s at = c.reply_to-reply.ensures.all_calls s at
 
 pub returns-clause-on_any_disk : goal.returns-clause-on_any_disk
-returns-clause-on_any_disk g c = c.reply_to-reply.ensures.on_any_disk c.versions_are_sound.ensures c.versions_are_sound-2.ensures
+returns-clause-on_any_disk g c = c.reply_to-reply.ensures.on_any_disk c.holds_are_sound.ensures c.holds_are_sound-2.ensures

@@ -12,7 +12,7 @@ pub returns-then-has_failed : goal.returns-then-has_failed
 returns-then-has_failed g c =
     let failed : IsTrue c.self.inside.store.failed = sym c.has_failed.ensures.value ∙ c.if-has_failed.true in
     subst (λ k. Begins g.D.Disk.facts k k c.args.program.now c.args.base (Err Reopen)) c.self.view_is
-    (not_begun g.D.Disk.facts c.self.inside.store c.args.program.now c.args.base c.versions_are_sound.ensures.flags Reopen (λ is. failed, λ is. refl) (inl refl))
+    (not_begun g.D.Disk.facts c.self.inside.store c.args.program.now c.args.base c.holds_are_sound.ensures.flags Reopen (λ is. failed, λ is. refl) (inl refl))
 
 pub returns : goal.returns
 returns g c =
@@ -31,5 +31,5 @@ returns-in_err-program g c =
     let p = err_from_is_err_and c.from_residual.result c.from_residual.ensures.1 in
     let usable : IsFalse c.self.inside.store.failed = sym c.has_failed.ensures.value ∙ c.if-has_failed.false in
     subst (λ k. Begins g.D.Disk.facts k k c.args.program.now c.args.base c.from_residual.result) c.self.view_is
-    (rw (p.1 ∙ ap Err p.2) (not_begun g.D.Disk.facts c.self.inside.store c.args.program.now c.args.base c.versions_are_sound.ensures.flags OutOfMemory
+    (rw (p.1 ∙ ap Err p.2) (not_begun g.D.Disk.facts c.self.inside.store c.args.program.now c.args.base c.holds_are_sound.ensures.flags OutOfMemory
     (λ is. cc, λ failed. absurd (false≢true (sym usable ∙ failed))) (inr refl)))

@@ -10,7 +10,7 @@ use Rattle.store.specs.Opened.{Opened, IsAt}
 use Rattle.registry.proofs.Forms.{is_name, file_size}
 use Rattle.registry.proofs.Putting.{installed, install_no_library, install_there, installed_as}
 use Rattle.registry.proofs.States.{same_sectors}
-use Rattle.store.specs.HeldVersions.{KeepsHeld}
+use Rattle.store.specs.Holds.{KeepsHeld}
 use Rattle.registry.proofs.Keeping.{keeps_held_same}
 use Rattle.std.specs.Int.{div_ceil}
 use Rattle.sector_disk.specs.Disk.{sector_bytes}

@@ -15,7 +15,7 @@ use Rattle.registry.specs.Refusals.{refusal_of}
 use Rattle.registry.proofs.Applying.{change_step, exact_answer, refused_step, store_changed, untouched}
 use Rattle.registry.proofs.Changed.{change_ample, change_may}
 use Rattle.registry.proofs.Tested.{last_change, change_deviceless}
-use Rattle.store.specs.HeldVersions.{KeepsHeld}
+use Rattle.store.specs.Holds.{KeepsHeld}
 use Rattle.registry.proofs.Keeping.{keeps_held_same}
 use Rattle.states.specs.Cost.{catalogues_for}
 use Rattle.store.specs.Changed.{Changed}

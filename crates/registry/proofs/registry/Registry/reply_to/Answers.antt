@@ -54,8 +54,8 @@ returns-in-Bind-clause-on_any_disk g c before after =
       answers = bound.answers;
       leaves = ((bound.kept.0, bound.kept.1, bound.table, bound.kept.2), bound.alone);
       held = bound.held;
-      versions_before = before;
-      versions_after = after;
+      holds_before = before;
+      holds_after = after;
       calls = bound.calls;
     })
 
@@ -69,8 +69,8 @@ returns-in-List-clause-on_any_disk g c before after =
       answers = c.list.ensures.answers;
       leaves = refl;
       held = keeps_held_same g.D.Disk.facts now;
-      versions_before = before;
-      versions_after = after;
+      holds_before = before;
+      holds_after = after;
       calls = no_calls (g.D.Disk.facts now.disk);
     })
 

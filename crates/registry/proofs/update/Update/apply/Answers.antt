@@ -30,25 +30,25 @@ pub returns-in-Install-clause-on_any_disk : goal.returns-in-Install-clause-on_an
 returns-in-Install-clause-on_any_disk g c =
     let planned = c.install.ensures.on_any_disk in
     plan_answered_as g.D.Disk.facts c.install.result (ap request_of c.in-Install.is) c.reply.ensures planned
-    (change_answers IsInstallRefusal c.install.result planned.changed.refusals) (plan_leaves c.args.self.now c.install.new.self (install c.in-Install.bytes.now) tt c.install.result planned.refused)
+    (change_answers IsInstallRefusal c.install.result planned.changed.refusals) (plan_leaves c.args.self.now c.install.new.self (install c.in-Install.bytes.now) tt c.install.result planned.refused planned.planned)
 
 pub returns-in-Replace-clause-on_any_disk : goal.returns-in-Replace-clause-on_any_disk
 returns-in-Replace-clause-on_any_disk g c =
     let planned = c.replace.ensures.on_any_disk in
     plan_answered_as g.D.Disk.facts c.replace.result (ap request_of c.in-Replace.is) c.reply-in-Replace.ensures planned
-    (change_answers IsReplaceRefusal c.replace.result planned.changed.refusals) (plan_leaves c.args.self.now c.replace.new.self (replace c.in-Replace.bytes.now) tt c.replace.result planned.refused)
+    (change_answers IsReplaceRefusal c.replace.result planned.changed.refusals) (plan_leaves c.args.self.now c.replace.new.self (replace c.in-Replace.bytes.now) tt c.replace.result planned.refused planned.planned)
 
 pub returns-in-Remove-clause-on_any_disk : goal.returns-in-Remove-clause-on_any_disk
 returns-in-Remove-clause-on_any_disk g c =
     let planned = c.remove.ensures.on_any_disk in
     plan_answered_as g.D.Disk.facts c.remove.result (ap request_of c.in-Remove.is) c.reply-in-Remove.ensures planned
-    (change_answers IsRemoveRefusal c.remove.result planned.changed.refusals) (plan_leaves c.args.self.now c.remove.new.self (remove c.in-Remove.name.now) tt c.remove.result planned.refused)
+    (change_answers IsRemoveRefusal c.remove.result planned.changed.refusals) (plan_leaves c.args.self.now c.remove.new.self (remove c.in-Remove.name.now) tt c.remove.result planned.refused planned.planned)
 
 pub returns-in-SetPreloads-clause-on_any_disk : goal.returns-in-SetPreloads-clause-on_any_disk
 returns-in-SetPreloads-clause-on_any_disk g c =
     let planned = c.set_preloads.ensures.on_any_disk in
     plan_answered_as g.D.Disk.facts c.set_preloads.result (ap request_of c.in-SetPreloads.is) c.reply-in-SetPreloads.ensures planned
-    (change_answers IsPreloadsRefusal c.set_preloads.result planned.changed.refusals) (plan_leaves c.args.self.now c.set_preloads.new.self (set_preloads (map (λ n. n.now) c.in-SetPreloads.names.now)) tt c.set_preloads.result planned.refused)
+    (change_answers IsPreloadsRefusal c.set_preloads.result planned.changed.refusals) (plan_leaves c.args.self.now c.set_preloads.new.self (set_preloads (map (λ n. n.now) c.in-SetPreloads.names.now)) tt c.set_preloads.result planned.refused planned.planned)
 
 pub returns-in-Bind-clause-on_any_disk : goal.returns-in-Bind-clause-on_any_disk
 returns-in-Bind-clause-on_any_disk g c =

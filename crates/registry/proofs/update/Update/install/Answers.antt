@@ -1,7 +1,7 @@
 use Rattle.std.proofs.Common.{◌≡◌, ◌+◌, length, true, IsTrue, IsFalse, sym, subst, ◌∙◌}
 use Rattle.std.specs.Int.{div_ceil}
 use Rattle.std.proofs.lemmas.Bool.{false≢true}
-use Rattle.std.proofs.lemmas.Result.{err_from_is_err_and}
+use Rattle.std.proofs.lemmas.Result.{err_from_is_err_and, on_ok_weaker}
 use Rattle.sector_disk.specs.Disk.{sector_bytes}
 use Rattle.states.specs.State.{has_name, names_of}
 use Rattle.store.specs.Draft.{Drafted, IsDraftedAt}
@@ -78,4 +78,5 @@ pub returns-clause-on_any_disk : goal.returns-clause-on_any_disk
 returns-clause-on_any_disk g c =
     let facts = g.D.Disk.facts in
     subst (λ u. IsPlanned facts u c.put_new.new.self (div_ceil (length c.args.bytes.now) sector_bytes + 1) IsInstallRefusal c.in_words.result) c.self.view_is
-    (rw c.in_words.ensures (planned_in_words facts IsInstallRefusal install_may c.put_new.result c.put_new.ensures.line))
+    (rw c.in_words.ensures (planned_in_words facts IsInstallRefusal install_may c.put_new.result c.put_new.ensures.line
+    (on_ok_weaker c.put_new.result (λ placed nothing. absurd (cc (placed.touched, nothing))) c.put_new.ensures.placed)))

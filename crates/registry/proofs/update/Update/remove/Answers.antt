@@ -1,7 +1,7 @@
 use Rattle.std.proofs.Common.{◌≡◌, ◌≢◌, Err, refl, sym, ap, subst, ◌∙◌}
 use Rattle.std.specs.Option.{option_map}
 use Rattle.std.proofs.lemmas.Bool.{false≢true}
-use Rattle.std.proofs.lemmas.Result.{err_from_is_err_and}
+use Rattle.std.proofs.lemmas.Result.{err_from_is_err_and, on_ok_weaker}
 use Rattle.store.specs.Draft.{Drafted, IsDraftedAt}
 use Rattle.store.specs.Step.{refusal_of_change}
 use Rattle.requests.specs.Phase.{table_of}
@@ -67,4 +67,5 @@ pub returns-clause-on_any_disk : goal.returns-clause-on_any_disk
 returns-clause-on_any_disk g c =
     let facts = g.D.Disk.facts in
     subst (λ u. IsPlanned facts u c.delete.new.self 0 IsRemoveRefusal c.in_words.result) c.self.view_is
-    (rw c.in_words.ensures (planned_in_words facts IsRemoveRefusal remove_may c.delete.result c.delete.ensures.line))
+    (rw c.in_words.ensures (planned_in_words facts IsRemoveRefusal remove_may c.delete.result c.delete.ensures.line
+    (on_ok_weaker c.delete.result (λ placed nothing. absurd (cc (placed.touched, nothing))) c.delete.ensures.placed)))

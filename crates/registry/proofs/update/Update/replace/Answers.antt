@@ -1,7 +1,7 @@
 use Rattle.std.proofs.Common.{◌≡◌, ◌+◌, length, false, not, IsTrue, IsFalse, sym, ap, subst, ◌∙◌}
 use Rattle.std.specs.Int.{div_ceil}
 use Rattle.std.proofs.lemmas.Bool.{false≢true}
-use Rattle.std.proofs.lemmas.Result.{err_from_is_err_and}
+use Rattle.std.proofs.lemmas.Result.{err_from_is_err_and, on_ok_weaker}
 use Rattle.sector_disk.specs.Disk.{sector_bytes}
 use Rattle.states.specs.State.{has_name, names_of}
 use Rattle.store.specs.Draft.{Drafted, IsDraftedAt}
@@ -80,4 +80,5 @@ pub returns-clause-on_any_disk : goal.returns-clause-on_any_disk
 returns-clause-on_any_disk g c =
     let facts = g.D.Disk.facts in
     subst (λ u. IsPlanned facts u c.put_over.new.self (div_ceil (length c.args.bytes.now) sector_bytes + 1) IsReplaceRefusal c.in_words.result) c.self.view_is
-    (rw c.in_words.ensures (planned_in_words facts IsReplaceRefusal replace_may c.put_over.result c.put_over.ensures.line))
+    (rw c.in_words.ensures (planned_in_words facts IsReplaceRefusal replace_may c.put_over.result c.put_over.ensures.line
+    (on_ok_weaker c.put_over.result (λ placed nothing. absurd (cc (placed.touched, nothing))) c.put_over.ensures.placed)))

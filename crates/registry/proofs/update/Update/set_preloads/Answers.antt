@@ -1,7 +1,7 @@
 use Rattle.std.proofs.Common.{◌≡◌, ◌≢◌, Err, OnOk, map, refl, sym, ap, subst, ◌∙◌}
 use Rattle.std.specs.Option.{option_map}
 use Rattle.std.proofs.lemmas.Bool.{false≢true}
-use Rattle.std.proofs.lemmas.Result.{err_from_is_err_and}
+use Rattle.std.proofs.lemmas.Result.{err_from_is_err_and, on_ok_weaker}
 use Rattle.states.specs.Changes.{with_preloads}
 use Rattle.store.specs.Stands.{names_at}
 use Rattle.store.specs.Draft.{Drafted, IsDraftedAt, drafted}
@@ -17,7 +17,7 @@ use Rattle.registry.specs.Refusals.{refusal_of}
 use Rattle.registry.specs.inside.Drafting.{IsPlanned}
 use Rattle.registry.proofs.Applying.{exact_answer, refused_step}
 use Rattle.registry.proofs.Changed.{change_ample, change_may, preloads_may}
-use Rattle.registry.proofs.Planning.{draft_stays, plan_answered, plan_refusal, planned_in_words, planned_none, refusals_may}
+use Rattle.registry.proofs.Planning.{draft_stays, plan_answered, plan_refusal, planned_in_words, planned_none, preloads_change, refusals_may}
 use Rattle.registry.proofs.Tested.{last_change, change_deviceless}
 use Rattle.registry.proofs.update.Update.set_preloads.Goals as goal
 
@@ -70,4 +70,5 @@ pub returns-clause-on_any_disk : goal.returns-clause-on_any_disk
 returns-clause-on_any_disk g c =
     let facts = g.D.Disk.facts in
     subst (λ u. IsPlanned facts u c.set_preloads.new.self 0 IsPreloadsRefusal c.in_words.result) c.self.view_is
-    (rw c.in_words.ensures (planned_in_words facts IsPreloadsRefusal preloads_may c.set_preloads.result c.set_preloads.ensures.line))
+    (rw c.in_words.ensures (planned_in_words facts IsPreloadsRefusal preloads_may c.set_preloads.result c.set_preloads.ensures.line
+    (on_ok_weaker c.set_preloads.result (λ touched nothing. preloads_change c.self.inside.draft.touched (sym touched ∙ nothing)) c.set_preloads.ensures.touched)))

@@ -30,7 +30,7 @@ returns-clause-any_moment g c honest version before entries s written others s' 
     (staged_only version before entries s stands changed (behind g here) followed.unused staged s')
     (followed_only version before entries s (g.D.Disk.facts c.args.disk.now).now written c.args.self.now c.args.bytes.now c.args.listed.now others s' still
     (c.in_ok-write_staged.ensures.staged honest) (c.in_ok-write_staged.ensures.written honest written followed.apart followed.synced) followed
-    c.slot_of.result c.encode_root.result c.slot_of.ensures.value c.encode_root.ensures.spelling (c.commit.ensures.any_moment honest_mid))
+    c.slot_of.result c.encode_root.result c.slot_of.ensures.value c.encode_root.ensures.spelling (c.switch_root.ensures.any_moment honest_mid))
 
 pub returns-clause-done : goal.returns-clause-done
 returns-clause-done g c honest version before entries s written others s' stands followed =
@@ -39,22 +39,22 @@ returns-clause-done g c honest version before entries s written others s' stands
     let changed = Contains (staged_sectors c.args.self.now.staged) in
     let still = left_now (λ m. StandsBy version m before entries s)
     (staged_stands version before entries s stands changed (behind g here) followed.unused (c.write_staged.ensures.any_moment honest)) in
-    ok_both c.commit.result
+    ok_both c.switch_root.result
     (followed_done version before entries s (g.D.Disk.facts c.args.disk.now).now written c.args.self.now c.args.bytes.now c.args.listed.now others s' still
     (c.in_ok-write_staged.ensures.staged honest) (c.in_ok-write_staged.ensures.written honest written followed.apart followed.synced) followed
-    c.slot_of.result c.encode_root.result c.slot_of.ensures.value c.encode_root.ensures.spelling (g.met.D.Disk.holds_now _ honest_mid) {new = g.D.Disk.facts c.commit.new.disk})
-    (c.commit.ensures.synced honest_mid) (c.commit.ensures.now honest_mid)
+    c.slot_of.result c.encode_root.result c.slot_of.ensures.value c.encode_root.ensures.spelling (g.met.D.Disk.holds_now _ honest_mid) {new = g.D.Disk.facts c.switch_root.new.disk})
+    (c.switch_root.ensures.synced honest_mid) (c.switch_root.ensures.now honest_mid)
 
 pub returns-clause-written : goal.returns-clause-written
 returns-clause-written g c honest =
     let mid = g.D.Disk.facts c.write_staged.new.disk in
     let honest_mid = subst IsTrue (sym c.write_staged.ensures.calls.honest) honest in
     let low : c.slot_of.result < 2 = grind (arith, c.slot_of.ensures.value) in
-    ok_both c.commit.result
+    ok_both c.switch_root.result
     (bytes_stay (g.D.Disk.facts c.args.disk.now).sectors c.args.self.now.staged c.args.listed.now c.requires.room mid
-    (g.D.Disk.facts c.commit.new.disk) c.args.bytes.now c.slot_of.result c.encode_root.result low
+    (g.D.Disk.facts c.switch_root.new.disk) c.args.bytes.now c.slot_of.result c.encode_root.result low
     (c.in_ok-write_staged.ensures.staged honest mid.now (g.met.D.Disk.holds_now _ honest_mid)))
-    (c.commit.ensures.synced honest_mid) (c.commit.ensures.now honest_mid)
+    (c.switch_root.ensures.synced honest_mid) (c.switch_root.ensures.now honest_mid)
 
 pub returns-in_err-write_staged-clause-others : goal.returns-in_err-write_staged-clause-others
 returns-in_err-write_staged-clause-others g c honest = staged_others (staged_sectors c.args.self.now.staged) (c.write_staged.ensures.any_moment honest)
@@ -64,10 +64,10 @@ returns-clause-others g c honest =
     let honest_mid = subst IsTrue (sym c.write_staged.ensures.calls.honest) honest in
     let low : c.slot_of.result < 2 = grind (arith, c.slot_of.ensures.value) in
     committed_others (staged_sectors c.args.self.now.staged)
-    (c.write_staged.ensures.any_moment honest) c.slot_of.result c.encode_root.result low (c.commit.ensures.any_moment honest_mid)
+    (c.write_staged.ensures.any_moment honest) c.slot_of.result c.encode_root.result low (c.switch_root.ensures.any_moment honest_mid)
 
 pub returns-in_err-write_staged-clause-calls : goal.returns-in_err-write_staged-clause-calls
 returns-in_err-write_staged-clause-calls g c = stop_in_row c.from_residual.result c.in_err-write_staged.ensures.calls (omega arith) c.from_residual.ensures.0
 
 pub returns-clause-calls : goal.returns-clause-calls
-returns-clause-calls g c = then_in_row c.in_ok-write_staged.ensures.calls c.commit.ensures.calls
+returns-clause-calls g c = then_in_row c.in_ok-write_staged.ensures.calls c.switch_root.ensures.calls

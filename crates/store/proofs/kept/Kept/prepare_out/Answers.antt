@@ -8,7 +8,7 @@ use Rattle.roots.specs.Root.{listed_preloads}
 use Rattle.store.specs.declared.placed_entry.PlacedEntry.{PlacedEntry}
 use Rattle.store.specs.declared.refusal.StoreRefusal.{StoreRefusal}
 use Rattle.store.specs.declared.change.Staged.TheVariants.{Catalogues}
-use Rattle.store.specs.HeldVersions.{in_use}
+use Rattle.store.specs.Holds.{in_use}
 use Rattle.store.specs.NameOrder.{IsOrderOf, entry_names}
 use Rattle.store.specs.Stands.{name_of}
 use Rattle.store.specs.Step.{IsExactAnswer, refusal_of_change}

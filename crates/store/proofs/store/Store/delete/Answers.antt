@@ -4,7 +4,7 @@ use Rattle.std.proofs.lemmas.Result.{on_ok_weaker}
 use Rattle.states.specs.Cost.{catalogues_for}
 use Rattle.states.specs.State.{State}
 use Rattle.states.specs.Changes.{without}
-use Rattle.store.specs.HeldVersions.{layout_in_use}
+use Rattle.store.specs.Holds.{layout_in_use}
 use Rattle.store.specs.Names.{HasName, IsNoPreload}
 use Rattle.store.specs.Stands.{catalogues_of}
 use Rattle.store.specs.Taken.{AreTaken, IsNamedAt}

@@ -1,9 +1,9 @@
 use Rattle.std.proofs.Common.{rules, ◌≡◌, ◌∙◌, refl, sym, ap, subst, arith}
 use Rattle.std.proofs.lemmas.Bool.{true≢false}
 use Rattle.store.specs.declared.placed_entry.PlacedEntry.{PlacedEntry}
-use Rattle.store.specs.HeldVersions.{IsHeldBy, holders_of}
+use Rattle.store.specs.Holds.{IsHeldBy, holders_of}
 use Rattle.store.specs.Stands.{name_of}
-use Rattle.store.proofs.HeldVersions.{held_fits}
+use Rattle.store.proofs.Holding.{held_fits}
 use Rattle.store.proofs.HeldRows.{by_one, by_some, holders_unheld}
 use Rattle.store.proofs.store.Store.held_name.Goals as goal
 

@@ -2,13 +2,13 @@ use Rattle.std.proofs.Common.{◌≡◌, ◌<◌, ◌⊎◌, inl, inr, get_or, l
 use Rattle.std.proofs.lemmas.Bool.{false≢true}
 use Rattle.std.proofs.lemmas.List.{get_or_default}
 use Rattle.std.proofs.lemmas.Result.{err_from_is_err_and}
-use Rattle.store.specs.HeldVersions.{HoldsVersion}
+use Rattle.store.specs.Holds.{TakesHold}
 use Rattle.store.specs.Opened.{Opened}
 use Rattle.store.specs.inside.Stored.{opened}
 use Rattle.store.specs.declared.placed_entry.PlacedEntry.{PlacedEntry}
 use Rattle.store.specs.declared.refusal.StoreRefusal.TheVariants.{OutOfMemory, Reopen}
 use Rattle.store.specs.inside.HeldRows.{IsHeldMore, IsHeldOnce}
-use Rattle.store.proofs.HeldVersions.{hold_done, hold_refused, held_lone, held_rows, kept_held, with_held}
+use Rattle.store.proofs.Holding.{hold_done, hold_refused, held_lone, held_rows, kept_held, with_held}
 use Rattle.store.proofs.UsedAlone.{no_entry}
 use Rattle.store.proofs.store.Store.hold.Given as given
 use Rattle.store.proofs.store.Store.hold.Goals.{In_ok-hold}
@@ -20,7 +20,7 @@ before g c = opened c.self.inside.disk c.self.inside.kept
 
 pub returns-then-self : goal.returns-then-self
 returns-then-self g c =
-    subst (λ store. HoldsVersion g.D.Disk.facts store store c.args.position (Err Reopen)) c.self.view_is
+    subst (λ store. TakesHold g.D.Disk.facts store store c.args.position (Err Reopen)) c.self.view_is
     (hold_refused g.D.Disk.facts (opened c.self.inside.disk c.self.inside.kept) c.self.invariant.0 c.args.position Reopen (λ _. c.if-self.true, λ _. refl) (inl refl))
 
 pub returns-in_err-hold : goal.returns-in_err-hold
@@ -29,9 +29,9 @@ returns-in_err-hold g c =
     let refused = hold_refused g.D.Disk.facts store c.self.invariant.0 c.args.position OutOfMemory (λ is. absurd (cc is), λ failed. absurd (false≢true (sym c.if-self.false ∙ failed))) (inr refl) in
     let p = err_from_is_err_and c.from_residual.result c.from_residual.ensures.1 in
     let is : p.0 ≡ OutOfMemory = p.2 ∙ c.in_err-hold.ensures.refusals in
-    subst (λ result. HoldsVersion g.D.Disk.facts c.args.self.now (with_held store c.hold.new.self) c.args.position result) (sym (p.1 ∙ ap (λ e. Err e) is))
-    (subst (λ held. HoldsVersion g.D.Disk.facts c.args.self.now (with_held store held) c.args.position (Err OutOfMemory)) (sym c.in_err-hold.ensures.err)
-    (subst (λ old. HoldsVersion g.D.Disk.facts old store c.args.position (Err OutOfMemory)) c.self.view_is refused))
+    subst (λ result. TakesHold g.D.Disk.facts c.args.self.now (with_held store c.hold.new.self) c.args.position result) (sym (p.1 ∙ ap (λ e. Err e) is))
+    (subst (λ held. TakesHold g.D.Disk.facts c.args.self.now (with_held store held) c.args.position (Err OutOfMemory)) (sym c.in_err-hold.ensures.err)
+    (subst (λ old. TakesHold g.D.Disk.facts old store c.args.position (Err OutOfMemory)) c.self.view_is refused))
 
 its : (g : given.Over) (c : In_ok-hold g) → c.index-placed.result.now ≡ get_or c.self.inside.kept.entries.items c.args.position no_entry
 its g c =
@@ -58,6 +58,6 @@ invariant_of-self-2 g c =
 pub returns : goal.returns
 returns g c =
     let lt = subst (λ store. c.args.position < length store.entries) (sym c.self.view_is) c.requires in
-    subst (λ at. HoldsVersion g.D.Disk.facts c.args.self.now (with_held (before g c) c.hold.new.self) c.args.position (Ok at)) (ap (λ (p : PlacedEntry). p.at) (sym (its g c)))
-    (subst (λ old. HoldsVersion g.D.Disk.facts old (with_held (before g c) c.hold.new.self) c.args.position (Ok (get_or c.self.inside.kept.entries.items c.args.position no_entry).at)) c.self.view_is
+    subst (λ at. TakesHold g.D.Disk.facts c.args.self.now (with_held (before g c) c.hold.new.self) c.args.position (Ok at)) (ap (λ (p : PlacedEntry). p.at) (sym (its g c)))
+    (subst (λ old. TakesHold g.D.Disk.facts old (with_held (before g c) c.hold.new.self) c.args.position (Ok (get_or c.self.inside.kept.entries.items c.args.position no_entry).at)) c.self.view_is
     (hold_done g.D.Disk.facts (before g c) c.self.invariant.0 c.args.position lt c.if-self.false (either g c)))

@@ -16,7 +16,7 @@ use Rattle.store.proofs.DraftLines.{line_refused}
 use Rattle.store.proofs.DraftLists.{list_more, preloads_within}
 use Rattle.store.proofs.DraftPuts.{back_staged, more_staged, put_apart, put_bytes, put_failed, put_held, put_library, put_line, put_place, put_stands, put_still, put_unlisted}
 use Rattle.store.proofs.DraftStates.{more_at}
-use Rattle.store.proofs.HeldVersions.{err_is}
+use Rattle.store.proofs.Holding.{err_is}
 use Rattle.store.proofs.Preparing.{answered, edited_map}
 use Rattle.store.proofs.update.Update.put_new.Given as given
 use Rattle.store.proofs.update.Update.put_new.Goals.{After-take_new, After-write_draft, After-edit}

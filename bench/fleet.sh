@@ -1,0 +1,172 @@
+#!/usr/bin/env bash
+# fleet.sh BUILT [RELEASE [CUTS]] tries the section "Fleets" of docs/DEVICES.md with what c/build.sh has
+# put into BUILT: in a Debian (RELEASE is bookworm) in a guest of qemu, with its casync, OSTree and RAUC,
+# and the commands as they stand there. A server on this machine has four versions of a registry, in
+# each of which one library of 34 KB is new, and counts what it gives.
+#
+# - Each way brings a device to version 4 from version 3, and from version 1.
+# - A transfer that breaks, one with another bit, what another key has signed, and a list after which a
+#   program can't be bound change nothing, and the way goes on afterwards.
+# - The power goes CUTS times (3) in each way, over and over: the device then has the version that it had
+#   reached, or the next, and goes on.
+#
+# It is for root, needs debootstrap, qemu-system-x86, fdisk, e2fsprogs, gcc and python3 (3.9 or later),
+# and has some 300 MB from a mirror of Debian. ACCEL is qemu's -accel.
+set -eu
+built=$(cd "$1" && pwd)
+release=${2:-bookworm} cuts=${3:-3}
+cd "$(dirname "$0")/.."
+room=$(mktemp -d)
+page=$PWD/docs/DEVICES.md server=
+. bench/guest.sh
+trap 'ended=$?; [ -z "$guest" ] || kill "$guest" || true; [ -z "$server" ] || kill "$server" || true
+    umount "$root/proc" 2> /dev/null || true; rm -rf "$room"; exit $ended' EXIT
+
+# 100 libraries, and three of them once more, whose bytes can't be compressed; a program that needs one.
+libraries() {
+    local number name
+    mkdir -p "$room/www/libraries" "$room/bytes"
+    python3 -c 'import pathlib, random, sys
+for number in map(int, sys.argv[2:]):
+    pathlib.Path(sys.argv[1], str(number)).write_bytes(random.Random(number).randbytes(30000))' \
+        "$room/bytes" {1..100} 200 300 400
+    for number in {1..100} 200 300 400; do
+        name=l$number
+        [ $number -le 100 ] || name=l$((number / 10))
+        printf '.section .rodata\n.globl %s\n%s: .incbin "%s"\n' $name $name "$room/bytes/$number" \
+            > "$room/library.s"
+        gcc -shared -nostdlib -Wl,--hash-style=sysv,--build-id=none,-z,noseparate-code,-soname,lib$name.so \
+            -o "$room/www/libraries/$number" "$room/library.s"
+    done
+    gcc -shared -nostdlib -Wl,--hash-style=sysv,--no-as-needed -o "$room/www/program" "$room/www/libraries/7"
+}
+
+# ways: a script for each. `url` is the server's folder, `number` the version that is wanted.
+ways() {
+    local ways=$root/try switch copy image list
+    switch=$(of Partitions 'rm -rf')
+    copy=$(of Partitions 'flock -s' | head -n 1)
+    image=$(of Fleets 'casync extract')
+    list=$(of Fleets ' before')
+    cat > "$ways/casync" << END
+a=\$(readlink /etc/rlibreg/disk) b=/dev/disk/by-partlabel/rlibreg_a url=\$url/\$number
+[ \$a != \$b ] || b=/dev/disk/by-partlabel/rlibreg_b
+$copy
+$image
+$switch
+END
+    cat > "$ways/rauc" << 'END'
+curl -sSfo bundle $url/$number/bundle
+a=$(readlink /etc/rlibreg/disk)
+pkill -x rauc && sleep 1
+rauc --override-boot-slot=${a##*_} service > service 2>&1 &
+until rauc status > /dev/null 2>&1; do sleep 0.2; done
+rauc install bundle
+END
+    cat > "$ways/backend" << END
+#!/bin/bash
+set -eu
+case \$1 in
+    get-primary) readlink /etc/rlibreg/disk | sed 's/.*_//' ;;
+    get-state) echo good ;;
+    set-primary)
+        b=/dev/disk/by-partlabel/rlibreg_\$2
+        $switch
+        ;;
+esac
+END
+    cat > "$ways/ostree" << END
+# Without the commit before its delta, the file would come whole too.
+for only in --commit-metadata-only ''; do
+    ostree --repo=/var/ostree pull --url=\$url/ostree \$only fleet v\$number
+done
+rm -rf /var/registry/\$number
+ostree --repo=/var/ostree checkout -H --fsync=true fleet:v\$number /var/registry/\$number
+b=/var/registry/\$number/disk
+$switch
+END
+    cat > "$ways/list" << END
+a=\$(readlink /etc/rlibreg/disk) url=\$url/lists
+$list
+END
+    chmod 755 "$ways/backend"
+    of Fleets 'dump image' > "$ways/sign"
+}
+
+# rauc_knows: its slots, and who switches.
+rauc_knows() {
+    mkdir -p "$root/etc/rauc"
+    rm "$root/usr/share/dbus-1/system-services/de.pengutronix.rauc.service" # else dbus starts it
+    cat > "$root/etc/rauc/system.conf" << 'END'
+[system]
+compatible=device
+bootloader=custom
+bundle-formats=verity
+statusfile=/var/fleet/status
+[handlers]
+bootloader-custom-backend=/try/backend
+[keyring]
+path=/etc/rauc/keys.pem
+[slot.registry.0]
+device=/dev/disk/by-partlabel/rlibreg_a
+type=raw
+bootname=a
+[slot.registry.1]
+device=/dev/disk/by-partlabel/rlibreg_b
+type=raw
+bootname=b
+END
+}
+
+# made: what the server has, made within that Debian.
+made() {
+    libraries
+    mv "$room/www" "$root/www"
+    mount -t proc proc "$root/proc"
+    install -m 755 bench/fleet_made.sh bench/fleet_device.sh "$root/try/"
+    env -i PATH=/usr/sbin:/usr/bin HOME=/ chroot "$root" bash /try/fleet_made.sh
+    umount "$root/proc"
+    mv "$root/www" "$room/www"
+}
+
+# counted: what the server gave between `begin` and `end`, in KB.
+counted() {
+    awk '$1 ~ /^\/begin/ {way = substr($1, 8); sum = 0; next} $1 == "/end" {printf "%s: %d KB\n", way, sum / 1000}
+        {sum += $2}' "$room/log"
+}
+
+debian casync,ostree,rauc,rauc-service,squashfs-tools,curl,ca-certificates,gpg,gpg-agent,gpgv,openssl,dbus,iproute2,procps \
+    virtio_net loop squashfs dm_verity sha256_generic
+rauc_knows
+ways
+made
+initramfs
+rm -f "$root/etc/rlibreg/disk"
+partitions 'size=4M, name=rlibreg_a' 'size=4M, name=rlibreg_b'
+for name in begin end; do echo > "$room/www/$name"; done
+python3 bench/served.py "$room/www" "$room/log" > "$room/port" &
+server=$!
+until [ -s "$room/port" ]; do sleep 0.1; done
+start="init=/try/fleet_device.sh fleet.port=$(cat "$room/port")"
+
+boot "$start fleet.way=day"
+ended
+said 'the day is over'
+sed -n 's/^rlibreg: \(.*, .*\)/\1/p' "$room/said"
+counted
+
+for way in casync rauc ostree list; do
+    reached=1
+    for ((i = 0; i <= cuts; i++)); do
+        boot "$start fleet.way=$way"
+        begun 'rlibreg: begun'
+        power_cut 30
+        said 'rlibreg: begun'
+        ! grep 'rlibreg: failed' "$room/said" || failed "$way: it doesn't go on"
+        found=$(sed -n 's/^rlibreg: at //p' "$room/said" | head -n 1)
+        [ "$found" = "$reached" ] || [ "$found" = $((reached % 4 + 1)) ] ||
+            failed "$way: version $found is found, and $reached was reached"
+        reached=$(sed -n 's/^rlibreg: at //p' "$room/said" | tail -n 1)
+    done
+    echo "$way: $cuts power cuts, the last at version $reached"
+done

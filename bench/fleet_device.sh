@@ -1,0 +1,116 @@
+#!/bin/bash
+# fleet_device.sh is the first process of fleet.sh's guest: where the kernel's command line has
+# `fleet.way=day` it goes all ways and ends, and of one way it goes from version to version until the
+# power goes. /try has a script for each way, the sums of the versions, and two images.
+set -u
+exec 2>&1
+export PATH=/usr/sbin:/usr/bin:/sbin:/bin LC_ALL=C HOME=/var/fleet
+word() {
+    sed -n "s/.*fleet\.$1=\([a-z0-9]*\).*/\1/p" /proc/cmdline
+}
+server=http://10.0.2.2:$(word port)
+a=/dev/disk/by-partlabel/rlibreg_a
+repository=/var/ostree
+
+failed() {
+    echo "rlibreg: failed: $1"
+    tail -n 20 said service
+    sync
+    busybox poweroff -f
+}
+
+# runs WAY NUMBER [FOLDER]: the way, to that version, from a folder of the server.
+runs() {
+    url=$server${3:-} number=$2 bash -euo pipefail "/try/$1" > said 2>&1
+}
+
+# The version of the registry, or nothing.
+version() {
+    local number sum
+    sum=$(rlibreg-tool dump /etc/rlibreg/disk | sha256sum)
+    for number in 1 2 3 4; do
+        [ "$sum" != "$(cat /try/sum-$number)" ] || echo $number
+    done
+}
+
+# forgets NUMBER: what OSTree has, but for that version.
+forgets() {
+    ostree --repo=$repository refs --list | grep -v ":v$1$" |
+        xargs -rn 1 ostree --repo=$repository refs --delete
+    ostree --repo=$repository prune --refs-only
+} > said
+
+# begins WAY NUMBER: with this version.
+begins() {
+    forgets none
+    dd if=/try/image-"$2" of=$a conv=fsync status=none
+    ln -sfn $a /etc/rlibreg/disk
+    [ "$1" != ostree ] || runs ostree "$2" || failed "$1 doesn't begin"
+    [ "$(version)" = "$2" ] || failed "$1 doesn't begin with $2"
+}
+
+# reaches WAY: version 4, by as many lists as it takes, or at once.
+reaches() {
+    local at
+    while at=$(version) && [ "$at" != 4 ]; do
+        runs "$1" 4 || return 1
+        [ "$1" = list ] || break
+    done
+    [ "$(version)" = 4 ]
+}
+
+# refuses WAY FOLDER: what the server has there; the device stays as it is.
+refuses() {
+    local before
+    before=$(readlink /etc/rlibreg/disk)
+    ! runs "$1" 4 "/$2" || failed "$1 takes what $2 is"
+    echo "rlibreg: $1, $2: $(tail -n 1 said)"
+    [ "$(version)" = 3 ] && [ "$(readlink /etc/rlibreg/disk)" = "$before" ] || failed "$1, $2: changed"
+}
+
+day() {
+    local way number folder
+    for way in casync rauc ostree list; do
+        for number in 3 1; do
+            begins $way $number
+            curl -sS $server/begin?$way-$number > /dev/null
+            reaches $way || failed "$way from $number"
+            curl -sS $server/end > /dev/null
+        done
+        begins $way 3
+        for folder in cut bad other; do refuses $way $folder; done
+        [ $way != list ] || refuses list lost
+        reaches $way || failed "$way doesn't go on"
+    done
+    echo 'rlibreg: the day is over'
+    sync
+    busybox poweroff -f
+}
+
+over_and_over() {
+    local at
+    [ -e "begun-$1" ] || { begins "$1" 1 && touch "begun-$1" && sync; }
+    at=$(version)
+    [ -n "$at" ] || failed 'this is none of the versions'
+    echo "rlibreg: at $at"
+    echo 'rlibreg: begun'
+    while :; do
+        at=$((at % 4 + 1))
+        runs "$1" $at || failed "$1 to $at"
+        echo "rlibreg: at $at"
+        [ "$1" != ostree ] || forgets $at
+    done
+}
+
+mkdir -p /var/fleet /var/registry /run/dbus
+cd /var/fleet
+net=$(ls /sys/class/net | grep -v lo)
+ip link set lo up
+ip link set "$net" up
+ip addr add 10.0.2.15/24 dev "$net"
+[ -d $repository ] || ostree --repo=$repository init --mode=bare
+ostree --repo=$repository remote add --if-not-exists --gpg-import=/etc/rlibreg/keys.gpg fleet "$server/ostree" > said
+dbus-uuidgen --ensure
+dbus-daemon --system --fork
+way=$(word way)
+if [ "$way" = day ]; then day; else over_and_over "$way"; fi

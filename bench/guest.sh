@@ -1,0 +1,82 @@
+# guest.sh, read by scripts for root that try documents in a Debian under qemu. These have set `room`, a
+# folder of their own, `built`, what c/build.sh has made, `release`, and `page`, the document. They need
+# debootstrap, qemu-system-x86, fdisk and e2fsprogs. ACCEL is qemu's -accel.
+. bench/page.sh
+root=$room/root disk=$room/disk.img guest=
+
+failed() {
+    echo "${0##*/}: $1" >&2
+    tail -n 40 "$room/console" >&2 || true
+    exit 1
+}
+
+# of SECTION FIRST: the page's commands.
+of() {
+    commands "$page" "$1" "$2" || failed "${page##*/} has no commands that begin with $2"
+}
+
+# debian PACKAGES MODULE..: one with these, and with what is installed.
+debian() {
+    local wanted=udev,initramfs-tools,linux-image-amd64,busybox,zstd,$1
+    debootstrap --variant=minbase --include="$wanted" "$release" "$root" > "$room/log" 2>&1 ||
+        { tail "$room/log" >&2; exit 1; }
+    DESTDIR=$root PYTHONDIR=/usr/lib/python3/dist-packages c/install.sh /usr "$built"
+    mkdir -p "$root/try" "$root/etc/rlibreg"
+    printf 'MODULES=list\nCOMPRESSLEVEL=1\n' > "$root/etc/initramfs-tools/conf.d/small"
+    printf '%s\n' virtio_pci virtio_blk ext4 "${@:2}" > "$root/etc/initramfs-tools/modules"
+}
+
+# initramfs: makes the one of that Debian, and takes it and the kernel out of it.
+initramfs() {
+    chroot "$root" sh -c 'mkinitramfs -o /boot/initramfs "$(ls /lib/modules)"'
+    mv "$root"/boot/vmlinuz-* "$room/kernel"
+    mv "$root/boot/initramfs" "$room/initramfs"
+    rm -rf "$root"/boot/* "$root"/usr/lib/modules/* "$root"/var/cache/apt "$root"/var/lib/apt/lists
+}
+
+# partitions PARTITION..: a disk of the root and of these, as sfdisk takes them.
+partitions() {
+    local size
+    size=$(($(du -sm "$root" | cut -f1) + 150))
+    truncate -s $((size + 40))M "$disk"
+    printf '%s\n' 'label: gpt' "size=${size}M, name=root" "$@" | sfdisk -q "$disk"
+    mke2fs -q -t ext4 -d "$root" -E offset=$((1 << 20)) "$disk" ${size}M
+}
+
+# boot [WORD]..: with these behind the kernel's command line. The console's lines are in a file.
+boot() {
+    qemu-system-x86_64 -accel "${ACCEL:-tcg}" -m 1024 -nographic -no-reboot -kernel "$room/kernel" \
+        -initrd "$room/initramfs" -drive "file=$disk,format=raw,if=virtio,cache=writeback" \
+        -netdev user,id=net -device virtio-net-pci,netdev=net,romfile= -append \
+        "root=PARTLABEL=root rw console=ttyS0 no_timer_check panic=1 quiet $*" > "$room/console" 2>&1 < /dev/null &
+    guest=$!
+}
+
+# begun TEXT: waits until the guest says it.
+begun() {
+    timeout 1800 sh -c "until grep -aq '$1' '$room/console'; do sleep 0.2; done" ||
+        failed 'the guest goes on'
+}
+
+# power_cut SECONDS: the guest has its power for so long, at most.
+power_cut() {
+    sleep "$((RANDOM % $1)).$((RANDOM % 10))"
+    kill -9 $guest || true
+    ended
+}
+
+# ended: waits for the end of the guest, half an hour at most. What it said is without the console's
+# own signs.
+ended() {
+    timeout 1800 tail --pid=$guest -f /dev/null || failed 'the guest goes on'
+    wait $guest || true
+    guest=
+    tr -d '\r' < "$room/console" | sed 's/\x1b[^A-Za-z]*[A-Za-z]//g' |
+        grep -a '^rlibreg\|^library' > "$room/said" || true
+}
+
+# said LINE..: whether the console has each.
+said() {
+    local line
+    for line; do grep -aq "$line" "$room/said" || failed "the guest didn't say: $line"; done
+}

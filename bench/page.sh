@@ -1,0 +1,11 @@
+# page.sh, read by scripts: the commands of a document.
+
+# commands PAGE [SECTION FIRST]: all of them; or those of the section, by the words that the first has,
+# up to the next line that is none.
+commands() {
+    awk -v section="${2:-}" -v first="${3:-}" '
+        /^## / {inside = substr($0, 4) == section}
+        !/^    \$ / {block = 0; next}
+        first == "" || inside && index($0, first) {block = 1}
+        block {print substr($0, 7)}' "$1" | grep .
+}

@@ -1,0 +1,274 @@
+-- From what an update of an opened registry does to what is said of the bytes and of the plan.
+use Rattle.std.proofs.Common.{◌≡◌, ◌⊎◌, inl, inr, ⊎_elim, ℕ, ◌+◌, ◌<◌, List, [], ◌∷◌, ◌++◌, length, map, take, drop, get_or, All, Bool, true, false, if◌then◌else◌, Ok, Err, None, IsTrue, refl, sym, ◌∙◌, ap, subst, append_assoc, arith}
+use Rattle.std.specs.Prelude.{Result, MatchResult, IfErr, OnOk}
+use Rattle.std.specs.List.{list_any}
+use Rattle.std.proofs.lemmas.Bool.{both_ways}
+use Rattle.std.proofs.lemmas.List.{take-append-drop, take_more, map-append, length-map, length-take-le}
+use Rattle.std.proofs.lemmas.List.Elements.{All-nil, All-push, All-head, All-tail}
+use Rattle.sector_disk.specs.Disk.{Sector, LeavesOnly, Mixture}
+use Rattle.sector_disk.proofs.Moments.{goes_on, weaken}
+use Rattle.byte_disk.specs.declared.disk.ByteDisk.{ByteDisk}
+use Rattle.byte_disk.specs.Bytes.{sectors_in}
+use Rattle.byte_disk.specs.ByteDisk.{byte_facts}
+use Rattle.byte_disk.specs.inside.Laws.{byte_holds}
+use Rattle.states.specs.Changes.{next}
+use Rattle.states.specs.State.{State}
+use Rattle.store.specs.Changed.{Changed}
+use Rattle.store.specs.Draft.{Drafted, IsDraftedAt, begun, beside, committed, longest_drafted}
+use Rattle.store.specs.Opened.{Opened, IsAt}
+use Rattle.store.specs.Stands as sectors
+use Rattle.store.specs.declared.holds.HeldRow.{HeldRow}
+use Rattle.requests.specs.Library.{IsLibrary}
+use Rattle.requests.specs.Phase.{Phase}
+use Rattle.requests.specs.Request.{Request, install, replace, remove, set_preloads, bind, list, request_of}
+use Rattle.requests.specs.Runs.{Steps}
+use Rattle.requests.specs.Step.{accepted, refusal_at}
+use Rattle.requests.specs.declared.command.Command.{Command}
+use Rattle.requests.specs.declared.refusal.Refusal.{Refusal}
+use Rattle.requests.specs.declared.refusal.Refusal.TheVariants.{Device, OutOfMemory, Reopen}
+use Rattle.requests.specs.declared.reply.Reply.{Reply}
+use Rattle.requests.specs.declared.reply.Reply.TheVariants.{Done, Listing, Bound, Refused}
+use Rattle.requests.proofs.Runs.{run_more}
+use Rattle.registry.specs.Drafting.{DraftStep, PlanStep, draft_phase}
+use Rattle.registry.specs.Stands.{Stands}
+use Rattle.registry.specs.Updating.{DraftAnswers, IsUpdate, Plans, asks_change, drafted_by, is_refusal, updated}
+use Rattle.registry.proofs.Untested.{each_accepted}
+use Rattle.registry.proofs.Updating.{accepted_step, begun_at, is_update, plans_moment, refuses}
+use Rattle.byte_registry.specs.Plans.{Holds, LeadsTo, synced_plan}
+use Rattle.byte_registry.specs.Updated.{AnswersUpdate, ArePlanned, IsUpdateAsked, draft_on}
+use Rattle.byte_registry.specs.inside.Opening.{IsOpenedOn}
+use Rattle.byte_registry.specs.inside.Planning.{MakesUpdate, StopsAt}
+use Rattle.byte_registry.proofs.Asking.{holds, only, stands_by, same_sectors, leads_stored, leads_registry}
+
+-- a change that a draft accepted is refused by no test
+tested : (p p' : Phase) (request : Request) (answer : Reply) → PlanStep p request answer p' → is_refusal answer ≡ false → refusal_at p request ≡ None
+tested p p' request Done step is = step.1
+tested p p' request (Listing l) step is = step.1
+tested p p' request (Bound image) step is = step.1
+tested p p' request (Refused refusal) step is = absurd (refuses is)
+
+-- so each file stays a library,
+each_drafted : (p p' : Phase) (request : Request) (answer : Reply) → DraftStep p request answer p' → is_refusal answer ≡ false
+    → All IsLibrary p.state.libraries → All IsLibrary (accepted p.state request).libraries
+each_drafted p p' (install bytes) answer step is all = each_accepted p (install bytes) (tested p p' (install bytes) answer step is) all
+each_drafted p p' (replace bytes) answer step is all = each_accepted p (replace bytes) (tested p p' (replace bytes) answer step is) all
+each_drafted p p' (remove name) answer step is all = each_accepted p (remove name) (tested p p' (remove name) answer step is) all
+each_drafted p p' (set_preloads names) answer step is all = all
+each_drafted p p' (bind program base) answer step is all = all
+each_drafted p p' list answer step is all = all
+
+-- also after several,
+each_planned : (p : Phase) (requests : List Request) (answers : List Reply) (states : List Phase) → Steps DraftStep p requests answers states
+    → All (λ (answer : Reply). is_refusal answer ≡ false) answers → All IsLibrary p.state.libraries → All IsLibrary (drafted_by p.state requests).libraries
+each_planned p [] [] [] steps is all = all
+each_planned p (request ∷ requests) (answer ∷ answers) (t ∷ states) steps is all =
+    let accepts = All-head (λ (a : Reply). is_refusal a ≡ false) answer answers is in
+    let led = accepted_step p t request answer steps.0 accepts in
+    let after : All IsLibrary t.state.libraries =
+    subst (λ (e : State). All IsLibrary e.libraries) (sym led.1.state) (each_drafted p t request answer steps.0 accepts all) in
+    subst (λ (e : State). All IsLibrary (drafted_by e requests).libraries) led.1.state
+    (each_planned t requests answers states steps.1 (All-tail (λ (a : Reply). is_refusal a ≡ false) answer answers is) after)
+each_planned p [] [] (t ∷ states) steps is all = absurd steps
+each_planned p [] (answer ∷ answers) states steps is all = absurd steps
+each_planned p (request ∷ requests) [] states steps is all = absurd steps
+each_planned p (request ∷ requests) (answer ∷ answers) [] steps is all = absurd steps
+
+-- and in what is committed
+each_next : (s d : State) (changes : Bool) → All IsLibrary s.libraries → All IsLibrary d.libraries
+    → All IsLibrary (if changes then next s d.libraries d.preloads else s).libraries
+each_next s d true before after = after
+each_next s d false before after = before
+
+-- a reply that is a refusal
+pub refused_in : (old new : Drafted ByteDisk) (request : Request) (answer : Reply) (result : Result (Unit {0}) Refusal) → DraftAnswers byte_facts old request answer new
+    → MatchResult result (λ _. is_refusal answer ≡ false) (λ refusal. answer ≡ Refused refusal) → IfErr result (λ refusal. DraftAnswers byte_facts old request (Refused refusal) new)
+refused_in old new request answer (Ok done) did is = tt
+refused_in old new request answer (Err refusal) did is = subst (λ (a : Reply). DraftAnswers byte_facts old request a new) is did
+
+-- Requests to a draft, one after the other.
+pub plans_none : (u : Drafted ByteDisk) → Plans byte_facts u u [] []
+plans_none u = record { run = ([], tt, refl); accepted = All-nil (λ (a : Reply). is_refusal a ≡ false) }
+
+pub plans_more : (old mid new : Drafted ByteDisk) (requests : List Request) (answers : List Reply) (request : Request) (answer : Reply) → Plans byte_facts old mid requests answers
+    → DraftAnswers byte_facts mid request answer new → is_refusal answer ≡ false → Plans byte_facts old new (requests ++ request ∷ []) (answers ++ answer ∷ [])
+plans_more old mid new requests answers request answer plans did is = record {
+  run = run_more (DraftAnswers byte_facts) old mid new request answer requests answers plans.run did;
+  accepted = All-push (λ (a : Reply). is_refusal a ≡ false) answers answer plans.accepted is;
+}
+
+-- a list in front of an element, it, and the rest
+split_at : (xs : List Command) (i : ℕ) (d : Command) → i < length xs → xs ≡ take i xs ++ get_or xs i d ∷ drop (i + 1) xs
+split_at xs i d lt =
+    sym (take-append-drop (i + 1) xs) ∙ ap (λ l. l ++ drop (i + 1) xs) (take_more xs i d lt) ∙ append_assoc (take i xs) (get_or xs i d ∷ []) (drop (i + 1) xs)
+
+module _ (xs : List Command) (i : ℕ) (d : Command) (lt : i < length xs) (old mid new : Drafted ByteDisk) (answers : List Reply)
+    (plans : Plans byte_facts old mid (map request_of (take i xs)) answers) where
+  pub planned_more : (answer : Reply) → DraftAnswers byte_facts mid (request_of (get_or xs i d)) answer new → is_refusal answer ≡ false
+      → Plans byte_facts old new (map request_of (take (i + 1) xs)) (answers ++ answer ∷ [])
+  planned_more answer did is =
+      subst (λ l. Plans byte_facts old new l (answers ++ answer ∷ []))
+      (sym (ap (map request_of) (take_more xs i d lt) ∙ map-append request_of (take i xs) (get_or xs i d ∷ [])))
+      (plans_more old mid new (map request_of (take i xs)) answers (request_of (get_or xs i d)) answer plans did is)
+
+  pub stops_at : (refusal : Refusal) → DraftAnswers byte_facts mid (request_of (get_or xs i d)) (Refused refusal) new → StopsAt old new (map request_of xs) i refusal
+  stops_at refusal did = record {
+    before = map request_of (take i xs);
+    request = request_of (get_or xs i d);
+    others = map request_of (drop (i + 1) xs);
+    requests_are = ap (map request_of) (split_at xs i d lt) ∙ map-append request_of (take i xs) (get_or xs i d ∷ drop (i + 1) xs);
+    count = sym (length-map (take i xs) request_of ∙ length-take-le i xs (omega (arith, lt)));
+    mid = mid;
+    answers = answers;
+    plans = plans;
+    refused = did;
+  }
+
+-- The draft of an opened registry at a state.
+module _ (old : Opened ByteDisk) (s : State) (at : IsAt byte_facts old s) where
+  abbrev start : Phase
+  start = draft_phase byte_facts (begun old) s
+
+  starts : IsDraftedAt byte_facts (begun old) s s
+  starts = begun_at byte_facts s old (λ honest. byte_holds old.disk) at
+
+  module _ (requests : List Request) (answers : List Reply) (u : Drafted ByteDisk) (plans : Plans byte_facts (begun old) u requests answers) where
+    update : IsUpdate byte_facts (begun old) u s requests answers
+    update = is_update byte_facts s (begun old) u requests answers refl starts plans
+
+    planned : ArePlanned start requests (draft_phase byte_facts u (drafted_by s requests))
+    planned = record { answers = answers; run = update.run; accepted = plans.accepted; state = refl }
+
+    pub drafted_at : IsDraftedAt byte_facts u s (drafted_by s requests)
+    drafted_at = update.at
+
+    abbrev to : State
+    to = committed u.touched s (drafted_by s requests)
+
+    -- it was committed
+    pub is_made : (new : Opened ByteDisk) → LeavesOnly (byte_facts u.store.disk) (byte_facts new.disk) (λ m. sectors.Stands m s ⊎ sectors.Stands m to) → IsAt byte_facts new to
+        → MakesUpdate old new s requests (Ok tt)
+    is_made new left ends = record {
+      table = (draft_phase byte_facts u (drafted_by s requests), planned);
+      any_moment = goes_on (λ m. sectors.Stands m s ⊎ sectors.Stands m (updated s requests))
+          (weaken (λ m. sectors.Stands m s) (λ m. sectors.Stands m s ⊎ sectors.Stands m (updated s requests)) (λ m stands. inl stands)
+          (plans_moment byte_facts s (begun old) u requests answers starts plans))
+          (subst (λ (t : State). LeavesOnly (byte_facts u.store.disk) (byte_facts new.disk) (λ m. sectors.Stands m s ⊎ sectors.Stands m t)) update.made left);
+      ok = subst (IsAt byte_facts new) update.made ends;
+      device = tt;
+    }
+
+    -- or a call of the commit failed
+    pub is_uncommitted : (new : Opened ByteDisk) (most n : ℕ) (refusal : Refusal) → n ≡ length requests
+        → Changed byte_facts Device Reopen u.store new most (λ e. (e ≡ Device) ⊎ (e ≡ Reopen)) (Err refusal) → MakesUpdate old new s requests (Err (n, refusal))
+    is_uncommitted new most n refusal count changed =
+        let failed : refusal ≡ Device =
+        ⊎_elim (λ device. device) (λ reopen. absurd (both_ways u.store.failed update.at.stands.usable (changed.reopen.0 (ap Err reopen)))) changed.refusals in
+        record {
+          table = inr (inl (record { why = failed; count = count; after = draft_phase byte_facts u (drafted_by s requests); planned = planned }));
+          any_moment = tt;
+          ok = tt;
+          device = λ is. omega (arith, (changed.device failed).0);
+        }
+
+  -- a request was refused
+  pub is_stopped : (requests : List Request) (last : Drafted ByteDisk) (refused : ℕ × Refusal) → StopsAt (begun old) last requests refused.0 refused.1
+      → MakesUpdate old last.store s requests (Err refused)
+  is_stopped requests last refused stops =
+      let d = drafted_by s stops.before in
+      let applied = stops.refused.applied s d (update stops.before stops.answers stops.mid stops.plans).at in
+      record {
+        table = inl (record {
+          before = stops.before;
+          request = stops.request;
+          others = stops.others;
+          requests_are = stops.requests_are;
+          count = stops.count;
+          mid = draft_phase byte_facts stops.mid d;
+          planned = planned stops.before stops.answers stops.mid stops.plans;
+          after = draft_phase byte_facts last applied.0;
+          refused = applied.1.step;
+        });
+        any_moment = tt;
+        ok = tt;
+        device = λ is. omega (arith, stops.refused.on_any_disk.device (ap Refused is));
+      }
+
+  -- or memory was, before any request
+  pub is_unbegun : (requests : List Request) (refusal : Refusal) → ((refusal ≡ Reopen) × IsTrue old.failed) ⊎ ((refusal ≡ OutOfMemory) × (old.failed ≡ false))
+      → MakesUpdate old old s requests (Err (0, refusal))
+  is_unbegun requests refusal why =
+      let memory : refusal ≡ OutOfMemory = ⊎_elim (λ reopen. absurd (both_ways old.failed at.usable reopen.1)) (λ memory. memory.0) why in
+      record {
+        table = inr (inr (refl, memory));
+        any_moment = tt;
+        ok = tt;
+        device = λ is. absurd (other (sym memory ∙ is));
+      }
+    where
+      other : OutOfMemory ≡ Device → ⊥
+      other is = cc
+
+-- A registry was opened on bytes, and updated.
+module _ (bytes : List ℕ) (opened : Opened ByteDisk) (on : IsOpenedOn bytes opened) where
+  abbrev s : State
+  s = on.found.0
+
+  abbrev given : List Sector
+  given = sectors_in bytes
+
+  -- the phase of its draft, in terms of the sectors
+  abbrev phase_by : ℕ → List HeldRow → Bool → Phase
+  phase_by count held failed =
+      let store : Opened (List Sector) = record { disk = given; root = opened.root; entries = opened.entries; held = held; failed = false } in
+      record {
+        sectors = count;
+        lone = beside (begun store);
+        longest = longest_drafted (begun store);
+        failures = (byte_facts opened.disk).failures;
+        failed = failed;
+        state = s;
+      }
+
+  same_draft : draft_phase byte_facts (begun opened) s ≡ draft_on given opened.root opened.entries (byte_facts opened.disk).failures s
+  same_draft =
+      ap (λ n. phase_by n opened.held opened.failed) (same_sectors bytes opened on)
+      ∙ ap (λ held. phase_by (length given) held opened.failed) on.unheld
+      ∙ ap (λ failed. phase_by (length given) [] failed) on.found.2.usable
+
+  module _ (requests : List Request) (new : Opened ByteDisk) where
+    ends : IsAt byte_facts new (updated s requests) → (m : List Sector) → Mixture (byte_facts new.disk) m → sectors.Stands m (updated s requests)
+    ends at m mixture = (new.root, new.entries, at.stands m mixture)
+
+    leads : (answer : Result (Unit {0}) (ℕ × Refusal)) → MakesUpdate opened new s requests answer
+        → OnOk answer (LeadsTo sectors.Stands given s (updated s requests) (synced_plan new.disk))
+    leads (Ok done) makes = leads_stored bytes opened on (updated s requests) new.disk makes.any_moment (ends makes.ok)
+    leads (Err refused) makes = tt
+
+    registry : (answer : Result (Unit {0}) (ℕ × Refusal)) → MakesUpdate opened new s requests answer
+        → OnOk answer (Holds bytes s → LeadsTo Stands given s (updated s requests) (synced_plan new.disk))
+    registry (Ok done) makes = λ held.
+        let all = held.stands.libraries in
+        let planned = makes.table.1 in
+        leads_registry bytes opened on (updated s requests) new.disk makes.any_moment (ends makes.ok)
+        (each_next s (drafted_by s requests) (list_any asks_change requests) all
+        (each_planned (draft_phase byte_facts (begun opened) s) requests planned.answers planned.run.0 planned.run.1 planned.accepted all)) held
+    registry (Err refused) makes = tt
+
+    pub update_asked : (answer : Result (Unit {0}) (ℕ × Refusal)) → MakesUpdate opened new s requests answer
+        → (s : State) × IsUpdateAsked bytes s requests answer (synced_plan new.disk)
+    update_asked answer makes = (
+      s,
+      record {
+        holds = holds bytes opened on;
+        only = only bytes opened on;
+        by_table = record {
+          root = opened.root;
+          entries = opened.entries;
+          by = stands_by bytes opened on;
+          failures = (byte_facts opened.disk).failures;
+          answers = subst (λ p. AnswersUpdate p requests answer) same_draft makes.table;
+        };
+        leads = leads answer makes;
+        registry = registry answer makes;
+      },
+    )

@@ -1,0 +1,110 @@
+// An update of a registry on given bytes: several changes, of which all are planned or none.
+ghost use Rattle.std.specs.Prelude.{◌≡◌, ◌<◌, IfOk, IfErr, MatchResult, map, false};
+ghost use Rattle.byte_disk.specs.ByteDisk.{byte_facts};
+ghost use Rattle.states.specs.State.{State};
+ghost use Rattle.store.specs.Opened.{IsAt};
+ghost use Rattle.requests.specs.Request.{request_of};
+ghost use Rattle.requests.specs.declared.reply.Reply.{Reply};
+ghost use Rattle.registry.specs.Updating.{DraftAnswers, is_refusal};
+ghost use Rattle.byte_registry.specs.Asked.{IsUnopened, failures_of};
+ghost use Rattle.byte_registry.specs.Plans.{synced_plan};
+ghost use Rattle.byte_registry.specs.Updated.{IsUpdateAsked};
+ghost use Rattle.byte_registry.specs.inside.Planning.{MakesUpdate, PlansAll};
+
+use crate::asked::open_on;
+use byte_disk::ByteDisk;
+use registry::{Registry, Update};
+use requests::{Command, Refusal, Reply};
+use std::alloc::Global;
+use store::StoreRefusal;
+
+/// The refusal that a reply is, where it is one.
+fn refusal_in(reply: Reply) -> Result<(), Refusal>
+    ensures { MatchResult result (λ _. is_refusal reply ≡ false)
+        (λ refusal. reply ≡ Reply.Refused refusal) }
+{
+    match reply {
+        Reply::Refused(refusal) => Err(refusal),
+        _ => Ok(()),
+    }
+}
+
+/// Plans a command behind those that an update has, or says why it is refused.
+fn plan_one(update: &mut Update<ByteDisk<'_>>, command: &Command<'_>) -> Result<(), Refusal>
+    ensures ok { IfOk result (λ _. (answer : Reply)
+        × DraftAnswers byte_facts update.old (request_of command.now) answer update.new
+        × (is_refusal answer ≡ false)) }
+    ensures err { IfErr result (λ refusal. DraftAnswers byte_facts update.old
+        (request_of command.now) (Reply.Refused refusal) update.new) }
+{
+    let reply = update.apply(command);
+    refusal_in(reply)
+}
+
+/// Plans commands one after the other, up to the first that is refused: how many come before it,
+/// and why.
+fn plan_all(
+    update: &mut Update<ByteDisk<'_>>,
+    commands: &[Command<'_>],
+) -> Result<(), (usize, Refusal)>
+    ensures { PlansAll update.old update.new (map request_of commands.now) result }
+{
+    for (place, command) in commands.iter().enumerate() {
+        if let Err(refusal) = plan_one(update, command) {
+            return Err((place, refusal));
+        }
+    }
+    Ok(())
+}
+
+/// Makes an update of commands, or says which is refused, and why: then the registry is as it was.
+fn make_update<'a>(
+    registry: Registry<ByteDisk<'a>>,
+    commands: &[Command<'_>],
+) -> (Result<(), (usize, Refusal)>, Registry<ByteDisk<'a>>)
+    ensures { (s : State) → IsAt byte_facts registry.entry s
+        → MakesUpdate registry.entry result.1 s (map request_of commands.now) result.0 }
+{
+    let mut update = match registry.update() {
+        Ok(update) => update,
+        Err((refusal, registry)) => return (Err((0, refusal)), registry),
+    };
+    match plan_all(&mut update, commands) {
+        Ok(()) => {
+            let (made, registry) = update.commit();
+            match made {
+                Ok(()) => (Ok(()), registry),
+                Err(refusal) => (Err((commands.len(), refusal)), registry),
+            }
+        }
+        Err(refused) => (Err(refused), update.give_up()),
+    }
+}
+
+/// What the registry on a disk answers to an update of commands, and the disk then; or why there
+/// is none, and the disk then, where these bytes are one. A refusal is told with how many commands
+/// come before the one that is refused; behind all of them only the commit is. No file is read but
+/// those that a bind needs.
+pub fn ask_update<'a>(
+    alloc: Global,
+    disk: &'a [u8],
+    commands: &[Command<'_>],
+) -> Result<(Result<(), (usize, Refusal)>, ByteDisk<'a>), (StoreRefusal, Option<ByteDisk<'a>>)>
+    ensures ok { IfOk result (λ asked. (s : State) × IsUpdateAsked disk.now s
+        (map request_of commands.now) asked.0 (synced_plan asked.1)) }
+
+    // S1 comes only where a call of the disk failed: a write or a sync, which found no memory.
+    ensures device { MatchResult result
+        (λ asked. IfErr asked.0 (λ refused. refused.1 ≡ Refusal.Device
+        → 0 < (byte_facts asked.1).failures))
+        (λ refused. refused.0 ≡ StoreRefusal.Device → 0 < failures_of refused.1) }
+    ensures err { IfErr result (λ refused. IsUnopened disk.now refused.0) }
+{
+    match open_on(alloc, disk) {
+        Ok(registry) => {
+            let (answer, registry) = make_update(registry, commands);
+            Ok((answer, registry.into_disk()))
+        }
+        Err(refused) => Err(refused),
+    }
+}

@@ -1,0 +1,38 @@
+-- What the changes of an update ask: each has its bytes at a place of a buffer (own).
+use Rattle.std.specs.Prelude.{◌≡◌, ◌⊎◌, ◌+◌, ◌≤◌, ℕ, List, [], ◌∷◌, drop, length, map, take}
+use Rattle.requests.specs.Request.{Request, install, replace, remove, set_preloads}
+use Rattle.c_answers.specs.Names.{AreNames}
+use Rattle.c_answers.specs.declared.asked_change.AskedChange.{AskedChange}
+use Rattle.c_answers.specs.declared.asked_change.AskedChange.TheVariants as asked
+use Rattle.c_answers.specs.declared.change_place.ChangePlace.{ChangePlace}
+
+-- the bytes of a change
+abbrev pub own_bytes : List ℕ → ChangePlace → List ℕ
+own_bytes bytes change = take change.length (drop change.from bytes)
+
+-- Of the kind 1 it installs a library, of the kind 2 it replaces one, by the bytes of its file; of the
+-- kind 3 it removes one, by its name; of the kind 4 it chooses the preloads, by names in a row.
+abbrev pub Asks : ℕ → List ℕ → Request → Type 0
+Asks kind own request =
+    ((kind ≡ 1) × (request ≡ install own))
+    ⊎ ((kind ≡ 2) × (request ≡ replace own))
+    ⊎ ((kind ≡ 3) × (request ≡ remove own))
+    ⊎ ((kind ≡ 4) × ((names : List (List ℕ)) × AreNames names own × (request ≡ set_preloads names)))
+
+-- A change asks this: its place is in the bytes, and they are as its kind has them.
+pub record Means (bytes : List ℕ) (change : ChangePlace) (request : Request) : Type 0 where
+  pub inside : change.from + change.length ≤ length bytes
+  pub asks : Asks change.kind (own_bytes bytes change) request
+
+-- changes ask these, one each, in their order
+abbrev pub Mean : List ℕ → List ChangePlace → List Request → Type 0
+Mean bytes [] [] = Unit {0}
+Mean bytes (change ∷ changes) (request ∷ requests) = Means bytes change request × Mean bytes changes requests
+Mean bytes changes requests = ⊥
+
+-- what a change that was read asks
+abbrev pub request_asked : AskedChange → Request
+request_asked (asked.Install bytes) = install bytes.now
+request_asked (asked.Replace bytes) = replace bytes.now
+request_asked (asked.Remove name) = remove name.now
+request_asked (asked.SetPreloads names) = set_preloads (map (λ n. n.now) names.items)

@@ -1,0 +1,82 @@
+-- The executable file of a bound program, as C gets it (own).
+use Rattle.std.specs.Prelude.{◌≡◌, ◌⊎◌, ℕ, List, None, length, take}
+use Rattle.byte_disk.specs.declared.step.Step.{Step}
+use Rattle.elf_file.specs.Header.{header_count}
+use Rattle.executable.specs.Outcome.{IsExecutableOf, executable_refusal_text}
+use Rattle.executable.specs.Refusal.{IsAnswer}
+use Rattle.executable.specs.declared.refusal.ExecutableRefusal.{ExecutableRefusal}
+use Rattle.executable.specs.declared.refusal.ExecutableRefusal.TheVariants as refusal
+use Rattle.image.specs.Byte.{byte_of}
+use Rattle.image.specs.Image.{MemoryImage, image_byte}
+use Rattle.states.specs.State.{State}
+use Rattle.store.specs.declared.refusal.StoreRefusal.{StoreRefusal}
+use Rattle.requests.specs.Binding.{binding_refusal, bound_image, bound_objects}
+use Rattle.requests.specs.Request.{Request}
+use Rattle.requests.specs.declared.reply.Reply.{Reply}
+use Rattle.requests.specs.declared.reply.Reply.TheVariants as reply
+use Rattle.registry.specs.Untested.{ReadsLibraries}
+use Rattle.byte_registry.specs.Asked.{IsAsked, IsUnopened}
+use Rattle.byte_registry.specs.Bytes.{HoldNoOther, HoldStore}
+use Rattle.c_answers.specs.Answers.{HasText, IsToldAlone, IsTurnedAway, WantsMemory}
+use Rattle.c_answers.specs.Contents.{IsGiven}
+use Rattle.c_answers.specs.Numbers.{done, out_of_memory}
+use Rattle.c_answers.specs.Unsaid.{IsUncounted}
+use Rattle.c_answers.specs.declared.answer.Answer.{Answer}
+
+-- the number of why there is no file: 400, and which of the tests refuses
+abbrev pub executable_number : ExecutableRefusal → ℕ
+executable_number refusal.NoEntry = 401
+executable_number refusal.StaticPie = 402
+executable_number refusal.PreInitializers = 403
+executable_number (refusal.Initializers name) = 404
+executable_number (refusal.Finalizers name) = 405
+executable_number refusal.OutOfOrder = 406
+executable_number refusal.TooManyHeaders = 407
+executable_number (refusal.WritableCode name) = 408
+executable_number refusal.NoRoom = 409
+executable_number refusal.OutOfMemory = out_of_memory
+
+-- It is told why there is no file: by its number and by its line.
+pub record TellsNoFile (refusal : ExecutableRefusal) (text : List ℕ) (told_size told_file told : ℕ) : Type 0 where
+  pub status : told ≡ executable_number refusal
+  pub file : told_file ≡ 0
+  pub has_text : HasText (executable_refusal_text refusal) text told_size
+
+-- the same, or memory for that was refused; nothing is counted
+abbrev pub IsNoFileTold : ExecutableRefusal → List ℕ → Answer → ℕ → Type 0
+IsNoFileTold refusal text answer status =
+    (TellsNoFile refusal text answer.text answer.file_refusal status ⊎ WantsMemory text answer.text answer.file_refusal status) × IsUncounted answer
+
+-- the file of an image is given, of which the program headers are counted, or memory for it was
+-- refused; or there is none, by the first test that applies or for want of memory, and it is told why
+abbrev pub IsExecutableTold : MemoryImage → (bytes text : List ℕ) → Answer → ℕ → Type 0
+IsExecutableTold image bytes text answer status =
+    ((file : List ℕ) × IsExecutableOf image file × IsGiven done (header_count file) file bytes answer status)
+    ⊎ ((refusal : ExecutableRefusal) × IsAnswer image refusal × IsNoFileTold refusal text answer status)
+
+-- what a reply to a bind is told by
+abbrev pub IsBoundTold : Reply → (bytes text : List ℕ) → Answer → ℕ → Type 0
+IsBoundTold (reply.Bound image) bytes text answer status = IsExecutableTold image bytes text answer status
+IsBoundTold other bytes text answer status = IsToldAlone other text answer status
+
+-- A bind with the registry that the bytes hold was asked, and its image's file is given, or it is told
+-- why not; or there is no registry, and it is told why.
+abbrev pub IsExecutableAnswered : (disk : List ℕ) → Request → (bytes text : List ℕ) → Answer → ℕ → Type 0
+IsExecutableAnswered disk request bytes text answer status =
+    ((s : State) × (reply : Reply) × (steps : List Step) × IsAsked disk s request reply steps × IsBoundTold reply bytes text answer status)
+    ⊎ ((refusal : StoreRefusal) × IsUnopened disk refusal × IsTurnedAway refusal text answer status)
+
+-- The buffer has the executable file of the image that is defined for a program at a base over the
+-- state that the bytes hold, with the defined byte at each address. Each file that it needs is a library.
+pub record IsExecutableFileOf (disk program : List ℕ) (base : ℕ) (bytes : List ℕ) (answer : Answer) : Type 0 where
+  pub state : State
+  pub holds : HoldStore disk state
+  pub only : HoldNoOther disk state
+  pub libraries : ReadsLibraries state program
+  pub accepted : binding_refusal state program base ≡ None
+  pub each : (a : ℕ) → image_byte (bound_image state program base) a ≡ byte_of (bound_objects state program base) a
+  pub file : List ℕ
+  pub is : IsExecutableOf (bound_image state program base) file
+  pub size : answer.bytes ≡ length file
+  pub given : take answer.bytes bytes ≡ file
+  pub headers : answer.count ≡ header_count file

@@ -1,0 +1,66 @@
+-- What a call that plans an update puts into its buffers and its answer (own).
+use Rattle.std.specs.Prelude.{◌≡◌, ◌⊎◌, ℕ, List, Result, Ok, Err}
+use Rattle.byte_disk.specs.declared.step.Step.{Step}
+use Rattle.byte_disk.specs.Bytes.{sectors_in}
+use Rattle.states.specs.State.{State}
+use Rattle.store.specs.Stands as sectors
+use Rattle.store.specs.declared.refusal.StoreRefusal.{StoreRefusal}
+use Rattle.requests.specs.Request.{Request}
+use Rattle.requests.specs.declared.refusal.Refusal.{Refusal}
+use Rattle.requests.specs.declared.reply.Reply.TheVariants.{Refused}
+use Rattle.registry.specs.Stands.{Stands}
+use Rattle.registry.specs.Updating.{updated}
+use Rattle.byte_registry.specs.Asked.{IsUnopened}
+use Rattle.byte_registry.specs.Bytes.{HoldStore}
+use Rattle.byte_registry.specs.Plans.{Holds, LeadsTo}
+use Rattle.byte_registry.specs.Updated.{IsUpdateAsked}
+use Rattle.c_answers.specs.declared.answer.Answer.{Answer}
+use Rattle.c_answers.specs.declared.change_place.ChangePlace.{ChangePlace}
+use Rattle.c_answers.specs.Answers.{HasPlan, IsPlanned, IsTold, IsTurnedAway, WantsMemory}
+use Rattle.c_answers.specs.Changes.{Mean}
+use Rattle.c_answers.specs.Numbers.{bad_argument}
+use Rattle.c_answers.specs.Unsaid.{IsSilent, IsUnbound, IsUncounted, IsUnlisted}
+
+-- The plan of an update of what the bytes hold: it leads from their state, and they hold no other, to
+-- the one after all requests; and from one of a registry to such a one.
+pub record IsUpdatePlan (bytes : List ℕ) (requests : List Request) (buffer : List ℕ) (answer : Answer) : Type 0 where
+  pub state : State
+  pub steps : List Step
+  pub holds : HoldStore bytes state
+  pub only : (other : State) → HoldStore bytes other → other ≡ state
+  pub leads : LeadsTo sectors.Stands (sectors_in bytes) state (updated state requests) steps
+  pub registry : Holds bytes state → LeadsTo Stands (sectors_in bytes) state (updated state requests) steps
+  pub plan : HasPlan steps buffer answer.bytes answer.count
+
+-- A request is refused: that is told as of a single one, and how many come before it.
+pub record IsRefusedTold (before : ℕ) (refusal : Refusal) (text : List ℕ) (answer : Answer) (status : ℕ) : Type 0 where
+  pub why : IsTold (Refused refusal) text answer status
+  pub count : answer.count ≡ before
+  pub bytes : answer.bytes ≡ 0
+  pub unlisted : IsUnlisted answer
+  pub unbound : IsUnbound answer
+
+-- what the answer to an update is told by
+abbrev pub IsUpdateTold : Result (Unit {0}) (ℕ × Refusal) → List Step → List ℕ → List ℕ → Answer → ℕ → Type 0
+IsUpdateTold (Ok done) steps plan text answer status = IsPlanned steps plan text answer status
+IsUpdateTold (Err refused) steps plan text answer status = IsRefusedTold refused.0 refused.1 text answer status
+
+-- An update of the registry that the bytes hold was asked, and what comes of it is told;
+-- or there is no registry, and it is told why.
+abbrev pub IsAskedTold : List ℕ → List Request → List ℕ → List ℕ → Answer → ℕ → Type 0
+IsAskedTold disk requests plan text answer status =
+    ((s : State) × (asked : Result (Unit {0}) (ℕ × Refusal)) × (steps : List Step) × IsUpdateAsked disk s requests asked steps × IsUpdateTold asked steps plan text answer status)
+    ⊎ ((refusal : StoreRefusal) × IsUnopened disk refusal × IsTurnedAway refusal text answer status)
+
+-- the same, or memory for the requests was refused
+abbrev pub IsAskedOrMemory : List ℕ → List Request → List ℕ → List ℕ → Answer → ℕ → Type 0
+IsAskedOrMemory disk requests plan text answer status =
+    IsAskedTold disk requests plan text answer status
+    ⊎ (WantsMemory text answer.text answer.file_refusal status × IsUncounted answer)
+
+-- An update of what the changes mean was asked; or one of them means nothing; or memory was refused.
+abbrev pub IsUpdateAnswered : List ℕ → List ChangePlace → List ℕ → List ℕ → List ℕ → Answer → ℕ → Type 0
+IsUpdateAnswered disk changes bytes plan text answer status =
+    ((requests : List Request) × Mean bytes changes requests × IsAskedTold disk requests plan text answer status)
+    ⊎ ((status ≡ bad_argument) × ((requests : List Request) → Mean bytes changes requests → ⊥) × IsUncounted answer × IsSilent answer)
+    ⊎ (WantsMemory text answer.text answer.file_refusal status × IsUncounted answer)

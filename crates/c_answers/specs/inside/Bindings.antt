@@ -1,0 +1,43 @@
+-- What is told of objects in their places, and of what was found for a program.
+use Rattle.std.specs.Prelude.{◌≡◌, ◌≢◌, ◌⊎◌, ℕ, List, None, map, true, false}
+use Rattle.bindings.specs.Bindings.{bindings_text}
+use Rattle.bindings.specs.Dependencies.{dependencies_text}
+use Rattle.image.specs.Placement.{Placed, lacks_room, place}
+use Rattle.image.specs.Refusal.{undefined_refusal}
+use Rattle.image.specs.declared.refusal.BindRefusal.TheVariants.{NoRoom}
+use Rattle.registry.specs.Found.{Found}
+use Rattle.requests.specs.Binding.{object_of}
+use Rattle.requests.specs.declared.refusal.Refusal.{Refusal}
+use Rattle.requests.specs.declared.refusal.Refusal.TheVariants.{Bind, OutOfMemory}
+use Rattle.scope.specs.LoadOrder.{available, names_of}
+use Rattle.scope.specs.Objects.{Named}
+use Rattle.c_answers.specs.Bindings.{bound_number}
+
+-- The objects have room, and this is what their symbols are bound to.
+pub record IsPlacedText (objects : List Placed) (number : ℕ) (said : List ℕ) : Type 0 where
+  pub room : lacks_room objects ≡ false
+  pub text : said ≡ bindings_text objects
+  pub number_is : number ≡ bound_number (undefined_refusal objects)
+
+-- why there is none: no room, or want of memory
+abbrev pub IsUnplaced : List Placed → Refusal → Type 0
+IsUnplaced objects why = ((why ≡ Bind NoRoom) × (lacks_room objects ≡ true)) ⊎ (why ≡ OutOfMemory)
+
+-- the program and the libraries that were found for it
+abbrev pub found_objects : List ℕ → Found → List Named
+found_objects program found = available program (map object_of found.libraries)
+
+-- what is missing among what was found
+abbrev pub found_text : List ℕ → Found → List ℕ
+found_text program found = dependencies_text (names_of (map object_of found.libraries)) (found_objects program found)
+
+-- no name is missing, and the objects are told of in their places; or what is missing is told
+abbrev pub IsFoundText : List ℕ → ℕ → Found → ℕ → List ℕ → Type 0
+IsFoundText program base found number said =
+    ((found.missing ≡ None) × IsPlacedText (place base (found_objects program found)) number said)
+    ⊎ ((found.missing ≢ None) × (number ≡ 103) × (said ≡ found_text program found))
+
+-- why neither is told
+abbrev pub IsUnfoundText : List ℕ → ℕ → Found → Refusal → Type 0
+IsUnfoundText program base found why =
+    ((found.missing ≡ None) × IsUnplaced (place base (found_objects program found)) why) ⊎ (why ≡ OutOfMemory)

@@ -1,0 +1,106 @@
+// What a change of an update asks.
+ghost use Rattle.std.specs.Prelude.{◌≡◌, List, IfOk, MatchOption, map};
+ghost use Rattle.requests.specs.Request.{Request, request_of};
+ghost use Rattle.c_answers.specs.Changes.{Asks, Mean, Means, request_asked};
+
+use crate::change_place::{ChangePlace, own_bytes};
+use crate::preload::names_in;
+use requests::Command;
+use std::alloc::{AllocError, Global};
+
+/// What a change asks, with the list of names that takes memory.
+#[derive(Drop)]
+pub(crate) enum AskedChange<'a> {
+    /// Installs a library: the bytes of its file.
+    Install(&'a [u8]),
+    /// Puts a file in the place of the one of the same name.
+    Replace(&'a [u8]),
+    /// Removes the library of a name.
+    Remove(&'a [u8]),
+    /// Sets the names of the preloads, in their order.
+    SetPreloads(Vec<&'a [u8]>),
+}
+
+impl<'a> AskedChange<'a> {
+    /// The command, as a registry takes it.
+    fn as_command(&self) -> Command<'_>
+        ensures { request_of result ≡ request_asked self.now }
+    {
+        match self {
+            AskedChange::Install(bytes) => Command::Install(bytes),
+            AskedChange::Replace(bytes) => Command::Replace(bytes),
+            AskedChange::Remove(name) => Command::Remove(name),
+            AskedChange::SetPreloads(names) => Command::SetPreloads(names),
+        }
+    }
+}
+
+/// What a change of this kind asks, whose bytes these are; none of a kind that is none, or where
+/// they aren't as it has them.
+fn asked_of(alloc: Global, kind: u64, own: &[u8]) -> Result<Option<AskedChange<'_>>, AllocError>
+    ensures { IfOk result (λ read. MatchOption read
+        ((request : Request) → Asks kind own.now request → ⊥)
+        (λ asked. Asks kind own.now (request_asked asked))) }
+{
+    match kind {
+        1 => Ok(Some(AskedChange::Install(own))),
+        2 => Ok(Some(AskedChange::Replace(own))),
+        3 => Ok(Some(AskedChange::Remove(own))),
+        4 => match names_in(alloc, own)? {
+            Some(names) => Ok(Some(AskedChange::SetPreloads(names))),
+            None => Ok(None),
+        },
+        _ => Ok(None),
+    }
+}
+
+/// What a change asks, whose bytes stand in these; none where it means nothing.
+fn asked_change<'a>(
+    alloc: Global,
+    change: &ChangePlace,
+    bytes: &'a [u8],
+) -> Result<Option<AskedChange<'a>>, AllocError>
+    ensures { IfOk result (λ read. MatchOption read
+        ((request : Request) → Means bytes.now change.now request → ⊥)
+        (λ asked. Means bytes.now change.now (request_asked asked))) }
+{
+    match own_bytes(change, bytes) {
+        Some(own) => asked_of(alloc, change.kind, own),
+        None => Ok(None),
+    }
+}
+
+/// What changes ask, whose bytes stand in these; none where one of them means nothing.
+pub(crate) fn asked_changes<'a>(
+    alloc: Global,
+    changes: &[ChangePlace],
+    bytes: &'a [u8],
+) -> Result<Option<Vec<AskedChange<'a>>>, AllocError>
+    ensures { IfOk result (λ read. MatchOption read
+        ((requests : List Request) → Mean bytes.now changes.now requests → ⊥)
+        (λ asked. Mean bytes.now changes.now (map request_asked asked.items))) }
+{
+    let mut all = Vec::with_capacity(alloc, changes.len())?;
+    for change in changes {
+        match asked_change(alloc, change, bytes)? {
+            Some(asked) => all.push_reserved(asked),
+            None => return Ok(None),
+        }
+    }
+    Ok(Some(all))
+}
+
+/// The commands, as a registry takes them.
+pub(crate) fn commands_of<'a>(
+    alloc: Global,
+    asked: &'a [AskedChange<'_>],
+) -> Result<Vec<Command<'a>>, AllocError>
+    ensures { IfOk result (λ commands. map request_of commands.items
+        ≡ map request_asked asked.now) }
+{
+    let mut commands = Vec::with_capacity(alloc, asked.len())?;
+    for change in asked {
+        commands.push_reserved(change.as_command());
+    }
+    Ok(commands)
+}

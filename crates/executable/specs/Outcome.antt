@@ -1,0 +1,40 @@
+-- What comes of an image: its executable file, or the line of why there is none (own).
+use Rattle.std.specs.Prelude.{◌≡◌, ℕ, List, All, ◌++◌, Some, None, codes}
+use Rattle.elf_file.specs.Header.{entry_address}
+use Rattle.elf_file.specs.Segment.{loads}
+use Rattle.text_output.specs.Name.{name_text}
+use Rattle.image.specs.Image.{MemoryImage, image_byte}
+use Rattle.executable.specs.Entry.{entry_of}
+use Rattle.executable.specs.Meaning.{IsApart, IsCongruent, IsExecutable, IsFileOf, IsFrom, file_byte, loaded_by}
+use Rattle.executable.specs.Refusal.{executable_refusal}
+use Rattle.executable.specs.declared.refusal.ExecutableRefusal.{ExecutableRefusal}
+use Rattle.executable.specs.declared.refusal.ExecutableRefusal.TheVariants as refusal
+
+-- No test refuses the image, and the file loads its bytes, and besides only its own headers, and
+-- zeros between segments whose pages are the same or touch.
+pub record IsExecutableOf (image : MemoryImage) (file : List ℕ) : Type 0 where
+  pub accepted : executable_refusal image ≡ None
+  pub header : IsExecutable file
+  pub entry : entry_of image ≡ Some (entry_address file)
+  pub ok : IsFileOf image.segments file
+  pub congruent : All IsCongruent (loads file)
+  pub bytes : (a b : ℕ) → image_byte image a ≡ Some b → file_byte file a ≡ Some b
+  pub only : (a b : ℕ) → file_byte file a ≡ Some b → IsFrom image.segments file a b
+  pub apart : IsApart 0 (loaded_by file)
+
+-- the line of a refusal that names an object
+abbrev pub object_text : (says name : List ℕ) → List ℕ
+object_text says name = says ++ name_text name ++ codes "\n"
+
+-- the line of why there is no file
+abbrev pub executable_refusal_text : ExecutableRefusal → List ℕ
+executable_refusal_text refusal.NoEntry = codes "refused NoEntry\n"
+executable_refusal_text refusal.StaticPie = codes "refused StaticPie\n"
+executable_refusal_text refusal.PreInitializers = codes "refused PreInitializers\n"
+executable_refusal_text (refusal.Initializers name) = object_text (codes "refused Initializers ") name
+executable_refusal_text (refusal.Finalizers name) = object_text (codes "refused Finalizers ") name
+executable_refusal_text refusal.OutOfOrder = codes "refused OutOfOrder\n"
+executable_refusal_text refusal.TooManyHeaders = codes "refused TooManyHeaders\n"
+executable_refusal_text (refusal.WritableCode name) = object_text (codes "refused WritableCode ") name
+executable_refusal_text refusal.NoRoom = codes "refused NoRoom\n"
+executable_refusal_text refusal.OutOfMemory = codes "refused S11 OutOfMemory\n"

@@ -1,0 +1,53 @@
+-- An update: requests of which none was refused, over a draft of the state that stands (own).
+use Rattle.std.specs.Prelude.{◌≡◌, List, [], ◌∷◌, Bool, true, false, if◌then◌else◌, All}
+use Rattle.std.specs.List.{list_any}
+use Rattle.sector_disk.specs.Disk.{DiskFacts}
+use Rattle.states.specs.Changes.{next}
+use Rattle.states.specs.State.{State}
+use Rattle.store.specs.Draft.{Drafted, IsDraftedAt, committed, drafted}
+use Rattle.requests.specs.Request.{Request, bind, list}
+use Rattle.requests.specs.Runs.{Run}
+use Rattle.requests.specs.Step.{accepted}
+use Rattle.requests.specs.declared.reply.Reply.{Reply}
+use Rattle.requests.specs.declared.reply.Reply.TheVariants.{Refused}
+use Rattle.registry.specs.Drafting.{AnsweredDraft, AppliesDraft, DraftStep, draft_phase}
+
+-- a request asks for a change
+abbrev pub asks_change : Request → Bool
+asks_change (bind program base) = false
+asks_change list = false
+asks_change request = true
+
+-- a reply is a refusal
+abbrev pub is_refusal : Reply → Bool
+is_refusal (Refused refusal) = true
+is_refusal reply = false
+
+-- a state after requests that were accepted one after the other, of the generation that it has
+abbrev pub drafted_by : State → List Request → State
+drafted_by d [] = d
+drafted_by d (request ∷ requests) = drafted_by (drafted d (accepted d request)) requests
+
+-- what an update makes of the state that stands: the state after its requests, of the next generation;
+-- without a change the same
+abbrev pub updated : State → List Request → State
+updated s requests = if list_any asks_change requests then next s (drafted_by s requests).libraries (drafted_by s requests).preloads else s
+
+-- What is asked of a draft was answered so: by the step table where it is known what stands, and in
+-- any case as on any disk.
+pub record DraftAnswers {D : Type 0} (facts : D → DiskFacts) (old : Drafted D) (request : Request) (answer : Reply) (new : Drafted D) : Type 0 where
+  pub applied : (s d : State) → IsDraftedAt facts old s d → AppliesDraft facts old new s d request answer
+  pub on_any_disk : AnsweredDraft facts old new request answer
+
+-- Requests were answered one after the other, none was refused, and they led from one draft to another.
+pub record Plans {D : Type 0} (facts : D → DiskFacts) (old new : Drafted D) (requests : List Request) (answers : List Reply) : Type 0 where
+  pub run : Run (DraftAnswers facts) old requests answers new
+  pub accepted : All (λ answer. is_refusal answer ≡ false) answers
+
+-- Requests to a draft of the state s were answered by the step table, one after the other, and the draft
+-- is at the state after all of them. What stands is s still.
+pub record IsUpdate {D : Type 0} (facts : D → DiskFacts) (old new : Drafted D) (s : State) (requests : List Request) (answers : List Reply) : Type 0 where
+  pub run : Run DraftStep (draft_phase facts old s) requests answers (draft_phase facts new (drafted_by s requests))
+  pub at : IsDraftedAt facts new s (drafted_by s requests)
+  -- what a commit makes of it
+  pub made : committed new.touched s (drafted_by s requests) ≡ updated s requests

@@ -1,0 +1,36 @@
+// The executable file of a bound program.
+ghost use Rattle.std.specs.Prelude.{◌≡◌, ◌≢◌};
+ghost use Rattle.requests.specs.Request.{bind};
+ghost use Rattle.c_answers.specs.Executable.{IsExecutableAnswered, IsExecutableFileOf};
+
+use c_answers::{Answer, executable_on};
+use requests::Command;
+use std::alloc::Global;
+
+/// The static executable file of a program over the registry that the sectors of `disk` hold: it
+/// loads exactly the image that `rlibreg_bind` gives at this base.
+#[unsafe(no_mangle)]
+pub extern "C" fn rlibreg_executable(
+    alloc: Global,
+    disk: &[u8],
+    program: &[u8],
+    base: u64,
+    bytes: &mut [u8],
+    text: &mut [u8],
+    answer: &mut Answer,
+) -> u32
+    // It is that of the image by the state that the bytes of the disk hold.
+    ensures executable { result ≡ 0
+        → IsExecutableFileOf disk.now program.now base bytes.new answer.new }
+    ensures answered { IsExecutableAnswered disk.now (bind program.now base) bytes.new text.new
+        answer.new result }
+    ensures left { result ≢ 0 → bytes.new ≡ bytes.old }
+    ensures status { answer.new.status ≡ result }
+
+    // S1 is never the answer: what a disk of bytes fails for is want of memory.
+    ensures device { result ≢ 301 }
+{
+    let command = Command::Bind { program, base };
+    *answer = executable_on(alloc, disk, &command, bytes, text);
+    answer.status
+}

@@ -1,0 +1,34 @@
+// What the symbols of a program and its libraries are bound to.
+ghost use Rattle.std.specs.Prelude.{◌≡◌, ◌≢◌};
+ghost use Rattle.c_answers.specs.Bindings.{IsBindingsAnswered, IsBindingsOf, TellsText};
+
+use c_answers::{Answer, bindings_on};
+use std::alloc::Global;
+
+/// What the symbols of a program and its libraries are bound to, over the registry that the sectors
+/// of `disk` hold, as text; or where libraries are missing what was found and what is missing. The
+/// status is that of `rlibreg_bind` at this base: the text is given with 0, B3 and B5.
+#[unsafe(no_mangle)]
+pub extern "C" fn rlibreg_bindings(
+    alloc: Global,
+    disk: &[u8],
+    program: &[u8],
+    base: u64,
+    bytes: &mut [u8],
+    text: &mut [u8],
+    answer: &mut Answer,
+) -> u32
+    // It is the text by the state that the bytes of the disk hold.
+    ensures bindings { TellsText result
+        → IsBindingsOf disk.now program.now base bytes.new answer.new result }
+    ensures answered { IsBindingsAnswered disk.now program.now base bytes.new text.new answer.new
+        result }
+    ensures left { result ≢ 0 → result ≢ 103 → result ≢ 105 → bytes.new ≡ bytes.old }
+    ensures status { answer.new.status ≡ result }
+
+    // S1 is never the answer: what a disk of bytes fails for is want of memory.
+    ensures device { result ≢ 301 }
+{
+    *answer = bindings_on(alloc, disk, program, base, bytes, text);
+    answer.status
+}

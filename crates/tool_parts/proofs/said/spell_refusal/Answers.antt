@@ -1,0 +1,19 @@
+use Rattle.std.proofs.Common.{codes, Some, ap}
+use Rattle.std.specs.Io.KnownBytes.{append_known}
+use Rattle.std.proofs.KnownBytes.{Appends-trans}
+use Rattle.program_parts.specs.Refusal.{disk_refusal_text}
+use Rattle.tool_parts.specs.Said.{said_line}
+use Rattle.program_parts.proofs.Sent.{sent}
+use Rattle.tool_parts.proofs.said.spell_refusal.Goals as goal
+
+pub returns : goal.returns
+returns c =
+    let text = disk_refusal_text c.args.refusal in
+    let old = Some c.args.line.now.items in
+    let put = Some c.put_disk_refusal.new.out.items in
+    let none = c.new-text.result.waiting in
+    let start = append_known old none in
+    let first = append_known (Some c.put.new.out.items) c.put.new.self.waiting in
+    let second = append_known put c.put_disk_refusal.new.line.waiting in
+    let all = Appends-trans start first second (codes "rlibreg-tool: ") text c.in_ok-put.ensures.ok c.in_ok-put_disk_refusal.ensures.ok in
+    sent c.send.result old put (Some c.send.new.out.items) none c.put_disk_refusal.new.line.waiting (said_line text) (ap (λ b. b.waiting) c.new-text.ensures) all c.send.ensures.ok

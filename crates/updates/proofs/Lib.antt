@@ -1,0 +1,8 @@
+pub mod Answered
+pub mod Asked
+pub mod Drafts
+pub mod Ended
+pub mod Moments
+pub mod Planned
+pub mod Texts
+pub mod Told

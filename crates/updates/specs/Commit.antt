@@ -1,0 +1,27 @@
+-- What the commit of an update does (own).
+use Rattle.std.specs.Prelude.{◌≡◌, ◌⊎◌, Result, OnOk, OnErr, length}
+use Rattle.sector_disk.specs.Disk.{DiskFacts, LeavesOnly}
+use Rattle.states.specs.State.{State}
+use Rattle.store.specs.Changed.{Changed}
+use Rattle.store.specs.Draft.{Drafted, IsDraftedAt, commit_calls, committed}
+use Rattle.store.specs.Holds.{KeepsHeld}
+use Rattle.store.specs.Opened.{Opened, IsAt}
+use Rattle.store.specs.Stands.{Stands}
+use Rattle.store.specs.declared.draft.Touched.TheVariants.{Nothing}
+use Rattle.requests.specs.declared.refusal.Refusal.{Refusal}
+use Rattle.requests.specs.declared.refusal.Refusal.TheVariants.{Device, Reopen}
+
+-- The draft was committed, or the commit was refused.
+pub record Commits {D : Type 0} (facts : D → DiskFacts) (u : Drafted D) (answer : Result (Unit {0}) Refusal) (new : Opened D) : Type 0 where
+  -- a stop at any moment leaves what stood, or all of the draft
+  pub any_moment : (s d : State) → IsDraftedAt facts u s d → LeavesOnly (facts u.store.disk) (facts new.disk) (λ m. Stands m s ⊎ Stands m (committed u.touched s d))
+  -- once it is acknowledged it is on the disk
+  pub ok : (s d : State) → IsDraftedAt facts u s d → OnOk answer (IsAt facts new (committed u.touched s d))
+  -- what somebody holds stays as it was
+  pub held : KeepsHeld facts u.store new
+  -- the rest holds on any disk, also on one that lies
+  pub on_any_disk : Changed facts Device Reopen u.store new (commit_calls u.touched (length u.entries)) (λ e. (e ≡ Device) ⊎ (e ≡ Reopen)) answer
+  pub given_up : OnErr answer ((new.root ≡ u.store.root) × (new.entries ≡ u.store.entries) × (new.held ≡ u.store.held))
+  pub entries : OnOk answer (new.entries ≡ u.entries)
+  -- without a change nothing is done
+  pub same : u.touched ≡ Nothing → new ≡ u.store

@@ -1,0 +1,103 @@
+-- What an update ends with on the disk that it is given: what it did there, and what it told (own).
+use Rattle.std.specs.Prelude.{◌≡◌, ◌⊎◌, ◌↔◌, ◌+◌, ◌++◌, ℕ, List, length, Option, Result, Ok, Err, OnOk, IsTrue, false}
+use Rattle.std.specs.Io.{StopsAt}
+use Rattle.std.specs.Io.KnownBytes.{Appends}
+use Rattle.std.specs.List.{list_any}
+use Rattle.sector_disk.specs.Disk.{DiskFacts, Mixture, LeavesOnly, AreCallsExactly}
+use Rattle.states.specs.State.{State}
+use Rattle.store.specs.Draft.{Drafted, begun}
+use Rattle.store.specs.Opened.{Opened, IsAt}
+use Rattle.store.specs.Opens.{Opens}
+use Rattle.store.specs.Stands.{Stands, catalogues_of}
+use Rattle.store.specs.declared.draft.Touched.TheVariants.{Nothing}
+use Rattle.store.specs.declared.refusal.StoreRefusal.{StoreRefusal}
+use Rattle.requests.specs.Step.{answer_of}
+use Rattle.requests.specs.declared.refusal.Refusal.{Refusal}
+use Rattle.requests.specs.declared.reply.Reply.{Reply}
+use Rattle.program_parts.specs.Reply.{reply_text}
+use Rattle.program_parts.specs.Status.{disk_status, reply_status}
+use Rattle.program_parts.specs.declared.status.Status.{Status}
+use Rattle.scripts.specs.Line.{ended}
+use Rattle.scripts.specs.declared.fault.ScriptFault.{ScriptFault}
+use Rattle.updates.specs.Answer.{plan_texts, update_refusal_text}
+use Rattle.updates.specs.Commit.{Commits}
+use Rattle.updates.specs.Lines.{ArePlanned, BeginsWith, IsRefusedAt, commit_line}
+use Rattle.tool_parts.specs.Said.{refusal_line}
+use Rattle.updates.specs.Status.{update_status}
+use Rattle.updates.specs.Streams.{Streams, BreaksOff, SaysOnly, TellsOnly}
+use Rattle.registry.specs.Updating.{IsUpdate, asks_change, updated}
+use Rattle.updates.specs.Update.{requests_of}
+use Rattle.updates.specs.declared.answer.UpdateRefusal.{UpdateRefusal}
+
+module _ {D : Type 0} (facts : D → DiskFacts) (disk : D) where
+  -- The registry on the disk was opened, whatever named byte strings it holds, and lines led from what
+  -- it holds to a draft.
+  pub record IsBegun (lines : List (List ℕ)) (answers : List Reply) (u : Drafted D) : Type 0 where
+    pub old : Opened D
+    pub opened : Opens Stands facts (IsAt facts) disk (Ok old)
+    -- no file was read
+    pub opening_calls : AreCallsExactly (3 + length (catalogues_of old.root) + length old.entries) (facts disk) (facts old.disk)
+    pub planned : ArePlanned facts (begun old) u lines answers
+    -- something of the draft was changed exactly where a line asks for a change
+    pub changed : (u.touched ≡ Nothing) ↔ (list_any asks_change (requests_of lines) ≡ false)
+    -- on an honest disk that is an update of the state that it holds
+    pub update : IsTrue (facts disk).honest → (s : State) → Stands (facts disk).now s → IsUpdate facts (begun old) u s (requests_of lines) answers
+
+  -- a stop at any moment leaves what it could leave before, or the state that the disk holds
+  abbrev pub LeavesStanding : D → Type 0
+  LeavesStanding left = IsTrue (facts disk).honest → (s : State) → Stands (facts disk).now s
+      → LeavesOnly (facts disk) (facts left) (λ m. Mixture (facts disk) m ⊎ Stands m s)
+
+  -- what an output holds, where that is known
+  module _ {O : Type 0} (contents : O → Option (List ℕ)) (io : Streams) (lines : List (List ℕ)) (answers : List Reply) (u : Drafted D) (status : Status) (left : D) where
+    -- Behind the lines came `commit`: the answers to them and to it were told, or the output failed.
+    pub record EndsInCommit : Type 0 where
+      pub read : BeginsWith io.unread lines (ended commit_line)
+      -- before the commit the output held the answers to all lines
+      pub held : O
+      pub sent : Appends io.before (contents held) (plan_texts answers)
+      pub answer : Result (Unit {0}) Refusal
+      pub new : Opened D
+      pub commit : Commits facts u answer new
+      -- a stop at any moment leaves what it could leave before, the state that the disk holds, or what the
+      -- update makes of it
+      pub any_moment : IsTrue (facts disk).honest → (s : State) → Stands (facts disk).now s
+          → LeavesOnly (facts disk) (facts left) (λ m. Mixture (facts disk) m ⊎ (Stands m s ⊎ Stands m (updated s (requests_of lines))))
+      -- once the commit is acknowledged that is on the disk
+      pub ok : IsTrue (facts disk).honest → (s : State) → Stands (facts disk).now s → OnOk answer (IsAt facts new (updated s (requests_of lines)))
+      pub told : TellsOnly (reply_status (answer_of answer)) (plan_texts answers ++ reply_text (answer_of answer)) io status
+      pub back : left ≡ new.disk
+
+  module _ (io : Streams) (lines : List (List ℕ)) (answers : List Reply) (u : Drafted D) (status : Status) (left : D) where
+    -- Behind the lines came what refuses the update, and that was told behind the answers, or the output failed.
+    pub record EndsRefused : Type 0 where
+      pub refusal : UpdateRefusal
+      pub last : Drafted D
+      pub refused : IsRefusedAt facts io.unread lines u last refusal
+      pub any_moment : LeavesStanding left
+      pub told : TellsOnly (update_status refusal) (plan_texts answers ++ update_refusal_text refusal) io status
+      pub back : left ≡ last.store.disk
+
+    -- Behind the lines came a fault: of a stream, or for want of memory. At most one line more was
+    -- read, and not answered.
+    pub record EndsBroken : Type 0 where
+      pub fault : ScriptFault
+      pub part : List ℕ
+      pub one_at_most : StopsAt part 10
+      pub read : BeginsWith io.unread lines part
+      pub any_moment : LeavesStanding left
+      pub told : BreaksOff fault (plan_texts answers) io status
+      pub back : left ≡ u.store.disk
+
+  module _ {O : Type 0} (contents : O → Option (List ℕ)) where
+    -- the registry was opened, and lines led to a draft, behind which came one of these
+    abbrev pub IsRun : Streams → Status → D → Type 0
+    IsRun io status left = (lines : List (List ℕ)) × (answers : List Reply) × (u : Drafted D) × IsBegun lines answers u
+        × (EndsInCommit contents io lines answers u status left ⊎ (EndsRefused io lines answers u status left ⊎ EndsBroken io lines answers u status left))
+
+    -- an update was run over the disk; or the disk was refused and handed back, which is said
+    abbrev pub UpdateEnds : Streams → Status → D → Type 0
+    UpdateEnds io status left =
+        IsRun io status left
+        ⊎ ((refusal : StoreRefusal) × Opens Stands facts (IsAt facts) disk (Err (refusal, left))
+        × SaysOnly (disk_status refusal) (refusal_line refusal) io status)

@@ -1,0 +1,9 @@
+pub mod Answer
+pub mod Commit
+pub mod Ends
+pub mod Lines
+pub mod Said
+pub mod Status
+pub mod Streams
+pub mod Update
+pub mod inside

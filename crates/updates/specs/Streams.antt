@@ -1,0 +1,40 @@
+-- What an update reads, what it tells on the output, and what it says on standard error (own).
+use Rattle.std.specs.Prelude.{◌≡◌, ◌⊎◌, ℕ, List, Option}
+use Rattle.program_parts.specs.declared.status.Status.{Status}
+use Rattle.scripts.specs.declared.fault.ScriptFault.{ScriptFault}
+use Rattle.scripts.specs.declared.fault.ScriptFault.TheVariants.{Write}
+use Rattle.tool_parts.specs.Streams as outputs
+use Rattle.updates.specs.Said.{fault_line}
+use Rattle.updates.specs.Status.{fault_status}
+
+-- what the input has yet to give, and what the output and standard error hold before and after, where
+-- that is known
+pub record Streams : Type 0 where
+  pub unread : Option (List ℕ)
+  pub before : Option (List ℕ)
+  pub after : Option (List ℕ)
+  pub errors_before : Option (List ℕ)
+  pub errors_after : Option (List ℕ)
+
+-- the output and standard error
+abbrev pub outputs_of : Streams → outputs.Streams
+outputs_of io = record { before = io.before; after = io.after; errors_before = io.errors_before; errors_after = io.errors_after }
+
+-- the output failed, and nothing else was said
+abbrev pub CannotWrite : Streams → Status → Type 0
+CannotWrite io status = outputs.CannotWrite (outputs_of io) status
+
+-- exactly this text was told, with this status, and nothing was said; or the output failed
+abbrev pub TellsOnly : Status → List ℕ → Streams → Status → Type 0
+TellsOnly ends text io status = outputs.TellsOnly ends text (outputs_of io) status
+
+-- nothing was told, and nothing but this was said, with this status
+abbrev pub SaysOnly : Status → List ℕ → Streams → Status → Type 0
+SaysOnly ends line io status = outputs.SaysOnly ends line (outputs_of io) status
+
+-- A fault ended the lines: exactly this text was told, the fault is said, and the status is the one that
+-- goes with it; or the output failed.
+abbrev pub BreaksOff : ScriptFault → List ℕ → Streams → Status → Type 0
+BreaksOff Write text io status = CannotWrite io status
+BreaksOff fault text io status =
+    ((status ≡ fault_status fault) × outputs.Tells (outputs_of io) text × outputs.Says (outputs_of io) (fault_line fault)) ⊎ CannotWrite io status

@@ -1,0 +1,68 @@
+// What is written of the lines of an update.
+
+ghost use Rattle.std.specs.Prelude.{◌≡◌, IfErr, IfOk, OnOk};
+ghost use Rattle.text_output.specs.Sends.{Sends};
+ghost use Rattle.updates.specs.Answer.{plan_text, update_refusal_text};
+ghost use Rattle.updates.specs.Status.{update_status};
+ghost use Rattle.scripts.specs.declared.fault.ScriptFault.TheVariants.{Write as WriteFailed};
+
+use program_parts::{Line, Status, put_reply};
+use requests::{Refusal, Reply};
+use scripts::{LineRefusal, ScriptFault, put_line_refusal};
+use std::io::Write;
+
+/// Why an update is refused.
+#[derive(Drop)]
+pub enum UpdateRefusal {
+    /// L1: a line asks nothing.
+    BadLine,
+    /// L2: the last line has no newline.
+    CutLine,
+    /// L3: no line is `commit`.
+    NoCommit,
+    /// What a line asks was refused, or the commit.
+    Refused(Refusal),
+}
+
+/// Puts the text of an answer to a line behind what waits: of a change that it is planned, and of a
+/// bind that there is an image, since neither is on the disk yet.
+pub(crate) fn put_plan<W: Write>(
+    waiting: &mut Line,
+    out: &mut W,
+    reply: &Reply,
+) -> Result<(), ScriptFault>
+    ensures ok { OnOk result (Sends (W.contents out.old) waiting.old (W.contents out.new)
+        waiting.new (plan_text reply.now)) }
+    ensures err { IfErr result (λ fault. fault ≡ WriteFailed) }
+{
+    match reply {
+        Reply::Done => waiting.put(out, b"planned\n")?,
+        Reply::Bound(_) => waiting.put(out, b"bound\n")?,
+        reply => put_reply(waiting, out, reply)?,
+    }
+    Ok(())
+}
+
+/// Puts the text of why an update is refused behind what waits.
+pub(crate) fn put_refusal<W: Write>(
+    waiting: &mut Line,
+    out: &mut W,
+    refusal: UpdateRefusal,
+) -> Result<Status, ScriptFault>
+    ensures ok { OnOk result (Sends (W.contents out.old) waiting.old (W.contents out.new)
+        waiting.new (update_refusal_text refusal)) }
+    ensures status { IfOk result (λ status. status ≡ update_status refusal) }
+    ensures err { IfErr result (λ fault. fault ≡ WriteFailed) }
+{
+    match refusal {
+        UpdateRefusal::BadLine => put_line_refusal(waiting, out, LineRefusal::BadLine)?,
+        UpdateRefusal::CutLine => put_line_refusal(waiting, out, LineRefusal::CutLine)?,
+        UpdateRefusal::NoCommit => waiting.put(out, b"refused L3 NoCommit\n")?,
+        UpdateRefusal::Refused(refusal) => {
+            let reply = Reply::Refused(refusal);
+            put_reply(waiting, out, &reply)?;
+            return Ok(Status::of_reply(&reply));
+        }
+    }
+    Ok(Status::Refused)
+}

@@ -1,0 +1,15 @@
+//! An update of a registry on a disk: the changes that lines ask for, which one commit makes.
+//!
+//! `run_update` opens the registry, reads lines up to `commit`, answers each, and commits what they
+//! planned; the first refusal ends the update and leaves what the disk holds as it was.
+#![tactic(auto)]
+
+mod answer;
+mod commit;
+mod lines;
+mod run;
+mod said;
+mod telling;
+
+pub use answer::UpdateRefusal;
+pub use run::run_update;

@@ -1,0 +1,142 @@
+// The lines of an update, up to what ends them.
+
+ghost use Rattle.std.specs.Prelude.{◌≡◌, ◌≢◌, ℕ, List, IfErr, IfOk, MatchResult, bytes_eq, false};
+ghost use Rattle.std.specs.Io.{StopsAt};
+ghost use Rattle.std.specs.Io.Buffered.{reader_remaining};
+ghost use Rattle.std.specs.Io.KnownBytes.{Appends, append_known};
+ghost use Rattle.store.specs.Draft.{Drafted};
+ghost use Rattle.requests.specs.declared.reply.Reply.{Reply};
+ghost use Rattle.registry.specs.Updating.{is_refusal};
+ghost use Rattle.updates.specs.Answer.{plan_texts};
+ghost use Rattle.scripts.specs.Asked.{request_asked};
+ghost use Rattle.updates.specs.Lines.{ArePlanned, BeginsWith, commit_line};
+ghost use Rattle.updates.specs.inside.Line.{AskedEnds, EndsLines, LineEnds};
+ghost use Rattle.updates.specs.inside.Line.{MissesAsked, MissesLine};
+
+use crate::answer::{UpdateRefusal, put_plan};
+use program_parts::Line;
+use registry::Update;
+use requests::{Refusal, Reply};
+use scripts::{AskedCommand, Got, ScriptFault, next_line, parse_command};
+use sector_disk::Disk;
+use std::alloc::Global;
+use std::io::{BufReader, Read, Write};
+
+/// What ended the lines of an update.
+#[derive(Drop)]
+pub(crate) enum Ending {
+    /// The line `commit`.
+    Commit,
+    /// A refusal.
+    Refused(UpdateRefusal),
+}
+
+/// Whether a line asks for the commit.
+fn asks_commit(line: &[u8]) -> bool
+    ensures { result ≡ bytes_eq line.now commit_line }
+{
+    line == b"commit".as_slice()
+}
+
+/// The refusal that a reply is, or the reply.
+fn accepted(reply: Reply) -> Result<Reply, Refusal>
+    ensures { MatchResult result (λ answer. (answer ≡ reply) × (is_refusal answer ≡ false))
+        (λ why. reply ≡ Reply.Refused why) }
+{
+    match reply {
+        Reply::Refused(refusal) => Err(refusal),
+        reply => Ok(reply),
+    }
+}
+
+/// Asks of the draft what a line asks, and answers it; or says that the lines end with it. A
+/// refusal is told by whoever ends the update.
+fn answer_asked<D: Disk, O: Write>(
+    asked: &AskedCommand<'_>,
+    update: &mut Update<D>,
+    waiting: &mut Line,
+    output: &mut O,
+) -> Result<Option<Ending>, ScriptFault>
+    ensures ok { IfOk result (AskedEnds D.facts update.old update.new (request_asked asked.now)
+        (append_known (O.contents output.old) waiting.old.waiting)
+        (append_known (O.contents output.new) waiting.new.waiting)) }
+    ensures err { IfErr result (MissesAsked D.facts update.old update.new
+        (request_asked asked.now)) }
+{
+    let command = asked.as_command();
+    match accepted(update.apply(&command)) {
+        Ok(reply) => {
+            put_plan(waiting, output, &reply)?;
+            Ok(None)
+        }
+        Err(refusal) => Ok(Some(Ending::Refused(UpdateRefusal::Refused(refusal)))),
+    }
+}
+
+/// Answers a whole line, or says that the lines end with it.
+fn answer_line<D: Disk, O: Write>(
+    alloc: Global,
+    line: &[u8],
+    update: &mut Update<D>,
+    waiting: &mut Line,
+    output: &mut O,
+) -> Result<Option<Ending>, ScriptFault>
+    ensures ok { IfOk result (LineEnds D.facts update.old update.new line.now
+        (append_known (O.contents output.old) waiting.old.waiting)
+        (append_known (O.contents output.new) waiting.new.waiting)) }
+    ensures err { IfErr result (MissesLine D.facts update.old update.new line.now
+        (append_known (O.contents output.old) waiting.old.waiting)
+        (append_known (O.contents output.new) waiting.new.waiting)) }
+{
+    let commits = asks_commit(line);
+    if commits {
+        return Ok(Some(Ending::Commit));
+    }
+    let asked = match parse_command(alloc, line) {
+        Ok(asked) => asked,
+        Err(_) => return Err(ScriptFault::OutOfMemory),
+    };
+    match asked {
+        Some(asked) => answer_asked(&asked, update, waiting, output),
+        None => Ok(Some(Ending::Refused(UpdateRefusal::BadLine))),
+    }
+}
+
+/// Reads and answers lines up to what ends them. None that stands behind it is answered.
+pub(crate) fn answer_lines<D: Disk, I: Read, O: Write>(
+    alloc: Global,
+    update: &mut Update<D>,
+    pages: &mut BufReader<&mut I>,
+    waiting: &mut Line,
+    output: &mut O,
+) -> Result<Ending, ScriptFault>
+    ensures ok { IfOk result (λ ending.
+        (lines : List (List ℕ)) × (replies : List Reply) × (mid : Drafted D)
+        × ArePlanned D.facts update.old mid lines replies
+        × EndsLines D.facts (reader_remaining (λ r. I.remaining r.now) pages.old) lines mid
+        update.new ending
+        × Appends (append_known (O.contents output.old) waiting.old.waiting)
+        (append_known (O.contents output.new) waiting.new.waiting) (plan_texts replies)) }
+    ensures err { IfErr result (λ fault.
+        (lines : List (List ℕ)) × (replies : List Reply) × (part : List ℕ)
+        × ArePlanned D.facts update.old update.new lines replies
+        × StopsAt part 10
+        × BeginsWith (reader_remaining (λ r. I.remaining r.now) pages.old) lines part
+        × (fault ≢ ScriptFault.Write
+        → Appends (append_known (O.contents output.old) waiting.old.waiting)
+        (append_known (O.contents output.new) waiting.new.waiting) (plan_texts replies))) }
+{
+    let mut line = Vec::new(alloc);
+    for _ in 0..u64::MAX {
+        match next_line(pages, &mut line, waiting, output)? {
+            Got::Whole => {
+                if let Some(ending) = answer_line(alloc, &line, update, waiting, output)? {
+                    return Ok(ending);
+                }
+            }
+            Got::Cut => return Ok(Ending::Refused(UpdateRefusal::CutLine)),
+            Got::End => return Ok(Ending::Refused(UpdateRefusal::NoCommit)),
+        }
+    }
+    Err(ScriptFault::Read)
+}
