@@ -26,9 +26,9 @@ CLAUSES = [
     ('file_disk/disk', 'follows_its_file', 'result'),
     ('file_disk/open', 'over', 'starts'),
     ('registry/format', 'format', 'result'),
-    ('registry/open', 'open', 'result'),
+    ('registry/open', 'open', 'opening'),
     ('registry/upgrade', 'upgrade', 'result'),
-    ('registry/open', 'open_untested', 'opened registry'),
+    ('registry/open', 'open_untested', 'opening registry'),
     ('registry/apply', 'apply', 'applied untested'),
     ('registry/apply', 'run', 'ok'),
     ('binders/run', 'run_events', 'ok'),
@@ -45,6 +45,8 @@ CLAUSES = [
     ('rlibreg_c/upgrade', 'rlibreg_plan_upgrade', 'plan answered left'),
     ('rlibreg_c/update', 'rlibreg_plan_update', 'plan answered left'),
 ]
+# the calls of the headline, among them
+HEADLINE = [('registry/format', 'format'), ('registry/open', 'open'), ('registry/apply', 'apply'), ('registry/apply', 'run')]
 READING = [
     ('1. Files', 'What the bytes of a file say, and when they are refused (gABI chapters 4 and 5).', [
         'elf_file/Address: bytes_at', 'elf_dynamic/Symbol: symbols', 'elf_dynamic/Relocation: relocations',
@@ -338,11 +340,11 @@ def clause_texts(text, label):
         yield text[begin.end():end - 1]
 
 
-def cited(files):
+def cited(files, clauses=CLAUSES):
     """The definitions that the clauses cite, directly or through others."""
     names, passed = citations(files)
     waiting = []
-    for file, calls, labels in CLAUSES:
+    for file, calls, labels in clauses:
         crate, module = file.split('/')
         lines = (ROOT / 'crates' / crate / 'src' / f'{module}.rt').read_text().splitlines()
         text = '\n'.join(re.sub(r'//.*', '', line) for line in lines)
@@ -426,6 +428,19 @@ def page(files, first, needed):
     return '\n'.join(lines)
 
 
+def lines_of(files, wanted):
+    """How many lines these definitions have, without comments, imports and empty ones."""
+    count = 0
+    for path in sorted((ROOT / 'crates').glob('*/specs/*.antt')):
+        file, name = key_of(path), None
+        for line in path.read_text().splitlines():
+            if NAME.match(line):
+                name = NAME.match(line).group(1).strip('◌')
+            is_said = line.strip() and not line.lstrip().startswith(('--', 'use ', 'pub use '))
+            count += bool(is_said and file in files and (file, name) in wanted)
+    return count
+
+
 def every_of(files):
     """All definitions, as (crate/File, name)."""
     return [(file, found[0]) for file, (_, all_found) in files.items() for found in all_found]
@@ -449,7 +464,9 @@ def numbers(files, first, needed):
     """How many there are."""
     every = every_of(files)
     format_count = sum(file.startswith(('elf_file/', 'elf_dynamic/')) for file, _ in needed)
-    return (f'There are {len(every):,} definitions in all. The clauses above cite {len(needed)} of them, directly or through '
-            f'others, of which {format_count} are of the ELF format: its constants, its fields, and the tests of a file. The '
+    headline = cited(files, [clause for clause in CLAUSES if clause[:2] in HEADLINE])
+    return (f'There are {len(every):,} definitions in all. The clauses above cite {len(needed)} of them ({lines_of(files, needed):,} '
+            f'lines), directly or through others; those of `Registry::format`, `open`, `apply` and `run` alone {len(headline)} '
+            f'({lines_of(files, headline):,}). {format_count} are of the ELF format: its constants, its fields, and the tests of a file. The '
             f'{len(first)} main ones are below. [DEFINITIONS](DEFINITIONS.md) has the other {len(needed) - len(first)}, and the '
             f'{len(every) - len(needed)} that only contracts of single crates cite.')

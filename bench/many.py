@@ -1,8 +1,8 @@
 #!/usr/bin/env python3
-"""Times the program `rlibreg` over many libraries, and the upgrade of a disk of version 1, beside `cp` and `sync` of as
-many bytes.
+"""Times the program `rlibreg` over many libraries, an update by `rlibreg-tool`, which TOOL is, and the upgrade of a disk of
+version 1, beside `cp` and `sync` of as many bytes.
 
-    python3 bench/many.py PROGRAM FOLDER
+    python3 bench/many.py PROGRAM TOOL FOLDER
 
 The columns are those of `disks.py`. FOLDER should lie on the file system that is meant, with some 500 MiB free.
 """
@@ -19,6 +19,7 @@ SIZE = 16 * 1024
 MOST = 2048
 SECTORS = '80000'
 OLD_SECTORS = 210000
+FEW, SMALL = 500, 1024
 
 
 def fill(bench, folder, count, kept):
@@ -33,11 +34,22 @@ def fill(bench, folder, count, kept):
     assert done == count
 
 
+def installs(bench, tool, folder):
+    """Small libraries, installed by a script, and by an update of the same lines."""
+    lines = b''.join(b'install ' + library(i, SMALL).file.hex().encode() + b'\n' for i in range(FEW))
+    bench.done('format', 'disk', SECTORS)
+    shutil.copyfile(folder / 'disk', folder / 'empty')
+    bench.told(f'`script` that installs {FEW} small libraries', ['script', 'disk'], 'empty', FEW * SMALL, lines)
+    Bench(tool, folder).told('`update` by the same lines, and `commit`', ['update', 'disk'], 'empty', FEW * SMALL, lines + b'commit\n')
+    (folder / 'disk').unlink()
+
+
 def main():
-    program, folder = Path(sys.argv[1]), Path(sys.argv[2])
+    program, tool, folder = (Path(word) for word in sys.argv[1:4])
     folder.mkdir(parents=True, exist_ok=True)
     bench = Bench(program, folder)
     (folder / 'disk').unlink(missing_ok=True)
+    installs(bench, tool, folder)
     fill(bench, folder, MOST, {100: 'hundred', MOST - 1: 'last-but-one', MOST: 'most'})
     (folder / 'next').write_bytes(library(MOST - 1, SIZE, [name(MOST - 2)]).file)
     (folder / 'other').write_bytes(library(MOST // 2, SIZE - 512, [name(MOST // 2 - 1)]).file)

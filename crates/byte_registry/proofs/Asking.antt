@@ -116,7 +116,7 @@ module _ (bytes : List ℕ) (opened : Opened ByteDisk) (on : IsOpenedOn bytes op
         leads Stands (λ m stands. record { stored = stands; libraries = held.stands.libraries }) (λ m stands. record { stored = stands; libraries = after })
 
   -- the phase of the opened registry, in terms of the sectors
-  pub same_sectors : (byte_facts opened.disk).sectors ≡ length start
+  same_sectors : (byte_facts opened.disk).sectors ≡ length start
   same_sectors = on.any_moment.past.sectors ∙ is.starts.sectors
 
   abbrev phase_by : ℕ → List HeldRow → Phase

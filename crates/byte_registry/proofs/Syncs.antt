@@ -1,8 +1,8 @@
 -- A plan that is begun with a sync.
-use Rattle.std.proofs.Common.{◌≡◌, ⊎_elim, ℕ, zero, suc, ◌+◌, ◌≤◌, List, [], ◌∷◌, ◌++◌, length, map, take, drop, refl, sym, ap, ◌∙◌, arith}
+use Rattle.std.proofs.Common.{◌≡◌, ◌⊎◌, inl, inr, ⊎_elim, ℕ, zero, suc, ◌+◌, ◌≤◌, List, [], ◌∷◌, ◌++◌, length, map, take, drop, refl, sym, ap, ◌∙◌, arith}
 use Rattle.std.proofs.lemmas.List.{length-map}
 use Rattle.std.proofs.lemmas.List.Elements.{All-head}
-use Rattle.sector_disk.specs.Disk.{Sector, sector, Logged, Synced, GrowsBehindSync}
+use Rattle.sector_disk.specs.Disk.{Sector, sector, Logged, Synced, GrowsBehindSync, MayAddSync}
 use Rattle.byte_disk.specs.declared.disk.ByteDisk.{ByteDisk}
 use Rattle.byte_disk.specs.declared.step.Step.{Step}
 use Rattle.byte_disk.specs.declared.step.Step.TheVariants.{Write, Sync}
@@ -66,3 +66,10 @@ plan_few disk most grows =
     (λ none. let all : map logged steps ≡ more.more = more.grown ∙ ap (λ l. l ++ more.more) none in omega (arith, behind_few steps, length-map steps logged, ap length all, more.few))
     (λ one. let all : map logged steps ≡ Synced ∷ more.more = more.grown ∙ ap (λ l. l ++ more.more) one in omega (arith, first_synced steps more.more all, more.few))
     grows.sync.either
+
+-- Where its log got a sync at most, its plan is a sync at most.
+pub few_synced : (steps : List Step) → MayAddSync [] (map logged steps) → (steps ≡ []) ⊎ (steps ≡ Sync ∷ [])
+few_synced [] may = inl refl
+few_synced (Sync ∷ []) may = inr refl
+few_synced (Sync ∷ step ∷ steps) may = ⊎_elim (λ none. cc none) (λ one. absurd (omega (arith, ap length one))) may.either
+few_synced (Write at content ∷ steps) may = ⊎_elim (λ none. cc none) (λ one. cc one) may.either

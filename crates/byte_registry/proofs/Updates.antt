@@ -5,16 +5,17 @@ use Rattle.std.specs.List.{list_any}
 use Rattle.std.proofs.lemmas.Bool.{both_ways}
 use Rattle.std.proofs.lemmas.List.{take-append-drop, take_more, map-append, length-map, length-take-le}
 use Rattle.std.proofs.lemmas.List.Elements.{All-nil, All-push, All-head, All-tail}
-use Rattle.sector_disk.specs.Disk.{Sector, LeavesOnly, Mixture}
+use Rattle.sector_disk.specs.Disk.{Sector, LeavesOnly, MayAddSync, Mixture}
 use Rattle.sector_disk.proofs.Moments.{goes_on, weaken}
 use Rattle.byte_disk.specs.declared.disk.ByteDisk.{ByteDisk}
 use Rattle.byte_disk.specs.Bytes.{sectors_in}
-use Rattle.byte_disk.specs.ByteDisk.{byte_facts}
+use Rattle.byte_disk.specs.ByteDisk.{byte_facts, plan_of}
 use Rattle.byte_disk.specs.inside.Laws.{byte_holds}
+use Rattle.byte_disk.proofs.Plans.{same_given}
 use Rattle.states.specs.Changes.{next}
 use Rattle.states.specs.State.{State}
 use Rattle.store.specs.Changed.{Changed}
-use Rattle.store.specs.Draft.{Drafted, IsDraftedAt, begun, beside, committed, longest_drafted}
+use Rattle.store.specs.Draft.{Drafted, IsDraftedAt, begun, committed}
 use Rattle.store.specs.Opened.{Opened, IsAt}
 use Rattle.store.specs.Stands as sectors
 use Rattle.store.specs.declared.holds.HeldRow.{HeldRow}
@@ -35,10 +36,12 @@ use Rattle.registry.specs.Updating.{DraftAnswers, IsUpdate, Plans, asks_change, 
 use Rattle.registry.proofs.Untested.{each_accepted}
 use Rattle.registry.proofs.Updating.{accepted_step, begun_at, is_update, plans_moment, refuses}
 use Rattle.byte_registry.specs.Plans.{Holds, LeadsTo, synced_plan}
-use Rattle.byte_registry.specs.Updated.{AnswersUpdate, ArePlanned, IsUpdateAsked, draft_on}
+use Rattle.byte_registry.specs.Replies.{opened_on}
+use Rattle.byte_registry.specs.Updated.{AnswersUpdate, ArePlanned, IsCommitted, IsUnwritten, IsUpdateAsked, StopsAt}
 use Rattle.byte_registry.specs.inside.Opening.{IsOpenedOn}
-use Rattle.byte_registry.specs.inside.Planning.{MakesUpdate, StopsAt}
-use Rattle.byte_registry.proofs.Asking.{holds, only, stands_by, same_sectors, leads_stored, leads_registry}
+use Rattle.byte_registry.specs.inside.Planning.{MakesUpdate}
+use Rattle.byte_registry.proofs.Asking.{holds, only, stands_by, leads_stored, leads_registry}
+use Rattle.byte_registry.proofs.Syncs.{few_synced}
 
 -- a change that a draft accepted is refused by no test
 tested : (p p' : Phase) (request : Request) (answer : Reply) → PlanStep p request answer p' → is_refusal answer ≡ false → refusal_at p request ≡ None
@@ -125,9 +128,6 @@ module _ (xs : List Command) (i : ℕ) (d : Command) (lt : i < length xs) (old m
 
 -- The draft of an opened registry at a state.
 module _ (old : Opened ByteDisk) (s : State) (at : IsAt byte_facts old s) where
-  abbrev start : Phase
-  start = draft_phase byte_facts (begun old) s
-
   starts : IsDraftedAt byte_facts (begun old) s s
   starts = begun_at byte_facts s old (λ honest. byte_holds old.disk) at
 
@@ -135,8 +135,8 @@ module _ (old : Opened ByteDisk) (s : State) (at : IsAt byte_facts old s) where
     update : IsUpdate byte_facts (begun old) u s requests answers
     update = is_update byte_facts s (begun old) u requests answers refl starts plans
 
-    planned : ArePlanned start requests (draft_phase byte_facts u (drafted_by s requests))
-    planned = record { answers = answers; run = update.run; accepted = plans.accepted; state = refl }
+    planned : ArePlanned (begun old) u s requests
+    planned = record { answers = answers; plans = plans; update = update }
 
     pub drafted_at : IsDraftedAt byte_facts u s (drafted_by s requests)
     drafted_at = update.at
@@ -144,54 +144,49 @@ module _ (old : Opened ByteDisk) (s : State) (at : IsAt byte_facts old s) where
     abbrev to : State
     to = committed u.touched s (drafted_by s requests)
 
-    -- it was committed
-    pub is_made : (new : Opened ByteDisk) → LeavesOnly (byte_facts u.store.disk) (byte_facts new.disk) (λ m. sectors.Stands m s ⊎ sectors.Stands m to) → IsAt byte_facts new to
-        → MakesUpdate old new s requests (Ok tt)
-    is_made new left ends = record {
-      table = (draft_phase byte_facts u (drafted_by s requests), planned);
-      any_moment = goes_on (λ m. sectors.Stands m s ⊎ sectors.Stands m (updated s requests))
-          (weaken (λ m. sectors.Stands m s) (λ m. sectors.Stands m s ⊎ sectors.Stands m (updated s requests)) (λ m stands. inl stands)
-          (plans_moment byte_facts s (begun old) u requests answers starts plans))
-          (subst (λ (t : State). LeavesOnly (byte_facts u.store.disk) (byte_facts new.disk) (λ m. sectors.Stands m s ⊎ sectors.Stands m t)) update.made left);
-      ok = subst (IsAt byte_facts new) update.made ends;
-      device = tt;
-    }
+    -- the commit led to another disk
+    module _ (new : Opened ByteDisk) (left : LeavesOnly (byte_facts u.store.disk) (byte_facts new.disk) (λ m. sectors.Stands m s ⊎ sectors.Stands m to)) where
+      commit_leaves : LeavesOnly (byte_facts u.store.disk) (byte_facts new.disk) (λ m. sectors.Stands m s ⊎ sectors.Stands m (updated s requests))
+      commit_leaves =
+          subst (λ (t : State). LeavesOnly (byte_facts u.store.disk) (byte_facts new.disk) (λ m. sectors.Stands m s ⊎ sectors.Stands m t)) update.made left
 
-    -- or a call of the commit failed
-    pub is_uncommitted : (new : Opened ByteDisk) (most n : ℕ) (refusal : Refusal) → n ≡ length requests
-        → Changed byte_facts Device Reopen u.store new most (λ e. (e ≡ Device) ⊎ (e ≡ Reopen)) (Err refusal) → MakesUpdate old new s requests (Err (n, refusal))
-    is_uncommitted new most n refusal count changed =
-        let failed : refusal ≡ Device =
-        ⊎_elim (λ device. device) (λ reopen. absurd (both_ways u.store.failed update.at.stands.usable (changed.reopen.0 (ap Err reopen)))) changed.refusals in
-        record {
-          table = inr (inl (record { why = failed; count = count; after = draft_phase byte_facts u (drafted_by s requests); planned = planned }));
-          any_moment = tt;
-          ok = tt;
-          device = λ is. omega (arith, (changed.device failed).0);
-        }
+      is_committed : IsCommitted (begun old) s requests new.disk
+      is_committed = record { after = u; planned = planned; any_moment = commit_leaves }
+
+      -- it was made
+      pub is_made : IsAt byte_facts new to → MakesUpdate old new s requests (Ok tt)
+      is_made ends = record {
+        table = is_committed;
+        any_moment = goes_on (λ m. sectors.Stands m s ⊎ sectors.Stands m (updated s requests))
+            (weaken (λ m. sectors.Stands m s) (λ m. sectors.Stands m s ⊎ sectors.Stands m (updated s requests)) (λ m stands. inl stands)
+            (plans_moment byte_facts s (begun old) u requests answers starts plans))
+            commit_leaves;
+        ok = subst (IsAt byte_facts new) update.made ends;
+        device = tt;
+      }
+
+      -- or a call of it failed
+      pub is_uncommitted : (most n : ℕ) (refusal : Refusal) → n ≡ length requests
+          → Changed byte_facts Device Reopen u.store new most (λ e. (e ≡ Device) ⊎ (e ≡ Reopen)) (Err refusal) → MakesUpdate old new s requests (Err (n, refusal))
+      is_uncommitted most n refusal count changed =
+          let failed : refusal ≡ Device =
+          ⊎_elim (λ device. device) (λ reopen. absurd (both_ways u.store.failed update.at.stands.usable (changed.reopen.0 (ap Err reopen)))) changed.refusals in
+          record {
+            table = inr (inl (count, failed, is_committed));
+            any_moment = tt;
+            ok = tt;
+            device = λ is. omega (arith, (changed.device failed).0);
+          }
 
   -- a request was refused
   pub is_stopped : (requests : List Request) (last : Drafted ByteDisk) (refused : ℕ × Refusal) → StopsAt (begun old) last requests refused.0 refused.1
       → MakesUpdate old last.store s requests (Err refused)
-  is_stopped requests last refused stops =
-      let d = drafted_by s stops.before in
-      let applied = stops.refused.applied s d (update stops.before stops.answers stops.mid stops.plans).at in
-      record {
-        table = inl (record {
-          before = stops.before;
-          request = stops.request;
-          others = stops.others;
-          requests_are = stops.requests_are;
-          count = stops.count;
-          mid = draft_phase byte_facts stops.mid d;
-          planned = planned stops.before stops.answers stops.mid stops.plans;
-          after = draft_phase byte_facts last applied.0;
-          refused = applied.1.step;
-        });
-        any_moment = tt;
-        ok = tt;
-        device = λ is. omega (arith, stops.refused.on_any_disk.device (ap Refused is));
-      }
+  is_stopped requests last refused stops = record {
+    table = inl (record { last = last; stops = stops; update = update stops.before stops.answers stops.mid stops.plans; back = refl });
+    any_moment = tt;
+    ok = tt;
+    device = λ is. omega (arith, stops.refused.on_any_disk.device (ap Refused is));
+  }
 
   -- or memory was, before any request
   pub is_unbegun : (requests : List Request) (refusal : Refusal) → ((refusal ≡ Reopen) × IsTrue old.failed) ⊎ ((refusal ≡ OutOfMemory) × (old.failed ≡ false))
@@ -199,7 +194,7 @@ module _ (old : Opened ByteDisk) (s : State) (at : IsAt byte_facts old s) where
   is_unbegun requests refusal why =
       let memory : refusal ≡ OutOfMemory = ⊎_elim (λ reopen. absurd (both_ways old.failed at.usable reopen.1)) (λ memory. memory.0) why in
       record {
-        table = inr (inr (refl, memory));
+        table = inr (inr (refl, memory, refl));
         any_moment = tt;
         ok = tt;
         device = λ is. absurd (other (sym memory ∙ is));
@@ -216,24 +211,19 @@ module _ (bytes : List ℕ) (opened : Opened ByteDisk) (on : IsOpenedOn bytes op
   abbrev given : List Sector
   given = sectors_in bytes
 
-  -- the phase of its draft, in terms of the sectors
-  abbrev phase_by : ℕ → List HeldRow → Bool → Phase
-  phase_by count held failed =
-      let store : Opened (List Sector) = record { disk = given; root = opened.root; entries = opened.entries; held = held; failed = false } in
-      record {
-        sectors = count;
-        lone = beside (begun store);
-        longest = longest_drafted (begun store);
-        failures = (byte_facts opened.disk).failures;
-        failed = failed;
-        state = s;
-      }
+  -- nothing was written to its disk
+  is_unwritten : IsUnwritten bytes opened.disk
+  is_unwritten = record {
+    given = same_given on.disk opened.disk on.any_moment.past ∙ on.of_bytes.given;
+    steps = few_synced (plan_of opened.disk) (subst (λ log. MayAddSync log (byte_facts opened.disk).log) on.of_bytes.starts.log on.log);
+  }
 
-  same_draft : draft_phase byte_facts (begun opened) s ≡ draft_on given opened.root opened.entries (byte_facts opened.disk).failures s
-  same_draft =
-      ap (λ n. phase_by n opened.held opened.failed) (same_sectors bytes opened on)
-      ∙ ap (λ held. phase_by (length given) held opened.failed) on.unheld
-      ∙ ap (λ failed. phase_by (length given) [] failed) on.found.2.usable
+  -- it is what was opened, with nothing held
+  abbrev opened_by : List HeldRow → Bool → Opened ByteDisk
+  opened_by held failed = record { disk = opened.disk; root = opened.root; entries = opened.entries; held = held; failed = failed }
+
+  same_opened : opened ≡ opened_on opened.disk opened.root opened.entries
+  same_opened = ap (λ held. opened_by held opened.failed) on.unheld ∙ ap (λ failed. opened_by [] failed) on.found.2.usable
 
   module _ (requests : List Request) (new : Opened ByteDisk) where
     ends : IsAt byte_facts new (updated s requests) → (m : List Sector) → Mixture (byte_facts new.disk) m → sectors.Stands m (updated s requests)
@@ -248,14 +238,13 @@ module _ (bytes : List ℕ) (opened : Opened ByteDisk) (on : IsOpenedOn bytes op
         → OnOk answer (Holds bytes s → LeadsTo Stands given s (updated s requests) (synced_plan new.disk))
     registry (Ok done) makes = λ held.
         let all = held.stands.libraries in
-        let planned = makes.table.1 in
+        let planned = makes.table.planned in
         leads_registry bytes opened on (updated s requests) new.disk makes.any_moment (ends makes.ok)
         (each_next s (drafted_by s requests) (list_any asks_change requests) all
-        (each_planned (draft_phase byte_facts (begun opened) s) requests planned.answers planned.run.0 planned.run.1 planned.accepted all)) held
+        (each_planned (draft_phase byte_facts (begun opened) s) requests planned.answers planned.update.run.0 planned.update.run.1 planned.plans.accepted all)) held
     registry (Err refused) makes = tt
 
-    pub update_asked : (answer : Result (Unit {0}) (ℕ × Refusal)) → MakesUpdate opened new s requests answer
-        → (s : State) × IsUpdateAsked bytes s requests answer (synced_plan new.disk)
+    pub update_asked : (answer : Result (Unit {0}) (ℕ × Refusal)) → MakesUpdate opened new s requests answer → (s : State) × IsUpdateAsked bytes s requests answer new.disk
     update_asked answer makes = (
       s,
       record {
@@ -265,8 +254,9 @@ module _ (bytes : List ℕ) (opened : Opened ByteDisk) (on : IsOpenedOn bytes op
           root = opened.root;
           entries = opened.entries;
           by = stands_by bytes opened on;
-          failures = (byte_facts opened.disk).failures;
-          answers = subst (λ p. AnswersUpdate p requests answer) same_draft makes.table;
+          disk = opened.disk;
+          unwritten = is_unwritten;
+          answers = subst (λ (o : Opened ByteDisk). AnswersUpdate (begun o) s requests answer new.disk) same_opened makes.table;
         };
         leads = leads answer makes;
         registry = registry answer makes;

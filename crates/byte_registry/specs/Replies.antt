@@ -13,9 +13,10 @@ use Rattle.requests.specs.Request.{Request}
 use Rattle.requests.specs.declared.reply.Reply.{Reply}
 use Rattle.registry.specs.Untested.{UntestedStep}
 
--- a registry just opened on these sectors, by this root and these entries: nobody holds anything
-abbrev pub opened_on : List Sector → Root → List PlacedEntry → Opened (List Sector)
-opened_on m root entries = record { disk = m; root = root; entries = entries; held = []; failed = false }
+-- a registry just opened on sectors, or on a disk of them, by this root and these entries: nobody
+-- holds anything
+abbrev pub opened_on : {D : Type 0} → D → Root → List PlacedEntry → Opened D
+opened_on disk root entries = record { disk = disk; root = root; entries = entries; held = []; failed = false }
 
 -- where it stands, in the words of the step table, after so many failed calls
 abbrev pub phase_on : List Sector → Root → List PlacedEntry → ℕ → State → Phase

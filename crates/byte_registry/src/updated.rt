@@ -7,7 +7,6 @@ ghost use Rattle.requests.specs.Request.{request_of};
 ghost use Rattle.requests.specs.declared.reply.Reply.{Reply};
 ghost use Rattle.registry.specs.Updating.{DraftAnswers, is_refusal};
 ghost use Rattle.byte_registry.specs.Asked.{IsUnopened, failures_of};
-ghost use Rattle.byte_registry.specs.Plans.{synced_plan};
 ghost use Rattle.byte_registry.specs.Updated.{IsUpdateAsked};
 ghost use Rattle.byte_registry.specs.inside.Planning.{MakesUpdate, PlansAll};
 
@@ -91,7 +90,7 @@ pub fn ask_update<'a>(
     commands: &[Command<'_>],
 ) -> Result<(Result<(), (usize, Refusal)>, ByteDisk<'a>), (StoreRefusal, Option<ByteDisk<'a>>)>
     ensures ok { IfOk result (λ asked. (s : State) × IsUpdateAsked disk.now s
-        (map request_of commands.now) asked.0 (synced_plan asked.1)) }
+        (map request_of commands.now) asked.0 asked.1) }
 
     // S1 comes only where a call of the disk failed: a write or a sync, which found no memory.
     ensures device { MatchResult result

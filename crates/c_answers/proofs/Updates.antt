@@ -1,11 +1,13 @@
 -- From how an update was answered to what it gave, where its status is 0; and that it is never S1.
 use Rattle.std.proofs.Common.{◌≡◌, inl, inr, ℕ, List, arith}
 use Rattle.std.specs.Prelude.{Result, Ok, Err}
+use Rattle.byte_disk.specs.declared.disk.ByteDisk.{ByteDisk}
 use Rattle.byte_disk.specs.declared.step.Step.{Step}
 use Rattle.states.specs.State.{State}
 use Rattle.requests.specs.Request.{Request}
 use Rattle.requests.specs.declared.refusal.Refusal.{Refusal}
 use Rattle.requests.specs.declared.reply.Reply.TheVariants as reply
+use Rattle.byte_registry.specs.Plans.{synced_plan}
 use Rattle.byte_registry.specs.Updated.{IsUpdateAsked}
 use Rattle.c_answers.specs.declared.answer.Answer.{Answer}
 use Rattle.c_answers.specs.declared.change_place.ChangePlace.{ChangePlace}
@@ -15,18 +17,18 @@ use Rattle.c_answers.proofs.Device.{planned, told, turned}
 use Rattle.c_answers.proofs.Given.{planned_done, refused_not_done, turned_not_done}
 
 module _ (disk : List ℕ) (requests : List Request) (plan text : List ℕ) (answer : Answer) (status : ℕ) where
-  given : status ≡ 0 → (s : State) (asked : Result (Unit {0}) (ℕ × Refusal)) (steps : List Step) → IsUpdateAsked disk s requests asked steps
-      → IsUpdateTold asked steps plan text answer status → IsUpdatePlan disk requests plan answer
-  given zero s (Ok done) steps asked said = record {
+  given : status ≡ 0 → (s : State) (asked : Result (Unit {0}) (ℕ × Refusal)) (left : ByteDisk) → IsUpdateAsked disk s requests asked left
+      → IsUpdateTold asked (synced_plan left) plan text answer status → IsUpdatePlan disk requests plan answer
+  given zero s (Ok done) left asked said = record {
     state = s;
-    steps = steps;
+    steps = synced_plan left;
     holds = asked.holds;
     only = asked.only;
     leads = asked.leads;
     registry = asked.registry;
-    plan = planned_done steps plan text answer status zero said;
+    plan = planned_done (synced_plan left) plan text answer status zero said;
   }
-  given zero s (Err refused) steps asked said = absurd (refused_not_done refused.1 text answer status zero said.why)
+  given zero s (Err refused) left asked said = absurd (refused_not_done refused.1 text answer status zero said.why)
 
   asked_given : status ≡ 0 → IsAskedTold disk requests plan text answer status → IsUpdatePlan disk requests plan answer
   asked_given zero (inl asked) = given zero asked.0 asked.1 asked.2 asked.3 asked.4
@@ -37,7 +39,7 @@ module _ (disk : List ℕ) (requests : List Request) (plan text : List ℕ) (ans
   update_told is (Err refused) steps said = told text answer status is (reply.Refused refused.1) said.why
 
   asked_not_device : status ≡ 301 → IsAskedTold disk requests plan text answer status → ⊥
-  asked_not_device is (inl asked) = update_told is asked.1 asked.2 asked.4
+  asked_not_device is (inl asked) = update_told is asked.1 (synced_plan asked.2) asked.4
   asked_not_device is (inr unopened) = turned text answer status is unopened.0 unopened.2
 
 module _ (disk : List ℕ) (changes : List ChangePlace) (bytes plan text : List ℕ) (answer : Answer) (status : ℕ) where

@@ -1,5 +1,6 @@
 -- What a call that plans an update puts into its buffers and its answer (own).
 use Rattle.std.specs.Prelude.{◌≡◌, ◌⊎◌, ℕ, List, Result, Ok, Err}
+use Rattle.byte_disk.specs.declared.disk.ByteDisk.{ByteDisk}
 use Rattle.byte_disk.specs.declared.step.Step.{Step}
 use Rattle.byte_disk.specs.Bytes.{sectors_in}
 use Rattle.states.specs.State.{State}
@@ -12,7 +13,7 @@ use Rattle.registry.specs.Stands.{Stands}
 use Rattle.registry.specs.Updating.{updated}
 use Rattle.byte_registry.specs.Asked.{IsUnopened}
 use Rattle.byte_registry.specs.Bytes.{HoldStore}
-use Rattle.byte_registry.specs.Plans.{Holds, LeadsTo}
+use Rattle.byte_registry.specs.Plans.{Holds, LeadsTo, synced_plan}
 use Rattle.byte_registry.specs.Updated.{IsUpdateAsked}
 use Rattle.c_answers.specs.declared.answer.Answer.{Answer}
 use Rattle.c_answers.specs.declared.change_place.ChangePlace.{ChangePlace}
@@ -45,11 +46,11 @@ abbrev pub IsUpdateTold : Result (Unit {0}) (ℕ × Refusal) → List Step → L
 IsUpdateTold (Ok done) steps plan text answer status = IsPlanned steps plan text answer status
 IsUpdateTold (Err refused) steps plan text answer status = IsRefusedTold refused.0 refused.1 text answer status
 
--- An update of the registry that the bytes hold was asked, and what comes of it is told;
--- or there is no registry, and it is told why.
+-- An update of the registry that the bytes hold was asked, on a disk of them, and what comes of it is
+-- told, with the plan of the disk; or there is no registry, and it is told why.
 abbrev pub IsAskedTold : List ℕ → List Request → List ℕ → List ℕ → Answer → ℕ → Type 0
 IsAskedTold disk requests plan text answer status =
-    ((s : State) × (asked : Result (Unit {0}) (ℕ × Refusal)) × (steps : List Step) × IsUpdateAsked disk s requests asked steps × IsUpdateTold asked steps plan text answer status)
+    ((s : State) × (asked : Result (Unit {0}) (ℕ × Refusal)) × (left : ByteDisk) × IsUpdateAsked disk s requests asked left × IsUpdateTold asked (synced_plan left) plan text answer status)
     ⊎ ((refusal : StoreRefusal) × IsUnopened disk refusal × IsTurnedAway refusal text answer status)
 
 -- the same, or memory for the requests was refused

@@ -16,9 +16,8 @@ use Rattle.store.specs.declared.refusal.StoreRefusal.TheVariants as store
 use Rattle.file_disk.specs.FileDisk.{file_facts, IsNew}
 use Rattle.commands.specs.Disk.{disk_answer_text, IsOpenRefusal, IsFormatRefusal, IsUpgradeRefusal}
 use Rattle.program_parts.specs.Refusal.{disk_refusal_text, memory_text}
-use Rattle.commands.specs.DiskStep.{DiskStep}
 use Rattle.commands.specs.OnDisk.{RequestEnds, FormatEnds, UpgradeEnds}
-use Rattle.commands.specs.Opened.{SystemDisk, IsOpened, IsMade, IsUpgraded}
+use Rattle.commands.specs.Opened.{SystemDisk, IsMade, IsUpgraded}
 use Rattle.registry.specs.Opening.{EndsMaking, EndsUpgrading}
 use Rattle.program_parts.specs.Told.{IsTold}
 use Rattle.program_parts.specs.Reply.{command_refusal_text, reply_text}
@@ -26,7 +25,7 @@ use Rattle.commands.specs.Status.{disk_answer_status}
 use Rattle.program_parts.specs.Status.{refusal_status, reply_status, disk_status}
 use Rattle.program_parts.specs.declared.status.Status.{Status}
 use Rattle.program_parts.specs.declared.status.Status.TheVariants.{Done, Refused, BadWords, Failed, NoMemory}
-use Rattle.commands.specs.Outcome.{are_bad, Asks, IsDone, IsRefused, LacksMemory, Replies, TurnsAway}
+use Rattle.commands.specs.Outcome.{are_bad, Asks, CommandEnds, IsDone, IsRefused, LacksMemory, Replies, TurnsAway}
 use Rattle.commands.specs.Script.{Streams}
 use Rattle.commands.specs.Words.{CommandLine, install, replace, remove, preload, list}
 use Rattle.commands.specs.declared.disk.NoRegistry.{NoRegistry}
@@ -35,7 +34,7 @@ use Rattle.program_parts.specs.declared.file.FileFault.{FileFault}
 use Rattle.program_parts.specs.declared.file.FileFault.TheVariants.{CannotRead, OutOfMemory}
 use Rattle.commands.specs.declared.with_file.WithFile.TheVariants as with
 use Rattle.commands.specs.inside.WithFile.{AsksWith}
-use Rattle.commands.specs.inside.Ends.{BindEnds, CommandEnds, IsFormatted, IsNoRegistry, IsNotRead, IsTurnedAway, IsWritten, Replied, SaysNoMemory, IsUpgradedOver}
+use Rattle.commands.specs.inside.Ends.{BindEnds, IsFormatted, IsNoRegistry, IsNotRead, IsTurnedAway, IsWritten, Replied, IsUpgradedOver}
 use Rattle.commands.proofs.Ending.{reply_answers}
 
 -- a refusal that is want of memory has its line
@@ -161,26 +160,7 @@ module _ (before after : Option (List ℕ)) where
   written_as q r made NoMemory (inl h) = subst (Appends before after) (memory_reply r (sym h.0)) h.1
   written_as q r made NoMemory (inr h) = absurd (memory_fails h)
 
-  -- so of the reply of a registry that was opened
-  pub written_replied : (disk : SystemDisk) (old new : Opened SystemDisk) (q : Request) (r : Reply) (status : Status) → IsOpened disk old → DiskStep file_facts old q r new
-      → IsWritten r before after status → Replied (λ asked. asked ≡ q) before after status
-  written_replied disk old new q r status opened step h =
-      written_as q r
-      (λ t e w. record {
-        asked = q;
-        is_asked = refl;
-        disk = disk;
-        old = old;
-        opened = opened;
-        reply = r;
-        new = new;
-        step = step;
-        ends = e;
-        written = w;
-      })
-      status h
-
-  -- so of a request over a new disk
+  -- the disk was refused
   away_told : (IsAsked : Request → Type 0) (status : Status) → IsTurnedAway IsOpenRefusal before after status → Replied IsAsked before after status
   away_told IsAsked Done h = absurd h
   away_told IsAsked Refused h = inr h
@@ -188,10 +168,23 @@ module _ (before after : Option (List ℕ)) where
   away_told IsAsked Failed h = tt
   away_told IsAsked NoMemory h = h
 
+  -- so of a request over a new disk
   pub request_replied : (disk left : SystemDisk) (q : Request) (status : Status) → IsNew disk
       → RequestEnds file_facts disk q before after status left → Replied (λ asked. asked ≡ q) before after status
   request_replied disk left q status new (inl h) =
-      let a = h.1 in written_replied disk a.old a.new q h.0 status (record { new = new; opening = a.opened }) a.step h.2
+      written_as q h.0
+      (λ t e w. record {
+        asked = q;
+        is_asked = refl;
+        disk = disk;
+        new = new;
+        reply = h.0;
+        left = left;
+        answered = h.1;
+        ends = e;
+        written = w;
+      })
+      status h.2
   request_replied disk left q status new (inr h) =
       away_told (λ asked. asked ≡ q) status (told_away IsOpenRefusal h.0 status ((file_facts disk).sectors, h.1.opened.refusals) h.2)
 
@@ -251,11 +244,10 @@ module _ (before after : Option (List ℕ)) where
     asked = h.asked;
     is_asked = other h.asked h.is_asked;
     disk = h.disk;
-    old = h.old;
-    opened = h.opened;
-    reply = h.reply;
     new = h.new;
-    step = h.step;
+    reply = h.reply;
+    left = h.left;
+    answered = h.answered;
     ends = h.ends;
     written = h.written;
   }
@@ -273,12 +265,8 @@ module _ (before after : Option (List ℕ)) where
   replied_as IsAsked q status is h = replied_also (λ asked. asked ≡ q) IsAsked (λ asked e. subst IsAsked (sym e) is) status h
 
   -- a file was not read, or memory for names was refused
-  pub memory_replied : (IsAsked : Request → Type 0) (status : Status) → SaysNoMemory before after status → Replied IsAsked before after status
-  memory_replied IsAsked NoMemory h = h
-  memory_replied IsAsked Failed h = tt
-  memory_replied IsAsked Done h = absurd h
-  memory_replied IsAsked Refused h = absurd h
-  memory_replied IsAsked BadWords h = absurd h
+  pub memory_replied : (IsAsked : Request → Type 0) (status : Status) → IsTold NoMemory memory_text before after status → Replied IsAsked before after status
+  memory_replied IsAsked status h = away_told IsAsked status (told_away IsOpenRefusal store.OutOfMemory status (8, refl) h)
 
   failed_replied : (IsAsked : Request → Type 0) (status : Status) → status ≡ Failed → Replied IsAsked before after status
   failed_replied IsAsked Failed h = tt

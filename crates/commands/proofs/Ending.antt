@@ -1,6 +1,7 @@
 -- What a command ends with.
-use Rattle.std.proofs.Common.{◌≡◌, ◌≢◌, ◌<◌, ℕ, List, length, Option, Some, Result, Ok, Err, ap}
+use Rattle.std.proofs.Common.{◌≡◌, ◌≢◌, ◌<◌, ℕ, List, [], length, append-nil, Option, Some, None, Result, Ok, Err, ap, sym, subst, inl, inr, ⊎_elim, ◌∙◌}
 use Rattle.std.specs.Prelude.{IfErr, IfOk, MatchResult, is_some}
+use Rattle.std.specs.Io.KnownBytes.{Appends}
 use Rattle.image.specs.declared.refusal.BindRefusal.TheVariants as bind_refusal
 use Rattle.requests.specs.declared.refusal.Refusal.{Refusal}
 use Rattle.requests.specs.declared.refusal.Refusal.TheVariants as refusal
@@ -11,6 +12,7 @@ use Rattle.program_parts.specs.declared.file.FileFault.TheVariants.{CannotRead, 
 use Rattle.program_parts.specs.declared.status.Status.{Status}
 use Rattle.program_parts.specs.declared.status.Status.TheVariants.{Done, Refused, BadWords, Failed, NoMemory}
 use Rattle.program_parts.specs.File.{read_limit}
+use Rattle.program_parts.specs.Said.{AppendsFront}
 use Rattle.program_parts.specs.Status.{reply_status, refusal_status}
 use Rattle.commands.specs.RunImage.{Shows}
 use Rattle.commands.specs.Status.{status_of}
@@ -18,7 +20,7 @@ use Rattle.scripts.specs.declared.fault.ScriptFault.{ScriptFault}
 use Rattle.scripts.specs.declared.fault.ScriptFault.TheVariants as fault
 use Rattle.commands.specs.declared.show.Shown.{Shown}
 use Rattle.commands.specs.declared.show.Shown.TheVariants as shown
-use Rattle.commands.specs.inside.Ends.{ImageEnds, IsShown, IsNotRead}
+use Rattle.commands.specs.inside.Ends.{ImageEnds, IsShown, IsNotRead, IsSaid}
 
 -- what was shown ends so
 pub image_shown : (file : List ℕ) (base : ℕ) (before after : Option (List ℕ)) (r : Result Shown ScriptFault) → IfOk r (Shows file base before after)
@@ -45,11 +47,15 @@ unread_ends CannotRead base asked before after Done e h = let no = h.0 in cc
 unread_ends CannotRead base asked before after Refused e h = let no = h.0 in cc
 unread_ends CannotRead base asked before after BadWords e h = let no = h.0 in cc
 unread_ends CannotRead base asked before after NoMemory e h = let no = h.0 in cc
-unread_ends OutOfMemory base asked before after NoMemory e h = (ap is_some e, h)
+unread_ends OutOfMemory base asked before after NoMemory e (inl h) = (ap is_some e, h.1)
+unread_ends OutOfMemory base asked before after NoMemory e (inr h) = let no = h in cc
 unread_ends OutOfMemory base asked before after Failed e h = ap is_some e
-unread_ends OutOfMemory base asked before after Done e h = absurd h
-unread_ends OutOfMemory base asked before after Refused e h = absurd h
-unread_ends OutOfMemory base asked before after BadWords e h = absurd h
+unread_ends OutOfMemory base asked before after Done e (inl h) = let no = h.0 in cc
+unread_ends OutOfMemory base asked before after Done e (inr h) = let no = h in cc
+unread_ends OutOfMemory base asked before after Refused e (inl h) = let no = h.0 in cc
+unread_ends OutOfMemory base asked before after Refused e (inr h) = let no = h in cc
+unread_ends OutOfMemory base asked before after BadWords e (inl h) = let no = h.0 in cc
+unread_ends OutOfMemory base asked before after BadWords e (inr h) = let no = h in cc
 
 -- what was shown of a file that was read, or said of one that wasn't, is an end of a command
 pub read_ends : {V : Type 0} (items : V → List ℕ) (read : Result V FileFault) (base : ℕ) (asked : Option ℕ) (before after : Option (List ℕ)) (status : Status)
@@ -58,6 +64,16 @@ pub read_ends : {V : Type 0} (items : V → List ℕ) (read : Result V FileFault
     → ImageEnds asked before after status
 read_ends items (Ok v) base asked before after status e short h = shown_ends (items v) base asked before after status e short h
 read_ends items (Err f) base asked before after status e short h = unread_ends f base asked before after status e h
+
+-- of words that are turned away nothing but a front of the one line was said
+nothing_said : (known : Option (List ℕ)) → Appends known known []
+nothing_said None = tt
+nothing_said (Some bytes) = sym (append-nil bytes)
+
+pub said_front : (text : List ℕ) (before after errors errors' : Option (List ℕ)) (status : Status) → IsSaid text before after errors errors' status → status ≡ BadWords
+    → AppendsFront errors errors' text
+said_front text before after errors errors' status (inl same) is = (0, subst (λ k. Appends errors k []) (sym same) (nothing_said errors))
+said_front text before after errors errors' status (inr said) is = ⊎_elim (λ front. front.1) (λ failed. absurd (cc (sym is ∙ failed))) said.1
 
 -- no reply is about words
 refusal_answers : (r : Refusal) → refusal_status r ≢ BadWords

@@ -1,5 +1,5 @@
 -- A script over a registry on a disk is a run of the events of its lines.
-use Rattle.std.proofs.Common.{◌≡◌, ◌⊎◌, ℕ, List, [], ◌∷◌, Option, Some, None, refl, sym, subst, inl, inr}
+use Rattle.std.proofs.Common.{◌≡◌, ℕ, List, [], ◌∷◌, Option, Some, None, refl, sym, subst}
 use Rattle.std.specs.List.{filter_map}
 use Rattle.sector_disk.specs.Disk.{DiskFacts}
 use Rattle.requests.specs.Runs.{Steps, Run, last_of}
@@ -10,16 +10,15 @@ use Rattle.binders.proofs.Happening.{events_ran}
 use Rattle.commands.specs.Answer.{LineStep}
 use Rattle.commands.specs.DiskScript.{happenings, replied, LinesRan, FinishesOnDisk, StopsOnDisk}
 use Rattle.commands.specs.Line.{meaning}
-use Rattle.commands.specs.OnDisk.{RunsOnDisk, BreaksOnDisk}
-use Rattle.commands.specs.Outcome.{Worsens}
+use Rattle.commands.specs.OnDisk.{Worsens, RunsOnDisk, BreaksOnDisk}
 use Rattle.commands.specs.Script.{Streams, Finishes, Stops}
+use Rattle.commands.specs.Status.{greatest, fault_status, lines_status}
 use Rattle.commands.specs.declared.answer.Answer.{Answer}
 use Rattle.commands.specs.declared.answer.Answer.TheVariants.{Replied, BadLine, CutLine}
 use Rattle.scripts.specs.declared.fault.ScriptFault.{ScriptFault}
 use Rattle.program_parts.specs.declared.status.Status.{Status}
 use Rattle.program_parts.specs.declared.status.Status.TheVariants.{Done}
 use Rattle.commands.specs.declared.summary.Summary.{Summary}
-use Rattle.commands.specs.inside.Ends.{IsRun}
 use Rattle.commands.proofs.Seen.{run_seen}
 
 -- a line that asks something has one event more, any other line none
@@ -62,18 +61,17 @@ module _ {D : Type 0} (facts : D → DiskFacts) where
     pub stops_on_disk : (fault : ScriptFault) → Stops (EventStep facts) io old new fault → StopsOnDisk facts io old new fault
     stops_on_disk fault h = (h.0, h.1, h.2, h.3, lines_ran old new h.0 h.2 h.3.run)
 
-module _ {D : Type 0} (facts : D → DiskFacts) (io : Streams) (old new : Slotted D) (status : Status) where
+module _ {D : Type 0} (facts : D → DiskFacts) (io : Streams) (old new : Slotted D) (worst status : Status) where
   -- the steps of a script whose replies are watched are those of its lines
-  lines_seen : (worst : Status) (lines : List (List ℕ)) (answers : List Answer)
-      → Run (LineStep (Worsens (EventStep facts))) (old, Done) lines answers (new, worst) → LinesRan facts old new lines answers
-  lines_seen worst lines answers run =
+  lines_seen : (lines : List (List ℕ)) (answers : List Answer) → Run (LineStep (Worsens (EventStep facts))) (old, Done) lines answers (new, worst) → LinesRan facts old new lines answers
+  lines_seen lines answers run =
       lines_ran facts old new lines answers (run_seen (λ (p : Slotted D × Status). p.0) (Worsens (EventStep facts)) (EventStep facts) (λ s s' q r k. k.0) (old, Done) (new, worst) lines answers run)
 
   -- so of a script whose status is told
-  pub run_on_disk : IsRun (EventStep facts) old new io status → RunsOnDisk facts io old new status ⊎ BreaksOnDisk facts io old new status
-  run_on_disk (inl h) = let e = h.2 in inl (h.0, h.1, e.0, e.1, e.2, e.3, lines_seen h.0 e.0 e.2 e.3.run, h.3)
-  run_on_disk (inr h) = let e = h.2 in inr (h.0, h.1, e.0, e.1, e.2, e.3, lines_seen h.0 e.0 e.2 e.3.run, h.3)
+  pub runs_on_disk : (summary : Summary) → Finishes (Worsens (EventStep facts)) io (old, Done) (new, worst) summary → status ≡ greatest worst (lines_status summary.refused)
+      → RunsOnDisk facts io old new status
+  runs_on_disk summary e is = (worst, summary, e.0, e.1, e.2, e.3, lines_seen e.0 e.2 e.3.run, is)
 
-  pub run_of : RunsOnDisk facts io old new status ⊎ BreaksOnDisk facts io old new status → IsRun (EventStep facts) old new io status
-  run_of (inl h) = inl (h.0, h.1, (h.2, h.3, h.4, h.5), h.7)
-  run_of (inr h) = inr (h.0, h.1, (h.2, h.3, h.4, h.5), h.7)
+  pub breaks_on_disk : (fault : ScriptFault) → Stops (Worsens (EventStep facts)) io (old, Done) (new, worst) fault → status ≡ greatest worst (fault_status fault)
+      → BreaksOnDisk facts io old new status
+  breaks_on_disk fault e is = (worst, fault, e.0, e.1, e.2, e.3, lines_seen e.0 e.2 e.3.run, is)

@@ -1,14 +1,12 @@
 -- A script over something that is seen in part.
-use Rattle.std.proofs.Common.{◌≡◌, ℕ, List, [], ◌∷◌, map, ap, refl, subst, inl, inr, ◌∙◌}
+use Rattle.std.proofs.Common.{◌≡◌, ℕ, List, [], ◌∷◌, map, ap, refl, subst, ◌∙◌}
 use Rattle.requests.specs.Runs.{last_of, Steps, Run}
 use Rattle.binders.specs.Events.{Happening}
 use Rattle.binders.specs.declared.event.EventReply.{EventReply}
 use Rattle.commands.specs.Answer.{LineStep}
-use Rattle.commands.specs.Outcome.{Worsens}
-use Rattle.commands.specs.Status.{greatest, lines_status, fault_status}
+use Rattle.commands.specs.OnDisk.{Worsens}
 use Rattle.program_parts.specs.declared.status.Status.{Status}
 use Rattle.program_parts.specs.declared.status.Status.TheVariants.{Done}
-use Rattle.commands.specs.inside.Ends.{IsRun}
 use Rattle.commands.specs.Script.{Streams, Finishes, Stops}
 use Rattle.commands.specs.declared.answer.Answer.{Answer}
 use Rattle.commands.specs.declared.answer.Answer.TheVariants.{Replied, BadLine, CutLine}
@@ -76,18 +74,10 @@ module _ {G : Type 0} (step : G → Happening → EventReply → G → Type 0) (
   seen_of v = (v.binders, v.worst)
 
   -- a script that was run to its end, or ended early, where no reply was watched before
-  pub runs_through : (summary : Summary) (status : Status) → w.worst ≡ Done → Finishes (WatchedStep step) io w w' summary
-      → status ≡ greatest w'.worst (lines_status summary.refused) → IsRun step w.binders w'.binders io status
-  runs_through summary status e h is =
-      inl (
-        w'.worst,
-        summary,
-        subst (λ s. Finishes (Worsens step) io (w.binders, s) (seen_of w') summary) e
-            (finishes_seen seen_of (WatchedStep step) (Worsens step) (λ s s' q r k. k) io w w' summary h),
-        is,
-      )
+  pub runs_through : (summary : Summary) → w.worst ≡ Done → Finishes (WatchedStep step) io w w' summary → Finishes (Worsens step) io (w.binders, Done) (seen_of w') summary
+  runs_through summary e h =
+      subst (λ s. Finishes (Worsens step) io (w.binders, s) (seen_of w') summary) e (finishes_seen seen_of (WatchedStep step) (Worsens step) (λ s s' q r k. k) io w w' summary h)
 
-  pub ends_early : (fault : ScriptFault) (status : Status) → w.worst ≡ Done → Stops (WatchedStep step) io w w' fault
-      → status ≡ greatest w'.worst (fault_status fault) → IsRun step w.binders w'.binders io status
-  ends_early fault status e h is =
-      inr (w'.worst, fault, subst (λ s. Stops (Worsens step) io (w.binders, s) (seen_of w') fault) e (stops_seen seen_of (WatchedStep step) (Worsens step) (λ s s' q r k. k) io w w' fault h), is)
+  pub ends_early : (fault : ScriptFault) → w.worst ≡ Done → Stops (WatchedStep step) io w w' fault → Stops (Worsens step) io (w.binders, Done) (seen_of w') fault
+  ends_early fault e h =
+      subst (λ s. Stops (Worsens step) io (w.binders, s) (seen_of w') fault) e (stops_seen seen_of (WatchedStep step) (Worsens step) (λ s s' q r k. k) io w w' fault h)

@@ -10,18 +10,19 @@ use Rattle.store.specs.declared.refusal.StoreRefusal.{StoreRefusal}
 use Rattle.registry.specs.Applied.{Applied, MayLeaveWithin}
 use Rattle.registry.specs.Phase.{phase_of}
 use Rattle.registry.specs.Stands.{Stands}
+use Rattle.binders.specs.Events.{Happening}
 use Rattle.binders.specs.EventsRan.{EventStep}
 use Rattle.binders.specs.Slotted.{HoldAlone, Slotted}
+use Rattle.binders.specs.declared.event.EventReply.{EventReply}
 use Rattle.commands.specs.Disk.{disk_answer_text}
 use Rattle.program_parts.specs.Refusal.{disk_refusal_text}
 use Rattle.commands.specs.DiskScript.{LinesRan}
 use Rattle.commands.specs.DiskStep.{DiskStep}
 use Rattle.registry.specs.Opening.{EndsOpening, EndsMaking, EndsUpgrading}
-use Rattle.commands.specs.Outcome.{Worsens}
 use Rattle.program_parts.specs.Told.{IsTold}
 use Rattle.program_parts.specs.Reply.{reply_text}
 use Rattle.commands.specs.Script.{Streams, Ends, Breaks}
-use Rattle.commands.specs.Status.{greatest, disk_answer_status, fault_status, lines_status}
+use Rattle.commands.specs.Status.{greatest, disk_answer_status, event_status, fault_status, lines_status}
 use Rattle.program_parts.specs.Status.{reply_status, disk_status}
 use Rattle.commands.specs.declared.answer.Answer.{Answer}
 use Rattle.scripts.specs.declared.fault.ScriptFault.{ScriptFault}
@@ -56,6 +57,10 @@ FormatEnds facts disk answer left = (making : Result (Opened _) (StoreRefusal ×
 abbrev pub UpgradeEnds : {D : Type 0} → (D → DiskFacts) → D → Option (List ℕ) → Option (List ℕ) → Status → D → Type 0
 UpgradeEnds facts disk before after status left = (upgrading : Result (Opened _) (StoreRefusal × _)) × EndsUpgrading facts disk upgrading
     × (left ≡ disk_after upgrading) × IsTold (disk_answer_status (answer_of upgrading)) (disk_answer_text (answer_of upgrading)) before after status
+
+-- a step of a registry with binders, and the greatest status of a script's replies before and after
+abbrev pub Worsens : {S : Type 0} → (S → Happening → EventReply → S → Type 0) → S × Status → Happening → EventReply → S × Status → Type 0
+Worsens step old happening reply new = step old.0 happening reply new.0 × (new.1 ≡ greatest old.1 (event_status reply))
 
 module _ {D : Type 0} (facts : D → DiskFacts) (io : Streams) (old new : Slotted D) (status : Status) where
   -- A script ran to its end, and what its lines ask happened; the status is the greatest of its

@@ -1,21 +1,15 @@
--- A registry on a disk over a file, as it is once it was opened, made or upgraded (own).
+-- A registry on a disk over a file, as it is once it was made or upgraded (own).
 use Rattle.std.specs.Prelude.{◌≡◌, ℕ, Ok}
 use Rattle.store.specs.Opened.{Opened}
 use Rattle.file_disk.specs.FileDisk.{file_facts, IsNew}
 use Rattle.file_disk.specs.declared.disk.FileDisk.{FileDisk}
 use Rattle.file_disk.specs.declared.disk_file.DiskFile.{DiskFile}
 use Rattle.file_disk.specs.contracts.disk_file.DiskFileSectorFile.TheImpl.{ghosts}
-use Rattle.registry.specs.Opening.{EndsOpening, EndsMaking, EndsUpgrading}
+use Rattle.registry.specs.Opening.{EndsMaking, EndsUpgrading}
 
 -- a disk over a file of the system
 abbrev pub SystemDisk : Type 0
 SystemDisk = FileDisk DiskFile ghosts
-
--- it was opened on a new disk: of a good size, without failure, by exactly the calls of opening,
--- and nothing is held
-pub record IsOpened (disk : SystemDisk) (registry : Opened SystemDisk) : Type 0 where
-  pub new : IsNew disk
-  pub opening : EndsOpening file_facts disk (Ok registry)
 
 -- it was made on a new disk of so many sectors: without failure, by exactly the calls of making,
 -- and nothing is held

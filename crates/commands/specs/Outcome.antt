@@ -1,32 +1,31 @@
 -- What the program's statuses say of what the words asked (own).
-use Rattle.std.specs.Prelude.{◌≡◌, ◌⊎◌, ◌<◌, ℕ, List, length, replicate, Option, Some, None, Bool, true, false, is_none, codes}
+use Rattle.std.specs.Prelude.{◌≡◌, ◌≢◌, ◌⊎◌, ◌<◌, ℕ, List, length, Option, Some, None, Bool, true, false, is_none, codes}
 use Rattle.std.specs.Io.KnownBytes.{Appends}
+use Rattle.std.specs.declared.io.ErrorKind.{ErrorKind}
+use Rattle.std.specs.declared.io.ErrorKind.TheVariants.{OutOfMemory}
 use Rattle.requests.specs.Request.{Request}
 use Rattle.requests.specs.Request as request
 use Rattle.requests.specs.declared.reply.Reply.{Reply}
-use Rattle.binders.specs.Events.{Happening}
-use Rattle.binders.specs.Slotted.{HoldAlone, Slotted}
-use Rattle.binders.specs.declared.event.EventReply.{EventReply}
 use Rattle.store.specs.Opened.{Opened}
 use Rattle.store.specs.declared.refusal.StoreRefusal.{StoreRefusal}
-use Rattle.file_disk.specs.FileDisk.{file_facts}
+use Rattle.file_disk.specs.FileDisk.{file_facts, IsNew}
 use Rattle.program_parts.specs.Base.{base_of}
-use Rattle.commands.specs.Disk.{IsOpenRefusal, IsFormatRefusal, IsUpgradeRefusal}
-use Rattle.program_parts.specs.Refusal.{disk_refusal_text, memory_text}
-use Rattle.commands.specs.DiskStep.{DiskStep}
-use Rattle.binders.specs.EventsRan.{EventStep}
 use Rattle.program_parts.specs.File.{read_limit}
-use Rattle.commands.specs.Opened.{SystemDisk, IsOpened, IsMade, IsUpgraded}
-use Rattle.commands.specs.Printed.{PrintsImage, PrintsRefusal}
+use Rattle.program_parts.specs.Refusal.{disk_refusal_text, memory_text}
 use Rattle.program_parts.specs.Reply.{reply_text}
-use Rattle.commands.specs.Script.{Streams, Finishes, Stops}
-use Rattle.commands.specs.Status.{greatest, event_status, fault_status, lines_status}
-use Rattle.program_parts.specs.Status.{reply_status, disk_status}
-use Rattle.commands.specs.Words.{CommandLine, image, format, upgrade, install, replace, remove, preload, list, bind, script}
-use Rattle.scripts.specs.declared.fault.ScriptFault.{ScriptFault}
+use Rattle.program_parts.specs.Said.{AppendsFront}
+use Rattle.program_parts.specs.Status.{disk_status, reply_status, status_number}
+use Rattle.program_parts.specs.Streams.{Streams}
+use Rattle.program_parts.specs.Told.{IsTold}
 use Rattle.program_parts.specs.declared.status.Status.{Status}
-use Rattle.program_parts.specs.declared.status.Status.TheVariants.{Done, Refused, NoMemory}
-use Rattle.commands.specs.declared.summary.Summary.{Summary}
+use Rattle.program_parts.specs.declared.status.Status.TheVariants.{Done, Refused, BadWords, Failed, NoMemory}
+use Rattle.commands.specs.Disk.{IsOpenRefusal, IsFormatRefusal, IsUpgradeRefusal}
+use Rattle.commands.specs.OnDisk.{IsAnswered, IsScripted}
+use Rattle.commands.specs.Opened.{SystemDisk, IsMade, IsUpgraded}
+use Rattle.commands.specs.Printed.{PrintsImage, PrintsRefusal}
+use Rattle.commands.specs.Said.{bad_text}
+use Rattle.commands.specs.Script as work
+use Rattle.commands.specs.Words.{CommandLine, image, format, upgrade, install, replace, remove, preload, list, bind, script}
 
 -- words that are turned away before any file is opened: they are no command, or BASE isn't read
 abbrev pub are_bad : Option CommandLine → Bool
@@ -51,16 +50,15 @@ Asks (bind disk program base) asked = (bytes : List ℕ) × (at : ℕ) × (lengt
     × (base_of base ≡ Some at) × (asked ≡ request.bind bytes at)
 Asks line asked = ⊥
 
--- a registry, opened on a disk over a file, got such a request; exactly its reply was appended
+-- a registry, opened on a new disk over a file, got such a request; exactly its reply was appended
 pub record Replies (IsAsked : Request → Type 0) (status : Status) (before after : Option (List ℕ)) : Type 0 where
   pub asked : Request
   pub is_asked : IsAsked asked
   pub disk : SystemDisk
-  pub old : Opened SystemDisk
-  pub opened : IsOpened disk old
+  pub new : IsNew disk
   pub reply : Reply
-  pub new : Opened SystemDisk
-  pub step : DiskStep file_facts old asked reply new
+  pub left : SystemDisk
+  pub answered : IsAnswered file_facts disk asked reply left
   pub ends : reply_status reply ≡ status
   pub written : Appends before after (reply_text reply)
 
@@ -83,44 +81,15 @@ abbrev pub TurnsAway : (StoreRefusal → Type 0) → Status → Option (List ℕ
 TurnsAway MayRefuse status before after = (refusal : StoreRefusal) × MayRefuse refusal
     × (disk_status refusal ≡ status) × Appends before after (disk_refusal_text refusal)
 
--- a step of a registry with binders, and the greatest status of a script's replies before and after
-abbrev pub Worsens : {S : Type 0} → (S → Happening → EventReply → S → Type 0) → S × Status → Happening → EventReply → S × Status → Type 0
-Worsens step old happening reply new = step old.0 happening reply new.0 × (new.1 ≡ greatest old.1 (event_status reply))
-
-module _ {S : Type 0} (step : S → Happening → EventReply → S → Type 0) (s s' : S) (io : Streams) (status : Status) where
-  -- a script ran to its end: its status is the greatest of the replies', 1 at least if one refuses
-  abbrev pub RunsToTheEnd : Type 0
-  RunsToTheEnd = (worst : Status) × (summary : Summary) × Finishes (Worsens step) io (s, Done) (s', worst) summary
-      × (status ≡ greatest worst (lines_status summary.refused))
-
-  -- a script ended early: the status is the greatest of its replies and of what ended it
-  abbrev pub EndsEarly : Type 0
-  EndsEarly = (worst : Status) × (fault : ScriptFault) × Stops (Worsens step) io (s, Done) (s', worst) fault
-      × (status ≡ greatest worst (fault_status fault))
-
--- A registry was opened on a disk over a file, without binders and with nothing held, and a script
--- was run over it to its end.
-pub record Runs (io : Streams) (status : Status) : Type 0 where
+-- a script was run over a new disk over a file: with 0 and 1 to its end
+pub record Runs (io : work.Streams) (status : Status) : Type 0 where
   pub disk : SystemDisk
-  pub old : Slotted SystemDisk
-  pub opened : IsOpened disk old.registry
-  pub empty : old.slots ≡ replicate 8 None
-  pub alone : HoldAlone old
-  pub new : Slotted SystemDisk
-  pub run : RunsToTheEnd (EventStep file_facts) old new io status
-
--- the same of a script that ended early
-pub record RunsInPart (io : Streams) (status : Status) : Type 0 where
-  pub disk : SystemDisk
-  pub old : Slotted SystemDisk
-  pub opened : IsOpened disk old.registry
-  pub empty : old.slots ≡ replicate 8 None
-  pub alone : HoldAlone old
-  pub new : Slotted SystemDisk
-  pub run : EndsEarly (EventStep file_facts) old new io status
+  pub new : IsNew disk
+  pub left : SystemDisk
+  pub run : IsScripted file_facts disk io status left
 
 -- 0: what the words ask was done
-abbrev pub IsDone : Option CommandLine → Streams → Type 0
+abbrev pub IsDone : Option CommandLine → work.Streams → Type 0
 IsDone (Some (image program base)) io = (b : ℕ) × (base_of base ≡ Some b) × PrintsImage b io.before io.after
 IsDone (Some (format disk sectors)) io = Makes sectors io.before io.after
 IsDone (Some (upgrade disk)) io = Upgrades io.before io.after
@@ -129,7 +98,7 @@ IsDone (Some line) io = Replies (Asks line) Done io.before io.after
 IsDone None io = ⊥
 
 -- 1: it was refused
-abbrev pub IsRefused : Option CommandLine → Streams → Type 0
+abbrev pub IsRefused : Option CommandLine → work.Streams → Type 0
 IsRefused (Some (image program base)) io = (b : ℕ) × (base_of base ≡ Some b) × PrintsRefusal b io.before io.after
 IsRefused (Some (format disk sectors)) io = TurnsAway IsFormatRefusal Refused io.before io.after
 IsRefused (Some (upgrade disk)) io = TurnsAway IsUpgradeRefusal Refused io.before io.after
@@ -138,7 +107,36 @@ IsRefused (Some line) io = Replies (Asks line) Refused io.before io.after ⊎ Tu
 IsRefused None io = ⊥
 
 -- 4: memory was refused, for a line of a script or for a reply to one too
-abbrev pub LacksMemory : Option CommandLine → Streams → Type 0
-LacksMemory (Some (script disk)) io = Runs io NoMemory ⊎ RunsInPart io NoMemory ⊎ Appends io.before io.after memory_text
+abbrev pub LacksMemory : Option CommandLine → work.Streams → Type 0
+LacksMemory (Some (script disk)) io = Runs io NoMemory ⊎ Appends io.before io.after memory_text
 LacksMemory (Some line) io = Appends io.before io.after memory_text
 LacksMemory None io = ⊥
+
+-- What a status says: 0 that what the words ask was done, 1 that it was refused, 2 that they are turned
+-- away, 3 that the disk, a file or a stream failed, and 4 that memory was refused.
+abbrev pub CommandEnds : Option CommandLine → work.Streams → Status → Type 0
+CommandEnds line io Done = (are_bad line ≡ false) × IsDone line io
+CommandEnds line io Refused = (are_bad line ≡ false) × IsRefused line io
+CommandEnds line io BadWords = (are_bad line ≡ true) × (io.after ≡ io.before)
+CommandEnds line io Failed = are_bad line ≡ false
+CommandEnds line io NoMemory = (are_bad line ≡ false) × LacksMemory line io
+
+-- the input and the output
+abbrev pub work_of : Streams → work.Streams
+work_of io = record { unread = io.unread; before = io.before; after = io.after }
+
+-- words end so; and of words that are turned away nothing but a front of the one line is said
+abbrev pub IsEnd : Option CommandLine → Streams → Status → Type 0
+IsEnd line io status = CommandEnds line (work_of io) status
+    × (status ≡ BadWords → AppendsFront io.errors_before io.errors_after (bad_text line))
+
+-- with the number that the process exits with
+abbrev pub LineEnds : Option CommandLine → Streams → ℕ → Type 0
+LineEnds line io number = (status : Status) × IsEnd line io status × (number ≡ status_number status)
+
+-- Words that weren't read, by why not: where memory was refused just that is told, or the output
+-- failed; and any others end as words that are no command.
+abbrev pub UnreadEnds : ErrorKind → Streams → ℕ → Type 0
+UnreadEnds why io number =
+    (why ≡ OutOfMemory → (status : Status) × IsTold NoMemory memory_text io.before io.after status × (number ≡ status_number status))
+    × (why ≢ OutOfMemory → LineEnds None io number)

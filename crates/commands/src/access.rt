@@ -1,19 +1,11 @@
-// How a command opens its disk.
+// What a command opens its disk for.
 
 ghost use Rattle.std.specs.Prelude.{◌≡◌};
 ghost use Rattle.requests.specs.Request.{request_of};
 ghost use Rattle.commands.specs.inside.Access.{access_of};
 
+use file_disk::Access;
 use requests::Command;
-
-/// What a disk is opened for.
-#[derive(Clone, Copy)]
-pub(crate) enum Access {
-    /// Nothing is written.
-    Reading,
-    /// A command may change the registry.
-    Writing,
-}
 
 /// What a command opens its disk for: a listing and a bind write nothing.
 pub(crate) fn access_of(command: &Command<'_>) -> Access
@@ -21,6 +13,6 @@ pub(crate) fn access_of(command: &Command<'_>) -> Access
 {
     match command {
         Command::List | Command::Bind { .. } => Access::Reading,
-        _ => Access::Writing,
+        _ => Access::Changes,
     }
 }

@@ -1,14 +1,13 @@
 // A command line.
 
-ghost use Rattle.std.specs.Prelude.{◌≡◌, ◌≢◌, ◌≤◌, ◌<◌, ◌==◌, ◌⊎◌, true, false};
+ghost use Rattle.std.specs.Prelude.{◌≡◌, ◌≢◌, ◌≤◌, ◌⊎◌, true, false};
 ghost use Rattle.std.specs.Prelude.{Some, None, MatchResult, map, string_bytes};
 ghost use Rattle.program_parts.specs.Base.{base_of};
-ghost use Rattle.commands.specs.Outcome.{are_bad, reads_input, IsDone, IsRefused, LacksMemory};
+ghost use Rattle.commands.specs.Outcome.{are_bad, reads_input, CommandEnds, LineEnds};
 ghost use Rattle.commands.specs.Said.{bad_text, base_text};
-ghost use Rattle.program_parts.specs.Said.{AppendsFront};
 ghost use Rattle.commands.specs.Words.{command_line, line_of};
 ghost use Rattle.program_parts.specs.declared.status.Status.TheVariants.{BadWords, Failed};
-ghost use Rattle.commands.specs.inside.Ends.{CommandEnds, ImageEnds, IsNotRead, IsSaid, IsShown};
+ghost use Rattle.commands.specs.inside.Ends.{ImageEnds, IsNotRead, IsSaid, IsShown};
 
 use crate::action::{Action, read_words};
 use crate::message::{bad_base, bad_command_line, cannot_read};
@@ -193,46 +192,20 @@ pub fn run_words<R: Files<File = File> + Clock, I: Read, O: Write, E: Write>(
 ) -> u8
     ensures most { result ≤ 4 }
 
-    // 0: exactly what the command prints was appended.
-    ensures done { result ≡ 0
-        → IsDone (command_line (map (λ word. string_bytes word) words.now)) (record {
-          unread = I.remaining input.old;
-          before = O.contents output.old;
-          after = O.contents output.new;
-        }) }
-
-    // 1: exactly a refusal, or of a script the answers to its lines.
-    ensures refused { result ≡ 1
-        → IsRefused (command_line (map (λ word. string_bytes word) words.now)) (record {
-          unread = I.remaining input.old;
-          before = O.contents output.old;
-          after = O.contents output.new;
-        }) }
-
-    // 2 exactly where the words are no command, or BASE isn't read.
-    ensures bad_words { (result == 2)
-        ≡ are_bad (command_line (map (λ word. string_bytes word) words.now)) }
-
-    // Then nothing was given to the output.
-    ensures same { result ≡ 2 → O.contents output.new ≡ O.contents output.old }
-
-    // 4: exactly the line of want of memory, or of a script the answers to its lines.
-    ensures memory { result ≡ 4
-        → LacksMemory (command_line (map (λ word. string_bytes word) words.now)) (record {
-          unread = I.remaining input.old;
-          before = O.contents output.old;
-          after = O.contents output.new;
-        }) }
+    // What the status says of what was asked, of what was told, and, at 2, of what was said.
+    ensures ends { LineEnds (command_line (map (λ word. string_bytes word) words.now)) (record {
+      unread = I.remaining input.old;
+      before = O.contents output.old;
+      after = O.contents output.new;
+      errors_before = E.contents errors.old;
+      errors_after = E.contents errors.new;
+    }) result }
 
     // Only `script` reads the input.
     ensures unread { reads_input (command_line (map (λ word. string_bytes word) words.now)) ≡ false
         → input.new ≡ input.old }
 
-    // Then nothing but a front of the one line or the other was given to standard error.
-    ensures told { result ≡ 2 → AppendsFront (E.contents errors.old) (E.contents errors.new)
-        (bad_text (command_line (map (λ word. string_bytes word) words.now))) }
-
-    // What is said there, as of a file that can't be read, isn't said on the output too.
+    // What is said on standard error, as of a file that can't be read, isn't on the output too.
     ensures apart { (E.contents errors.new ≡ E.contents errors.old)
         ⊎ (O.contents output.new ≡ O.contents output.old) }
 

@@ -1,18 +1,16 @@
-// The disk of a command: opened, made or upgraded over a file, or why not.
+// The disk of a command: made over a file, or why there is none.
 
-ghost use Rattle.std.specs.Prelude.{◌≡◌, false, OnOk, IfOk, IfErr};
+ghost use Rattle.std.specs.Prelude.{◌≡◌, false, OnOk, IfErr};
 ghost use Rattle.store.specs.Opened.{Opened};
-ghost use Rattle.file_disk.specs.FileDisk.{IsNew};
 ghost use Rattle.commands.specs.Disk.{IsOpenRefusal, IsFormatRefusal, IsUpgradeRefusal};
 ghost use Rattle.commands.specs.Opened.{SystemDisk, IsMade};
 ghost use Rattle.commands.specs.Said.{base_text};
 ghost use Rattle.commands.specs.inside.Ends.{IsNoRegistry, IsTurnedAway, IsSaid};
 
-use crate::access::Access;
 use crate::disk_answer::write_disk_answer;
 use crate::making::run_format;
 use crate::message::cannot_read;
-use file_disk::{DiskFile, FileDisk, Made, NameFault, NewName, OpenFault};
+use file_disk::{FileDisk, Made, NameFault, NewName, OpenFault};
 use program_parts::Status;
 use std::alloc::Global;
 use std::fs::File;
@@ -40,21 +38,6 @@ pub(crate) fn no_disk(fault: OpenFault) -> NoRegistry
         OpenFault::CannotOpen => NoRegistry::CannotOpen,
         OpenFault::BadLength => NoRegistry::Refused(StoreRefusal::BadGeometry),
         OpenFault::OutOfMemory => NoRegistry::Refused(StoreRefusal::OutOfMemory),
-    }
-}
-
-/// Opens the disk that a file is.
-pub(crate) fn open_disk<R: Files<File = File> + Clock>(
-    rt: &R,
-    alloc: Global,
-    path: &str,
-    access: Access,
-) -> Result<FileDisk<DiskFile>, OpenFault>
-    ensures { IfOk result (λ disk. IsNew disk) }
-{
-    match access {
-        Access::Reading => FileDisk::open_read_only(rt, alloc, path),
-        Access::Writing => FileDisk::open(rt, alloc, path),
     }
 }
 

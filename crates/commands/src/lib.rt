@@ -40,7 +40,6 @@ pub use command::run_words;
 pub use disk_answer::write_disk_answer;
 pub use disk_script::run_script_on_disk;
 pub use making::{run_format, run_upgrade};
-pub use message::cannot_hold;
 pub use program_parts::Status;
 pub use request::run_request;
 pub use script::run_script;

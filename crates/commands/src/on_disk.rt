@@ -9,14 +9,15 @@ ghost use Rattle.commands.specs.Said.{base_text};
 ghost use Rattle.commands.specs.inside.Ends.{BindEnds, IsFormatted, IsUpgradedOver};
 ghost use Rattle.commands.specs.inside.Ends.{Replied, IsSaid};
 
-use crate::access::{Access, access_of};
-use crate::disk::{make_registry, no_disk, open_disk, turn_away};
+use crate::access::access_of;
+use crate::disk::{make_registry, no_disk, turn_away};
 use crate::disk_answer::write_disk_answer;
 use crate::making::run_upgrade;
 use crate::message::bad_base;
 use crate::request::run_request;
 use crate::unread::no_memory;
 use crate::with_file::{WithFile, ask_with};
+use file_disk::{Access, FileDisk};
 use program_parts::{Status, parse_base};
 use requests::Command;
 use std::alloc::{AllocError, Global};
@@ -39,7 +40,7 @@ pub(crate) fn ask<R: Files<File = File> + Clock, O: Write, E: Write>(
     ensures said { IsSaid base_text (O.contents output.old) (O.contents output.new)
         (E.contents errors.old) (E.contents errors.new) result }
 {
-    match open_disk(rt, alloc, disk, access_of(command)) {
+    match FileDisk::open(rt, alloc, disk, access_of(command)) {
         Ok(opened) => {
             let (status, opened) = run_request(alloc, opened, command, output);
             drop(opened);
@@ -83,7 +84,7 @@ pub(crate) fn upgrade<R: Files<File = File> + Clock, O: Write, E: Write>(
     ensures said { IsSaid base_text (O.contents output.old) (O.contents output.new)
         (E.contents errors.old) (E.contents errors.new) result }
 {
-    match open_disk(rt, alloc, disk, Access::Writing) {
+    match FileDisk::open(rt, alloc, disk, Access::Changes) {
         Ok(opened) => {
             let (status, opened) = run_upgrade(alloc, opened, output);
             drop(opened);

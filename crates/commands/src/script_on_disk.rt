@@ -6,14 +6,13 @@ ghost use Rattle.commands.specs.Said.{base_text};
 ghost use Rattle.commands.specs.inside.Ends.{IsRun, ScriptEnds, IsSaid};
 ghost use Rattle.program_parts.specs.declared.status.Status.TheVariants.{BadWords, Done};
 
-use crate::access::Access;
-use crate::disk::{no_disk, open_disk, turn_away};
+use crate::disk::{no_disk, turn_away};
 use crate::disk_answer::write_disk_answer;
 use crate::script::run_script;
 use crate::status::{fault_status, greatest, lines_status};
-use crate::takes_events::TakesEvents;
 use crate::watched::Watched;
 use binders::Binders;
+use file_disk::{Access, FileDisk};
 use program_parts::Status;
 use registry::Registry;
 use sector_disk::Disk;
@@ -25,18 +24,18 @@ use std::rt::{Clock, Files};
 /// Runs a script over a registry with binders none of whose replies was watched yet, and gives the
 /// greatest status of all that happened.
 #[tactic(auto, using(crate::proofs::Statuses::after_lines, crate::proofs::Statuses::after_fault))]
-pub(crate) fn run_watched<I: Read, O: Write, G: TakesEvents>(
+pub(crate) fn run_watched<I: Read, O: Write, D: Disk>(
     alloc: Global,
     input: &mut I,
     output: &mut O,
-    watched: &mut Watched<G>,
+    watched: &mut Watched<Binders<D>>,
 ) -> Status
     requires { watched.old.worst ≡ Done }
-    ensures run { IsRun G.step watched.old.binders watched.new.binders (record {
+    ensures run { IsRun D.facts (record {
       unread = I.remaining input.old;
       before = O.contents output.old;
       after = O.contents output.new;
-    }) result }
+    }) watched.old.binders watched.new.binders result }
     ensures answers { result ≢ BadWords }
 {
     match run_script(alloc, input, output, watched) {
@@ -93,7 +92,7 @@ pub(crate) fn script<R: Files<File = File> + Clock, I: Read, O: Write, E: Write>
     ensures said { IsSaid base_text (O.contents output.old) (O.contents output.new)
         (E.contents errors.old) (E.contents errors.new) result }
 {
-    match open_disk(rt, alloc, disk, Access::Writing) {
+    match FileDisk::open(rt, alloc, disk, Access::Changes) {
         Ok(opened) => {
             let (status, opened) = run_disk_script(alloc, opened, input, output);
             drop(opened);

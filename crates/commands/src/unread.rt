@@ -1,8 +1,11 @@
 // A file that wasn't read.
 
 ghost use Rattle.std.specs.Prelude.{◌≡◌, false};
+ghost use Rattle.program_parts.specs.Refusal.{memory_text};
+ghost use Rattle.program_parts.specs.Told.{IsTold};
+ghost use Rattle.program_parts.specs.declared.status.Status.TheVariants.{NoMemory};
 ghost use Rattle.commands.specs.Said.{base_text};
-ghost use Rattle.commands.specs.inside.Ends.{IsNotRead, SaysNoMemory, IsSaid};
+ghost use Rattle.commands.specs.inside.Ends.{IsNotRead, IsSaid};
 
 use crate::message::cannot_read;
 use program_parts::{FileFault, Status, write_disk_refusal};
@@ -11,7 +14,7 @@ use store::StoreRefusal;
 
 /// Writes that memory was refused.
 pub(crate) fn no_memory<O: Write>(output: &mut O) -> Status
-    ensures { SaysNoMemory (O.contents output.old) (O.contents output.new) result }
+    ensures { IsTold NoMemory memory_text (O.contents output.old) (O.contents output.new) result }
 {
     match write_disk_refusal(output, StoreRefusal::OutOfMemory) {
         Ok(()) => Status::NoMemory,

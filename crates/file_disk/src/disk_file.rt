@@ -13,10 +13,13 @@ use std::os::unix::fs::{FileExt, FileTypeExt};
 
 /// What a disk is opened for.
 #[derive(Clone, Copy)]
-pub(crate) enum Access {
-    /// Nothing is written.
+pub enum Access {
+    /// For reading alone, so that nothing that this process does can write into it: its lock is
+    /// shared with others who read. Syncs succeed until a sector was written, and fail from then
+    /// on.
     Reading,
-    /// The disk may be changed.
+    /// For changes: its lock is held alone. Where the file may not be written it is opened all the
+    /// same: syncs succeed until a sector was written.
     Changes,
 }
 

@@ -19,7 +19,7 @@ mod sector_file;
 mod transfer;
 
 pub use disk::FileDisk;
-pub use disk_file::DiskFile;
+pub use disk_file::{Access, DiskFile};
 pub use memory_file::{FilePlan, MemoryFile, Turn};
 pub use new_name::{NameFault, NewName};
 pub use open::{Made, OpenFault};

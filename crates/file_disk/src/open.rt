@@ -106,30 +106,17 @@ pub struct Made<'a> {
 }
 
 impl FileDisk<DiskFile> {
-    /// Opens the disk that a regular file or a block device is, for changes: its lock is held alone
-    /// until the disk is dropped. Where the file may not be written it is opened all the same:
-    /// syncs succeed until a sector was written.
+    /// Opens the disk that a regular file or a block device is, for reading or for changes. Its
+    /// lock is held until the disk is dropped.
     pub fn open<R: Files<File = File> + Clock>(
         rt: &R,
         alloc: Global,
         path: &str,
+        access: Access,
     ) -> Result<FileDisk<DiskFile>, OpenFault>
         ensures { IfOk result (λ disk. IsNew disk) }
     {
-        FileDisk::over(alloc, open_locked(rt, alloc, path, Access::Changes)?)
-    }
-
-    /// Opens the disk that a regular file or a block device is for reading alone, so that nothing
-    /// that this process does can write into it: its lock is shared with others who read, until the
-    /// disk is dropped. Syncs succeed until a sector was written, and fail from then on.
-    pub fn open_read_only<R: Files<File = File> + Clock>(
-        rt: &R,
-        alloc: Global,
-        path: &str,
-    ) -> Result<FileDisk<DiskFile>, OpenFault>
-        ensures { IfOk result (λ disk. IsNew disk) }
-    {
-        FileDisk::over(alloc, open_locked(rt, alloc, path, Access::Reading)?)
+        FileDisk::over(alloc, open_locked(rt, alloc, path, access)?)
     }
 
     /// Opens the disk of so many sectors that a file is, for changes, and makes one of zeros where
@@ -147,7 +134,7 @@ impl FileDisk<DiskFile> {
         if is_free(rt, path) {
             return make_new(rt, alloc, path, sectors);
         }
-        let disk = FileDisk::open(rt, alloc, path)?;
+        let disk = FileDisk::open(rt, alloc, path, Access::Changes)?;
         if disk.sectors() != sectors {
             return Err(OpenFault::BadLength);
         }

@@ -4,5 +4,6 @@ pub mod Refusal
 pub mod Reply
 pub mod Said
 pub mod Status
+pub mod Streams
 pub mod Told
 pub mod inside

@@ -16,7 +16,7 @@ mod words;
 pub use base::parse_base;
 pub use bind_refusal::write_refusal;
 pub use file::{FileFault, read_all, read_file};
-pub use message::say;
+pub use message::{cannot_hold, cannot_read, say};
 pub use refusal::{
     Line, put_disk_refusal, put_file_refusal, write_disk_refusal, write_file_refusal,
 };

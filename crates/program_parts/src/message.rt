@@ -1,8 +1,13 @@
 // What is said on standard error. A stream that doesn't take it changes no status.
 
+ghost use Rattle.std.specs.Prelude.{◌≡◌, ◌++◌, codes, OnOk};
+ghost use Rattle.std.specs.Io.KnownBytes.{Appends};
 ghost use Rattle.program_parts.specs.Said.{AppendsFront};
+ghost use Rattle.program_parts.specs.declared.status.Status.TheVariants.{Failed};
 
+use crate::status::Status;
 use std::io::{ErrorKind, Write};
+use text_output::{LINE, OutputBuffer, WriteFault};
 
 /// Gives a line to a stream, with one write where that takes it whole. A stream that fails, or
 /// takes no more, is given nothing more.
@@ -21,4 +26,33 @@ pub fn say<E: Write>(errors: &mut E, line: &[u8])
             Err(_) => return,
         }
     }
+}
+
+/// Writes that a program can't read a path, with one write where the line isn't longer than a
+/// line's buffer.
+fn write_unreadable<E: Write>(errors: &mut E, program: &[u8], path: &[u8]) -> Result<(), WriteFault>
+    ensures { OnOk result (Appends (E.contents errors.old) (E.contents errors.new)
+        (program.now ++ codes ": cannot read " ++ path.now ++ codes "\n")) }
+{
+    let mut line = OutputBuffer::<LINE>::new();
+    line.put(errors, program)?;
+    line.put(errors, b": cannot read ")?;
+    line.put(errors, path)?;
+    line.put(errors, b"\n")?;
+    line.send(errors)
+}
+
+/// Says that a program can't read a path.
+pub fn cannot_read<E: Write>(errors: &mut E, program: &str, path: &str) -> Status
+    ensures { result ≡ Failed }
+{
+    let _ = write_unreadable(errors, program.as_bytes(), path.as_bytes());
+    Status::Failed
+}
+
+/// Says that a program can't hold the standard streams. Gives the exit status.
+pub fn cannot_hold<E: Write>(errors: &mut E, program: &str) -> u8
+    ensures { result ≡ 3 }
+{
+    cannot_read(errors, program, "/").number()
 }

@@ -30,3 +30,4 @@ pub mod Upgrades
 pub mod Owned
 pub mod Closed
 pub mod FindRefusals
+pub mod RoomTests

@@ -9,6 +9,7 @@ use Rattle.sector_disk.proofs.Moments.{goes_on, left_now, more_calls, weaken}
 use Rattle.roots.specs.declared.version.Version.{Version}
 use Rattle.roots.specs.declared.version.Version.TheVariants.{One, Two}
 use Rattle.store.specs.Stands as sectors
+use Rattle.store.specs.Makes.{Makes}
 use Rattle.store.specs.Opened as opened
 use Rattle.store.specs.Opening.{HasRootMagic, HasCurrentRoot, IsRefusalOfOpen, RefusesOpen, RefusesLook}
 use Rattle.store.specs.Opens.{Opens}
@@ -16,7 +17,7 @@ use Rattle.states.specs.Geometry.{IsGeometry}
 use Rattle.store.specs.declared.refusal.StoreRefusal.{StoreRefusal}
 use Rattle.store.specs.declared.refusal.StoreRefusal.TheVariants as refusal
 use Rattle.store.proofs.StandsLemmas as sectors_lemmas
-use Rattle.store.proofs.Openings.{current_magic, of_version}
+use Rattle.store.proofs.Openings.{current_magic, of_version, refuses_fewer, refuses_fewer_open}
 use Rattle.requests.specs.Library.{IsLibrary}
 use Rattle.states.specs.State.{State, empty_state}
 use Rattle.registry.specs.Opened.{IsAt}
@@ -27,6 +28,28 @@ use Rattle.registry.specs.inside.Reading.{IsReadRefusal}
 pub either_empty : {old new : DiskFacts} → LeavesOnly old new (λ m. Mixture old m ⊎ sectors.Stands m empty_state) → LeavesOnly old new (λ m. Mixture old m ⊎ Stands m empty_state)
 either_empty {old = old} leaves = weaken (λ m. Mixture old m ⊎ sectors.Stands m empty_state) (λ m. Mixture old m ⊎ Stands m empty_state)
     (λ m. ⊎_elim (λ mixture. inl mixture) (λ stands. inr (record { stored = stands; libraries = All-nil IsLibrary }))) leaves
+
+-- and so is one that is made
+pub made_empty : {D : Type 0} (facts : D → DiskFacts) (disk : D) (making : Result (opened.Opened D) (StoreRefusal × D))
+    → Makes sectors.Stands facts (opened.IsAt facts) disk making → Makes Stands facts (IsAt facts) disk making
+made_empty facts disk making store = record {
+  any_moment = λ honest. either_empty (store.any_moment honest);
+  ok = λ honest. IfOk-weaker making (λ made. opened.IsAt facts made empty_state) (λ made. IsAt facts made empty_state)
+      (λ made at. record { stored = at; libraries = All-nil IsLibrary }) (store.ok honest);
+  unformatted = store.unformatted;
+  refused = store.refused;
+  left_alone = store.left_alone;
+  now = store.now;
+  log = store.log;
+  geometry = store.geometry;
+  usable = store.usable;
+  unheld = store.unheld;
+  refusals = store.refusals;
+  device = store.device;
+  untouched = store.untouched;
+  calls = store.calls;
+  all_calls = store.all_calls;
+}
 
 -- what leaves nothing new, and then what leaves nothing new
 pub leaves_then : {old mid new : DiskFacts} → LeavesOnly old mid (Mixture old) → LeavesOnly mid new (Mixture mid) → LeavesOnly old new (Mixture old)
@@ -109,39 +132,18 @@ module _ (m : List Sector) (version : Version) (t : State) (stands : sectors.Sta
 -- what is refused after the store was opened
 pub refuses_files : (m : List Sector) (t : State) (e : StoreRefusal) → sectors.Stands m t → (e ≡ refusal.Device) ⊎ (e ≡ refusal.Damaged)
     ⊎ (e ≡ refusal.OutOfMemory) → IsGeometry (length m) → (e ≡ refusal.Damaged → All IsLibrary t.libraries → ⊥) → RefusesOpen Stands m e
-refuses_files m t e stands which geometry damaged =
-    let look : RefusesLook StandsEither m e = refuses_seen m Two t stands e which geometry damaged in
-    record {
-      may = ⊎_elim (λ is. rw is geometry) (λ rest. ⊎_elim (λ is. rw is geometry) (λ is. rw is geometry) rest) which;
-      unformatted = look.unformatted;
-      formatted = look.formatted;
-      damaged = λ is s here. look.damaged is s (inl here);
-      memory = look.memory;
-      old = λ is. ⊎_elim (λ a. absurd (cc (a, is))) (λ rest. ⊎_elim (λ a. absurd (cc (a, is))) (λ a. absurd (cc (a, is))) rest) which;
-      only_old = λ fits old. absurd (of_version m stands.0 stands.2.intact.current stands.2.of_version old);
-    }
+refuses_files m t e stands which geometry damaged = record {
+  why = inl (refuses_fewer Stands StandsEither m (λ s here. inl here) e (refuses_seen m Two t stands e which geometry damaged));
+  only_old = λ fits old. absurd (of_version m stands.0 stands.2.intact.current stands.2.of_version old);
+}
 
 -- what opening the store refuses
 pub refuses_store : (m : List Sector) (e : StoreRefusal) → RefusesOpen sectors.Stands m e → RefusesOpen Stands m e
-refuses_store m e is = record {
-  may = is.may;
-  unformatted = is.unformatted;
-  formatted = is.formatted;
-  damaged = λ same s stands. is.damaged same s stands.stored;
-  memory = is.memory;
-  old = is.old;
-  only_old = is.only_old;
-}
+refuses_store m = refuses_fewer_open Stands sectors.Stands m (λ s stands. stands.stored)
 
 -- and what a look refuses
 pub refuses_look : (m : List Sector) (e : StoreRefusal) → RefusesLook sectors.StandsEither m e → RefusesLook StandsEither m e
-refuses_look m e is = record {
-  may = is.may;
-  unformatted = is.unformatted;
-  formatted = is.formatted;
-  damaged = λ same s either. is.damaged same s (⊎_elim (λ stands. inl stands.stored) (λ stands. inr stands.stored) either);
-  memory = is.memory;
-}
+refuses_look m = refuses_fewer StandsEither sectors.StandsEither m (λ s. ⊎_elim (λ stands. inl stands.stored) (λ stands. inr stands.stored))
 
 -- The registry that is opened by testing each file, by what opening the store did
 module _ {D : Type 0} (facts : D → DiskFacts) (disk : D) where

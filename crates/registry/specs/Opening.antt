@@ -1,18 +1,19 @@
 -- What opening, making or upgrading the registry on a disk ends with (own).
-use Rattle.std.specs.Prelude.{◌≡◌, ◌≢◌, ◌+◌, ◌<◌, ◌⊎◌, [], Result, IsTrue, IsFalse, IfOk, IfErr, OnOk, MatchResult, length, sum_by}
-use Rattle.sector_disk.specs.Disk.{DiskFacts, Mixture, LeavesOnly, GrowsBehindSync, AreCalls, AreCallsExactly, AreCallsAtMost}
+use Rattle.std.specs.Prelude.{◌≡◌, ◌≢◌, ◌+◌, ◌<◌, ◌⊎◌, [], Result, IsTrue, IsFalse, IfOk, IfErr, MatchResult, length, sum_by}
+use Rattle.sector_disk.specs.Disk.{DiskFacts, Mixture, LeavesOnly, GrowsBehindSync, AreCalls, AreCallsExactly}
 use Rattle.states.specs.Cost.{catalogues_for}
 use Rattle.states.specs.Geometry.{IsGeometry}
-use Rattle.states.specs.State.{State, empty_state}
+use Rattle.states.specs.State.{State}
 use Rattle.store.specs.IsRead.{file_sectors}
+use Rattle.store.specs.Makes.{Makes}
 use Rattle.store.specs.Opened.{Opened, disk_after}
-use Rattle.store.specs.Opening.{HasRootMagic, RefusesFormat, RefusesLook, IsRefusalOfFormat, IsRefusalOfUpgrade}
+use Rattle.store.specs.Opening.{RefusesLook, IsRefusalOfUpgrade}
 use Rattle.store.specs.Opens.{Opens}
 use Rattle.store.specs.Stands.{catalogues_of}
 use Rattle.store.specs.Step.{refusal_of_upgrade, answer_of, IsUpgradeAnswer}
 use Rattle.store.specs.Upgraded.{upgraded, IsRelistedFrom}
 use Rattle.store.specs.declared.refusal.StoreRefusal.{StoreRefusal}
-use Rattle.store.specs.declared.refusal.StoreRefusal.TheVariants.{Device, AlreadyFormatted, BadGeometry, OutOfMemory}
+use Rattle.store.specs.declared.refusal.StoreRefusal.TheVariants.{Device, BadGeometry, OutOfMemory}
 use Rattle.registry.specs.Opened.{IsAt}
 use Rattle.registry.specs.Stands.{Stands, StandsOld, StandsEither}
 use Rattle.registry.specs.Upgraded.{IsNotOld, IsUpgradeOf}
@@ -26,25 +27,8 @@ pub record EndsOpening {D : Type 0} (facts : D → DiskFacts) (disk : D) (openin
       (facts disk) (facts registry.disk))
 
 -- an empty registry was made on the disk, or the disk was refused and handed back
-pub record EndsMaking {D : Type 0} (facts : D → DiskFacts) (disk : D) (making : Result (Opened D) (StoreRefusal × D)) : Type 0 where
-  -- a stop at any moment leaves what it could leave before, or the empty registry
-  pub any_moment : IsTrue (facts disk).honest → LeavesOnly (facts disk) (facts (disk_after making)) (λ m. Mixture (facts disk) m ⊎ Stands m empty_state)
-  pub ok : IsTrue (facts disk).honest → IfOk making (λ registry. IsAt facts registry empty_state)
-  pub unformatted : IsTrue (facts disk).honest → OnOk making (HasRootMagic (facts disk).now → ⊥)
-  pub refused : IsTrue (facts disk).honest → IfErr making (λ e. RefusesFormat (facts disk).now e.0)
-  -- a disk on which a registry was made before stays as it was
-  pub left_alone : IsTrue (facts disk).honest → IfErr making (λ e. e.0 ≡ AlreadyFormatted → LeavesOnly (facts disk) (facts e.1) (Mixture (facts disk)))
-  pub now : IsTrue (facts disk).honest → IfErr making (λ e. e.0 ≢ Device → (facts e.1).now ≡ (facts disk).now)
-  pub log : IsTrue (facts disk).honest → IfOk making (λ registry. GrowsBehindSync 2 (facts disk).log (facts registry.disk).log)
-  -- the rest holds on any disk, also on one that lies
-  pub geometry : IfOk making (λ registry. IsGeometry (facts disk).sectors)
-  pub usable : IfOk making (λ registry. IsFalse registry.failed)
-  pub unheld : IfOk making (λ registry. registry.held ≡ [])
-  pub refusals : IfErr making (λ e. IsRefusalOfFormat (facts disk).sectors e.0)
-  pub device : IfErr making (λ e. e.0 ≡ Device → (facts disk).failures < (facts e.1).failures)
-  pub untouched : IfErr making (λ e. (e.0 ≡ BadGeometry) ⊎ (e.0 ≡ OutOfMemory) → e.1 ≡ disk)
-  pub calls : AreCallsAtMost 5 (facts disk) (facts (disk_after making))
-  pub all_calls : IfOk making (λ registry. AreCallsExactly 5 (facts disk) (facts registry.disk))
+abbrev pub EndsMaking : {D : Type 0} → (D → DiskFacts) → D → Result (Opened D) (StoreRefusal × D) → Type 0
+EndsMaking facts disk making = Makes Stands facts (IsAt facts) disk making
 
 -- the registry that the disk holds is one of version 2 now, or the disk was refused and handed back
 pub record EndsUpgrading {D : Type 0} (facts : D → DiskFacts) (disk : D) (upgrading : Result (Opened D) (StoreRefusal × D)) : Type 0 where

@@ -12,9 +12,7 @@ impl<D: Disk> Registry<D> {
     pub fn format(alloc: Global, disk: D) -> Result<Registry<D>, (StoreRefusal, D)>
         ensures { EndsMaking D.facts disk result }
     {
-        match Store::format(alloc, disk) {
-            Ok(store) => Ok(Registry { alloc, store }),
-            Err(refused) => Err(refused),
-        }
+        let store = Store::format(alloc, disk)?;
+        Ok(Registry { alloc, store })
     }
 }

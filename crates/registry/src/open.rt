@@ -6,12 +6,8 @@ use std::alloc::Global;
 use store::{Store, StoreRefusal};
 
 impl<D: Disk> Registry<D> {
-    ghost use Rattle.std.specs.Prelude.{◌≡◌, ◌+◌, ◌⊎◌, IsTrue, IfOk, MatchResult, length};
-    ghost use Rattle.sector_disk.specs.Disk.{AreCallsExactly};
-    ghost use Rattle.store.specs.Opened as stored;
-    ghost use Rattle.store.specs.Opens.{Opens};
-    ghost use Rattle.store.specs.Stands as sectors;
-    ghost use Rattle.store.specs.Stands.{catalogues_of};
+    ghost use Rattle.std.specs.Prelude.{◌≡◌, ◌⊎◌, IsTrue, MatchResult};
+    ghost use Rattle.store.specs.Opens.{OpensByEntries};
     ghost use Rattle.states.specs.State.{State};
     ghost use Rattle.registry.specs.Opened.{IsAt};
     ghost use Rattle.registry.specs.Opening.{EndsOpening};
@@ -23,7 +19,7 @@ impl<D: Disk> Registry<D> {
     /// S11, and hands the disk back: S12 is told of a disk of version 1, which `upgrade` takes, and
     /// S5 also where a file isn't a library of its entry's name.
     pub fn open(alloc: Global, disk: D) -> Result<Registry<D>, (StoreRefusal, D)>
-        ensures { EndsOpening D.facts disk result }
+        ensures opening { EndsOpening D.facts disk result }
     {
         let store = Store::open(alloc, disk)?;
         admit_current(alloc, store)
@@ -33,19 +29,14 @@ impl<D: Disk> Registry<D> {
     /// by the bind that needs it, and keeps nothing else from being done.
     pub fn open_untested(alloc: Global, disk: D) -> Result<Registry<D>, (StoreRefusal, D)>
         // It holds named byte strings, whatever they are.
-        ensures opened { Opens sectors.Stands D.facts (stored.IsAt D.facts) disk result }
+        ensures opening { OpensByEntries D.facts disk result }
 
         // Where they are libraries, it is at the state of the registry, as after `open`.
         ensures registry { IsTrue (D.facts disk).honest → (s : State) → Stands (D.facts disk).now s
             → MatchResult result (λ registry. IsAt D.facts registry s) (λ e.
             (e.0 ≡ StoreRefusal.Device) ⊎ (e.0 ≡ StoreRefusal.OutOfMemory)) }
-        ensures all_calls { IfOk result (λ registry.
-            AreCallsExactly (3 + length (catalogues_of registry.root) + length registry.entries)
-            (D.facts disk) (D.facts registry.disk)) }
     {
-        match Store::open(alloc, disk) {
-            Ok(store) => Ok(Registry { alloc, store }),
-            Err(refused) => Err(refused),
-        }
+        let store = Store::open(alloc, disk)?;
+        Ok(Registry { alloc, store })
     }
 }

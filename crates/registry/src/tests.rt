@@ -2,15 +2,16 @@
 ghost use Rattle.std.specs.Prelude.{◌≡◌, ◌≢◌, ◌==◌, ◌<◌, ◌≤◌, ◌↔◌, ℕ, All, Err, IfErr, IfOk};
 ghost use Rattle.std.specs.Prelude.{IfSome, IsNone, IsTrue, OnOk, length, map, not, slice_index_or, true};
 ghost use Rattle.std.specs.List.{list_any};
-ghost use Rattle.elf_file.specs.FirstOf.{◌when◌};
+ghost use Rattle.elf_file.specs.FirstOf.{first_of};
 ghost use Rattle.extents.specs.Extent.{AreDistinct};
 ghost use Rattle.states.specs.Limits.{most_preloads};
+ghost use Rattle.states.specs.Room.{change_tests};
 ghost use Rattle.states.specs.State.{State, has_name, names_of};
 ghost use Rattle.store.specs.Stands.{name_of, names_at};
 ghost use Rattle.store.specs.declared.placed_entry.PlacedEntry.{PlacedEntry};
 ghost use Rattle.requests.specs.Request.{remove, set_preloads};
 ghost use Rattle.requests.specs.Table.{Table};
-ghost use Rattle.requests.specs.Tests.{first_refusal, is_last};
+ghost use Rattle.requests.specs.Tests.{first_refusal, for_room};
 ghost use Rattle.registry.specs.Answered.{IsPreloadsRefusal, IsRemoveRefusal};
 ghost use Rattle.registry.specs.inside.Named.{AreNamed, IsTableOf};
 
@@ -37,7 +38,7 @@ fn is_preload<L: Listed>(list: &L, position: usize) -> bool
 pub(crate) fn test_remove<L: Listed>(list: &L, name: &[u8]) -> Result<(), Refusal>
     ensures ok { (s : State) → L.is_at list.now s → (t : Table) → IsTableOf t s
         → OnOk result (first_refusal t (remove name.now)
-        ≡ (Refusal.GenerationEnd when is_last t)) }
+        ≡ first_of (for_room (change_tests t.generation))) }
     ensures refused { (s : State) → L.is_at list.now s → (t : Table) → IsTableOf t s
         → IfErr result (λ refusal. first_refusal t (remove name.now) ≡ Some refusal) }
     ensures reopen { (result ≡ Err Refusal.Reopen) ↔ IsTrue (L.failed list.now) }
@@ -91,7 +92,7 @@ pub(crate) fn test_preloads<L: Listed>(
 ) -> Result<ArrayVec<usize, MOST_PRELOADS>, Refusal>
     ensures ok { (s : State) → L.is_at list.now s → (t : Table) → IsTableOf t s
         → OnOk result (first_refusal t (set_preloads (map (λ n. n.now) names.now))
-        ≡ (Refusal.GenerationEnd when is_last t)) }
+        ≡ first_of (for_room (change_tests t.generation))) }
     ensures refused { (s : State) → L.is_at list.now s → (t : Table) → IsTableOf t s
         → IfErr result (λ refusal.
         first_refusal t (set_preloads (map (λ n. n.now) names.now)) ≡ Some refusal) }

@@ -35,13 +35,13 @@ preloads_change (name ∷ names) = All-cons IsChange (set_preloads (name ∷ nam
 pub all_change : (s : State) → All IsChange (requests_for s)
 all_change s = All-append IsChange (map install_of s.libraries) (preload_requests s.preloads) (installs_change s.libraries) (preloads_change s.preloads)
 
-each_changes : (s : State) (front rest : List Request) (request : Request) → requests_for s ≡ front ++ request ∷ rest → IsChange request
+pub each_changes : (s : State) (front rest : List Request) (request : Request) → requests_for s ≡ front ++ request ∷ rest → IsChange request
 each_changes s front rest request is =
     subst IsChange (get_or-append_seam front request rest request) (subst (All IsChange) is (all_change s) (length front) request (omega (arith, length-append front (request ∷ rest))))
 
 -- ---- where there is room
 
-room_taken : (s : State) (p : Phase) (request : Request) → LacksRoomAtMost s p request → HasRoomFor s p request → refusal_at p request ≡ None
+pub room_taken : (s : State) (p : Phase) (request : Request) → LacksRoomAtMost s p request → HasRoomFor s p request → refusal_at p request ≡ None
 room_taken s p request lacks room = by (refusal_at p request) lacks.only refl
   where
     by : (o : Option Refusal) → (o ≡ None) ⊎ (o ≡ Some Full) ⊎ (o ≡ Some Fragmented) → refusal_at p request ≡ o → o ≡ None
@@ -50,7 +50,7 @@ room_taken s p request lacks room = by (refusal_at p request) lacks.only refl
     by o (inr (inr fragmented)) is = absurd (room.runs (lacks.fragmented (is ∙ fragmented)))
 
 -- a change that no test refuses is done, unless the disk fails or memory is refused
-done_or_fault : (p p' : Phase) (request : Request) (answer : Reply) → IsChange request → refusal_at p request ≡ None → Step p request answer p' → (answer ≡ Done) ⊎ IsFault answer
+pub done_or_fault : (p p' : Phase) (request : Request) (answer : Reply) → IsChange request → refusal_at p request ≡ None → Step p request answer p' → (answer ≡ Done) ⊎ IsFault answer
 done_or_fault p p' request Done change none h = inl refl
 done_or_fault p p' request (Refused refusal.Device) change none h = inr tt
 done_or_fault p p' request (Refused refusal.Reopen) change none h = inr tt

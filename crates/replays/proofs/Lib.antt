@@ -1,6 +1,8 @@
 mod Answers
+mod Binds
 mod Copies
 mod Disks
+mod Drafts
 mod Meanings
 mod Names
 mod Programs
@@ -9,3 +11,5 @@ mod Refusals
 mod Rooms
 mod Scripts
 mod States
+mod Statuses
+mod Updates

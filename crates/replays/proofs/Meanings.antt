@@ -10,9 +10,8 @@ use Rattle.std.proofs.lemmas.List.Splits.{slice_split_at, slice_split_none}
 use Rattle.hex.specs.Hex.{IsBytes, decode_of, encode_lower, lower_digits}
 use Rattle.hex.proofs.HexLemmas.{decode_of-encode_lower, length-encode_with}
 use Rattle.requests.specs.Request.{install, set_preloads}
-use Rattle.binders.specs.Events.{apply}
+use Rattle.scripts.specs.Asked.{request_meaning}
 use Rattle.scripts.specs.Words.{hex_bytes, is_name, is_visible, names_behind}
-use Rattle.commands.specs.Line.{binder_meaning, first_of, meaning}
 use Rattle.scripts.specs.Line.{IsLine}
 use Rattle.tool_commands.specs.Dump.{behind_space}
 use Rattle.tool_commands.proofs.Within.{at_each, digits_within, no_newline}
@@ -28,8 +27,8 @@ digits_read bytes are some =
     ap (λ b. if b then None else result_ok (decode_of (encode_lower bytes))) (ne_eqb (length (encode_lower bytes)) 0 long)
     ∙ ap result_ok (decode_of-encode_lower bytes are)
 
-pub install_asked : (bytes : List ℕ) → IsBytes bytes → 0 < length bytes → meaning (codes "install " ++ encode_lower bytes) ≡ Some (apply (install bytes))
-install_asked bytes are some = ap (λ o. first_of (option_map install o) (binder_meaning (codes "install " ++ encode_lower bytes))) (digits_read bytes are some)
+pub install_asked : (bytes : List ℕ) → IsBytes bytes → 0 < length bytes → request_meaning (codes "install " ++ encode_lower bytes) ≡ Some (install bytes)
+install_asked bytes are some = ap (option_map install) (digits_read bytes are some)
 
 pub install_line : (bytes : List ℕ) → IsLine (codes "install " ++ encode_lower bytes)
 install_line bytes = All-append (λ b. b ≢ 10) (codes "install ") (encode_lower bytes) (no_newline (codes "install ") refl) (digits_within bytes)
@@ -80,8 +79,8 @@ names_read name names h =
     ∙ ap (λ b. if b then Some (name ∷ names) else None) (all_named (name ∷ names) h)
 
 pub preloads_asked : (name : List ℕ) (names : List (List ℕ)) → All (λ n. is_name n ≡ true) (name ∷ names)
-    → meaning (codes "preload" ++ flat_map behind_space (name ∷ names)) ≡ Some (apply (set_preloads (name ∷ names)))
-preloads_asked name names h = ap (λ o. first_of (option_map set_preloads o) (binder_meaning (codes "preload" ++ flat_map behind_space (name ∷ names)))) (names_read name names h)
+    → request_meaning (codes "preload" ++ flat_map behind_space (name ∷ names)) ≡ Some (set_preloads (name ∷ names))
+preloads_asked name names h = ap (option_map set_preloads) (names_read name names h)
 
 names_line : (names : List (List ℕ)) → All (λ n. is_name n ≡ true) names → IsLine (flat_map behind_space names)
 names_line [] h = All-nil (λ b. b ≢ 10)

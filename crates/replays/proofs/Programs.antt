@@ -39,13 +39,13 @@ use Rattle.program_parts.specs.Status.{disk_status}
 use Rattle.program_parts.specs.declared.status.Status.{Status}
 use Rattle.program_parts.specs.declared.status.Status.TheVariants as status
 use Rattle.store.specs.declared.refusal.StoreRefusal.{StoreRefusal}
-use Rattle.store.specs.declared.refusal.StoreRefusal.TheVariants as store
 use Rattle.tool_commands.specs.Dump.{cut_text, dump_text}
 use Rattle.replays.specs.Replay.{IsStateOfBytes, copy_of, requests_for}
 use Rattle.replays.proofs.Answers.{IsChange, all_change}
 use Rattle.replays.proofs.Copies.{copied, done}
 use Rattle.replays.proofs.Readings.{same_head, same_tail}
 use Rattle.replays.proofs.Scripts.{asking, cut_ends, is_script}
+use Rattle.replays.proofs.Statuses.{not_done}
 
 -- ---- lines that ask these requests, each answered and none refused
 
@@ -129,12 +129,6 @@ module _ {D : Type 0} (facts : D → DiskFacts) where
         (ran.runs empty_state at))
 
 -- ---- statuses
-
-not_done : (r : StoreRefusal) → status.Done ≡ disk_status r → ⊥
-not_done store.Device h = cc h
-not_done store.Reopen h = cc h
-not_done store.OutOfMemory h = cc h
-not_done r h = cc h
 
 not_greatest : (worst : Status) (f : ScriptFault) → status.Done ≡ greatest worst (fault_status f) → ⊥
 not_greatest status.Done fault.OutOfMemory h = cc h

@@ -1,9 +1,10 @@
 -- A text is cut into lines in one way.
-use Rattle.std.proofs.Common.{◌≡◌, ℕ, List, [], ◌∷◌, ◌++◌, refl, sym, ap, subst, ◌∙◌}
-use Rattle.std.specs.Prelude.{◌≢◌, All}
+use Rattle.std.proofs.Common.{◌≡◌, ℕ, List, [], ◌∷◌, ◌++◌, append_assoc, refl, sym, ap, subst, ◌∙◌, inl, inr}
+use Rattle.std.specs.Prelude.{◌≢◌, ◌⊎◌, All}
 use Rattle.std.specs.List.{flat_map}
-use Rattle.std.proofs.lemmas.List.Elements.{All-head, All-tail}
+use Rattle.std.proofs.lemmas.List.Elements.{All-head, All-push, All-tail}
 use Rattle.scripts.specs.Line.{IsLine, ended}
+use Rattle.updates.proofs.Texts.{flat_more}
 
 head_or : {X : Type 0} → X → List X → X
 head_or d [] = d
@@ -21,6 +22,11 @@ same_head x y xs ys h = ap (head_or x) h
 pub same_tail : {X : Type 0} (x y : X) (xs ys : List X) → x ∷ xs ≡ y ∷ ys → xs ≡ ys
 unfolding tail_of
 same_tail x y xs ys h = ap tail_of h
+
+-- no list ends before an element of it
+pub no_more : {X : Type 0} (front back : List X) (x : X) → [] ≡ front ++ x ∷ back → ⊥
+no_more [] back x h = cc h
+no_more (y ∷ front) back x h = cc h
 
 -- the first newline ends the first line
 first_line : (a b c d : List ℕ) → IsLine a → IsLine b → a ++ 10 ∷ c ≡ b ++ 10 ∷ d → (a ≡ b) × (c ≡ d)
@@ -52,3 +58,35 @@ one_reading (x ∷ lines) tail l t (w ∷ ws) cut all c h =
     (sym (ended_more x (flat_map ended lines) tail) ∙ h ∙ ended_more w (flat_map ended ws) cut) in
     let rest = one_reading lines tail (All-tail IsLine x lines l) t ws cut (All-tail IsLine w ws all) c both.1 in
     (ap (λ z. z ∷ ws) (sym both.0) ∙ ap (λ l. x ∷ l) rest.0, rest.1)
+
+-- what begins a text, and is whole lines, is the first of its lines
+pub front_lines : (lines : List (List ℕ)) (tail : List ℕ) → All IsLine lines → IsLine tail → (others : List (List ℕ)) (rest : List ℕ) → All IsLine others
+    → flat_map ended lines ++ tail ≡ flat_map ended others ++ rest → (more : List (List ℕ)) × (lines ≡ others ++ more)
+front_lines lines tail l t [] rest all h = (lines, refl)
+front_lines [] tail l t (w ∷ ws) rest all h = absurd (no_newline_in w (flat_map ended ws ++ rest) (subst IsLine (h ∙ ended_more w (flat_map ended ws) rest) t))
+front_lines (x ∷ lines) tail l t (w ∷ ws) rest all h =
+    let both = first_line x w (flat_map ended lines ++ tail) (flat_map ended ws ++ rest) (All-head IsLine x lines l) (All-head IsLine w ws all)
+    (sym (ended_more x (flat_map ended lines) tail) ∙ h ∙ ended_more w (flat_map ended ws) rest) in
+    let so = front_lines lines tail (All-tail IsLine x lines l) t ws rest (All-tail IsLine w ws all) both.1 in
+    (so.0, ap (λ z. z ∷ lines) both.0 ∙ ap (λ ls. w ∷ ls) so.1)
+
+-- so are lines, and one behind them
+pub line_behind : (all : List (List ℕ)) (tail : List ℕ) → All IsLine all → IsLine tail → (lines : List (List ℕ)) (line others : List ℕ) → All IsLine lines → IsLine line
+    → flat_map ended all ++ tail ≡ flat_map ended lines ++ ended line ++ others → (more : List (List ℕ)) × (all ≡ lines ++ line ∷ more)
+line_behind all tail each t lines line others ls l is =
+    let so = front_lines all tail each t (lines ++ line ∷ []) others (All-push IsLine lines line ls l) (is ∙ ap (λ text. text ++ others) (sym (flat_more ended lines line))) in
+    (so.0, so.1 ∙ append_assoc lines (line ∷ []) so.0)
+
+-- an element of a list is its last one, or one before it
+pub last_or_before : {X : Type 0} (xs : List X) (last : X) (ys : List X) (y : X) (more : List X) → xs ++ last ∷ [] ≡ ys ++ y ∷ more
+    → ((xs ≡ ys) × (last ≡ y)) ⊎ ((rest : List X) × (xs ≡ ys ++ y ∷ rest))
+last_or_before [] last [] y more h = inl (refl, same_head last y [] more h)
+last_or_before [] last (z ∷ ys) y more h = absurd (no_more ys more y (same_tail last z [] (ys ++ y ∷ more) h))
+last_or_before (x ∷ xs) last [] y more h = inr (xs, ap (λ z. z ∷ xs) (same_head x y (xs ++ last ∷ []) more h))
+last_or_before {X = X} (x ∷ xs) last (z ∷ ys) y more h =
+    by (last_or_before xs last ys y more (same_tail x z (xs ++ last ∷ []) (ys ++ y ∷ more) h)) (same_head x z (xs ++ last ∷ []) (ys ++ y ∷ more) h)
+  where
+    by : ((xs ≡ ys) × (last ≡ y)) ⊎ ((rest : List X) × (xs ≡ ys ++ y ∷ rest)) → x ≡ z
+        → ((x ∷ xs ≡ z ∷ ys) × (last ≡ y)) ⊎ ((rest : List X) × (x ∷ xs ≡ z ∷ ys ++ y ∷ rest))
+    by (inl so) is = inl (ap (λ w. w ∷ xs) is ∙ ap (λ l. z ∷ l) so.0, so.1)
+    by (inr so) is = inr (so.0, ap (λ w. w ∷ xs) is ∙ ap (λ l. z ∷ l) so.1)

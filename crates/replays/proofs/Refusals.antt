@@ -14,6 +14,7 @@ use Rattle.sector_disk.specs.Disk.{sector_bytes}
 use Rattle.extents.specs.Limits.{root_sectors}
 use Rattle.states.specs.Cost.{catalogues_for, catalogue_cost, taken_by}
 use Rattle.states.specs.Limits.{last_generation, most_libraries, most_preloads}
+use Rattle.states.specs.Room.{has_most, is_fragmented, is_full, is_last}
 use Rattle.states.specs.State.{Library, State, has_name, names_of}
 use Rattle.requests.specs.Library.{IsLibrary, library_refusal, name_of}
 use Rattle.requests.specs.Phase.{Phase, table_of}
@@ -21,7 +22,7 @@ use Rattle.requests.specs.Request.{install, set_preloads}
 use Rattle.requests.specs.State.{IsState}
 use Rattle.requests.specs.Step.{refusal_at}
 use Rattle.requests.specs.Table.{Table}
-use Rattle.requests.specs.Tests.{first_refusal, has_most, has_repeat, is_fragmented, is_full, is_installed, is_last}
+use Rattle.requests.specs.Tests.{first_refusal, has_repeat, is_installed}
 use Rattle.requests.specs.declared.refusal.Refusal.{Refusal}
 use Rattle.requests.specs.declared.refusal.Refusal.TheVariants.{Object, AlreadyInstalled, NotInstalled, RepeatedPreload}
 use Rattle.requests.specs.declared.refusal.Refusal.TheVariants.{TooManyPreloads, Full, Fragmented, TooMany, GenerationEnd}
@@ -33,11 +34,11 @@ use Rattle.replays.proofs.Rooms.{install_taken, last_taken, size, too_little, to
 -- ---- the tests, one behind the other
 
 -- an install is left with the tests of room where none before them applies
-tests_left : (t : Table) (bytes : List ℕ) → library_refusal bytes ≡ None → is_installed t (name_of bytes) ≡ false → has_most t ≡ false → is_last t ≡ false
-    → first_refusal t (install bytes) ≡ first_of ((Full when is_full (catalogue_cost (length t.names)) t bytes) ∷ (Fragmented when is_fragmented t bytes) ∷ [])
+tests_left : (t : Table) (bytes : List ℕ) → library_refusal bytes ≡ None → is_installed t (name_of bytes) ≡ false → has_most (length t.names) ≡ false → is_last t.generation ≡ false
+    → first_refusal t (install bytes) ≡ first_of ((Full when is_full t.free (catalogue_cost (length t.names)) (length bytes)) ∷ (Fragmented when is_fragmented t.longest (length bytes)) ∷ [])
 tests_left t bytes file new few early =
-    let rest = (Full when is_full (catalogue_cost (length t.names)) t bytes) ∷ (Fragmented when is_fragmented t bytes) ∷ [] in
-    by (library_refusal bytes) (is_installed t (name_of bytes)) (has_most t) (is_last t) rest file new few early
+    let rest = (Full when is_full t.free (catalogue_cost (length t.names)) (length bytes)) ∷ (Fragmented when is_fragmented t.longest (length bytes)) ∷ [] in
+    by (library_refusal bytes) (is_installed t (name_of bytes)) (has_most (length t.names)) (is_last t.generation) rest file new few early
   where
     by : (o : Option FileRefusal) (a b c : Bool) (rest : List (Option Refusal)) → o ≡ None → a ≡ false → b ≡ false → c ≡ false
         → first_of (option_map Object o ∷ (AlreadyInstalled when a) ∷ (TooMany when b) ∷ (GenerationEnd when c) ∷ rest) ≡ first_of rest
@@ -49,8 +50,8 @@ tests_left t bytes file new few early =
 
 -- no test refuses these preloads
 preloads_taken : (t : Table) (names : List (List ℕ)) → nat_lt most_preloads (length names) ≡ false → has_repeat names ≡ false
-    → list_any (λ name. not (is_installed t name)) names ≡ false → is_last t ≡ false → first_refusal t (set_preloads names) ≡ None
-preloads_taken t names few once there early = by (nat_lt most_preloads (length names)) (has_repeat names) (list_any (λ name. not (is_installed t name)) names) (is_last t) few once there early
+    → list_any (λ name. not (is_installed t name)) names ≡ false → is_last t.generation ≡ false → first_refusal t (set_preloads names) ≡ None
+preloads_taken t names few once there early = by (nat_lt most_preloads (length names)) (has_repeat names) (list_any (λ name. not (is_installed t name)) names) (is_last t.generation) few once there early
   where
     by : (a b c d : Bool) → a ≡ false → b ≡ false → c ≡ false → d ≡ false
         → first_of ((TooManyPreloads when a) ∷ (RepeatedPreload when b) ∷ (NotInstalled when c) ∷ (GenerationEnd when d) ∷ []) ≡ None
@@ -92,7 +93,7 @@ at_state p s = record p { state = s }
 not_most : (n : ℕ) → n < most_libraries → nat_le most_libraries n ≡ false
 not_most n lt = grind (arith, nat_tests)
 
-not_last : (n : ℕ) → n ≤ most_libraries → (n == last_generation) ≡ false
+pub not_last : (n : ℕ) → n ≤ most_libraries + 1 → (n == last_generation) ≡ false
 not_last n le = ne_eqb n last_generation (λ e. omega (arith, e, le))
 
 few_enough : (n : ℕ) → n ≤ most_preloads → nat_lt most_preloads n ≡ false
@@ -120,7 +121,7 @@ module _ (s : State) (h : IsState s) (p : Phase) where
     count = length-map done (λ (l : Library). l.name)
 
     refused : refusal_at (at_state p (of_libraries done)) (install l.bytes)
-        ≡ room_left (is_full (catalogue_cost (length (names_of done))) (table_of (at_state p (of_libraries done))) l.bytes) (is_fragmented (table_of (at_state p (of_libraries done))) l.bytes)
+        ≡ room_left (is_full (table_of (at_state p (of_libraries done))).free (catalogue_cost (length (names_of done))) (length l.bytes)) (is_fragmented (table_of (at_state p (of_libraries done))).longest (length l.bytes))
     refused =
         tests_left (table_of (at_state p (of_libraries done))) l.bytes is.accepted new (ap (nat_le most_libraries) count ∙ not_most (length done) few)
         (not_last (length done) (omega (arith, few)))
@@ -132,8 +133,8 @@ module _ (s : State) (h : IsState s) (p : Phase) where
 
     pub install_lacks : LacksRoomAtMost s (at_state p (of_libraries done)) (install l.bytes)
     install_lacks =
-        let full = is_full (catalogue_cost (length (names_of done))) (table_of (at_state p (of_libraries done))) l.bytes in
-        let short = is_fragmented (table_of (at_state p (of_libraries done))) l.bytes in
+        let full = is_full (table_of (at_state p (of_libraries done))).free (catalogue_cost (length (names_of done))) (length l.bytes) in
+        let short = is_fragmented (table_of (at_state p (of_libraries done))).longest (length l.bytes) in
         record {
           only = subst (λ (o : Option Refusal). (o ≡ None) ⊎ (o ≡ Some Full) ⊎ (o ≡ Some Fragmented)) (sym refused) (room_only full short);
           full = λ e.
@@ -144,7 +145,7 @@ module _ (s : State) (h : IsState s) (p : Phase) where
 
   -- the last install, where a disk is smaller than the state needs
   module _ (done : List Library) (l : Library) (all : done ++ l ∷ [] ≡ s.libraries) (small : p.sectors < sectors_for s + p.lone) where
-    too_full : is_full (catalogue_cost (length (names_of done))) (table_of (at_state p (of_libraries done))) l.bytes ≡ true
+    too_full : is_full (table_of (at_state p (of_libraries done))).free (catalogue_cost (length (names_of done))) (length l.bytes) ≡ true
     too_full =
         let is : taken_by (of_libraries done) + (size l + catalogue_cost (length done)) ≡ taken_by s =
         last_taken done l ∙ ap (λ (ls : List Library). sum_by size ls + 2 * catalogues_for (length ls)) all in
@@ -152,7 +153,7 @@ module _ (s : State) (h : IsState s) (p : Phase) where
         (too_little p.sectors p.lone (taken_by (of_libraries done)) (size l + catalogue_cost (length done)) (taken_by s) is (omega arith) small)
 
     pub last_refused : refusal_at (at_state p (of_libraries done)) (install l.bytes) ≡ Some Full
-    last_refused = refused done [] l all ∙ ap (λ full. room_left full (is_fragmented (table_of (at_state p (of_libraries done))) l.bytes)) too_full
+    last_refused = refused done [] l all ∙ ap (λ full. room_left full (is_fragmented (table_of (at_state p (of_libraries done))).longest (length l.bytes))) too_full
 
   -- the preloads, behind all installs
   module _ (name : List ℕ) (names : List (List ℕ)) (all : name ∷ names ≡ s.preloads) where
@@ -161,7 +162,7 @@ module _ (s : State) (h : IsState s) (p : Phase) where
         preloads_taken (table_of (at_state p (of_libraries s.libraries))) (name ∷ names) (few_enough (length (name ∷ names)) (subst (λ ps. length ps ≤ most_preloads) (sym all) h.few_preloads))
         (no_repeat (name ∷ names) (subst (AllPairs (λ a b. a ≢ b)) (sym all) h.once))
         (none_missing (names_of s.libraries) (name ∷ names) (subst (All (λ n. has_name (names_of s.libraries) n ≡ true)) (sym all) h.installed))
-        (not_last (length s.libraries) h.few)
+        (not_last (length s.libraries) (omega (arith, h.few)))
 
     pub preloads_lack : LacksRoomAtMost s (at_state p (of_libraries s.libraries)) (set_preloads (name ∷ names))
     preloads_lack = record {

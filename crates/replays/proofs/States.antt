@@ -13,7 +13,7 @@ use Rattle.requests.specs.Step.{accepted, refusal_at}
 use Rattle.requests.specs.declared.refusal.Refusal.TheVariants.{Full}
 use Rattle.requests.proofs.Sonames.{name_is}
 use Rattle.replays.specs.Replay.{LacksRoomAtMost, copy_of, preload_requests, requests_for, sectors_for}
-use Rattle.replays.proofs.Readings.{same_head, same_tail}
+use Rattle.replays.proofs.Readings.{no_more, same_head, same_tail}
 use Rattle.replays.proofs.Refusals.{at_state, install_lacks, last_refused, of_libraries, preloads_lack}
 
 -- the request of a library
@@ -54,11 +54,6 @@ leads s h =
         let none : length s.libraries ≡ length s.libraries + 0 = omega arith in
         ap (λ (g : ℕ). let made : State = record { generation = g; libraries = s.libraries; preloads = [] } in made) none
     by (p ∷ ps) = refl
-
--- no list ends before an element of it
-no_more : (front back : List Request) (request : Request) → [] ≡ front ++ request ∷ back → ⊥
-no_more [] back request h = cc h
-no_more (r ∷ front) back request h = cc h
 
 module _ (s : State) (h : IsState s) (p : Phase) where
   -- behind some installs each request lacks room at most

@@ -1,2 +1,3 @@
 pub mod Script
 pub mod Replay
+pub mod Update

@@ -2,8 +2,8 @@
 //! image of a program bound over it, or says by number why not.
 #![tactic(auto)]
 
-use commands::{cannot_hold, run_arguments};
-use program_parts::{StandardStreams, read_arguments};
+use commands::run_arguments;
+use program_parts::{StandardStreams, cannot_hold, read_arguments};
 use std::process::ExitCode;
 
 fn main(rt: HostRuntime) -> ExitCode {
@@ -12,7 +12,7 @@ fn main(rt: HostRuntime) -> ExitCode {
     let mut errors = rt.stderr();
     let streams = match StandardStreams::hold(&rt) {
         Ok(streams) => streams,
-        Err(_) => return ExitCode::from(cannot_hold(&mut errors)),
+        Err(_) => return ExitCode::from(cannot_hold(&mut errors, "rlibreg")),
     };
     let words = read_arguments(&rt);
     let status = run_arguments(&rt, rt.alloc(), words, &mut input, &mut output, &mut errors);

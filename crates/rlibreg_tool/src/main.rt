@@ -3,9 +3,9 @@
 //! makes several changes at once.
 #![tactic(auto)]
 
-use program_parts::{StandardStreams, read_arguments};
+use program_parts::{StandardStreams, cannot_hold, read_arguments};
 use std::process::ExitCode;
-use tool_commands::{cannot_hold, run_arguments};
+use tool_commands::run_arguments;
 
 fn main(rt: HostRuntime) -> ExitCode {
     let mut input = rt.stdin();
@@ -13,7 +13,7 @@ fn main(rt: HostRuntime) -> ExitCode {
     let mut errors = rt.stderr();
     let streams = match StandardStreams::hold(&rt) {
         Ok(streams) => streams,
-        Err(_) => return ExitCode::from(cannot_hold(&mut errors)),
+        Err(_) => return ExitCode::from(cannot_hold(&mut errors, "rlibreg-tool")),
     };
     let words = read_arguments(&rt);
     let status = run_arguments(&rt, rt.alloc(), words, &mut input, &mut output, &mut errors);

@@ -3,3 +3,4 @@ pub mod Geometry
 pub mod State
 pub mod Cost
 pub mod Changes
+pub mod Room

@@ -38,4 +38,4 @@ module _ (StandsFor : List Sector → State → Type 0) (m : List Sector) (none 
   geometry_refused = record { may = none; unformatted = λ is. cc; formatted = λ is. cc; damaged = λ is. cc; memory = λ is. cc }
 
   pub geometry_refused_open : RefusesOpen StandsFor m BadGeometry
-  geometry_refused_open = record { may = none; unformatted = λ is. cc; formatted = λ is. cc; damaged = λ is. cc; memory = λ is. cc; old = λ is. cc; only_old = λ fits. absurd (none fits) }
+  geometry_refused_open = record { why = inl geometry_refused; only_old = λ fits. absurd (none fits) }

@@ -13,12 +13,12 @@ use Rattle.store.specs.declared.placed_entry.PlacedEntry.{PlacedEntry}
 use Rattle.store.specs.declared.refusal.StoreRefusal.{StoreRefusal}
 use Rattle.store.specs.declared.refusal.StoreRefusal.TheVariants.{Device, GenerationEnd, OutOfMemory, Reopen}
 use Rattle.store.specs.Stands.{catalogues_of}
-use Rattle.store.specs.Step.{IsAnswer, refusal_of_bytes, refusal_of_new, refusal_of_take}
+use Rattle.store.specs.Step.{IsAnswer, refusal_of_new, refusal_of_take}
 use Rattle.store.specs.inside.Draft.{IsDraftCounted, TakesBeside, spare_of, with_layout}
 use Rattle.store.specs.inside.Prepared.{IsTestedChange}
 use Rattle.store.specs.inside.Room.{IsPutTaken}
 use Rattle.store.specs.inside.Stored.{longest_in}
-use Rattle.store.proofs.Frees.{Takes, bytes_refused, bytes_taken, if_no, if_yes, new_as_put}
+use Rattle.store.proofs.Frees.{Takes, bytes_refused, bytes_taken, if_no, if_yes, new_as_put, refusal_of_bytes}
 use Rattle.store.proofs.Holding.{err_is}
 use Rattle.store.proofs.Outcomes.{memory_wants}
 use Rattle.store.proofs.Refusals.{end-device, end-reopen}

@@ -1,10 +1,10 @@
 -- How many sectors a state leaves free, and what follows for the refusals of a put and of an upgrade.
 use Rattle.std.proofs.Common.{◌≡◌, ◌≢◌, inl, ⊎_elim, ℕ, suc, ◌+◌, ◌-◌, ◌*◌, ◌<◌, ◌≤◌, Bool, true, false, nat_lt, nat_eq, List, [], ◌∷◌, length, map}
 use Rattle.std.proofs.Common.{sum_by, All, IsTrue, Option, Some, None, Result, Ok, Err, OnErr, ◌↔◌, refl, sym, ap, subst, ◌∙◌, arith}
-use Rattle.std.specs.Prelude.{Contains, if◌then◌else◌}
+use Rattle.std.specs.Prelude.{Contains, nat_le, if◌then◌else◌}
 use Rattle.std.specs.Int.{div_ceil}
 use Rattle.std.specs.List.{flat_map}
-use Rattle.std.proofs.lemmas.Bool.{false≢true, eqb-true, eq-eqb, ltb-true, ltb-false, cases_lt}
+use Rattle.std.proofs.lemmas.Bool.{false≢true, eqb-true, eq-eqb, ltb-true, ltb-false, leb-true, cases_lt}
 use Rattle.std.proofs.lemmas.List.Sums.{sum_by-cons}
 use Rattle.std.proofs.lemmas.List.FromFn.{length-map-range_with_len}
 use Rattle.std.proofs.lemmas.List.Elements.{All-contains, Contains-append_left, Contains-append_right}
@@ -23,6 +23,7 @@ use Rattle.roots.specs.declared.version.Version.{Version}
 use Rattle.roots.specs.declared.version.Version.TheVariants.{One, Two}
 use Rattle.states.specs.Limits.{most_libraries, last_generation}
 use Rattle.states.specs.Cost.{catalogues_for, cost, catalogue_cost, free, taken_by}
+use Rattle.states.specs.Room.{put_tests}
 use Rattle.roots.specs.Root.{version_of}
 use Rattle.states.specs.State.{Library, State}
 use Rattle.store.specs.declared.placed_entry.PlacedEntry.{PlacedEntry}
@@ -32,7 +33,7 @@ use Rattle.store.specs.declared.holds.HeldRow.{HeldRow}
 use Rattle.store.specs.Holds.{in_use, lone_sectors}
 use Rattle.store.specs.Opened.{Opened, IsAtBy}
 use Rattle.store.specs.Stands.{StandsBy, catalogues_of, entries_cost, extents_of, library_of, sectors_of, used}
-use Rattle.store.specs.Step.{refusal_of_bytes, refusal_of_put, refusal_of_new, refusal_of_upgrade, refusal_of_take, refusal_of_change, IsAnswer, IsExactAnswer}
+use Rattle.store.specs.Step.{first_refusal, room_at, refusal_of_put, refusal_of_new, refusal_of_upgrade, refusal_of_take, refusal_of_change, IsAnswer, IsExactAnswer}
 use Rattle.store.specs.inside.Kept.{HaveSpellings, IsKept}
 pub use Rattle.store.specs.inside.Stored.{IsCounted}
 use Rattle.store.proofs.Libraries.{length-library}
@@ -113,6 +114,10 @@ pub if_yes : {A : Type 0} (b : Bool) (x y : A) → (b ≡ false → ⊥) → (if
 if_yes true x y isnt = refl
 if_yes false x y isnt = absurd (isnt refl)
 
+-- the first refusal of bytes beside which so many sectors more are taken
+abbrev pub refusal_of_bytes : (sectors longest more : ℕ) → State → List ℕ → Option StoreRefusal
+refusal_of_bytes sectors longest more s bytes = first_refusal (put_tests (room_at sectors longest s) more (length bytes))
+
 -- The first refusal, by the numbers that decide it.
 module _ (sectors longest more : ℕ) (s : State) (bytes : List ℕ) (usable : s.generation ≢ last_generation) where
   abbrev needed : ℕ
@@ -166,7 +171,7 @@ module _ {T : Type 0} (sectors longest more : ℕ) (s : State) (bytes : List ℕ
 
 pub new_as_put : (sectors longest : ℕ) (s : State) (bytes : List ℕ) → length s.libraries < most_libraries
     → refusal_of_new sectors longest s bytes ≡ refusal_of_bytes sectors longest (catalogue_cost (length s.libraries)) s bytes
-new_as_put sectors longest s bytes few = if_yes (nat_lt (length s.libraries) most_libraries) _ _ (λ is. omega (arith, ltb-false (length s.libraries) most_libraries is, few))
+new_as_put sectors longest s bytes few = if_no (nat_le most_libraries (length s.libraries)) _ _ (λ is. omega (arith, leb-true most_libraries (length s.libraries) is, few))
 
 pub answers_take : (e : TakeRefusal) → IsAnswer (Some (refusal_of_take e)) (Err (refusal_of_take e))
 answers_take take.Full = inl refl

@@ -1,8 +1,8 @@
 -- What a change answers, and what it does on any disk, by how it ends.
 use Rattle.std.proofs.Common.{◌≡◌, ◌≢◌, ◌<◌, ◌≤◌, ◌+◌, ◌-◌, ℕ, nat_eq, nat_lt, false, List, length, Bool, true}
 use Rattle.std.proofs.Common.{IsTrue, IsFalse, Some, None, inr, Ok, Err, refl, sym, ap, subst, ◌∙◌, arith}
-use Rattle.std.specs.Prelude.{if◌then◌else◌}
-use Rattle.std.proofs.lemmas.Bool.{false≢true, eqb-true, eq-eqb, ltb-true}
+use Rattle.std.specs.Prelude.{nat_le, if◌then◌else◌}
+use Rattle.std.proofs.lemmas.Bool.{false≢true, eqb-true, eq-eqb, leb-false}
 use Rattle.passes.specs.Calls.{AreCallsInRow}
 use Rattle.passes.proofs.Rows.{in_row_at_most, in_row_exactly}
 use Rattle.sector_disk.specs.Disk.{DiskFacts, HoldsNow, HasWholeSectors, AreCallsAtMost}
@@ -109,7 +109,7 @@ module _ {root : Root} {entries : List PlacedEntry} {held : List HeldRow} {layou
 
     pub new_many : most_libraries ≤ length entries → IsAnswer (refusal_of_new sectors longest s bytes) (Err TooMany)
     new_many many = subst (λ first. IsAnswer first (Err TooMany))
-        (sym (if_no (nat_lt (length s.libraries) most_libraries) _ _ (λ few. omega (arith, ltb-true (length s.libraries) most_libraries few, counted.count, many)))) refl
+        (sym (if_yes (nat_le most_libraries (length s.libraries)) _ _ (λ few. omega (arith, leb-false most_libraries (length s.libraries) few, counted.count, many)))) refl
 
     pub new_ends : length entries < most_libraries → root.generation ≡ last_generation → IsAnswer (refusal_of_new sectors longest s bytes) (Err GenerationEnd)
     new_ends few last = subst (λ first. IsAnswer first (Err GenerationEnd))

@@ -12,8 +12,8 @@ use Rattle.states.specs.State.{State}
 use Rattle.store.specs.Names.{IsFileSize}
 use Rattle.store.specs.Opened.{Opened}
 use Rattle.store.specs.Holds.{room_of}
-use Rattle.store.specs.Step.{longest_unused, refusal_of_bytes, refusal_of_new}
-use Rattle.store.proofs.Frees.{IsCounted, bytes_full, bytes_fragmented, bytes_accepted, new_as_put}
+use Rattle.store.specs.Step.{longest_unused, refusal_of_new}
+use Rattle.store.proofs.Frees.{IsCounted, bytes_full, bytes_fragmented, bytes_accepted, new_as_put, refusal_of_bytes}
 
 -- bytes are accepted exactly where they and their entry have room, and their sectors are in few runs
 accepted_iff : (sectors longest more : ℕ) (s : State) (bytes : List ℕ) → s.generation ≢ last_generation

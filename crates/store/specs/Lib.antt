@@ -5,6 +5,7 @@ pub mod Holds
 pub mod Opening
 pub mod Opens
 pub mod Looked
+pub mod Makes
 pub mod Names
 pub mod Reads
 pub mod IsRead

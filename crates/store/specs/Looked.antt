@@ -1,10 +1,16 @@
 -- What `look` sees.
-use Rattle.std.specs.Prelude.{Result, Ok, Err}
-use Rattle.sector_disk.specs.Disk.{DiskFacts}
+use Rattle.std.specs.Prelude.{◌≡◌, ◌+◌, ◌<◌, ◌⊎◌, [], length, IsTrue, IsFalse, IfOk, IfErr, MatchResult, Result, Ok, Err}
+use Rattle.sector_disk.specs.Disk.{DiskFacts, Mixture, LeavesOnly, MayAddSync, AreCallsExactly, AreCallsAtMost}
+use Rattle.roots.specs.Limits.{most_catalogues}
+use Rattle.states.specs.Geometry.{IsGeometry}
+use Rattle.states.specs.Limits.{most_libraries}
 use Rattle.store.specs.declared.refusal.StoreRefusal.{StoreRefusal}
+use Rattle.store.specs.declared.refusal.StoreRefusal.TheVariants.{BadGeometry, Device, OutOfMemory}
 use Rattle.store.specs.declared.look.Look.{Look}
 use Rattle.store.specs.declared.look.Look.TheVariants.{Current, Old}
 use Rattle.store.specs.Opened.{Opened, IsAt, IsOldAt}
+use Rattle.store.specs.Opening.{RefusesLook, IsRefusalOfLook}
+use Rattle.store.specs.Stands.{Stands, StandsOld, StandsEither, catalogues_of}
 use Rattle.states.specs.State.{State}
 
 -- the store that is seen, of whatever version
@@ -26,3 +32,29 @@ IsSeenAt facts (Old store) s = ⊥
 abbrev pub IsSeenOldAt : {D : Type 0} → (D → DiskFacts) → Look D → State → Type 0
 IsSeenOldAt facts (Current store) s = ⊥
 IsSeenOldAt facts (Old store) s = IsOldAt facts store s
+
+-- What the disk holds was seen, or the disk was refused and handed back: nothing is written.
+pub record Looks {D : Type 0} (facts : D → DiskFacts) (disk : D) (looking : Result (Look D) (StoreRefusal × D)) : Type 0 where
+  -- a stop at any moment leaves what it could leave before
+  pub any_moment : IsTrue (facts disk).honest → LeavesOnly (facts disk) (facts (looked_after looking)) (Mixture (facts disk))
+  -- what reads give stays, also where a call fails
+  pub now : IsTrue (facts disk).honest → (facts (looked_after looking)).now ≡ (facts disk).now
+  pub log : IsTrue (facts disk).honest → MayAddSync (facts disk).log (facts (looked_after looking)).log
+  -- the store is of the version of its root, and at the state that what reads give holds
+  pub stands : IsTrue (facts disk).honest → (s : State) → Stands (facts disk).now s
+      → MatchResult looking (λ look. IsSeenAt facts look s) (λ e. (e.0 ≡ Device) ⊎ (e.0 ≡ OutOfMemory))
+  pub stands_old : IsTrue (facts disk).honest → (s : State) → StandsOld (facts disk).now s
+      → MatchResult looking (λ look. IsSeenOldAt facts look s) (λ e. (e.0 ≡ Device) ⊎ (e.0 ≡ OutOfMemory))
+  pub ok : IsTrue (facts disk).honest → IfOk looking (λ look.
+      (s : State) × ((Stands (facts disk).now s × IsSeenAt facts look s) ⊎ (StandsOld (facts disk).now s × IsSeenOldAt facts look s)))
+  pub refused : IsTrue (facts disk).honest → IfErr looking (λ e. RefusesLook StandsEither (facts disk).now e.0)
+  -- the rest holds on any disk, also on one that lies
+  pub unheld : IfOk looking (λ look. (seen look).held ≡ [])
+  pub usable : IfOk looking (λ look. IsFalse (seen look).failed)
+  pub geometry : IfOk looking (λ _. IsGeometry (facts disk).sectors)
+  pub refusals : IfErr looking (λ e. IsRefusalOfLook (facts disk).sectors e.0)
+  pub device : IfErr looking (λ e. e.0 ≡ Device → (facts disk).failures < (facts e.1).failures)
+  pub untouched : IfErr looking (λ e. e.0 ≡ BadGeometry → e.1 ≡ disk)
+  pub calls : AreCallsAtMost (3 + most_catalogues + most_libraries) (facts disk) (facts (looked_after looking))
+  pub all_calls : IfOk looking (λ look.
+      AreCallsExactly (3 + length (catalogues_of (seen look).root) + length (seen look).entries) (facts disk) (facts (seen look).disk))

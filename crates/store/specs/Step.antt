@@ -1,16 +1,17 @@
 -- The refusals of a store's changes, in their order.
-use Rattle.std.specs.Prelude.{◌≡◌, ℕ, ◌+◌, ◌-◌, ◌==◌, ◌⊎◌, nat_lt, List}
+use Rattle.std.specs.Prelude.{◌≡◌, ℕ, ◌+◌, ◌⊎◌, Bool, nat_lt, List, [], ◌∷◌, ◌++◌}
 use Rattle.std.specs.Prelude.{length, Option, Some, None, Result, Ok, Err, if◌then◌else◌}
 use Rattle.extents.specs.Extent.{sector_count}
 use Rattle.extents.specs.Limits.{root_sectors}
 use Rattle.extents.specs.Longest.{longest_runs}
-use Rattle.states.specs.Limits.{most_libraries, last_generation}
 use Rattle.store.specs.declared.refusal.StoreRefusal.{StoreRefusal}
 use Rattle.store.specs.declared.refusal.StoreRefusal.TheVariants.{Device, Reopen, Full, Fragmented, TooMany, GenerationEnd, OutOfMemory}
 use Rattle.extents.specs.declared.refusal.TakeRefusal.{TakeRefusal}
 use Rattle.extents.specs.declared.refusal.TakeRefusal.TheVariants as take
 use Rattle.states.specs.State.{State}
-use Rattle.states.specs.Cost.{cost, catalogue_cost, free, taken_by}
+use Rattle.states.specs.Cost.{free, taken_by}
+use Rattle.states.specs.Room as room
+use Rattle.states.specs.Room.{RoomRefusal, Room, change_tests, put_tests, new_tests}
 use Rattle.store.specs.Opened.{Opened}
 use Rattle.store.specs.Holds.{layout_in_use}
 
@@ -18,31 +19,37 @@ use Rattle.store.specs.Holds.{layout_in_use}
 abbrev pub longest_unused : {D : Type 0} → Opened D → ℕ
 longest_unused store = sector_count (longest_runs (layout_in_use store))
 
--- the first reason to refuse bytes beside which so many sectors more are taken, by the size of the
--- disk and its longest runs
-abbrev pub refusal_of_bytes : (sectors longest more : ℕ) → State → List ℕ → Option StoreRefusal
-refusal_of_bytes sectors longest more s bytes =
-    if s.generation == last_generation then Some GenerationEnd
-    else if nat_lt (free sectors s) (cost (length bytes) + more) then Some Full
-    else if nat_lt longest (cost (length bytes) - 1) then Some Fragmented
-    else None
+-- the store's word for what there is no room for
+abbrev pub refusal_of_room : RoomRefusal → StoreRefusal
+refusal_of_room room.TooMany = TooMany
+refusal_of_room room.GenerationEnd = GenerationEnd
+refusal_of_room room.Full = Full
+refusal_of_room room.Fragmented = Fragmented
 
--- bytes in place of others take as many catalogues as before
+-- the first refusal whose test applies
+abbrev pub first_refusal : List (Bool × RoomRefusal) → Option StoreRefusal
+first_refusal [] = None
+first_refusal (test ∷ others) = if test.0 then Some (refusal_of_room test.1) else first_refusal others
+
+-- what the tests read of a state, by the size of its disk and its longest unused runs
+abbrev pub room_at : (sectors longest : ℕ) → State → Room
+room_at sectors longest s = record { generation = s.generation; libraries = length s.libraries; free = free sectors s; longest = longest }
+
+-- the first reason to refuse bytes in place of others, which take as many catalogues as before
 abbrev pub refusal_of_put : (sectors longest : ℕ) → State → List ℕ → Option StoreRefusal
-refusal_of_put sectors longest s bytes = refusal_of_bytes sectors longest 0 s bytes
+refusal_of_put sectors longest s bytes = first_refusal (put_tests (room_at sectors longest s) 0 (length bytes))
 
--- bytes with a new name may take a catalogue more
+-- the first reason to refuse bytes with a new name, which may take more catalogues
 abbrev pub refusal_of_new : (sectors longest : ℕ) → State → List ℕ → Option StoreRefusal
-refusal_of_new sectors longest s bytes =
-    if nat_lt (length s.libraries) most_libraries then refusal_of_bytes sectors longest (catalogue_cost (length s.libraries)) s bytes
-    else Some TooMany
+refusal_of_new sectors longest s bytes = first_refusal (new_tests (room_at sectors longest s) (length bytes))
+
+-- the first reason to refuse a change that takes no more sectors than there is room for, or none
+abbrev pub refusal_of_change : State → Option StoreRefusal
+refusal_of_change s = first_refusal (change_tests s.generation)
 
 -- the first reason not to list a state of version 1 by catalogues
 abbrev pub refusal_of_upgrade : (sectors : ℕ) → State → Option StoreRefusal
-refusal_of_upgrade sectors s =
-    if s.generation == last_generation then Some GenerationEnd
-    else if nat_lt sectors (root_sectors + taken_by s) then Some Full
-    else None
+refusal_of_upgrade sectors s = first_refusal (change_tests s.generation ++ (nat_lt sectors (root_sectors + taken_by s), room.Full) ∷ [])
 
 -- the answers to a put with this first refusal; S11 may replace Full, Fragmented and Ok, S1 Ok
 abbrev pub IsAnswer : Option StoreRefusal → Result (Unit {0}) StoreRefusal → Type 0
@@ -60,10 +67,6 @@ IsUpgradeAnswer None (Ok done) = Unit
 IsUpgradeAnswer None (Err refusal) = (refusal ≡ Device) ⊎ (refusal ≡ OutOfMemory)
 IsUpgradeAnswer (Some first) (Ok done) = ⊥
 IsUpgradeAnswer (Some first) (Err refusal) = (refusal ≡ first) ⊎ (refusal ≡ Device) ⊎ (refusal ≡ OutOfMemory)
-
--- The first reason to refuse a change that takes no more sectors than there is room for, or none.
-abbrev pub refusal_of_change : State → Option StoreRefusal
-refusal_of_change s = if s.generation == last_generation then Some GenerationEnd else None
 
 -- the answers to a change that takes no memory and has this first refusal; S1 may replace Ok
 abbrev pub IsExactAnswer : Option StoreRefusal → Result (Unit {0}) StoreRefusal → Type 0

@@ -1,16 +1,11 @@
 // What a change writes: what is staged in sectors that nothing uses, and the root that follows.
-ghost use Rattle.std.specs.Prelude.{◌≡◌, ◌+◌, ◌<◌, ◌≤◌, ◌^◌, ◌⊎◌, List, Contains, IsTrue, OnOk};
+ghost use Rattle.std.specs.Prelude.{◌+◌, ◌<◌, ◌≤◌, ◌^◌, List, Contains, IsTrue, OnOk};
 ghost use Rattle.extents.specs.Limits.{root_sectors};
 ghost use Rattle.sector_disk.specs.Disk.{Sector, Mixture, IsMixtureBut, LeavesOnly};
 ghost use Rattle.passes.specs.Calls.{AreCallsInRow};
-ghost use Rattle.roots.specs.declared.root.Root.{Root};
-ghost use Rattle.roots.specs.declared.version.Version.{Version};
-ghost use Rattle.roots.specs.declared.version.Version.TheVariants.{Two};
 ghost use Rattle.roots.specs.Root.{RootHasSpelling};
-ghost use Rattle.states.specs.State.{State};
 ghost use Rattle.store.specs.declared.placed_entry.PlacedEntry.{PlacedEntry};
-ghost use Rattle.store.specs.Stands.{StandsBy, StandsAs, Stands};
-ghost use Rattle.store.specs.inside.Change.{CanBeStaged, HasBytes, HasSpelling, IsFollowed};
+ghost use Rattle.store.specs.inside.Change.{CanBeStaged, HasBytes, HasSpelling, IsCarriedOut};
 ghost use Rattle.store.specs.inside.Change.{AreWritten, HasSync, IsApartFrom};
 ghost use Rattle.store.specs.inside.Change.{IsStaged, staged_calls, staged_sectors};
 ghost use Rattle.store.specs.inside.Room.{AreClaimedOnce, IsReleased, IsRootOr};
@@ -97,24 +92,9 @@ impl Change {
         requires room { CanBeStaged (D.facts disk.old).sectors self.now.staged listed.now }
         ensures calls { AreCallsInRow (staged_calls self.now.staged + 2)
             (D.facts disk.old) (D.facts disk.new) result }
-        ensures any_moment { IsTrue (D.facts disk.old).honest
-            → (version : Version) → (before : Root) → (entries : List PlacedEntry) → (s : State)
-            → (written : List PlacedEntry) → (others : List PlacedEntry) → (s' : State)
-            → ((m : List Sector) → Mixture (D.facts disk.old) m
-            → StandsBy version m before entries s)
-            → IsFollowed version before entries s (D.facts disk.old).now written self.now
-            bytes.now listed.now others s'
-            → LeavesOnly (D.facts disk.old) (D.facts disk.new)
-            (λ m. StandsAs version m s ⊎ Stands m s') }
-        ensures done { IsTrue (D.facts disk.old).honest
-            → (version : Version) → (before : Root) → (entries : List PlacedEntry) → (s : State)
-            → (written : List PlacedEntry) → (others : List PlacedEntry) → (s' : State)
-            → ((m : List Sector) → Mixture (D.facts disk.old) m
-            → StandsBy version m before entries s)
-            → IsFollowed version before entries s (D.facts disk.old).now written self.now
-            bytes.now listed.now others s'
-            → OnOk result ((m : List Sector) → Mixture (D.facts disk.new) m
-            → StandsBy Two m self.now.root others s') }
+        ensures carried_out { IsTrue (D.facts disk.old).honest
+            → IsCarriedOut (D.facts disk.old) (D.facts disk.new) self.now
+            bytes.now listed.now result }
         ensures written { IsTrue (D.facts disk.old).honest
             → OnOk result ((m : List Sector) → Mixture (D.facts disk.new) m
             → HasBytes m self.now.staged bytes.now) }

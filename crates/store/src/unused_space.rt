@@ -88,7 +88,8 @@ impl<D: Disk> Store<D> {
         ensures sectors { result.sectors ≡ unused_count (layout_in_use self.now) }
         ensures runs { result.runs ≡ length (unused_runs (layout_in_use self.now)) }
 
-        // All are free but those that the next change's catalogues take: what the state leaves free.
+        // All are free but those that the next change's catalogues take: what the state leaves
+        // free.
         ensures free { result.free ≡ result.sectors - catalogues_for (length self.now.entries) }
         ensures state { (s : State) → IsAt D.facts self.now s
             → (result.free ≡ free (room_of self.now) s)

@@ -46,9 +46,9 @@ impl<D: Disk> Update<D> {
     }
 
     /// Puts other bytes, 64 bytes to 16 MiB, in the place of those that the draft has under this
-    /// name. The sectors of the old ones are unused once it is done where the update wrote them, and
-    /// else once it is committed. It takes no memory. It refuses with S2, S10, S7, S8 or S1, of
-    /// which S1 alone may come after the first write.
+    /// name. The sectors of the old ones are unused once it is done where the update wrote them,
+    /// and else once it is committed. It takes no memory. It refuses with S2, S10, S7, S8 or S1,
+    /// of which S1 alone may come after the first write.
     pub fn put_over(&mut self, name: &[u8], bytes: &[u8]) -> Result<(), StoreRefusal>
         requires present { (position : ℕ) × IsDraftedNamed self.old name.now position }
         requires size { IsFileSize (length bytes.now) }

@@ -11,6 +11,7 @@ use Rattle.file_disk.specs.declared.open.OpenFault.TheVariants as disk_file
 use Rattle.program_parts.specs.File.{read_limit}
 use Rattle.program_parts.specs.Said.{AppendsFront}
 use Rattle.program_parts.specs.Status.{status_number}
+use Rattle.program_parts.specs.Streams as program
 use Rattle.program_parts.specs.declared.file.FileFault.{FileFault}
 use Rattle.program_parts.specs.declared.file.FileFault.TheVariants as read_file
 use Rattle.program_parts.specs.declared.status.Status.{Status}
@@ -25,7 +26,6 @@ use Rattle.tool_parts.specs.Streams.{Streams, IsUntold}
 use Rattle.tool_commands.specs.declared.telling.Telling.{Telling}
 use Rattle.tool_commands.specs.declared.telling.Telling.TheVariants.{Text, Executable}
 use Rattle.updates.specs.Ends.{UpdateEnds}
-use Rattle.updates.specs.Streams as updates
 
 -- what a file ends with that isn't opened as a disk
 abbrev pub open_status : OpenFault → Status
@@ -81,7 +81,7 @@ ReadEnds Ends io status =
     ⊎ ((fault : FileFault) × (status ≡ read_status fault) × IsUntold io × SaysUnread fault io.errors_before io.errors_after)
 
 -- the streams of an update, whose input has this yet to give
-abbrev pub with_input : Option (List ℕ) → Streams → updates.Streams
+abbrev pub with_input : Option (List ℕ) → Streams → program.Streams
 with_input unread io =
     record { unread = unread; before = io.before; after = io.after; errors_before = io.errors_before; errors_after = io.errors_after }
 

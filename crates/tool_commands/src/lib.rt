@@ -42,6 +42,5 @@ pub use form::{Action, Asked, Form, Purpose, read_words};
 pub use info::run_info;
 pub use request::run_request;
 pub use run::run_form;
-pub use said::cannot_hold;
 pub use symbols::run_bindings;
 pub use telling::Telling;

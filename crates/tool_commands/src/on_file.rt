@@ -1,8 +1,7 @@
 // What is done with the disk that a file is.
 
-ghost use Rattle.std.specs.Prelude.{◌≡◌, IfOk, false};
+ghost use Rattle.std.specs.Prelude.{◌≡◌, false};
 ghost use Rattle.requests.specs.Request.{request_of};
-ghost use Rattle.file_disk.specs.FileDisk.{IsNew};
 ghost use Rattle.tool_commands.specs.Form.{deed_of, question_of, reads_input};
 ghost use Rattle.tool_commands.specs.Outcome.{AskEnds, BindingsAskEnds, DeedEnds, TellEnds};
 ghost use Rattle.tool_commands.specs.Outcome.{SaysFault, SaysUnread, UpdateAskEnds};
@@ -16,7 +15,7 @@ use crate::said::cannot_read;
 use crate::symbols::run_bindings;
 use crate::telling::Telling;
 use crate::with_file::WithFile;
-use file_disk::{DiskFile, FileDisk, OpenFault};
+use file_disk::{Access, FileDisk, OpenFault};
 use program_parts::{FileFault, Status, read_file};
 use requests::Command;
 use std::alloc::Global;
@@ -56,7 +55,7 @@ fn tell<R: Files<File = File> + Clock, O: Write, E: Write>(
       errors_after = E.contents errors.new;
     }) result }
 {
-    match FileDisk::open_read_only(rt, alloc, path) {
+    match FileDisk::open(rt, alloc, path, Access::Reading) {
         Ok(disk) => {
             let (status, disk) = run_form(alloc, disk, form, output, errors);
             drop(disk);
@@ -69,28 +68,13 @@ fn tell<R: Files<File = File> + Clock, O: Write, E: Write>(
     }
 }
 
-/// Opens a disk: for an executable file for reading alone, and else with a lock that nobody else
-/// may hold.
-fn open_disk<R: Files<File = File> + Clock>(
-    rt: &R,
-    alloc: Global,
-    path: &str,
-    telling: Telling,
-) -> Result<FileDisk<DiskFile>, OpenFault>
-    ensures { IfOk result (λ disk. IsNew disk) }
-{
-    match telling {
-        Telling::Text => FileDisk::open(rt, alloc, path),
-        Telling::Executable => FileDisk::open_read_only(rt, alloc, path),
-    }
-}
-
-/// Applies a command to the registry on a disk, and tells the reply. The lock is held until the
+/// Opens a disk, applies a command to its registry, and tells the reply. The lock is held until the
 /// output is written.
 fn ask<R: Files<File = File> + Clock, O: Write, E: Write>(
     rt: &R,
     alloc: Global,
     path: &str,
+    access: Access,
     command: &Command<'_>,
     telling: Telling,
     output: &mut O,
@@ -104,7 +88,7 @@ fn ask<R: Files<File = File> + Clock, O: Write, E: Write>(
           errors_after = E.contents errors.new;
         }) result }
 {
-    match open_disk(rt, alloc, path, telling) {
+    match FileDisk::open(rt, alloc, path, access) {
         Ok(disk) => {
             let (status, disk) = run_request(alloc, disk, command, telling, output, errors);
             drop(disk);
@@ -145,7 +129,16 @@ fn ask_with<R: Files<File = File> + Clock, O: Write, E: Write>(
     match read_file(rt, alloc, file) {
         Ok(bytes) => {
             let command = asking.command(&bytes);
-            ask(rt, alloc, path, &command, asking.telling(), output, errors)
+            ask(
+                rt,
+                alloc,
+                path,
+                asking.access(),
+                &command,
+                asking.telling(),
+                output,
+                errors,
+            )
         }
         Err(fault) => not_read(alloc, file, fault, errors),
     }
@@ -169,7 +162,7 @@ fn tell_bindings<R: Files<File = File> + Clock, O: Write, E: Write>(
       errors_after = E.contents errors.new;
     }) result }
 {
-    match FileDisk::open_read_only(rt, alloc, path) {
+    match FileDisk::open(rt, alloc, path, Access::Reading) {
         Ok(disk) => {
             let (status, disk) = run_bindings(alloc, disk, program, base, output, errors);
             drop(disk);
@@ -219,7 +212,7 @@ fn update<R: Files<File = File> + Clock, I: Read, O: Write, E: Write>(
       errors_after = E.contents errors.new;
     }) result }
 {
-    match FileDisk::open(rt, alloc, path) {
+    match FileDisk::open(rt, alloc, path, Access::Changes) {
         Ok(disk) => {
             let (status, disk) = run_update(alloc, disk, input, output, errors);
             drop(disk);
@@ -255,7 +248,17 @@ pub(crate) fn run_asked<R: Files<File = File> + Clock, I: Read, O: Write, E: Wri
         }
         Action::Remove(name) => {
             let command = Command::Remove(name.as_bytes());
-            ask(rt, alloc, disk, &command, Telling::Text, output, errors)
+            let access = Access::Changes;
+            ask(
+                rt,
+                alloc,
+                disk,
+                access,
+                &command,
+                Telling::Text,
+                output,
+                errors,
+            )
         }
         Action::Update => update(rt, alloc, disk, input, output, errors),
         Action::Executable { program, base } => {

@@ -2,9 +2,11 @@
 
 ghost use Rattle.std.specs.Prelude.{◌≡◌};
 ghost use Rattle.requests.specs.Request.{request_of};
-ghost use Rattle.tool_commands.specs.inside.WithFile.{request_with, telling_of};
+ghost use Rattle.tool_commands.specs.inside.WithFile.{access_of, request_with};
+ghost use Rattle.tool_commands.specs.inside.WithFile.{telling_of};
 
 use crate::telling::Telling;
+use file_disk::Access;
 use requests::Command;
 
 /// What is asked of a registry with the bytes of a file.
@@ -30,6 +32,16 @@ impl WithFile {
                 program: bytes,
                 base,
             },
+        }
+    }
+
+    /// What its disk is opened for.
+    pub(crate) fn access(self) -> Access
+        ensures { result ≡ access_of self }
+    {
+        match self {
+            WithFile::Replace => Access::Changes,
+            WithFile::Executable { .. } => Access::Reading,
         }
     }
 

@@ -18,7 +18,8 @@ use Rattle.updates.specs.Answer.{plan_texts, update_refusal_text}
 use Rattle.updates.specs.Lines.{ArePlanned, BeginsWith, IsRefusedAt, commit_line}
 use Rattle.tool_parts.specs.Said.{memory_line}
 use Rattle.updates.specs.Status.{update_status}
-use Rattle.updates.specs.Streams.{Streams, BreaksOff, TellsOnly}
+use Rattle.program_parts.specs.Streams.{Streams}
+use Rattle.updates.specs.Streams.{BreaksOff, TellsOnly}
 use Rattle.updates.specs.declared.answer.UpdateRefusal.{UpdateRefusal}
 use Rattle.updates.specs.declared.lines.Ending.{Ending}
 use Rattle.updates.specs.declared.lines.Ending.TheVariants.{Commit, Refused}

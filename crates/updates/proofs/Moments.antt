@@ -14,7 +14,7 @@ use Rattle.program_parts.specs.declared.status.Status.{Status}
 use Rattle.updates.specs.Commit.{Commits}
 use Rattle.updates.specs.Ends.{IsBegun, IsRun, LeavesStanding}
 use Rattle.updates.specs.Lines.{ArePlanned, IsRefusedAt}
-use Rattle.updates.specs.Streams.{Streams}
+use Rattle.program_parts.specs.Streams.{Streams}
 use Rattle.registry.specs.Updating.{IsUpdate, drafted_by, updated}
 use Rattle.updates.specs.Update.{requests_of}
 use Rattle.updates.specs.declared.answer.UpdateRefusal.{UpdateRefusal}

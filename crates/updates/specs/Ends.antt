@@ -24,7 +24,8 @@ use Rattle.updates.specs.Commit.{Commits}
 use Rattle.updates.specs.Lines.{ArePlanned, BeginsWith, IsRefusedAt, commit_line}
 use Rattle.tool_parts.specs.Said.{refusal_line}
 use Rattle.updates.specs.Status.{update_status}
-use Rattle.updates.specs.Streams.{Streams, BreaksOff, SaysOnly, TellsOnly}
+use Rattle.program_parts.specs.Streams.{Streams}
+use Rattle.updates.specs.Streams.{BreaksOff, SaysOnly, TellsOnly}
 use Rattle.registry.specs.Updating.{IsUpdate, asks_change, updated}
 use Rattle.updates.specs.Update.{requests_of}
 use Rattle.updates.specs.declared.answer.UpdateRefusal.{UpdateRefusal}

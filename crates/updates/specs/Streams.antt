@@ -1,20 +1,12 @@
--- What an update reads, what it tells on the output, and what it says on standard error (own).
-use Rattle.std.specs.Prelude.{◌≡◌, ◌⊎◌, ℕ, List, Option}
+-- What an update tells on the output, and what it says on standard error (own).
+use Rattle.std.specs.Prelude.{◌≡◌, ◌⊎◌, ℕ, List}
+use Rattle.program_parts.specs.Streams.{Streams}
 use Rattle.program_parts.specs.declared.status.Status.{Status}
 use Rattle.scripts.specs.declared.fault.ScriptFault.{ScriptFault}
 use Rattle.scripts.specs.declared.fault.ScriptFault.TheVariants.{Write}
 use Rattle.tool_parts.specs.Streams as outputs
 use Rattle.updates.specs.Said.{fault_line}
 use Rattle.updates.specs.Status.{fault_status}
-
--- what the input has yet to give, and what the output and standard error hold before and after, where
--- that is known
-pub record Streams : Type 0 where
-  pub unread : Option (List ℕ)
-  pub before : Option (List ℕ)
-  pub after : Option (List ℕ)
-  pub errors_before : Option (List ℕ)
-  pub errors_after : Option (List ℕ)
 
 -- the output and standard error
 abbrev pub outputs_of : Streams → outputs.Streams

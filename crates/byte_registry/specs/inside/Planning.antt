@@ -1,5 +1,5 @@
 -- What an update on a disk of bytes does to its draft, and its commit to the registry (own).
-use Rattle.std.specs.Prelude.{◌≡◌, ◌⊎◌, ◌<◌, ℕ, List, ◌∷◌, ◌++◌, length, Result, Ok, Err, IfErr, OnOk}
+use Rattle.std.specs.Prelude.{◌≡◌, ◌⊎◌, ◌<◌, ℕ, List, Result, Ok, Err, IfErr, OnOk}
 use Rattle.sector_disk.specs.Disk.{LeavesOnly}
 use Rattle.byte_disk.specs.declared.disk.ByteDisk.{ByteDisk}
 use Rattle.byte_disk.specs.ByteDisk.{byte_facts}
@@ -11,22 +11,8 @@ use Rattle.requests.specs.Request.{Request}
 use Rattle.requests.specs.declared.refusal.Refusal.{Refusal}
 use Rattle.requests.specs.declared.refusal.Refusal.TheVariants.{Device}
 use Rattle.requests.specs.declared.reply.Reply.{Reply}
-use Rattle.requests.specs.declared.reply.Reply.TheVariants.{Refused}
-use Rattle.registry.specs.Drafting.{draft_phase}
-use Rattle.registry.specs.Updating.{DraftAnswers, Plans, updated}
-use Rattle.byte_registry.specs.Updated.{AnswersUpdate}
-
--- A draft refused one of the requests; so many before it were planned.
-pub record StopsAt (old new : Drafted ByteDisk) (requests : List Request) (n : ℕ) (refusal : Refusal) : Type 0 where
-  pub before : List Request
-  pub request : Request
-  pub others : List Request
-  pub requests_are : requests ≡ before ++ request ∷ others
-  pub count : n ≡ length before
-  pub mid : Drafted ByteDisk
-  pub answers : List Reply
-  pub plans : Plans byte_facts old mid before answers
-  pub refused : DraftAnswers byte_facts mid request (Refused refusal) new
+use Rattle.registry.specs.Updating.{Plans, updated}
+use Rattle.byte_registry.specs.Updated.{AnswersUpdate, StopsAt}
 
 -- requests to a draft were answered up to the first that was refused
 abbrev pub PlansAll : Drafted ByteDisk → Drafted ByteDisk → List Request → Result (Unit {0}) (ℕ × Refusal) → Type 0
@@ -35,7 +21,7 @@ PlansAll old new requests (Err refused) = StopsAt old new requests refused.0 ref
 
 -- An update of an opened registry at this state was answered so; once that is Ok it is made.
 pub record MakesUpdate (old new : Opened ByteDisk) (s : State) (requests : List Request) (answer : Result (Unit {0}) (ℕ × Refusal)) : Type 0 where
-  pub table : AnswersUpdate (draft_phase byte_facts (begun old) s) requests answer
+  pub table : AnswersUpdate (begun old) s requests answer new.disk
   pub any_moment : OnOk answer (LeavesOnly (byte_facts old.disk) (byte_facts new.disk) (λ m. Stands m s ⊎ Stands m (updated s requests)))
   pub ok : OnOk answer (IsAt byte_facts new (updated s requests))
   pub device : IfErr answer (λ refused. refused.1 ≡ Device → 0 < (byte_facts new.disk).failures)

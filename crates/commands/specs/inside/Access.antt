@@ -1,10 +1,10 @@
 -- Which disk a command of the program has, and what a command of a registry opens it for.
 use Rattle.std.specs.Prelude.{ℕ, List, Option, Some, None}
+use Rattle.file_disk.specs.declared.disk_file.Access.{Access}
+use Rattle.file_disk.specs.declared.disk_file.Access.TheVariants.{Reading, Changes}
 use Rattle.requests.specs.Request.{Request, bind, list}
 use Rattle.commands.specs.Words.{CommandLine}
 use Rattle.commands.specs.Words as words
-use Rattle.commands.specs.declared.access.Access.{Access}
-use Rattle.commands.specs.declared.access.Access.TheVariants.{Reading, Writing}
 
 -- the path of the disk: every command but `image` has one
 abbrev pub disk_of : CommandLine → Option (List ℕ)
@@ -23,4 +23,4 @@ disk_of (words.script disk) = Some disk
 abbrev pub access_of : Request → Access
 access_of list = Reading
 access_of (bind program base) = Reading
-access_of request = Writing
+access_of request = Changes

@@ -1,37 +1,29 @@
 -- What the parts of a run end with.
-use Rattle.std.specs.Prelude.{ℕ, List, Option, Some, None, ◌≡◌, ◌⊎◌, true, false, is_some}
+use Rattle.std.specs.Prelude.{ℕ, List, Option, Some, None, ◌≡◌, ◌⊎◌, true, is_some}
 use Rattle.std.specs.Io.KnownBytes.{Appends}
-use Rattle.requests.specs.declared.reply.Reply.{Reply}
-use Rattle.program_parts.specs.declared.file.FileFault.{FileFault}
-use Rattle.program_parts.specs.declared.file.FileFault.TheVariants.{CannotRead, OutOfMemory}
-use Rattle.commands.specs.declared.show.Shown.TheVariants as shown
-use Rattle.program_parts.specs.declared.status.Status.{Status}
-use Rattle.program_parts.specs.declared.status.Status.TheVariants.{Done, Refused, BadWords, Failed, NoMemory}
+use Rattle.sector_disk.specs.Disk.{DiskFacts}
 use Rattle.requests.specs.Request.{Request}
-use Rattle.binders.specs.Events.{Happening}
-use Rattle.binders.specs.declared.event.EventReply.{EventReply}
+use Rattle.requests.specs.declared.reply.Reply.{Reply}
+use Rattle.binders.specs.Slotted.{Slotted}
 use Rattle.store.specs.declared.refusal.StoreRefusal.{StoreRefusal}
-use Rattle.commands.specs.declared.disk.NoRegistry.{NoRegistry}
-use Rattle.commands.specs.declared.disk.NoRegistry.TheVariants as no
-use Rattle.commands.specs.Disk.{IsOpenRefusal, IsFormatRefusal, IsUpgradeRefusal}
-use Rattle.commands.specs.Outcome.{are_bad, IsDone, IsRefused, LacksMemory, Replies, Makes, Upgrades, TurnsAway, RunsToTheEnd, EndsEarly, Runs, RunsInPart}
-use Rattle.program_parts.specs.Told.{IsTold}
-use Rattle.commands.specs.Printed.{PrintsImage, PrintsRefusal}
 use Rattle.program_parts.specs.Refusal.{memory_text}
 use Rattle.program_parts.specs.Reply.{reply_text}
-use Rattle.commands.specs.RunImage.{Shows}
 use Rattle.program_parts.specs.Said.{AppendsFront}
-use Rattle.commands.specs.Script.{Streams}
 use Rattle.program_parts.specs.Status.{reply_status}
-use Rattle.commands.specs.Words.{CommandLine}
-
--- what words end with, by what they ask, and by what the streams gave and hold
-abbrev pub CommandEnds : Option CommandLine → Streams → Status → Type 0
-CommandEnds line io Done = (are_bad line ≡ false) × IsDone line io
-CommandEnds line io Refused = (are_bad line ≡ false) × IsRefused line io
-CommandEnds line io BadWords = (are_bad line ≡ true) × (io.after ≡ io.before)
-CommandEnds line io Failed = are_bad line ≡ false
-CommandEnds line io NoMemory = (are_bad line ≡ false) × LacksMemory line io
+use Rattle.program_parts.specs.Told.{IsTold}
+use Rattle.program_parts.specs.declared.file.FileFault.{FileFault}
+use Rattle.program_parts.specs.declared.file.FileFault.TheVariants.{CannotRead, OutOfMemory}
+use Rattle.program_parts.specs.declared.status.Status.{Status}
+use Rattle.program_parts.specs.declared.status.Status.TheVariants.{Done, Refused, BadWords, Failed, NoMemory}
+use Rattle.commands.specs.Disk.{IsOpenRefusal, IsFormatRefusal, IsUpgradeRefusal}
+use Rattle.commands.specs.OnDisk.{RunsOnDisk, BreaksOnDisk}
+use Rattle.commands.specs.Outcome.{Replies, Makes, Upgrades, TurnsAway, Runs}
+use Rattle.commands.specs.Printed.{PrintsImage, PrintsRefusal}
+use Rattle.commands.specs.RunImage.{Shows}
+use Rattle.commands.specs.Script.{Streams}
+use Rattle.commands.specs.declared.disk.NoRegistry.{NoRegistry}
+use Rattle.commands.specs.declared.disk.NoRegistry.TheVariants as no
+use Rattle.commands.specs.declared.show.Shown.TheVariants as shown
 
 -- what showing an image ends with, by the base that was asked for
 abbrev pub ImageEnds : Option ℕ → Option (List ℕ) → Option (List ℕ) → Status → Type 0
@@ -40,12 +32,6 @@ ImageEnds asked before after Refused = (base : ℕ) × (asked ≡ Some base) × 
 ImageEnds asked before after BadWords = (asked ≡ None) × (after ≡ before)
 ImageEnds asked before after Failed = is_some asked ≡ true
 ImageEnds asked before after NoMemory = (is_some asked ≡ true) × Appends before after memory_text
-
--- that memory was refused was written, or the writer failed
-abbrev pub SaysNoMemory : Option (List ℕ) → Option (List ℕ) → Status → Type 0
-SaysNoMemory before after NoMemory = Appends before after memory_text
-SaysNoMemory before after Failed = Unit {0}
-SaysNoMemory before after status = ⊥
 
 -- what stands on standard error: nothing more than before; or the output is as it was, and it is a
 -- front of the line of words that are turned away, or what is said of a file that can't be read
@@ -64,7 +50,7 @@ IsShown file base before after NoMemory = Shows file base before after shown.NoM
 -- what a file that wasn't read ends with
 abbrev pub IsNotRead : FileFault → Option (List ℕ) → Option (List ℕ) → Status → Type 0
 IsNotRead CannotRead before after status = (status ≡ Failed) × (after ≡ before)
-IsNotRead OutOfMemory before after status = SaysNoMemory before after status
+IsNotRead OutOfMemory before after status = IsTold NoMemory memory_text before after status
 
 -- why there is no registry: for such a refusal, or since there is no such file
 abbrev pub IsNoRegistry : (StoreRefusal → Type 0) → NoRegistry → Type 0
@@ -106,9 +92,9 @@ abbrev pub IsUpgradedOver : Option (List ℕ) → Option (List ℕ) → Status �
 IsUpgradedOver before after Done = Upgrades before after
 IsUpgradedOver before after status = IsTurnedAway IsUpgradeRefusal before after status
 
--- what a script over a registry with binders ends with
-abbrev pub IsRun : {S : Type 0} → (S → Happening → EventReply → S → Type 0) → S → S → Streams → Status → Type 0
-IsRun step s s' io status = RunsToTheEnd step s s' io status ⊎ EndsEarly step s s' io status
+-- what a script ends with over a registry with binders, on a disk
+abbrev pub IsRun : {D : Type 0} → (D → DiskFacts) → Streams → Slotted D → Slotted D → Status → Type 0
+IsRun facts io old new status = RunsOnDisk facts io old new status ⊎ BreaksOnDisk facts io old new status
 
 -- what a script over a disk ends with
 abbrev pub ScriptEnds : Streams → Status → Type 0
@@ -116,4 +102,4 @@ ScriptEnds io Done = Runs io Done
 ScriptEnds io Refused = Runs io Refused ⊎ TurnsAway IsOpenRefusal Refused io.before io.after
 ScriptEnds io BadWords = ⊥
 ScriptEnds io Failed = Unit {0}
-ScriptEnds io NoMemory = Runs io NoMemory ⊎ RunsInPart io NoMemory ⊎ Appends io.before io.after memory_text
+ScriptEnds io NoMemory = Runs io NoMemory ⊎ Appends io.before io.after memory_text

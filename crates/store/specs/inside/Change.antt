@@ -1,7 +1,8 @@
 -- A change that is planned: what it stages, and what sectors hold once it is carried out.
-use Rattle.std.specs.Prelude.{◌≡◌, ℕ, ◌+◌, ◌*◌, List, [], ◌++◌, length, set, Contains}
+use Rattle.std.specs.Prelude.{◌≡◌, ◌⊎◌, ℕ, ◌+◌, ◌*◌, List, [], ◌++◌, length, set, Contains, Result, OnOk}
 use Rattle.std.specs.List.{flat_map}
-use Rattle.sector_disk.specs.Disk.{Sector, sector, sector_bytes}
+use Rattle.sector_disk.specs.Disk.{Sector, sector, sector_bytes, DiskFacts, Mixture, LeavesOnly}
+use Rattle.sector_disk.specs.declared.disk.DiskFault.{DiskFault}
 use Rattle.extents.specs.Extent.{places, sector_count}
 use Rattle.passes.specs.Bytes.{bytes_at, padded}
 use Rattle.roots.specs.declared.root.Root.{Root}
@@ -15,7 +16,7 @@ use Rattle.store.specs.declared.placed_entry.PlacedEntry.{PlacedEntry}
 use Rattle.store.specs.declared.change.Staged.{Staged}
 use Rattle.store.specs.declared.change.Staged.TheVariants.{Nothing, Catalogues, Put}
 use Rattle.store.specs.declared.change.Change.{Change}
-use Rattle.store.specs.Stands.{StandsBy, AreCatalogued, extents_of, sectors_of, used}
+use Rattle.store.specs.Stands.{StandsBy, StandsAs, Stands, AreCatalogued, extents_of, sectors_of, used}
 use Rattle.store.specs.inside.Catalogues.{CanBeCatalogued}
 use Rattle.store.specs.inside.Room.{HavePlaces, HasPlace}
 
@@ -80,3 +81,26 @@ pub record IsFollowed (version : Version) (root : Root) (entries : List PlacedEn
   pub synced : HasSync change.staged written
   pub stands : (m : List Sector) → StandsBy version m root entries s → IsStaged m change.staged bytes listed → AreWritten now written m
       → StandsBy Two (set m (slot_of change.root.generation) (root_bytes change.root)) change.root others s'
+
+-- A state that a root lists, what was written beside it since, and the state that a change makes of
+-- it, with its entries.
+pub record Transition : Type 0 where
+  pub version : Version
+  pub root : Root
+  pub entries : List PlacedEntry
+  pub before : State
+  pub written : List PlacedEntry
+  pub others : List PlacedEntry
+  pub after : State
+
+-- Every mixture of the disk holds the state before, and the one after follows by this change.
+pub record IsBegun (disk : DiskFacts) (change : Change) (bytes listed : List ℕ) (t : Transition) : Type 0 where
+  pub stands : (m : List Sector) → Mixture disk m → StandsBy t.version m t.root t.entries t.before
+  pub followed : IsFollowed t.version t.root t.entries t.before disk.now t.written change bytes listed t.others t.after
+
+-- A change was carried out, or a call failed: whatever it leads from and to, a stop at any moment
+-- leaves the one or the other, and at the end every mixture holds the other alone.
+pub record IsCarriedOut (old new : DiskFacts) (change : Change) (bytes listed : List ℕ) (result : Result (Unit {0}) DiskFault) : Type 0 where
+  pub any_moment : (t : Transition) → IsBegun old change bytes listed t → LeavesOnly old new (λ m. StandsAs t.version m t.before ⊎ Stands m t.after)
+  pub done : (t : Transition) → IsBegun old change bytes listed t
+      → OnOk result ((m : List Sector) → Mixture new m → StandsBy Two m change.root t.others t.after)

@@ -1,5 +1,7 @@
 -- What is asked of a registry with the bytes of a file.
 use Rattle.std.specs.Prelude.{ℕ, List}
+use Rattle.file_disk.specs.declared.disk_file.Access.{Access}
+use Rattle.file_disk.specs.declared.disk_file.Access.TheVariants.{Reading, Changes}
 use Rattle.program_parts.specs.declared.status.Status.{Status}
 use Rattle.requests.specs.Request.{Request, replace, bind}
 use Rattle.tool_commands.specs.Outcome.{AskEnds, BindingsAskEnds, ReadEnds}
@@ -13,6 +15,11 @@ use Rattle.tool_commands.specs.declared.with_file.WithFile.TheVariants as with
 abbrev pub request_with : WithFile → List ℕ → Request
 request_with with.Replace bytes = replace bytes
 request_with (with.Executable base) bytes = bind bytes base
+
+-- what its disk is opened for
+abbrev pub access_of : WithFile → Access
+access_of with.Replace = Changes
+access_of (with.Executable base) = Reading
 
 -- how its reply is told
 abbrev pub telling_of : WithFile → Telling

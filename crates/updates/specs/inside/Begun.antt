@@ -17,7 +17,8 @@ use Rattle.updates.specs.Answer.{plan_texts, update_refusal_text}
 use Rattle.updates.specs.Commit.{Commits}
 use Rattle.updates.specs.Lines.{ArePlanned, BeginsWith, IsRefusedAt, commit_line}
 use Rattle.updates.specs.Status.{update_status}
-use Rattle.updates.specs.Streams.{Streams, BreaksOff, CannotWrite, TellsOnly}
+use Rattle.program_parts.specs.Streams.{Streams}
+use Rattle.updates.specs.Streams.{BreaksOff, CannotWrite, TellsOnly}
 use Rattle.updates.specs.declared.answer.UpdateRefusal.{UpdateRefusal}
 
 -- the streams once nothing more is read

@@ -6,7 +6,8 @@ use Rattle.store.specs.Opened.{Opened}
 use Rattle.program_parts.specs.declared.status.Status.{Status}
 use Rattle.updates.specs.Answer.{update_refusal_text}
 use Rattle.updates.specs.Status.{update_status}
-use Rattle.updates.specs.Streams.{Streams, TellsOnly}
+use Rattle.program_parts.specs.Streams.{Streams}
+use Rattle.updates.specs.Streams.{TellsOnly}
 use Rattle.updates.specs.declared.lines.Ending.{Ending}
 use Rattle.updates.specs.declared.lines.Ending.TheVariants.{Commit, Refused}
 use Rattle.updates.specs.inside.Begun.{EndsCommit}

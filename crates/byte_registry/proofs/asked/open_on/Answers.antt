@@ -4,7 +4,7 @@ use Rattle.byte_registry.proofs.asked.open_on.Goals as goal
 
 pub returns-in-Ok-open_untested-clause-ok : goal.returns-in-Ok-open_untested-clause-ok
 returns-in-Ok-open_untested-clause-ok c =
-    let opened = c.in-Ok-open_untested.ensures.opened in
+    let opened = c.in-Ok-open_untested.ensures.opening.opened in
     record {
       disk = c.in-Ok.disk;
       of_bytes = c.in-Ok.ensures.ok;
@@ -17,5 +17,5 @@ returns-in-Ok-open_untested-clause-ok c =
 
 pub returns-in-Err-open_untested-clause-err : goal.returns-in-Err-open_untested-clause-err
 returns-in-Err-open_untested-clause-err c =
-    let why = c.in-Err-open_untested.ensures.opened in
+    let why = c.in-Err-open_untested.ensures.opening.opened in
     unopened c.args.disk.now c.in-Ok.disk c.in-Ok.ensures.ok c.in-Err-open_untested.refusal (why.stands refl) (why.refused refl)

@@ -7,15 +7,15 @@ use Rattle.byte_registry.proofs.opened.registry_of.Goals as goal
 
 pub returns-in-Ok-clause-ok : goal.returns-in-Ok-clause-ok
 returns-in-Ok-clause-ok c =
-    let found = c.in-Ok.ensures.opened.ok refl in
+    let found = c.in-Ok.ensures.opening.opened.ok refl in
     (found.0, record { size = c.in-Some.ensures.some.0 refl; stands = subst (λ m. Stands m found.0) c.in-Some.ensures.starts.now found.1 }, found.2, λ other holds. found.3 other (subst (λ m. Stands m other) (sym c.in-Some.ensures.starts.now) holds.stands))
 
 pub returns-in-Ok-clause-held : goal.returns-in-Ok-clause-held
-returns-in-Ok-clause-held c s holds = c.in-Ok.ensures.opened.stands refl s (subst (λ m. Stands m s) (sym c.in-Some.ensures.starts.now) holds.stands)
+returns-in-Ok-clause-held c s holds = c.in-Ok.ensures.opening.opened.stands refl s (subst (λ m. Stands m s) (sym c.in-Some.ensures.starts.now) holds.stands)
 
 pub returns-in-Err-clause-err : goal.returns-in-Err-clause-err
 returns-in-Err-clause-err c =
-    let opened = c.in-Err.ensures.opened in
+    let opened = c.in-Err.ensures.opening.opened in
     let given = c.in-Some.ensures.starts in
     let no_device : c.in-Err.refusal ≢ Device = λ device. omega (arith, opened.device device, no_failure c.in-Some.disk c.in-Err._disk (opened.log refl)) in
     record {

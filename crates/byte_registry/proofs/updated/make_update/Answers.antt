@@ -6,7 +6,8 @@ use Rattle.store.specs.Draft.{Drafted, commit_calls}
 use Rattle.store.specs.Opened.{Opened}
 use Rattle.requests.specs.Request.{request_of}
 use Rattle.registry.specs.Updating.{Plans, drafted_by}
-use Rattle.byte_registry.specs.inside.Planning.{MakesUpdate, StopsAt}
+use Rattle.byte_registry.specs.Updated.{StopsAt}
+use Rattle.byte_registry.specs.inside.Planning.{MakesUpdate}
 use Rattle.byte_registry.proofs.Updates.{drafted_at, is_made, is_uncommitted, is_stopped, is_unbegun}
 use Rattle.byte_registry.proofs.updated.make_update.Goals as goal
 
@@ -32,7 +33,8 @@ returns-in-Err-made c s at =
     let u = c.plan_all.new.update in
     let answers = c.in-Ok-plan_all.ensures.0 in
     let plans = subst (λ (old : Drafted ByteDisk). Plans byte_facts old u requests answers) c.in-Ok.ensures.begun c.in-Ok-plan_all.ensures.1 in
-    is_uncommitted c.args.registry s at requests answers u plans c.commit-made.result.1 (commit_calls u.touched (length u.entries)) (length c.args.commands.now) c.in-Err-made.refusal
+    let there = drafted_at c.args.registry s at requests answers u plans in
+    is_uncommitted c.args.registry s at requests answers u plans c.commit-made.result.1 (c.commit-made.ensures.any_moment s (drafted_by s requests) there) (commit_calls u.touched (length u.entries)) (length c.args.commands.now) c.in-Err-made.refusal
     (sym (length-map c.args.commands.now request_of)) (rw c.in-Err-made.is at c.commit-made.ensures.on_any_disk)
 
 pub returns-in-Err-plan_all : goal.returns-in-Err-plan_all

@@ -1,8 +1,8 @@
 use Rattle.std.proofs.Common.{Some, map, subst, sym}
 use Rattle.std.specs.Prelude.{string_bytes}
+use Rattle.commands.specs.Outcome.{CommandEnds}
 use Rattle.commands.specs.Script.{Streams}
 use Rattle.commands.specs.Words.{line_of, remove}
-use Rattle.commands.specs.inside.Ends.{CommandEnds}
 use Rattle.commands.proofs.Asking.{install_ends, replace_ends, remove_ends, preload_ends, list_ends}
 use Rattle.commands.proofs.command.run_action.Goals as goal
 

@@ -1,5 +1,4 @@
 use Rattle.std.proofs.Common.{inl, inr, refl, ap, ◌∙◌}
-use Rattle.commands.proofs.ScriptRuns.{run_on_disk}
 use Rattle.commands.proofs.script_on_disk.run_disk_script.Goals as goal
 
 pub returns-in-Ok-clause-ends : goal.returns-in-Ok-clause-ends
@@ -8,13 +7,13 @@ returns-in-Ok-clause-ends g c =
     let ran = c.run_watched-status in
     inl (record {
       old = c.new.result;
-      opened = rw made.none c.in-Ok.ensures;
+      opened = rw made.none c.in-Ok.ensures.opening;
       empty = rw made.none refl;
-      alone = made.alone c.in-Ok.ensures.opened.unheld;
+      alone = made.alone c.in-Ok.ensures.opening.opened.unheld;
       new = ran.new.watched.binders;
-      run = run_on_disk g.D.Disk.facts _ c.new.result ran.new.watched.binders _ ran.ensures.run;
+      run = ran.ensures.run;
       back = c.into_disk.ensures ∙ ap (λ r. r.disk) c.into_registry.ensures;
     })
 
 pub returns-in-Err-clause-ends : goal.returns-in-Err-clause-ends
-returns-in-Err-clause-ends g c = inr (c.in-Err.refusal, c.in-Err.ensures, c.write_disk_answer.ensures)
+returns-in-Err-clause-ends g c = inr (c.in-Err.refusal, c.in-Err.ensures.opening, c.write_disk_answer.ensures)

@@ -1,7 +1,8 @@
+use Rattle.std.proofs.Common.{inl, inr, refl}
 use Rattle.commands.proofs.unread.no_memory.Goals as goal
 
 pub returns-in-Ok : goal.returns-in-Ok
-returns-in-Ok g c = c.in-Ok.ensures
+returns-in-Ok g c = inl (refl, c.in-Ok.ensures)
 
 pub returns-in-Err : goal.returns-in-Err
-returns-in-Err g c = tt
+returns-in-Err g c = inr refl

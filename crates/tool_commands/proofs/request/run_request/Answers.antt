@@ -4,7 +4,7 @@ use Rattle.tool_commands.proofs.request.run_request.Goals as goal
 
 pub returns-in-Ok : goal.returns-in-Ok
 returns-in-Ok g c =
-    let e = c.in-Ok.ensures in
+    let e = c.in-Ok.ensures.opening in
     let said = c.answer-status.ensures in
     inl (
       said.0,
@@ -13,4 +13,4 @@ returns-in-Ok g c =
     )
 
 pub returns-in-Err : goal.returns-in-Err
-returns-in-Err g c = inr (c.in-Err.refusal, c.in-Err.ensures.opened, (c.say_refusal.ensures.status, refl, c.say_refusal.ensures.said))
+returns-in-Err g c = inr (c.in-Err.refusal, c.in-Err.ensures.opening.opened, (c.say_refusal.ensures.status, refl, c.say_refusal.ensures.said))

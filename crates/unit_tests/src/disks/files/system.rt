@@ -1,14 +1,14 @@
 // Files of the system.
 
 use crate::disks::stops::{read, write};
-use file_disk::{DiskFile, FileDisk, Made, OpenFault};
+use file_disk::{Access, DiskFile, FileDisk, Made, OpenFault};
 use sector_disk::Disk;
 use std::fs;
 use std::fs::File;
 
 // What opening answers: how many sectors there are.
 fn sectors(rt: &HostRuntime, path: &str) -> Result<u32, OpenFault> {
-    let disk: FileDisk<DiskFile> = FileDisk::open(rt, rt.alloc(), path)?;
+    let disk: FileDisk<DiskFile> = FileDisk::open(rt, rt.alloc(), path, Access::Changes)?;
     Ok(disk.sectors())
 }
 
@@ -63,7 +63,7 @@ fn make_of_five(rt: &HostRuntime, path: &str) -> Result<bool, OpenFault> {
 
 // Opens such a disk for reading: whether it reads and syncs, and whether it syncs after a write.
 fn read_and_write(rt: &HostRuntime, path: &str) -> Result<(bool, bool), OpenFault> {
-    let mut disk: FileDisk<DiskFile> = FileDisk::open_read_only(rt, rt.alloc(), path)?;
+    let mut disk: FileDisk<DiskFile> = FileDisk::open(rt, rt.alloc(), path, Access::Reading)?;
     let reads = disk.sectors() == 8 && disk.sync().is_ok() && read(&mut disk, 1) == Some(5);
     let writes = write(&mut disk, 1, 6);
     Ok((reads && writes, disk.sync().is_ok()))

@@ -1,46 +1,12 @@
-use Rattle.std.proofs.lemmas.List.Elements.{All-nil}
-use Rattle.requests.specs.Library.{IsLibrary}
-use Rattle.registry.proofs.Openings.{either_empty}
+use Rattle.std.proofs.Common.{Ok, Err}
+use Rattle.std.proofs.lemmas.Result.{err_from_is_err_and}
+use Rattle.registry.proofs.Openings.{made_empty}
 use Rattle.registry.proofs.registry.Registry.format.Goals as goal
 
-pub returns-in-Ok : goal.returns-in-Ok
-returns-in-Ok g c =
-    let store = c.in-Ok.ensures in
-    record {
-      any_moment = λ honest. either_empty (store.any_moment honest);
-      ok = λ honest. record { stored = store.ok honest; libraries = All-nil IsLibrary };
-      unformatted = store.unformatted;
-      refused = λ honest. tt;
-      left_alone = λ honest. tt;
-      now = λ honest. tt;
-      log = store.log;
-      geometry = store.geometry;
-      usable = store.usable;
-      unheld = store.unheld;
-      refusals = tt;
-      device = tt;
-      untouched = tt;
-      calls = store.calls;
-      all_calls = store.all_calls;
-    }
+pub returns-in_err-store : goal.returns-in_err-store
+returns-in_err-store g c =
+    let p = err_from_is_err_and c.from_residual.result c.from_residual.ensures.1 in
+    rw (p.1, p.2) (made_empty g.D.Disk.facts c.args.disk (Err c.in_err-store.field-0.0) c.in_err-store.ensures)
 
-pub returns-in-Err : goal.returns-in-Err
-returns-in-Err g c =
-    let store = c.in-Err.ensures in
-    record {
-      any_moment = λ honest. either_empty (store.any_moment honest);
-      ok = λ honest. tt;
-      unformatted = λ honest. tt;
-      refused = store.refused;
-      left_alone = store.left_alone;
-      now = store.now;
-      log = λ honest. tt;
-      geometry = tt;
-      usable = tt;
-      unheld = tt;
-      refusals = store.refusals;
-      device = store.device;
-      untouched = store.untouched;
-      calls = store.calls;
-      all_calls = tt;
-    }
+pub returns : goal.returns
+returns g c = made_empty g.D.Disk.facts c.args.disk (Ok c.in_ok-store.store) c.in_ok-store.ensures

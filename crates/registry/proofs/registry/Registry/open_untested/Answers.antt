@@ -1,13 +1,18 @@
+use Rattle.std.proofs.lemmas.Result.{err_from_is_err_and}
 use Rattle.registry.proofs.registry.Registry.open_untested.Goals as goal
 
-pub returns-in-Ok-clause-registry : goal.returns-in-Ok-clause-registry
-returns-in-Ok-clause-registry g c honest s stands = record { stored = c.in-Ok.ensures.opened.stands honest s stands.stored; libraries = stands.libraries }
+pub returns-in_err-store-clause-opening : goal.returns-in_err-store-clause-opening
+returns-in_err-store-clause-opening g c =
+    let p = err_from_is_err_and c.from_residual.result c.from_residual.ensures.1 in
+    rw (p.1, p.2) c.in_err-store.ensures
 
-pub returns-in-Err-clause-registry : goal.returns-in-Err-clause-registry
-returns-in-Err-clause-registry g c honest s stands = c.in-Err.ensures.opened.stands honest s stands.stored
+pub returns-in_err-store-clause-registry : goal.returns-in_err-store-clause-registry
+returns-in_err-store-clause-registry g c honest s stands =
+    let p = err_from_is_err_and c.from_residual.result c.from_residual.ensures.1 in
+    rw (p.1, p.2) (c.in_err-store.ensures.opened.stands honest s stands.stored)
 
-pub returns-in-Ok-clause-opened : goal.returns-in-Ok-clause-opened
-returns-in-Ok-clause-opened g c = c.in-Ok.ensures.opened
+pub returns-clause-opening : goal.returns-clause-opening
+returns-clause-opening g c = c.in_ok-store.ensures
 
-pub returns-in-Ok-clause-all_calls : goal.returns-in-Ok-clause-all_calls
-returns-in-Ok-clause-all_calls g c = c.in-Ok.ensures.all_calls
+pub returns-clause-registry : goal.returns-clause-registry
+returns-clause-registry g c honest s stands = record { stored = c.in_ok-store.ensures.opened.stands honest s stands.stored; libraries = stands.libraries }

@@ -107,8 +107,9 @@ returns-in-Err-clause-commits g c =
     let failed : Opened g.row.D.Denot = record { disk = after; root = kept.root; entries = kept.entries.items; held = kept.held; failed = true } in
     subst (λ k. Commits facts u (opened after k) (Err c.from.result)) (sym c.leave_all.ensures.kept) (record {
       any_moment = λ s d at. subst (λ t. LeavesOnly (facts c.args.disk.now) (facts after) (λ m. Stands m s ⊎ Stands m (committed t s d))) (sym c.requires.list)
-          (c.carry_out-made.ensures.any_moment at.stands.honest Two kept.root kept.entries.items s (staged u) c.args.draft.entries.items (next s d.libraries d.preloads)
-          at.stands.stands (follows g before c.deref.result.now c.deref.ensures.value s d at));
+          ((c.carry_out-made.ensures.carried_out at.stands.honest).any_moment
+          (record { version = Two; root = kept.root; entries = kept.entries.items; before = s; written = staged u; others = c.args.draft.entries.items; after = next s d.libraries d.preloads })
+          (record { stands = at.stands.stands; followed = follows g before c.deref.result.now c.deref.ensures.value s d at }));
       ok = λ s d at. tt;
       held = keeps_table is.staged.stands taken.result (beside_free is.staged.stands is.staged.claimed taken.ensures.claimed) c.carry_out-made.ensures.others;
       on_any_disk = subst (λ t. Changed facts Device Reopen (opened c.args.disk.now kept) failed (commit_calls t (length c.args.draft.entries.items)) (λ e. (e ≡ Device) ⊎ (e ≡ Reopen)) (Err c.from.result)) (sym c.requires.list)
@@ -157,15 +158,17 @@ returns-clause-commits g c =
     let new = opened after c.enter.new.self in
     record {
       any_moment = λ s d at. subst (λ t. LeavesOnly (facts c.args.disk.now) (facts after) (λ m. Stands m s ⊎ Stands m (committed t s d))) (sym c.requires.list)
-          (c.carry_out-made.ensures.any_moment at.stands.honest Two kept.root kept.entries.items s (staged u) c.args.draft.entries.items (next s d.libraries d.preloads)
-          at.stands.stands (follows g before c.deref.result.now c.deref.ensures.value s d at));
+          ((c.carry_out-made.ensures.carried_out at.stands.honest).any_moment
+          (record { version = Two; root = kept.root; entries = kept.entries.items; before = s; written = staged u; others = c.args.draft.entries.items; after = next s d.libraries d.preloads })
+          (record { stands = at.stands.stands; followed = follows g before c.deref.result.now c.deref.ensures.value s d at }));
       ok = λ s d at. subst (λ t. IsAt facts new (committed t s d)) (sym c.requires.list) (record {
         honest = subst IsTrue (sym c.carry_out-made.ensures.calls.honest) at.stands.honest;
         usable = its.usable;
         stands = λ m mixture. subst (λ r. StandsBy Two m r new.entries (next s d.libraries d.preloads)) (sym its.root)
             (subst (λ l. StandsBy Two m c.root_over-root.result l.items (next s d.libraries d.preloads)) (sym its.entries)
-            (c.in_default.ensures.done at.stands.honest Two kept.root kept.entries.items s (staged u) c.args.draft.entries.items (next s d.libraries d.preloads)
-            at.stands.stands (follows g before c.deref.result.now c.deref.ensures.value s d at) m mixture));
+            ((c.in_default.ensures.carried_out at.stands.honest).done
+            (record { version = Two; root = kept.root; entries = kept.entries.items; before = s; written = staged u; others = c.args.draft.entries.items; after = next s d.libraries d.preloads })
+            (record { stands = at.stands.stands; followed = follows g before c.deref.result.now c.deref.ensures.value s d at }) m mixture));
       });
       held = keeps_rows is.staged.stands taken.result (beside_free is.staged.stands is.staged.claimed taken.ensures.claimed) c.carry_out-made.ensures.others its.settled.keeps;
       on_any_disk = subst (λ t. Changed facts Device Reopen (opened c.args.disk.now kept) new (commit_calls t (length c.args.draft.entries.items)) (λ e. (e ≡ Device) ⊎ (e ≡ Reopen)) (Ok tt)) (sym c.requires.list)

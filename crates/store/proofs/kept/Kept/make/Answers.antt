@@ -83,8 +83,9 @@ returns-in-Err-clause-stored g c =
 pub returns-in-Err-clause-any_moment : goal.returns-in-Err-clause-any_moment
 returns-in-Err-clause-any_moment g c written s s' at makes =
     let before = (goal.at.returns-in-Err-clause-any_moment g c).After-list in
-    c.carry_out-written.ensures.any_moment at.honest Two c.args.self.now.root c.args.self.now.entries.items s written (others g before) s' at.stands
-    (following g before c.deref.result.now c.deref.ensures.value written s s' makes)
+    (c.carry_out-written.ensures.carried_out at.honest).any_moment
+    (record { version = Two; root = c.args.self.now.root; entries = c.args.self.now.entries.items; before = s; written = written; others = others g before; after = s' })
+    (record { stands = at.stands; followed = following g before c.deref.result.now c.deref.ensures.value written s s' makes })
 
 pub returns-in-Err-clause-held : goal.returns-in-Err-clause-held
 returns-in-Err-clause-held g c =
@@ -150,8 +151,9 @@ returns-clause-stored g c =
 pub returns-clause-any_moment : goal.returns-clause-any_moment
 returns-clause-any_moment g c written s s' at makes =
     let before = (goal.at.returns-clause-any_moment g c).After-list in
-    c.carry_out-written.ensures.any_moment at.honest Two c.args.self.now.root c.args.self.now.entries.items s written (others g before) s' at.stands
-    (following g before c.deref.result.now c.deref.ensures.value written s s' makes)
+    (c.carry_out-written.ensures.carried_out at.honest).any_moment
+    (record { version = Two; root = c.args.self.now.root; entries = c.args.self.now.entries.items; before = s; written = written; others = others g before; after = s' })
+    (record { stands = at.stands; followed = following g before c.deref.result.now c.deref.ensures.value written s s' makes })
 
 pub returns-clause-ok : goal.returns-clause-ok
 returns-clause-ok g c written s s' at makes =
@@ -160,8 +162,9 @@ returns-clause-ok g c written s s' at makes =
       honest = subst IsTrue (sym c.carry_out-written.ensures.calls.honest) at.honest;
       usable = refl;
       stands = λ m mixture. subst (λ l. StandsBy Two m c.args.prepared.now.change.root l s') (sym c.enter.ensures.entries)
-          (c.in_default.ensures.done at.honest Two c.args.self.now.root c.args.self.now.entries.items s written (others g before) s' at.stands
-          (following g before c.deref.result.now c.deref.ensures.value written s s' makes) m mixture);
+          ((c.in_default.ensures.carried_out at.honest).done
+          (record { version = Two; root = c.args.self.now.root; entries = c.args.self.now.entries.items; before = s; written = written; others = others g before; after = s' })
+          (record { stands = at.stands; followed = following g before c.deref.result.now c.deref.ensures.value written s s' makes }) m mixture);
     }
 
 pub returns-clause-made : goal.returns-clause-made

@@ -96,8 +96,9 @@ leaves : (g : given.Over) (c : After-carry_out g) (s : State)
 leaves g c s is at_entry =
     let at = subst (λ store. IsOldAt g.D.Disk.facts store s) (sym c.self.view_is) at_entry in
     subst (λ store. LeavesOnly (g.D.Disk.facts store.disk) (g.D.Disk.facts c.carry_out.new.disk) (λ m. StandsOld m s ⊎ Stands m (upgraded s))) c.self.view_is
-    (c.carry_out.ensures.any_moment at.honest One c.self.inside.found.root c.self.inside.found.entries.items s [] c.self.inside.found.entries.items
-    (upgraded s) at.stands is)
+    ((c.carry_out.ensures.carried_out at.honest).any_moment
+    (record { version = One; root = c.self.inside.found.root; entries = c.self.inside.found.entries.items; before = s; written = []; others = c.self.inside.found.entries.items; after = upgraded s })
+    (record { stands = at.stands; followed = is }))
 
 pub returns-in-Err-clause-any_moment : goal.returns-in-Err-clause-any_moment
 returns-in-Err-clause-any_moment g c s at =
@@ -141,7 +142,9 @@ returns-in-Ok-clause-ok g c s at_entry =
     let before = (goal.at.returns-in-Ok-clause-ok g c).After-next_root-root in
     let next = c.next_root-root.result in
     let entries = c.self.inside.found.entries.items in
-    let done = c.in-Ok.ensures.done at.honest One c.self.inside.found.root entries s [] entries (upgraded s) at.stands (following g before s [] c.deref.result.now c.deref.ensures.value) in
+    let done = (c.in-Ok.ensures.carried_out at.honest).done
+    (record { version = One; root = c.self.inside.found.root; entries = entries; before = s; written = []; others = entries; after = upgraded s })
+    (record { stands = at.stands; followed = following g before s [] c.deref.result.now c.deref.ensures.value }) in
     record {
       honest = subst (λ d. IsTrue (facts d).honest) (sym c.beside.ensures.disk) (subst IsTrue (sym c.carry_out.ensures.calls.honest) at.honest);
       usable = c.beside.ensures.usable;

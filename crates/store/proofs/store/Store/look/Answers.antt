@@ -1,12 +1,14 @@
-use Rattle.std.proofs.Common.{[], IsTrue, false, inl, inr, refl, sym, subst, ◌∙◌, rules, arith}
-use Rattle.sector_disk.specs.Disk.{Mixture}
+use Rattle.std.proofs.Common.{◌+◌, [], IsTrue, false, inl, inr, refl, sym, ap, subst, ◌∙◌, rules, arith}
+use Rattle.sector_disk.specs.Disk.{Mixture, LeavesOnly, MayAddSync, AreCallsAtMost}
 use Rattle.sector_disk.proofs.Moments.{at_rest, no_calls}
+use Rattle.roots.specs.Limits.{most_catalogues}
 use Rattle.roots.specs.declared.version.Version.TheVariants.{One, Two}
 use Rattle.states.specs.Geometry.{IsGeometry}
+use Rattle.states.specs.Limits.{most_libraries}
 use Rattle.states.specs.State.{State}
 use Rattle.store.specs.Opened.{Opened}
-use Rattle.store.specs.Stands.{Stands, StandsEither, state_of}
-use Rattle.store.proofs.Openings.{refuses_look, other_version, found_at, found_at_state}
+use Rattle.store.specs.Stands.{Stands, StandsOld, StandsEither, state_of}
+use Rattle.store.proofs.Openings.{refuses_look, other_version, found_at, found_at_state, opened_calls}
 use Rattle.store.proofs.Refusals.{geometry-device}
 use Rattle.store.proofs.BadGeometry.{no_geometry, geometry_refused}
 use Rattle.store.proofs.store.Store.look.Goals as goal
@@ -64,35 +66,37 @@ returns-in-One g c =
       all_calls = finds.found.all_calls;
     }
 
-pub returns-in-Two-clause-stands : goal.returns-in-Two-clause-stands
-returns-in-Two-clause-stands g c honest s stands =
-    let now = (g.D.Disk.facts c.args.disk).now in
+pub returns-in-Two : goal.returns-in-Two
+returns-in-Two g c =
+    let facts = g.D.Disk.facts in
+    let start = facts c.args.disk in
+    let now = start.now in
     let root = c.in-Ok.found.root in
     let items = c.in-Ok.found.entries.items in
     let finds = c.in-Ok.ensures.finds in
+    let beside = c.beside.ensures in
     let two = sym c.version.ensures ∙ c.in-Two.is in
-    let at = found_at g.D.Disk.facts c.beside.result c.find_store.new.disk now root items Two c.beside.ensures.disk
-    c.beside.ensures.root c.beside.ensures.entries c.beside.ensures.usable
+    let at = λ (honest : IsTrue start.honest). found_at facts c.beside.result c.find_store.new.disk now root items Two beside.disk beside.root beside.entries beside.usable
     (subst IsTrue (sym finds.found.calls.some.honest) honest) (finds.reads honest).now (finds.synced honest) (finds.intact honest) two in
-    found_at_state g.D.Disk.facts c.beside.result c.find_store.new.disk now root items Two s stands at (finds.intact honest) two
-
-pub returns-in-Two-clause-stands_old : goal.returns-in-Two-clause-stands_old
-returns-in-Two-clause-stands_old g c honest s stands =
-    let two = sym c.version.ensures ∙ c.in-Two.is in
-    let one = other_version (g.D.Disk.facts c.args.disk).now c.in-Ok.found.root (c.in-Ok.ensures.finds.intact honest).current One s stands in
-    absurd (cc (one, two))
-
-pub returns-in-Two-clause-ok : goal.returns-in-Two-clause-ok
-returns-in-Two-clause-ok g c honest =
-    let now = (g.D.Disk.facts c.args.disk).now in
-    let root = c.in-Ok.found.root in
-    let items = c.in-Ok.found.entries.items in
-    let finds = c.in-Ok.ensures.finds in
-    let two = sym c.version.ensures ∙ c.in-Two.is in
-    let at = found_at g.D.Disk.facts c.beside.result c.find_store.new.disk now root items Two c.beside.ensures.disk
-    c.beside.ensures.root c.beside.ensures.entries c.beside.ensures.usable
-    (subst IsTrue (sym finds.found.calls.some.honest) honest) (finds.reads honest).now (finds.synced honest) (finds.intact honest) two in
-    (state_of now root items, inl ((root, items, record { of_version = two; intact = finds.intact honest; is = refl }), at))
+    let never = λ (honest : IsTrue start.honest) (s : State) (stands : StandsOld now s).
+    let one = other_version now root (finds.intact honest).current One s stands in absurd (cc (one, two)) in
+    record {
+      any_moment = λ honest. subst (λ d. LeavesOnly start (facts d) (Mixture start)) (sym beside.disk) (finds.reads honest).leaves;
+      now = λ honest. ap (λ d. (facts d).now) beside.disk ∙ (finds.reads honest).now;
+      log = λ honest. subst (λ d. MayAddSync start.log (facts d).log) (sym beside.disk) (finds.reads honest).log;
+      stands = λ honest s stands. found_at_state facts c.beside.result c.find_store.new.disk now root items Two s stands (at honest) (finds.intact honest) two;
+      stands_old = never;
+      ok = λ honest. (state_of now root items, inl ((root, items, record { of_version = two; intact = finds.intact honest; is = refl }), at honest));
+      refused = λ honest. tt;
+      unheld = beside.unheld;
+      usable = beside.usable;
+      geometry = search rules;
+      refusals = tt;
+      device = tt;
+      untouched = tt;
+      calls = subst (λ d. AreCallsAtMost (3 + most_catalogues + most_libraries) start (facts d)) (sym beside.disk) finds.found.calls;
+      all_calls = opened_calls facts c.beside.result start c.find_store.new.disk root items beside.disk beside.root beside.entries finds.found.all_calls;
+    }
 
 pub returns-in-Err : goal.returns-in-Err
 returns-in-Err g c =

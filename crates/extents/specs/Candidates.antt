@@ -1,0 +1,13 @@
+-- Which extents a file could be given of a layout.
+use Rattle.std.specs.Prelude.{◌≤◌, Bool, List, length, All, AllPairs}
+use Rattle.extents.specs.declared.extent.Extent.{Extent}
+use Rattle.extents.specs.Extent.{IsApart}
+use Rattle.extents.specs.Layout.{AllUnused, IsInside}
+use Rattle.extents.specs.Limits.{most_extents}
+
+-- The extents are no more than a file may have, and lie inside, unused and apart, in whatever order.
+pub record AreCandidates (flags : List Bool) (extents : List Extent) : Type 0 where
+  pub few : length extents ≤ most_extents
+  pub inside : All (IsInside flags) extents
+  pub unused : All (AllUnused flags) extents
+  pub apart : AllPairs IsApart extents
