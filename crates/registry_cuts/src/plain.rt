@@ -16,14 +16,14 @@ use std::rc::Rc;
 // A library as a change left it: its name, how many sectors it takes, and how many changes were
 // done when it came and when it went, if it did.
 #[derive(Clone, Copy)]
-struct Version {
+struct Hold {
     name: u8,
     sectors: u32,
     since: usize,
     until: usize,
 }
 
-impl Version {
+impl Hold {
     // Whether it stood behind so many changes.
     fn stood(&self, changes: usize) -> bool {
         self.since <= changes && changes < self.until
@@ -48,14 +48,12 @@ pub(crate) struct Plain {
     // and are answered what stands at their last step.
     keeps: bool,
     registry: PlainRegistry,
-    versions: Vec<Version>,
+    holds: Vec<Hold>,
     flights: Vec<Option<Flight>>,
     /// How many changes stand on the disk while an update goes on: the others are its draft's.
     pub(crate) stands: Option<usize>,
     /// Whether a write or a sync failed.
     pub(crate) failed: bool,
-    /// Whether its generation is the greatest, so that it can't be changed.
-    pub(crate) is_last: bool,
     // The changes that were done.
     old: Vec<Rc<Event>>,
     // The same, and behind them the one that failed, if one did.
@@ -72,11 +70,10 @@ impl Drop for Plain {
             sectors: _,
             keeps: _,
             registry: _registry,
-            versions: _versions,
+            holds: _holds,
             flights: _flights,
             stands: _,
             failed: _,
-            is_last: _,
             old: _old,
             new: _new,
             wanted: _,
@@ -119,11 +116,10 @@ impl Plain {
             sectors,
             keeps,
             registry: PlainRegistry::new(alloc, sectors),
-            versions: Vec::new(alloc),
+            holds: Vec::new(alloc),
             flights: Vec::new(alloc),
             stands: None,
             failed: false,
-            is_last: false,
             old: Vec::new(alloc),
             new: Vec::new(alloc),
             wanted: Wanted::only(Which::New),
@@ -143,15 +139,15 @@ impl Plain {
         self.new.push(Rc::clone(change)?)?;
         let now = self.old.len();
         if change.what == What::Replace || change.what == What::Remove {
-            for version in &mut self.versions {
-                if version.name == change.name && version.until > now {
-                    version.until = now;
+            for hold in &mut self.holds {
+                if hold.name == change.name && hold.until > now {
+                    hold.until = now;
                 }
             }
         }
         if change.what == What::Install || change.what == What::Replace {
             let sectors = u32::try_from(change.bytes.len().div_ceil(512))?;
-            self.versions.push(Version {
+            self.holds.push(Hold {
                 name: change.name,
                 sectors: sectors.saturating_add(1),
                 since: now,
@@ -161,21 +157,21 @@ impl Plain {
         Ok(())
     }
 
-    // Whether a version is kept by a binder, or by what stands while an update goes on.
-    fn is_kept(&self, version: &Version) -> bool {
+    // Whether a hold is kept by a binder, or by what stands while an update goes on.
+    fn is_kept(&self, hold: &Hold) -> bool {
         let is_held = self.flights.iter().any(|flight| match flight {
-            Some(flight) => version.stood(flight.begun),
+            Some(flight) => hold.stood(flight.begun),
             None => false,
         });
-        self.keeps && is_held || self.stands.is_some_and(|changes| version.stood(changes))
+        self.keeps && is_held || self.stands.is_some_and(|changes| hold.stood(changes))
     }
 
-    // How many sectors there are but for those of versions that are kept and listed no more.
+    // How many sectors there are but for those of holds that are kept and listed no more.
     fn kept_room(&self) -> u32 {
         let mut room = self.sectors;
-        for version in &self.versions {
-            if version.until <= self.old.len() && self.is_kept(version) {
-                room = room.saturating_sub(version.sectors);
+        for hold in &self.holds {
+            if hold.until <= self.old.len() && self.is_kept(hold) {
+                room = room.saturating_sub(hold.sectors);
             }
         }
         room
@@ -188,10 +184,7 @@ impl Plain {
 
     // How many libraries stood behind so many changes.
     fn stood(&self, changes: usize) -> usize {
-        self.versions
-            .iter()
-            .filter(|version| version.stood(changes))
-            .count()
+        self.holds.iter().filter(|hold| hold.stood(changes)).count()
     }
 
     // How many sectors there are for a change. The catalogues that stand keep theirs in an update,
@@ -248,20 +241,6 @@ impl Plain {
         answer(self.alloc, &self.registry.apply(&event.command()))
     }
 
-    // What a change is answered at the greatest generation: S10, where no test that comes before it
-    // refuses.
-    fn ask_last(&self, event: &Event) -> Result<Vec<u8>> {
-        let mut other = PlainRegistry::new(self.alloc, u32::MAX);
-        for change in &self.old {
-            let _ = other.apply(&change.command());
-        }
-        let text = answer(self.alloc, &other.apply(&event.command()))?;
-        if text.as_slice() == DONE {
-            return Ok(refused(self.alloc, Refusal::GenerationEnd)?.0);
-        }
-        Ok(text)
-    }
-
     // A command of which a call is cut, a change if it was done. In an update it changes nothing.
     fn fail(&mut self, event: &Rc<Event>, is_done: bool, calls: u64, cut: Cut) -> Result<Told> {
         self.failed = self.failed || is_done;
@@ -276,11 +255,7 @@ impl Plain {
     fn give(&mut self, event: &Rc<Event>, cut: Option<Cut>) -> Result<Told> {
         let room = self.room()?;
         self.registry.set_sectors(room);
-        let text = if self.is_last && event.is_change() {
-            self.ask_last(event)?
-        } else {
-            self.ask(event)?
-        };
+        let text = self.ask(event)?;
         let is_done = text.as_slice() == DONE;
         let calls = self.calls(event, is_done)?;
         match cut {

@@ -43,7 +43,7 @@ fn run_course(
     )?;
     match word {
         "list" => course.cut_list(tally),
-        "file" => course.cut_file(tally),
+        "file" => course.compare_file(tally),
         "follow" => course.follow(tally),
         _ => course.cut_flights(tally),
     }
@@ -73,15 +73,9 @@ fn run_lists(tally: &mut Tally, sizes: &str, start: &[Rc<Event>], file: &str) ->
 }
 
 // An update of these lines, on disks of these sizes behind these events.
-fn run_update(
-    tally: &mut Tally,
-    sizes: &str,
-    before: &[Rc<Event>],
-    text: &str,
-    ends: bool,
-) -> Result<()> {
+fn run_update(tally: &mut Tally, sizes: &str, before: &[Rc<Event>], text: &str) -> Result<()> {
     let lines = Event::all(tally.rt.alloc(), text)?;
-    cut_updates(tally, sizes, before, &lines, ends)
+    cut_updates(tally, sizes, before, &lines)
 }
 
 // What a word has done with a disk, after these changes.
@@ -100,8 +94,7 @@ fn run_word(
         "rounds" => play_rounds(tally, disk.parse::<u32>()?, start, rest),
         "list" | "file" | "follow" | "binders" => run_events(tally, word, disk, start, rest),
         "lists" => run_lists(tally, disk, start, rest),
-        "update" => run_update(tally, disk, start, rest, false),
-        "last" => run_update(tally, disk, start, rest, true),
+        "update" => run_update(tally, disk, start, rest),
         _ => bail!("the word {word}"),
     }
 }

@@ -5,12 +5,22 @@ use crate::cut::{Cut, Powered};
 use crate::event::Event;
 use anyhow::{Result, bail};
 use binders::Binders;
-use file_disk::{FileDisk, FilePlan, MemoryFile, OpenFault};
+use file_disk::{FileDisk, FilePlan, MemoryFile, Turn};
 use registry::Registry;
 use sector_disk::{Disk, Memory};
 use std::alloc::Global;
 use std::rc::Rc;
 use store::StoreRefusal;
+
+/// A file of which no call is cut, but one that nobody makes.
+pub(crate) const UNCUT: FilePlan = FilePlan {
+    call: u64::MAX,
+    turn: Turn {
+        most: 0,
+        fails: true,
+    },
+    forever: true,
+};
 
 /// How a registry begins on a disk.
 #[derive(Clone, Copy)]
@@ -57,20 +67,11 @@ impl Run {
         self.play(alloc, count, cut.of(self.disk.copy()?))
     }
 
-    /// Lets all events happen over a file with this plan: what is told of them, and the file.
-    pub(crate) fn over_file(&self, alloc: Global, plan: FilePlan) -> Result<(Told, MemoryFile)> {
-        match FileDisk::over(alloc, MemoryFile::new(self.disk.copy()?, plan)) {
-            Ok(disk) => {
-                let (told, disk) = self.play(alloc, self.events.len(), disk)?;
-                Ok((told, disk.into_file()))
-            }
-            // The call that counts its sectors was cut.
-            Err(OpenFault::CannotOpen) => Ok((
-                Err(StoreRefusal::Device),
-                MemoryFile::new(self.disk.copy()?, plan),
-            )),
-            Err(fault) => Err(fault.into()),
-        }
+    /// Lets all events happen over a file: what is told of them, and the file.
+    pub(crate) fn over_file(&self, alloc: Global) -> Result<(Told, MemoryFile)> {
+        let disk = FileDisk::over(alloc, MemoryFile::new(self.disk.copy()?, UNCUT))?;
+        let (told, disk) = self.play(alloc, self.events.len(), disk)?;
+        Ok((told, disk.into_file()))
     }
 
     // Lets the first events happen on this disk: what is told of them, and the disk.

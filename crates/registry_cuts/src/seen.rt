@@ -3,10 +3,8 @@
 use crate::answer::answers;
 use crate::cut::{Cut, Powered};
 use crate::event::{Event, bind};
-use crate::file_cuts::UNCUT;
 use crate::run::Beginning;
 use anyhow::{Result, bail};
-use file_disk::{FileDisk, MemoryFile};
 use plain_registry::PlainRegistry;
 use registry::Registry;
 use requests::{Command, Reply};
@@ -143,13 +141,6 @@ pub(crate) fn look_behind(alloc: Global, disk: Powered, probe: &Probe) -> Result
 /// Opens a disk and asks.
 pub(crate) fn look(alloc: Global, disk: Memory, probe: &Probe) -> Result<Seen> {
     look_behind(alloc, Cut::NONE.of(disk), probe)
-}
-
-/// Opens a disk over a file with this medium, and asks.
-pub(crate) fn look_over_file(alloc: Global, medium: Memory, probe: &Probe) -> Result<Seen> {
-    let looks = probe.looks(alloc)?;
-    let disk = FileDisk::over(alloc, MemoryFile::new(medium, UNCUT))?;
-    ask(alloc, Registry::open(alloc, disk), &looks)
 }
 
 impl Seen {

@@ -14,8 +14,7 @@ use crate::wanted::{Wanted, Which};
 use anyhow::{Result, bail};
 use registry::{Binder, Registry, Step, Update};
 use requests::{Refusal, Reply};
-use samples::put;
-use sector_disk::{Disk, Memory, SECTOR_BYTES};
+use sector_disk::{Disk, Memory};
 use std::alloc::Global;
 use std::rc::Rc;
 
@@ -38,8 +37,6 @@ struct Draft {
     disk: Memory,
     before: Vec<Rc<Event>>,
     lines: Vec<Rc<Event>>,
-    // Whether the registry is of the greatest generation.
-    is_last: bool,
     probe: Probe,
 }
 
@@ -144,54 +141,22 @@ fn put_landed<D: Disk>(
     Ok(answers)
 }
 
-// Gives a root another generation.
-fn put_generation(disk: &mut Memory, at: u32, generation: u64) -> Result<()> {
-    let mut root = [0; SECTOR_BYTES];
-    if at < disk.sectors() {
-        disk.read(at, &mut root)?;
-        put(&mut root, 8, &generation.to_le_bytes());
-        disk.write(at, &root)?;
-    }
-    Ok(())
-}
-
-// Gives the registry on a disk its last generations: of an even one the greatest but one, of an odd
-// one the greatest.
-fn put_last(disk: &mut Memory, is_odd: bool) -> Result<()> {
-    put_generation(disk, 0, u64::MAX - 1)?;
-    put_generation(disk, 1, if is_odd { u64::MAX } else { u64::MAX - 2 })?;
-    disk.sync()?;
-    Ok(())
-}
-
 impl Draft {
-    // On a disk of so many sectors, whose registry begins with its last generations, or not.
-    fn on(
-        alloc: Global,
-        sectors: u32,
-        before: &[Rc<Event>],
-        lines: &[Rc<Event>],
-        ends: bool,
-    ) -> Result<Draft> {
+    // On a disk of so many sectors.
+    fn on(alloc: Global, sectors: u32, before: &[Rc<Event>], lines: &[Rc<Event>]) -> Result<Draft> {
         let count = before
             .iter()
             .take_while(|event| event.what != What::Begin)
             .count();
         let start = before.get(..count).unwrap_or(before);
         let before = before.get(count..).unwrap_or(&[]);
-        let mut disk = disk_after(alloc, sectors, start)?;
-        let is_odd = count % 2 == 1;
-        if ends {
-            put_last(&mut disk, is_odd)?;
-        }
         Ok(Draft {
             sectors,
             start: start.to_vec(alloc)?,
-            disk,
+            disk: disk_after(alloc, sectors, start)?,
             before: before.to_vec(alloc)?,
             lines: lines.to_vec(alloc)?,
-            is_last: ends && is_odd,
-            probe: Probe::new(alloc, if ends { 0 } else { sectors })?,
+            probe: Probe::new(alloc, sectors)?,
         })
     }
 
@@ -202,7 +167,6 @@ impl Draft {
         for event in &self.before {
             calls = calls.saturating_add(plain.happen(event, None)?.1);
         }
-        plain.is_last = self.is_last;
         plain.begin_update();
         Ok((plain, calls))
     }
@@ -352,17 +316,16 @@ impl Draft {
 }
 
 /// Cuts an update of these lines at each of its calls, on disks of these sizes with a registry
-/// behind these events, of which the binders live; with `ends` at its last generations.
+/// behind these events, of which the binders live.
 pub(crate) fn cut_updates(
     tally: &mut Tally,
     sizes: &str,
     before: &[Rc<Event>],
     lines: &[Rc<Event>],
-    ends: bool,
 ) -> Result<()> {
     for size in sizes.split(' ') {
         let size = size.parse::<u32>()?;
-        Draft::on(tally.rt.alloc(), size, before, lines, ends)?.cut_all(tally)?;
+        Draft::on(tally.rt.alloc(), size, before, lines)?.cut_all(tally)?;
     }
     Ok(())
 }

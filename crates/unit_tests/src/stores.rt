@@ -4,7 +4,6 @@ mod calls;
 mod disks;
 mod each_call;
 mod faults;
-mod holds;
 mod libraries;
 mod reads;
 mod sectors;

@@ -9,7 +9,7 @@ use crate::stores::calls::{Change, bytes_of, disk_after, opened};
 use crate::stores::disks::numbered_name;
 use crate::stores::sectors::copy;
 use crate::stores::seen::given;
-use sector_disk::{Disk, Fuse, Memory};
+use sector_disk::{Disk, Memory};
 use std::process::Abort;
 use store::{Store, StoreRefusal, Update};
 
@@ -169,70 +169,5 @@ fn an_update_of_one_line_is_the_change(rt: HostRuntime) {
         assert!(rt; drafted.read(at, &mut first).is_ok());
         assert!(rt; changed.read(at, &mut second).is_ok());
         assert!(rt; first == second);
-    }
-}
-
-#[test]
-fn what_is_given_up_leaves_no_sector(rt: HostRuntime) {
-    let mut store = opened(&rt, one(&rt, 64));
-    let before = store.unused_space();
-    let mut update = match store.update(rt.alloc()) {
-        Ok(update) => update,
-        Err(_) => panic!(rt; "an update refused"),
-    };
-    let lines = [
-        Put(1, 2, 600),
-        Put(0, 3, 700),
-        Put(0, 4, 800),
-        Put(2, 5, 9000),
-    ];
-    assert!(rt; draft_all(&rt, &mut update, &lines).is_none());
-    store = update.give_up();
-    let after = store.unused_space();
-    assert!(rt; before.sectors == after.sectors && before.largest == after.largest);
-    assert!(rt; content(&rt, &mut store, 0) == (1, 1, 0, Ok((344, Some(1)))));
-    let _ = store.into_disk();
-}
-
-// Which line of an update of 8 sectors with a byte string of 344 bytes is refused, and how.
-fn refusal(rt: &(impl Abort + AllocGlobal), lines: &[Change]) -> Option<StoreRefusal> {
-    let mut update = begun(rt, one(rt, 8));
-    let refused = draft_all(rt, &mut update, lines);
-    let _ = update.give_up().into_disk();
-    refused
-}
-
-#[test]
-fn what_stands_keeps_its_sectors(rt: HostRuntime) {
-    let replaced = refusal(&rt, &[Put(0, 2, 344), Put(0, 3, 344)]);
-    let moved = refusal(&rt, &[Delete(0), Put(1, 3, 344)]);
-    let again = refusal(&rt, &[Put(0, 2, 344), Delete(0)]);
-    assert!(rt; replaced == Some(StoreRefusal::Full) && moved == Some(StoreRefusal::Full));
-    assert!(rt; again.is_none());
-}
-
-// An update of which one call fails: its first refusal, and what the disk holds then.
-fn cut(rt: &(impl Abort + AllocGlobal), call: u64, late: bool) -> (bool, Content) {
-    let mut update = begun(rt, Fuse::new(one(rt, 64), call, false, late));
-    let lines = [Put(1, 2, 600), Put(0, 3, 700), Put(0, 4, 800), Delete(1)];
-    let failed = draft_all(rt, &mut update, &lines);
-    let (made, store) = update.commit();
-    let device = failed == Some(StoreRefusal::Device) || made == Err(StoreRefusal::Device);
-    assert!(rt; made.is_err() == device);
-    (device, content_of(rt, store.into_disk().into_inner(), 0))
-}
-
-#[test]
-fn each_call_of_an_update_may_fail(rt: HostRuntime) {
-    // Opening takes 5 calls, the lines 9, the commit 4: the third of these writes the root.
-    let old = (1, 1, 0, Ok((344, Some(1))));
-    let new = (2, 1, 0, Ok((800, Some(4))));
-    for call in 6..20 {
-        for late in [false, true] {
-            let (device, held) = cut(&rt, call, late);
-            let written = call > 17 || call == 17 && late;
-            assert!(rt; device == (call < 19));
-            assert!(rt; held == if written { new } else { old });
-        }
     }
 }
