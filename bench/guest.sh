@@ -1,6 +1,7 @@
 # guest.sh, read by scripts for root that try documents in a Debian under qemu. These have set `room`, a
 # folder of their own, `built`, what c/build.sh has made, `release`, and `page`, the document. They need
-# debootstrap, qemu-system-x86, fdisk and e2fsprogs. ACCEL is qemu's -accel.
+# debootstrap, qemu-system-x86, fdisk and e2fsprogs. ACCEL is qemu's -accel, PATIENCE how many seconds
+# a guest may take (1,800).
 . bench/page.sh
 root=$room/root disk=$room/disk.img guest=
 
@@ -45,6 +46,7 @@ partitions() {
 
 # boot [WORD]..: with these behind the kernel's command line. The console's lines are in a file.
 boot() {
+    : > "$room/console" # else `begun` may find what the guest before has said
     qemu-system-x86_64 -accel "${ACCEL:-tcg}" -m 1024 -nographic -no-reboot -kernel "$room/kernel" \
         -initrd "$room/initramfs" -drive "file=$disk,format=raw,if=virtio,cache=writeback" \
         -netdev user,id=net -device virtio-net-pci,netdev=net,romfile= -append \
@@ -54,7 +56,7 @@ boot() {
 
 # begun TEXT: waits until the guest says it.
 begun() {
-    timeout 1800 sh -c "until grep -aq '$1' '$room/console'; do sleep 0.2; done" ||
+    timeout "${PATIENCE:-1800}" sh -c "until grep -aq '$1' '$room/console'; do sleep 0.2; done" ||
         failed 'the guest goes on'
 }
 
@@ -65,10 +67,9 @@ power_cut() {
     ended
 }
 
-# ended: waits for the end of the guest, half an hour at most. What it said is without the console's
-# own signs.
+# ended: waits for the end of the guest. What it said is without the console's own signs.
 ended() {
-    timeout 1800 tail --pid=$guest -f /dev/null || failed 'the guest goes on'
+    timeout "${PATIENCE:-1800}" tail --pid=$guest -f /dev/null || failed 'the guest goes on'
     wait $guest || true
     guest=
     tr -d '\r' < "$room/console" | sed 's/\x1b[^A-Za-z]*[A-Za-z]//g' |

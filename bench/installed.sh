@@ -116,7 +116,7 @@ tool() {
     rlibreg-tool info old
     rlibreg-tool check old
     rlibreg-tool file old libtwo.so | cmp - libtwo.so
-    # The page's DISK, FILE and PROGRAM
+    # The page's DISK, FILE, PROGRAM and lines, and an empty registry
     echo 'int one(void) { return 0; }' > b.c
     cat > alone.c << 'C'
 extern int one(void);
@@ -129,9 +129,15 @@ C
     $object -shared -Wl,-soname,libb.so -o libb.so b.c
     $object -pie -o program alone.c libb.so
     ./updater disk libb.so
+    rlibreg format other 4096
+    {
+        printf 'replace %s\n' "$(od -An -v -tx1 libb.so | tr -d ' \n')"
+        printf 'bind 0x10000 %s\ncommit\n' "$(od -An -v -tx1 program | tr -d ' \n')"
+    } > lines
     eval "$(commands $docs/TOOL.md)"
     rlibreg list old | tee listed
     rlibreg list new | cmp - listed
+    rlibreg list other | cmp - listed
     echo 'docs/TOOL.md: as written'
     rm disk
 }
@@ -199,7 +205,7 @@ partitions() {
     fi
     xargs -rn 1 losetup -d < loops
     umount /proc /sys
-    rm -rf rlibreg_* /dev/loop* /dev/disk /var/cache/rlibreg /etc/rlibreg
+    rm -rf loops rlibreg_* /dev/loop* /dev/disk /var/cache/rlibreg /etc/rlibreg
 }
 
 # Projects as they are: three by their own commands, and what they do.
