@@ -8,7 +8,7 @@
 # - A transfer that breaks, one with another bit, what another key has signed, and a list after which a
 #   program can't be bound change nothing, and the way goes on afterwards.
 # - The power goes CUTS times (3) in each way, over and over: the device then has the version that it had
-#   reached, or the next, and goes on.
+#   reached, or the next. That comes once more, but by a list, and the way goes on.
 #
 # It is for root, needs debootstrap, qemu-system-x86, fdisk, e2fsprogs, gcc and python3 (3.9 or later),
 # and has some 300 MB from a mirror of Debian. ACCEL is qemu's -accel.
@@ -76,13 +76,14 @@ case \$1 in
 esac
 END
     cat > "$ways/ostree" << END
+b=/var/registry/\$number/disk
+[ "\$(readlink /etc/rlibreg/disk)" != \$b ] || exit 0 # done again, it would remove what the link names
 # Without the commit before its delta, the file would come whole too.
 for only in --commit-metadata-only ''; do
     ostree --repo=/var/ostree pull --url=\$url/ostree \$only fleet v\$number
 done
 rm -rf /var/registry/\$number
 ostree --repo=/var/ostree checkout -H --fsync=true fleet:v\$number /var/registry/\$number
-b=/var/registry/\$number/disk
 $switch
 END
     cat > "$ways/list" << END
@@ -129,6 +130,11 @@ made() {
     mv "$root/www" "$room/www"
 }
 
+# at: the versions that the guest said it has; a line that a cut has broken says none.
+at() {
+    sed -n 's/^rlibreg: at \([1-4]\).*/\1/p' "$room/said"
+}
+
 # counted: what the server gave between `begin` and `end`, in KB.
 counted() {
     awk '$1 ~ /^\/begin/ {way = substr($1, 8); sum = 0; next} $1 == "/end" {printf "%s: %d KB\n", way, sum / 1000}
@@ -156,17 +162,18 @@ sed -n 's/^rlibreg: \(.*, .*\)/\1/p' "$room/said"
 counted
 
 for way in casync rauc ostree list; do
-    reached=1
+    reached=1 versions=0
     for ((i = 0; i <= cuts; i++)); do
         boot "$start fleet.way=$way"
-        begun 'rlibreg: begun'
+        if [ "$i" -lt "$cuts" ]; then begun 'rlibreg: begun'; else begun 'rlibreg: .*, gone on'; fi
         power_cut 30
         said 'rlibreg: begun'
         ! grep 'rlibreg: failed' "$room/said" || failed "$way: it doesn't go on"
-        found=$(sed -n 's/^rlibreg: at //p' "$room/said" | head -n 1)
+        found=$(at | head -n 1)
         [ "$found" = "$reached" ] || [ "$found" = $((reached % 4 + 1)) ] ||
             failed "$way: version $found is found, and $reached was reached"
-        reached=$(sed -n 's/^rlibreg: at //p' "$room/said" | tail -n 1)
+        reached=$(at | tail -n 1) versions=$((versions + $(at | wc -l) - 1))
     done
-    echo "$way: $cuts power cuts, the last at version $reached"
+    said 'gone on'
+    echo "$way: $cuts power cuts, $versions versions reached, the last is $reached"
 done

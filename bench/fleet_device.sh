@@ -94,10 +94,11 @@ over_and_over() {
     [ -n "$at" ] || failed 'this is none of the versions'
     echo "rlibreg: at $at"
     echo 'rlibreg: begun'
+    [ "$1" = list ] || runs "$1" "$at" && [ "$(version)" = "$at" ] || failed "$1 to $at once more"
     while :; do
         at=$((at % 4 + 1))
         runs "$1" $at || failed "$1 to $at"
-        echo "rlibreg: at $at"
+        echo "rlibreg: at $at, gone on"
         [ "$1" != ostree ] || forgets $at
     done
 }

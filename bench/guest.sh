@@ -54,9 +54,10 @@ boot() {
     guest=$!
 }
 
-# begun TEXT: waits until the guest says it.
+# begun TEXT: waits until the guest says it, or ends.
 begun() {
-    timeout "${PATIENCE:-1800}" sh -c "until grep -aq '$1' '$room/console'; do sleep 0.2; done" ||
+    timeout "${PATIENCE:-1800}" sh -c \
+        "until grep -aq '$1' '$room/console' || ! kill -0 $guest 2> /dev/null; do sleep 0.2; done" ||
         failed 'the guest goes on'
 }
 
@@ -64,15 +65,17 @@ begun() {
 power_cut() {
     sleep "$((RANDOM % $1)).$((RANDOM % 10))"
     kill -9 $guest || true
+    wait $guest 2> /dev/null || true # else bash tells that it was killed
     ended
 }
 
-# ended: waits for the end of the guest. What it said is without the console's own signs.
+# ended: waits for the end of the guest. What it said is without the console's own signs, and without
+# the firmware's last line, which may not have ended.
 ended() {
     timeout "${PATIENCE:-1800}" tail --pid=$guest -f /dev/null || failed 'the guest goes on'
     wait $guest || true
     guest=
-    tr -d '\r' < "$room/console" | sed 's/\x1b[^A-Za-z]*[A-Za-z]//g' |
+    tr -d '\r' < "$room/console" | sed 's/\x1b[^A-Za-z]*[A-Za-z]//g; s/^Booting from ROM\.*//' |
         grep -a '^rlibreg\|^library' > "$room/said" || true
 }
 

@@ -10,7 +10,8 @@
 #   growing, also where a copy was cut before.
 # - A program that the initramfs starts, and a first process, from a registry on a partition.
 # - dm-verity: the same over it; a changed byte, and another root hash, start nothing.
-# - The power goes CUTS times (5) while the switch goes to and fro: the link names one of the two.
+# - The power goes CUTS times (5) while a copy, its change and the switch go to and fro: the link names one
+#   of the two, whose registry is whole, and all is done again.
 #
 # It is for root, needs debootstrap, qemu-system-x86, fdisk, e2fsprogs and gcc, and has some 250 MB
 # from a mirror of Debian. ACCEL is qemu's -accel.
@@ -144,14 +145,19 @@ END
     {
         cat << 'END'
 #!/bin/bash
-a=/dev/disk/by-partlabel/rlibreg_a b=/dev/disk/by-partlabel/rlibreg_b
+set -eEu
+trap 'echo "rlibreg: failed: $BASH_COMMAND"' ERR
+cd /try
 echo "rlibreg: the link names $(readlink /etc/rlibreg/disk)"
 rlibreg list /etc/rlibreg/disk
+rlibreg-run /etc/rlibreg/disk /usr/bin/program
 echo 'rlibreg: to and fro'
 while :; do
+    a=/dev/disk/by-partlabel/rlibreg_a b=/dev/disk/by-partlabel/rlibreg_b
+    [ "$(readlink /etc/rlibreg/disk)" != $b ] || { a=$b; b=${b%b}a; }
 END
-        of Partitions 'ln -sfn'
-        printf 'c=$a a=$b b=$c\ndone\n'
+        of Partitions 'flock -s'
+        printf 'echo "rlibreg: switched"\ndone\n'
     } > "$root/try/cuts.sh"
     chmod 755 "$root/try/day.sh" "$root/try/cuts.sh"
     cat > "$root/etc/systemd/system/day.service" << 'END'
@@ -211,10 +217,14 @@ said '/usr/bin/program ended with status 126'
 mv "$room/whole" "$disk"
 echo 'dm-verity: the same, and nothing of a changed byte or under another root hash'
 
+switches=0
 for ((i = 0; i <= cuts; i++)); do
     boot init=/try/cuts.sh
-    begun 'to and fro'
+    if [ "$i" -lt "$cuts" ]; then begun 'to and fro'; else begun 'rlibreg: switched'; fi
     power_cut 3
-    said 'the link names /dev/disk/by-partlabel/rlibreg_[abc]$' '^library libgreeting.so'
+    said 'the link names /dev/disk/by-partlabel/rlibreg_[abc]$' '^library libgreeting.so' '^rlibreg: other'
+    ! grep 'rlibreg: failed' "$room/said" || failed "it doesn't go on"
+    switches=$((switches + $(grep -c '^rlibreg: switched' "$room/said" || true)))
 done
-echo "$cuts power cuts: the link is whole"
+said '^rlibreg: switched'
+echo "$cuts power cuts, $switches switches: the link is whole, and so is what it names"
