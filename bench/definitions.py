@@ -25,7 +25,7 @@ CLAUSES = [
     ('file_disk/disk', 'read write sync', 'honest any_moment cause'),
     ('file_disk/disk', 'follows_its_file', 'result'),
     ('file_disk/open', 'over', 'starts'),
-    ('registry/format', 'format', 'result'),
+    ('registry/format', 'format', 'making'),
     ('registry/open', 'open', 'opening'),
     ('registry/upgrade', 'upgrade', 'result'),
     ('registry/open', 'open_untested', 'opening registry'),

@@ -40,7 +40,7 @@ module _ {D : Type 0} (facts : D → DiskFacts) where
     goes_on : (h : Happening) (r : EventReply) → Happens facts mid new h r → GoesOn (exchange_of h r)
     goes_on (apply request) (Replied answer) happens =
         runs_turn facts old.registry mid.registry new.registry s xs registries so_far request answer happens.applied happens.all_calls
-        happens.on_any_disk
+        happens.on_any_disk.did
     goes_on (begin program base) (Slot slot) happens = goes_unread happens.stays happens.disk
     goes_on (begin program base) (Replied (Refused refusal)) happens = goes_unread happens.stays happens.disk
     goes_on (advance slot) Going happens = goes_advanced slot _ happens

@@ -186,7 +186,7 @@ module _ (before after : Option (List ℕ)) where
       })
       status h.2
   request_replied disk left q status new (inr h) =
-      away_told (λ asked. asked ≡ q) status (told_away IsOpenRefusal h.0 status ((file_facts disk).sectors, h.1.opened.refusals) h.2)
+      away_told (λ asked. asked ≡ q) status (told_away IsOpenRefusal h.0 status ((file_facts disk).sectors, h.1.on_any_disk.ends.refusals) h.2)
 
   -- a registry was made, and that was told
   pub made_told : (n : ℕ) (disk : SystemDisk) (registry : Opened SystemDisk) (status : Status) → IsMade n disk registry
@@ -224,7 +224,7 @@ module _ (before after : Option (List ℕ)) where
   ends_upgrading : (disk : SystemDisk) (upgrading : Result (Opened SystemDisk) (StoreRefusal × SystemDisk)) (status : Status) → IsNew disk → EndsUpgrading file_facts disk upgrading
       → IsTold (disk_answer_status (answer_of upgrading)) (disk_answer_text (answer_of upgrading)) before after status → IsUpgradedOver before after status
   ends_upgrading disk (Ok registry) status new is h = ends_upgraded disk registry status (record { new = new; upgrading = is }) h
-  ends_upgrading disk (Err e) status new is h = ends_not_upgraded status (told_away IsUpgradeRefusal e.0 status ((file_facts disk).sectors, is.refusals) h)
+  ends_upgrading disk (Err e) status new is h = ends_not_upgraded status (told_away IsUpgradeRefusal e.0 status ((file_facts disk).sectors, is.on_any_disk.refusals) h)
 
   pub upgrade_told : (disk left : SystemDisk) (status : Status) → IsNew disk → UpgradeEnds file_facts disk before after status left → IsUpgradedOver before after status
   upgrade_told disk left status new h = ends_upgrading disk h.0 status new h.1 h.3

@@ -75,7 +75,7 @@ away_ends io NoMemory h = inr h
 pub disk_script_ends : (disk left : SystemDisk) (io : Streams) (status : Status) → IsNew disk → status ≢ BadWords → DiskScriptEnds file_facts disk io status left → ScriptEnds io status
 disk_script_ends disk left io status new words (inl h) = run_ends io status words (record { disk = disk; new = new; left = left; run = h })
 disk_script_ends disk left io status new words (inr h) =
-    away_ends io status (told_away io.before io.after IsOpenRefusal h.0 status ((file_facts disk).sectors, h.1.opened.refusals) h.2)
+    away_ends io status (told_away io.before io.after IsOpenRefusal h.0 status ((file_facts disk).sectors, h.1.on_any_disk.ends.refusals) h.2)
 
 pub away_script : (io : Streams) (why : NoRegistry) (status : Status) → IsNoRegistry IsOpenRefusal why
     → IsTurnedAway (λ r. why ≡ no.Refused r) io.before io.after status → ScriptEnds io status

@@ -1,5 +1,5 @@
 -- What holds of a file that no test refuses.
-use Rattle.std.proofs.Common.{◌≡◌, ℕ, ◌<◌, ◌≤◌, ◌+◌, Bool, true, false, cond, List, [], ◌∷◌, length, arith, refl, get_or, suc, zero, Some, None, take, drop, filter, nat_lt, length-drop}
+use Rattle.std.proofs.Common.{◌≡◌, ℕ, ◌<◌, ◌≤◌, ◌+◌, Bool, true, false, cond, List, [], ◌∷◌, ◌++◌, length, arith, refl, get_or, suc, zero, Some, None, take, drop, filter, nat_lt, length-drop}
 use Rattle.std.specs.Prelude.{slice_get, not, ◌||◌, ◌&&◌}
 use Rattle.std.specs.List.{list_any, All, AllPairs}
 use Rattle.std.proofs.lemmas.List.{length-take}
@@ -8,13 +8,13 @@ use Rattle.std.proofs.lemmas.Bool.Decides.{nat_tests}
 use Rattle.elf_file.specs.Segment.{is_load, is_bad_load, is_too_high, has_load, has_bad_load, has_bad_segment, has_high_segment, is_too_large, has_bad_order, loads, contents, program_headers}
 use Rattle.elf_file.specs.Constant.{LARGEST_FILE, HIGHEST_END}
 use Rattle.elf_file.specs.Address.{is_in_memory}
-use Rattle.elf_file.specs.Refusal.{segment_tests, segment_refusal, file_refusals, file_refusal}
+use Rattle.elf_file.specs.Refusal.{header_tests, segment_tests, tag_tests, file_refusal}
 use Rattle.elf_dynamic.specs.Relocation.{is_writing, is_misplaced, has_bad_place, relocations}
 use Rattle.elf_dynamic.specs.Table.{has_bad_range}
-use Rattle.elf_dynamic.specs.Refusal.{table_tests, table_refusal, relocation_tests, relocation_refusal, refusals, first_refusal}
+use Rattle.elf_dynamic.specs.Refusal.{table_tests, symbol_tests, relocation_tests, object_tests, first_refusal}
 use Rattle.elf_file.specs.declared.refusal.ObjectRefusal.TheVariants.{BadRange, BadSegment, TooLarge, SegmentOrder, RelocationPlace}
 use Rattle.elf_file.specs.declared.segment.ProgramHeader.{ProgramHeader}
-use Rattle.elf_file.proofs.FirstOf.{none_at, when_none}
+use Rattle.elf_file.proofs.FirstOf.{none_at, when_none, none_first}
 use Rattle.elf_file.proofs.Order.{loads_rising}
 
 or-false_left : (a b : Bool) → (a || b) ≡ false → a ≡ false
@@ -27,35 +27,19 @@ or-false_right false b h = h
 
 -- its headers, segments and tags aren't refused
 pub file_refuses_none : (file : List ℕ) → first_refusal file ≡ None → file_refusal file ≡ None
-unfolding first_refusal
-file_refuses_none file h = none_at (refusals file) 0 h
-
-segments_refuse_by : (file : List ℕ) → file_refusal file ≡ None → segment_refusal file ≡ None
-unfolding file_refusal
-segments_refuse_by file h = none_at (file_refusals file) 1 h
-
-segments_refuse_none : (file : List ℕ) → first_refusal file ≡ None → segment_refusal file ≡ None
-segments_refuse_none file h = segments_refuse_by file (file_refuses_none file h)
-
-relocations_refuse_none : (file : List ℕ) → first_refusal file ≡ None → relocation_refusal file ≡ None
-unfolding first_refusal
-relocations_refuse_none file h = none_at (refusals file) 3 h
-
-segments_fine_by : (file : List ℕ) → segment_refusal file ≡ None → (has_bad_segment file ≡ false) × (is_too_large file ≡ false) × (has_bad_order file ≡ false)
-unfolding segment_refusal
-segments_fine_by file h =
-    let tests = segment_tests file in
-    (when_none BadSegment (has_bad_segment file) (none_at tests 1 h), when_none TooLarge (is_too_large file) (none_at tests 2 h), when_none SegmentOrder (has_bad_order file) (none_at tests 3 h))
+unfolding first_refusal file_refusal
+file_refuses_none file h =
+    none_first (header_tests file ++ segment_tests file ++ tag_tests file) (table_tests file ++ symbol_tests file ++ relocation_tests file) h
 
 segments_fine : (file : List ℕ) → first_refusal file ≡ None → (has_bad_segment file ≡ false) × (is_too_large file ≡ false) × (has_bad_order file ≡ false)
-segments_fine file h = segments_fine_by file (segments_refuse_none file h)
-
-places_fine_by : (file : List ℕ) → relocation_refusal file ≡ None → has_bad_place file ≡ false
-unfolding relocation_refusal
-places_fine_by file h = when_none RelocationPlace (has_bad_place file) (none_at (relocation_tests file) 2 h)
+unfolding first_refusal
+segments_fine file h =
+    let tests = object_tests file in
+    (when_none BadSegment (has_bad_segment file) (none_at tests 11 h), when_none TooLarge (is_too_large file) (none_at tests 12 h), when_none SegmentOrder (has_bad_order file) (none_at tests 13 h))
 
 places_fine : (file : List ℕ) → first_refusal file ≡ None → has_bad_place file ≡ false
-places_fine file h = places_fine_by file (relocations_refuse_none file h)
+unfolding first_refusal
+places_fine file h = when_none RelocationPlace (has_bad_place file) (none_at (object_tests file) 29 h)
 
 none-step : {X : Type 0} (q bad : X → Bool) (x : X) (xs : List X) (a b : Bool) → q x ≡ a → bad x ≡ b → (b || list_any bad xs) ≡ false
     → ((k : ℕ) (d : X) → k < length (filter q xs) → (q (get_or (filter q xs) k d) ≡ true) × (bad (get_or (filter q xs) k d) ≡ false))
@@ -158,18 +142,14 @@ contents_whole file i h accepted at =
     let all = contents_length file accepted i h (slice_get_within (loads file) i h at) in
     rw (get_or_from_slice_get (loads file) i h h at) at all
 
-tables_refuse_none : (file : List ℕ) → first_refusal file ≡ None → table_refusal file ≡ None
+ranges_fine : (file : List ℕ) → first_refusal file ≡ None → has_bad_range file ≡ false
 unfolding first_refusal
-tables_refuse_none file h = none_at (refusals file) 1 h
-
-ranges_fine_by : (file : List ℕ) → table_refusal file ≡ None → has_bad_range file ≡ false
-unfolding table_refusal
-ranges_fine_by file h = when_none BadRange (has_bad_range file) (none_at (table_tests file) 0 h)
+ranges_fine file h = when_none BadRange (has_bad_range file) (none_at (object_tests file) 21 h)
 
 -- its tables are found
 pub tables_found : (file : List ℕ) → first_refusal file ≡ None → has_bad_range file ≡ true → ⊥
 tables_found file h e =
-    let fine = ranges_fine_by file (tables_refuse_none file h) in
+    let fine = ranges_fine file h in
     cc
 
 -- for finding its tables again

@@ -1,4 +1,5 @@
 pub mod Accepted
+mod Stages
 mod TableEntries
 mod ByNumber
 mod Misplaced

@@ -1,8 +1,8 @@
 -- The refusal of a file: that of the first test that applies, each made over the whole file.
-use Rattle.std.specs.Prelude.{ℕ, List, [], ◌∷◌, Option}
+use Rattle.std.specs.Prelude.{ℕ, List, [], ◌∷◌, ◌++◌, Option}
 use Rattle.std.specs.Option.{option_map}
 use Rattle.elf_file.specs.FirstOf.{◌when◌, first_of}
-use Rattle.elf_file.specs.Refusal.{file_refusal}
+use Rattle.elf_file.specs.Refusal.{header_tests, segment_tests, tag_tests}
 use Rattle.elf_file.specs.declared.refusal.ObjectRefusal.{ObjectRefusal}
 use Rattle.elf_file.specs.declared.refusal.ObjectRefusal.TheVariants.{BadRange, BadString, CommonSymbol, TlsSymbol, IfuncSymbol, BadBinding}
 use Rattle.elf_file.specs.declared.refusal.ObjectRefusal.TheVariants.{RelocationType, RelocationSymbol, RelocationPlace}
@@ -44,10 +44,11 @@ relocation_tests file =
 unfoldable pub relocation_refusal : List ℕ → Option ObjectRefusal
 relocation_refusal file = first_of (relocation_tests file)
 
--- the refusals of a file by E1 to E21, E22 and E23, E24 to E27, and E30 to E32, in this order
-abbrev pub refusals : List ℕ → List (Option ObjectRefusal)
-refusals file = file_refusal file ∷ table_refusal file ∷ symbol_refusal file ∷ relocation_refusal file ∷ []
+-- the tests of a file, E1 to E27 and E30 to E32, in their order
+abbrev pub object_tests : List ℕ → List (Option ObjectRefusal)
+object_tests file =
+    header_tests file ++ segment_tests file ++ tag_tests file ++ table_tests file ++ symbol_tests file ++ relocation_tests file
 
 -- the refusal of a file, or none where it is accepted
 unfoldable pub first_refusal : List ℕ → Option ObjectRefusal
-first_refusal file = first_of (refusals file)
+first_refusal file = first_of (object_tests file)

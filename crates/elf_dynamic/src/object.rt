@@ -40,7 +40,7 @@ impl<'a> Object<'a> {
     /// Reads a file, or gives the refusal of the first test that applies. A few passes over the
     /// program headers and the relocations, and two over the dynamic section and the symbols; it
     /// takes no memory and copies nothing.
-    #[tactic(auto, unfolding(crate::specs::Refusal::first_refusal))]
+    #[tactic(auto, using(crate::proofs::Stages::stages))]
     pub fn read(file: &'a [u8]) -> Result<Object<'a>, ObjectRefusal>
         ensures { MatchResult result
             (λ object. (first_refusal file.now ≡ None) × (object ≡ file.now))

@@ -1,15 +1,15 @@
 -- What holds of a file that no test refuses.
-use Rattle.std.proofs.Common.{◌≡◌, ℕ, ◌+◌, ◌*◌, ◌≤◌, Bool, true, false, List, length, arith, None, nat_lt}
+use Rattle.std.proofs.Common.{◌≡◌, ℕ, ◌+◌, ◌*◌, ◌≤◌, Bool, true, false, List, ◌++◌, length, arith, None, nat_lt}
 use Rattle.std.specs.Prelude.{◌||◌, ◌==◌, not}
 use Rattle.std.proofs.lemmas.Bool.Decides.{nat_tests}
 use Rattle.elf_file.specs.Constant.{FILE_HEADER_SIZE, PROGRAM_HEADER_SIZE, PN_XNUM}
 use Rattle.elf_file.specs.Header.{headers_offset, header_count, is_too_short, has_bad_program_headers, HasHeaders}
 use Rattle.elf_file.specs.Segment.{has_load, has_bad_load, has_bad_segment, is_too_large, has_bad_order}
 use Rattle.elf_file.specs.Dynamic.{has_bad_dynamic}
-use Rattle.elf_file.specs.Refusal.{header_tests, header_refusal, segment_tests, segment_refusal, tag_tests, tag_refusal, file_refusals, file_refusal}
+use Rattle.elf_file.specs.Refusal.{header_tests, header_refusal, segment_tests, segment_refusal, tag_tests, file_refusal}
 use Rattle.elf_file.specs.inside.Index.{HasSegments}
 use Rattle.elf_file.specs.declared.refusal.ObjectRefusal.TheVariants.{TooShort, BadProgramHeaders, BadSegment, TooLarge, SegmentOrder, BadDynamic}
-use Rattle.elf_file.proofs.FirstOf.{none_at, when_none}
+use Rattle.elf_file.proofs.FirstOf.{none_at, when_none, none_first, none_behind}
 
 or-false_right : (a b : Bool) → (a || b) ≡ false → b ≡ false
 or-false_right true b h = cc
@@ -39,25 +39,17 @@ has_segments file h = record {
   in_order = when_none SegmentOrder (has_bad_order file) (none_at (segment_tests file) 3 h);
 }
 
--- the dynamic section of a file that E15 to E21 don't refuse is in it and is ended
-has_section : (file : List ℕ) → tag_refusal file ≡ None → has_bad_dynamic file ≡ false
-unfolding tag_refusal
-has_section file h = when_none BadDynamic (has_bad_dynamic file) (none_at (tag_tests file) 0 h)
-
 -- the headers of a file that E1 to E21 don't refuse aren't refused
 pub headers_accepted : (file : List ℕ) → file_refusal file ≡ None → header_refusal file ≡ None
-unfolding file_refusal
-headers_accepted file h = none_at (file_refusals file) 0 h
+unfolding file_refusal header_refusal
+headers_accepted file h = none_first (header_tests file) (segment_tests file ++ tag_tests file) h
 
 -- nor are its segments
 pub segments_accepted : (file : List ℕ) → file_refusal file ≡ None → segment_refusal file ≡ None
-unfolding file_refusal
-segments_accepted file h = none_at (file_refusals file) 1 h
-
-tags_accepted : (file : List ℕ) → file_refusal file ≡ None → tag_refusal file ≡ None
-unfolding file_refusal
-tags_accepted file h = none_at (file_refusals file) 2 h
+unfolding file_refusal segment_refusal
+segments_accepted file h = none_first (segment_tests file) (tag_tests file) (none_behind (header_tests file) (segment_tests file ++ tag_tests file) h)
 
 -- and its dynamic section isn't bad
 pub section_accepted : (file : List ℕ) → file_refusal file ≡ None → has_bad_dynamic file ≡ false
-section_accepted file h = has_section file (tags_accepted file h)
+unfolding file_refusal
+section_accepted file h = when_none BadDynamic (has_bad_dynamic file) (none_at (header_tests file ++ segment_tests file ++ tag_tests file) 14 h)

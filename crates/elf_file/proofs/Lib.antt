@@ -1,5 +1,6 @@
 pub mod FirstOf
 mod Accepted
+mod Stages
 mod Spans
 pub mod Order
 mod LoadNumbers

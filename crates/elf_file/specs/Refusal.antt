@@ -1,5 +1,5 @@
 -- The tests of headers, segments and tags in their order, each made over the whole file.
-use Rattle.std.specs.Prelude.{ℕ, List, [], ◌∷◌, Option}
+use Rattle.std.specs.Prelude.{ℕ, List, [], ◌∷◌, ◌++◌, Option}
 use Rattle.elf_file.specs.FirstOf.{◌when◌, first_of}
 use Rattle.elf_file.specs.Header.{is_too_short, has_bad_magic, has_bad_class, has_bad_data, has_bad_version, has_bad_os_abi}
 use Rattle.elf_file.specs.Header.{has_bad_type, has_bad_machine, has_bad_header_size, has_bad_program_headers}
@@ -60,10 +60,6 @@ tag_tests file =
 unfoldable pub tag_refusal : List ℕ → Option ObjectRefusal
 tag_refusal file = first_of (tag_tests file)
 
--- the refusals of a file by its header, by its program headers and by its tags, in this order
-abbrev pub file_refusals : List ℕ → List (Option ObjectRefusal)
-file_refusals file = header_refusal file ∷ segment_refusal file ∷ tag_refusal file ∷ []
-
 -- the first of E1 to E21 that applies, or none
 unfoldable pub file_refusal : List ℕ → Option ObjectRefusal
-file_refusal file = first_of (file_refusals file)
+file_refusal file = first_of (header_tests file ++ segment_tests file ++ tag_tests file)

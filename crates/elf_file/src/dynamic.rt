@@ -89,7 +89,7 @@ impl<'a> Model for Dynamic<'a> {
 impl<'a> Dynamic<'a> {
     /// Reads a file as far as its tags, or gives the refusal of the first of the tests E1 to E21
     /// that applies. A few passes over the program headers, and one over the dynamic section.
-    #[tactic(auto, unfolding(crate::specs::Refusal::file_refusal))]
+    #[tactic(auto, using(crate::proofs::Stages::stages))]
     pub fn read(file: &'a [u8]) -> Result<Dynamic<'a>, ObjectRefusal>
         ensures { MatchResult result
             (λ dynamic. (file_refusal file.now ≡ None) × (dynamic ≡ file.now))

@@ -14,7 +14,7 @@ use Rattle.elf_file.proofs.FirstOf.{none_at, when_none}
 use Rattle.elf_dynamic.specs.Constant.{R_X86_64_64, R_X86_64_RELATIVE}
 use Rattle.elf_dynamic.specs.HashTable.{word, hash_table, bucket_count, chains, chain_count}
 use Rattle.elf_dynamic.specs.Relocation.{is_writing, lacks_symbol, has_bad_relocation_symbol, relocations, uses_symbol}
-use Rattle.elf_dynamic.specs.Refusal.{refusals, first_refusal, relocation_tests, relocation_refusal}
+use Rattle.elf_dynamic.specs.Refusal.{object_tests, first_refusal}
 use Rattle.elf_dynamic.specs.declared.relocation.Relocation.{Relocation}
 use Rattle.elf_dynamic.proofs.Accepted.{places}
 use Rattle.image.specs.Heading.{Heading}
@@ -25,13 +25,9 @@ use Rattle.image.specs.Relocating.{Write, base_at, symbol_value, value_with, wri
 use Rattle.image.specs.inside.Segments.{Lands, room_in}
 use Rattle.image.proofs.Placing.{placed-any, place-reached, rooms-shift}
 
-refuses_none : (file : List ℕ) → first_refusal file ≡ None → relocation_refusal file ≡ None
+symbols_fine : (file : List ℕ) → first_refusal file ≡ None → has_bad_relocation_symbol file ≡ false
 unfolding first_refusal
-refuses_none file h = none_at (refusals file) 3 h
-
-symbols_fine : (file : List ℕ) → relocation_refusal file ≡ None → has_bad_relocation_symbol file ≡ false
-unfolding relocation_refusal
-symbols_fine file h = when_none RelocationSymbol (has_bad_relocation_symbol file) (none_at (relocation_tests file) 1 h)
+symbols_fine file h = when_none RelocationSymbol (has_bad_relocation_symbol file) (none_at (object_tests file) 28 h)
 
 lacks-none : (file : List ℕ) (i : ℕ) (r : Relocation) (b : Bool) → lacks_symbol file r ≡ b → has_bad_relocation_symbol file ≡ false
     → slice_get (relocations file) i ≡ Some r → lacks_symbol file r ≡ false
@@ -55,7 +51,7 @@ pub symbol-there : (file : List ℕ) (i : ℕ) (r : Relocation) → first_refusa
     → r.symbol < length (chains file)
 symbol-there file i r accepted at uses =
     let there = there-by (uses_symbol r.kind) (chain_count file) r.symbol
-    (lacks-none file i r (lacks_symbol file r) refl (symbols_fine file (refuses_none file accepted)) at) uses in
+    (lacks-none file i r (lacks_symbol file r) refl (symbols_fine file accepted) at) uses in
     omega (arith, there, chains-counted file)
 
 writes-by : (kind w : ℕ) (p q : Option ℕ) (b1 b2 b3 : Bool) → (kind == R_X86_64_RELATIVE) ≡ b1 → (kind == R_X86_64_64) ≡ b2 → uses_symbol kind ≡ b3

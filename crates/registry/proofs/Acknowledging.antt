@@ -96,7 +96,7 @@ module _ {D : Type 0} (facts : D → DiskFacts) where
   goes_state p q r p' goes = ⊎_elim
       (λ applied. step_state (phase_of facts p.registry p.state) q r (phase_of facts p'.registry p'.state) applied.applied.step
       (⊎_elim (λ at. inl at.stored.usable) (λ failed. inr failed.1) applied.applied.kept))
-      (λ nothing. subst (λ y. p'.state ≡ cond (is_acknowledged y) (accepted p.state q) p.state) (sym (goes.answered.reopen.1 nothing.0)) (ap (λ (x : Point D). x.state) nothing.1))
+      (λ nothing. subst (λ y. p'.state ≡ cond (is_acknowledged y) (accepted p.state q) p.state) (sym (goes.did.reopen.1 nothing.0)) (ap (λ (x : Point D). x.state) nothing.1))
       goes.applied
 
   moves_state : (p : Point D) (x : Exchange) (p' : Point D) → Moves facts p x p' → p'.state ≡ state_after p.state (acknowledged (x ∷ []))
@@ -130,7 +130,7 @@ module _ {D : Type 0} (facts : D → DiskFacts) where
 
   -- time doesn't go back
   moves_time : (p : Point D) (x : Exchange) (p' : Point D) → Moves facts p x p' → (disk_at facts p).time ≤ (disk_at facts p').time
-  moves_time p (Some e) p' goes = goes.answered.calls.later
+  moves_time p (Some e) p' goes = goes.did.calls.later
   moves_time p None p' idles = ⊎_elim
       (λ stays. stays.any_moment.past.later)
       (λ failed. subst (λ (d : D). (disk_at facts p).time ≤ (facts d).time) (sym failed.2) (omega arith))

@@ -180,13 +180,15 @@ module _ {D : Type 0} (facts : D → DiskFacts) where
       → KeepsHeld facts old new → AreHolds old → AreHolds new → Answered facts old new q' r
   change_answered {old = old} {new = new} {q = q} {r = r} answer asked told changed answers leaves held before after =
       subst (λ x. Answered facts old new x r) (sym asked) (subst (λ y. Answered facts old new q y) (sym told) (record {
-        reopen = refused_reopen answer changed;
-        failed = left_failed answer changed;
-        device = failed_call answer changed;
+        did = record {
+          reopen = refused_reopen answer changed;
+          failed = left_failed answer changed;
+          device = failed_call answer changed;
+          leaves = leaves;
+          held = held;
+          holds_before = before;
+          holds_after = after;
+          calls = changed.calls.some;
+        };
         answers = answers;
-        leaves = leaves;
-        held = held;
-        holds_before = before;
-        holds_after = after;
-        calls = changed.calls.some;
       }))

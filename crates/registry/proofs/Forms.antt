@@ -9,10 +9,9 @@ use Rattle.std.proofs.lemmas.Bool.Decides.{nat_tests}
 use Rattle.std.proofs.lemmas.List.Sums.{AllPass-from_list_all}
 use Rattle.elf_file.specs.Constant.{FILE_HEADER_SIZE}
 use Rattle.elf_file.specs.Header.{is_too_short}
-use Rattle.elf_file.specs.Refusal.{header_tests, header_refusal, file_refusals, file_refusal}
 use Rattle.elf_file.specs.declared.refusal.ObjectRefusal.TheVariants.{TooShort, BadSoname}
 use Rattle.elf_file.proofs.FirstOf.{none_at, when_none}
-use Rattle.elf_dynamic.specs.Refusal.{refusals, first_refusal}
+use Rattle.elf_dynamic.specs.Refusal.{object_tests, first_refusal}
 use Rattle.elf_dynamic.specs.Strings.{soname}
 use Rattle.hash_check.specs.Soname.{has_bad_soname, is_library_name, is_name_byte}
 use Rattle.hash_check.proofs.Reading.{object_taken}
@@ -23,18 +22,14 @@ use Rattle.requests.specs.Library.{IsLibrary, library_tests, library_refusal}
 use Rattle.states.specs.State.{Library}
 use Rattle.requests.proofs.Sonames.{file_taken, short_file}
 
-headers_taken : (file : List ℕ) → first_refusal file ≡ None → header_refusal file ≡ None
-unfolding first_refusal file_refusal
-headers_taken file h = none_at (file_refusals file) 0 (none_at (refusals file) 0 h)
-
-header_there : (file : List ℕ) → header_refusal file ≡ None → is_too_short file ≡ false
-unfolding header_refusal
-header_there file h = when_none TooShort (is_too_short file) (none_at (header_tests file) 0 h)
+header_there : (file : List ℕ) → first_refusal file ≡ None → is_too_short file ≡ false
+unfolding first_refusal
+header_there file h = when_none TooShort (is_too_short file) (none_at (object_tests file) 0 h)
 
 -- a library's file has a header, and 16 MiB at most
 pub file_size : (l : Library) → IsLibrary l → IsFileSize (length l.bytes)
 file_size l is =
-    let some = header_there l.bytes (headers_taken l.bytes (object_taken l.bytes (file_taken l.bytes is.accepted))) in
+    let some = header_there l.bytes (object_taken l.bytes (file_taken l.bytes is.accepted)) in
     (long (length l.bytes) some, short_file l is)
   where
     long : (n : ℕ) → nat_lt n FILE_HEADER_SIZE ≡ false → 64 ≤ n

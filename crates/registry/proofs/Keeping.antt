@@ -36,6 +36,6 @@ module _ {D : Type 0} (facts : D → DiskFacts) where
   -- Commands that are answered one after the other keep it from the first to the last.
   pub keeps_held_answered : (old new : Opened D) (qs : List Request) (rs : List Reply) → AreAnswered facts old new qs rs → KeepsHeld facts old new
   keeps_held_answered old new [] [] same = keeps_same facts same
-  keeps_held_answered old new (q ∷ qs) (r ∷ rs) (mid, first, rest) = keeps_held_more old mid new first.calls first.held (keeps_held_answered mid new qs rs rest)
+  keeps_held_answered old new (q ∷ qs) (r ∷ rs) (mid, first, rest) = keeps_held_more old mid new first.did.calls first.did.held (keeps_held_answered mid new qs rs rest)
   keeps_held_answered old new [] (r ∷ rs) so_far = absurd so_far
   keeps_held_answered old new (q ∷ qs) [] so_far = absurd so_far

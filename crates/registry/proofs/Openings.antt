@@ -9,6 +9,7 @@ use Rattle.sector_disk.proofs.Moments.{goes_on, left_now, more_calls, weaken}
 use Rattle.roots.specs.declared.version.Version.{Version}
 use Rattle.roots.specs.declared.version.Version.TheVariants.{One, Two}
 use Rattle.store.specs.Stands as sectors
+use Rattle.store.specs.AnyDisk.{OpensOnAnyDisk}
 use Rattle.store.specs.Makes.{Makes}
 use Rattle.store.specs.Opened as opened
 use Rattle.store.specs.Opening.{HasRootMagic, HasCurrentRoot, IsRefusalOfOpen, RefusesOpen, RefusesLook}
@@ -41,14 +42,6 @@ made_empty facts disk making store = record {
   left_alone = store.left_alone;
   now = store.now;
   log = store.log;
-  geometry = store.geometry;
-  usable = store.usable;
-  unheld = store.unheld;
-  refusals = store.refusals;
-  device = store.device;
-  untouched = store.untouched;
-  calls = store.calls;
-  all_calls = store.all_calls;
 }
 
 -- what leaves nothing new, and then what leaves nothing new
@@ -156,61 +149,62 @@ module _ {D : Type 0} (facts : D → DiskFacts) (disk : D) where
     ok = λ honest. tt;
     stands = λ honest s stands. store.stands honest s stands.stored;
     refused = λ honest. refuses_store (facts disk).now e.0 (store.refused honest);
-    geometry = tt;
-    usable = tt;
-    unheld = tt;
-    refusals = store.refusals;
-    device = store.device;
-    untouched = store.untouched;
-    calls = store.calls;
-    old_calls = store.old_calls;
   }
 
   -- or by what admitting its files did.
-  module _ (holds : IsTrue (facts disk).honest → HoldsNow (facts disk)) (store : opened.Opened D)
-      (is : Opens sectors.Stands facts (opened.IsAt facts) disk (Ok store)) (result : Result (opened.Opened D) (StoreRefusal × D))
-      (any_moment : IsTrue (facts store.disk).honest → LeavesOnly (facts store.disk) (facts (opened.disk_after result)) (Mixture (facts store.disk)))
-      (now : IsTrue (facts store.disk).honest → (facts (opened.disk_after result)).now ≡ (facts store.disk).now)
-      (log : IsTrue (facts store.disk).honest → (facts (opened.disk_after result)).log ≡ (facts store.disk).log)
-      (ok : (s : State) → opened.IsAt facts store s → IfOk result (λ registry. IsAt facts registry s))
-      (damaged : (s : State) → opened.IsAt facts store s → IfErr result (λ e. e.0 ≡ refusal.Damaged → All IsLibrary s.libraries → ⊥))
-      (usable : IfOk result (λ registry. IsFalse registry.failed))
-      (unheld : IfOk result (λ registry. registry.held ≡ []))
-      (refusals : IfErr result (λ e. (e.0 ≡ refusal.Device) ⊎ (e.0 ≡ refusal.Damaged) ⊎ (e.0 ≡ refusal.OutOfMemory)))
-      (device : IfErr result (λ e. e.0 ≡ refusal.Device → (facts store.disk).failures < (facts e.1).failures))
-      (calls : AreCalls (facts store.disk) (facts (opened.disk_after result))) where
+  module _ (store : opened.Opened D) (is : Opens sectors.Stands facts (opened.IsAt facts) disk (Ok store)) (any : OpensOnAnyDisk facts disk (Ok store))
+      (result : Result (opened.Opened D) (StoreRefusal × D)) where
     still : IsTrue (facts disk).honest → IsTrue (facts store.disk).honest
-    still honest = subst IsTrue (sym is.calls.honest) honest
+    still honest = subst IsTrue (sym any.ends.calls.honest) honest
 
-    pub opens_admitted : Opens Stands facts (IsAt facts) disk result
-    opens_admitted = record {
-      any_moment = λ honest. leaves_then (is.any_moment honest) (any_moment (still honest));
-      now = λ honest. now (still honest) ∙ is.now honest;
-      log = λ honest. subst (MayAddSync (facts disk).log) (sym (log (still honest))) (is.log honest);
-      ok = λ honest.
-          let found = is.ok honest in
-          IfOk-weaker result (λ registry. IsAt facts registry found.0)
-          (λ registry. (s : State) × Stands (facts disk).now s × IsAt facts registry s × ((other : State) → Stands (facts disk).now other → other ≡ s))
-          (λ registry at.
-          let stands : Stands (facts disk).now found.0 = record { stored = found.1; libraries = at.libraries } in
-          (found.0, stands, at, λ other others. found.3 other others.stored))
-          (ok found.0 found.2);
-      stands = λ honest s stands.
-          let at = is.stands honest s stands.stored in
-          either_result _ _ result (ok s at) (err_both _ _ _ result (λ e which isnt. libraries_refuse e.0 which (λ same. isnt same stands.libraries)) refusals (damaged s at));
-      refused = λ honest.
-          let found = is.ok honest in
-          let geometry : IsGeometry (length (facts disk).now) = subst IsGeometry (sym (holds honest).size) is.geometry in
-          err_both _ _ _ result (λ e which isnt. refuses_files (facts disk).now found.0 e.0 found.1 which geometry isnt) refusals (damaged found.0 found.2);
-      geometry = IfOk-weaker result _ _ (λ registry usable. is.geometry) usable;
-      usable = usable;
-      unheld = unheld;
-      refusals = err_both _ _ (λ e. IsRefusalOfOpen (facts disk).sectors e.0) result
-          (λ e which same. ⊎_elim (λ a. rw a is.geometry) (λ rest. ⊎_elim (λ a. rw a is.geometry) (λ a. rw a is.geometry) rest) which) refusals refusals;
-      device = err_both _ _ (λ e. e.0 ≡ refusal.Device → (facts disk).failures < (facts e.1).failures) result (λ e rose same a. omega (arith, rose a, is.calls.failures)) device device;
-      untouched = err_both _ _ (λ e. e.0 ≡ refusal.BadGeometry → e.1 ≡ disk) result
-          (λ e which same a. ⊎_elim (λ b. absurd (cc (a, b))) (λ rest. ⊎_elim (λ b. absurd (cc (a, b))) (λ b. absurd (cc (a, b))) rest) which) refusals refusals;
-      calls = more_calls is.calls calls;
-      old_calls = err_both _ _ (λ e. e.0 ≡ refusal.OldFormat → AreCallsExactly 3 (facts disk) (facts e.1)) result
-          (λ e which same a. ⊎_elim (λ b. absurd (cc (a, b))) (λ rest. ⊎_elim (λ b. absurd (cc (a, b))) (λ b. absurd (cc (a, b))) rest) which) refusals refusals;
-    }
+    module _ (holds : IsTrue (facts disk).honest → HoldsNow (facts disk))
+        (any_moment : IsTrue (facts store.disk).honest → LeavesOnly (facts store.disk) (facts (opened.disk_after result)) (Mixture (facts store.disk)))
+        (now : IsTrue (facts store.disk).honest → (facts (opened.disk_after result)).now ≡ (facts store.disk).now)
+        (log : IsTrue (facts store.disk).honest → (facts (opened.disk_after result)).log ≡ (facts store.disk).log)
+        (ok : (s : State) → opened.IsAt facts store s → IfOk result (λ registry. IsAt facts registry s))
+        (damaged : (s : State) → opened.IsAt facts store s → IfErr result (λ e. e.0 ≡ refusal.Damaged → All IsLibrary s.libraries → ⊥))
+        (refusals : IfErr result (λ e. (e.0 ≡ refusal.Device) ⊎ (e.0 ≡ refusal.Damaged) ⊎ (e.0 ≡ refusal.OutOfMemory))) where
+      pub opens_admitted : Opens Stands facts (IsAt facts) disk result
+      opens_admitted = record {
+        any_moment = λ honest. leaves_then (is.any_moment honest) (any_moment (still honest));
+        now = λ honest. now (still honest) ∙ is.now honest;
+        log = λ honest. subst (MayAddSync (facts disk).log) (sym (log (still honest))) (is.log honest);
+        ok = λ honest.
+            let found = is.ok honest in
+            IfOk-weaker result (λ registry. IsAt facts registry found.0)
+            (λ registry. (s : State) × Stands (facts disk).now s × IsAt facts registry s × ((other : State) → Stands (facts disk).now other → other ≡ s))
+            (λ registry at.
+            let stands : Stands (facts disk).now found.0 = record { stored = found.1; libraries = at.libraries } in
+            (found.0, stands, at, λ other others. found.3 other others.stored))
+            (ok found.0 found.2);
+        stands = λ honest s stands.
+            let at = is.stands honest s stands.stored in
+            either_result _ _ result (ok s at) (err_both _ _ _ result (λ e which isnt. libraries_refuse e.0 which (λ same. isnt same stands.libraries)) refusals (damaged s at));
+        refused = λ honest.
+            let found = is.ok honest in
+            let geometry : IsGeometry (length (facts disk).now) = subst IsGeometry (sym (holds honest).size) any.ends.geometry in
+            err_both _ _ _ result (λ e which isnt. refuses_files (facts disk).now found.0 e.0 found.1 which geometry isnt) refusals (damaged found.0 found.2);
+      }
+
+    -- the same on any disk
+    module _ (usable : IfOk result (λ registry. IsFalse registry.failed))
+        (unheld : IfOk result (λ registry. registry.held ≡ []))
+        (refusals : IfErr result (λ e. (e.0 ≡ refusal.Device) ⊎ (e.0 ≡ refusal.Damaged) ⊎ (e.0 ≡ refusal.OutOfMemory)))
+        (device : IfErr result (λ e. e.0 ≡ refusal.Device → (facts store.disk).failures < (facts e.1).failures))
+        (calls : AreCalls (facts store.disk) (facts (opened.disk_after result))) where
+      pub opens_on_any_disk : OpensOnAnyDisk facts disk result
+      opens_on_any_disk = record {
+        ends = record {
+          geometry = IfOk-weaker result _ _ (λ registry usable. any.ends.geometry) usable;
+          usable = usable;
+          unheld = unheld;
+          refusals = err_both _ _ (λ e. IsRefusalOfOpen (facts disk).sectors e.0) result
+              (λ e which same. ⊎_elim (λ a. rw a any.ends.geometry) (λ rest. ⊎_elim (λ a. rw a any.ends.geometry) (λ a. rw a any.ends.geometry) rest) which) refusals refusals;
+          device = err_both _ _ (λ e. e.0 ≡ refusal.Device → (facts disk).failures < (facts e.1).failures) result (λ e rose same a. omega (arith, rose a, any.ends.calls.failures)) device device;
+          untouched = err_both _ _ (λ e. e.0 ≡ refusal.BadGeometry → e.1 ≡ disk) result
+              (λ e which same a. ⊎_elim (λ b. absurd (cc (a, b))) (λ rest. ⊎_elim (λ b. absurd (cc (a, b))) (λ b. absurd (cc (a, b))) rest) which) refusals refusals;
+          calls = more_calls any.ends.calls calls;
+        };
+        old_calls = err_both _ _ (λ e. e.0 ≡ refusal.OldFormat → AreCallsExactly 3 (facts disk) (facts e.1)) result
+            (λ e which same a. ⊎_elim (λ b. absurd (cc (a, b))) (λ rest. ⊎_elim (λ b. absurd (cc (a, b))) (λ b. absurd (cc (a, b))) rest) which) refusals refusals;
+      }

@@ -34,7 +34,7 @@ fuse_holds fuse = fused_holds fuse.plan (memory_facts fuse.inner) fuse.past.item
 pub answered_calls : {D : Type 0} (facts : D → DiskFacts) (old new : Opened D) (requests : List Request) (answers : List Reply)
     → AreAnswered facts old new requests answers → AreCalls (facts old.disk) (facts new.disk)
 answered_calls facts old new [] [] same = subst (λ (r : Opened _). AreCalls (facts old.disk) (facts r.disk)) (sym same) (no_calls (facts old.disk))
-answered_calls facts old new (request ∷ requests) (answer ∷ answers) answered = more_calls answered.1.calls (answered_calls facts answered.0 new requests answers answered.2)
+answered_calls facts old new (request ∷ requests) (answer ∷ answers) answered = more_calls answered.1.did.calls (answered_calls facts answered.0 new requests answers answered.2)
 answered_calls facts old new [] (answer ∷ answers) answered = absurd answered
 answered_calls facts old new (request ∷ requests) [] answered = absurd answered
 

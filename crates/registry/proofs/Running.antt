@@ -20,7 +20,7 @@ use Rattle.registry.specs.Acknowledged.{Exchange, commanded, acknowledged, state
 use Rattle.registry.specs.Stands.{Stands}
 use Rattle.registry.specs.Opened.{IsAt}
 use Rattle.registry.specs.Phase.{phase_of}
-use Rattle.registry.specs.Answered.{Answered}
+use Rattle.registry.specs.Answered.{Did}
 use Rattle.registry.specs.Applied.{Applied, Applies, MayLeaveWithin, InFlight}
 use Rattle.registry.specs.Calls.{IfAccepted, calls_of}
 use Rattle.registry.specs.Ran.{Point, point, disk_at, AppliesAt, IdlesAt, Moves, LeadsThrough, HoldsAcknowledged, HasBegun, LeavesAccepted, Ran, RunsThrough, FindsAccepted}
@@ -181,9 +181,9 @@ module _ {D : Type 0} (facts : D → DiskFacts) where
         )
 
       -- one command more
-      pub ran_more : (new : Opened D) (s' : State) (r : Reply) → Answered facts mid new q r → AppliesAt facts (point mid s) q r (point new s')
+      pub ran_more : (new : Opened D) (s' : State) (r : Reply) → Did facts mid new q r → AppliesAt facts (point mid s) q r (point new s')
           → RanSoFar facts start (xs ++ Some (q, r) ∷ []) (ts ++ point new s' ∷ []) (point new s')
-      ran_more new s' r answered applies = record {
+      ran_more new s' r did applies = record {
         steps = steps;
         last = sym (last_more start u ts);
         states = λ k. states_after facts k start (xs ++ x ∷ []) (ts ++ u ∷ []) steps;
@@ -205,7 +205,7 @@ module _ {D : Type 0} (facts : D → DiskFacts) where
           applied = applies.applied
 
           steps : LeadsThrough facts start (xs ++ x ∷ []) (ts ++ u ∷ [])
-          steps = steps_on x u (record { answered = answered; applied = inl applies })
+          steps = steps_on x u (record { did = did; applied = inl applies })
 
           within : (moment : ℕ) (m : List Sector) → (facts mid.disk).time ≤ moment → moment < (facts new.disk).time
               → MayLeaveWithin (phase_of facts mid s) q r s' m → LeavesPrefix facts start (xs ++ x ∷ []) (ts ++ u ∷ []) moment m
@@ -232,8 +232,8 @@ module _ {D : Type 0} (facts : D → DiskFacts) where
               (cases_lt moment (facts new.disk).time)
 
       -- a command after a write or a sync failed
-      pub ran_reopened : Answered facts mid mid q (Refused Reopen) → IsTrue mid.failed → RanSoFar facts start (xs ++ Some (q, Refused Reopen) ∷ []) (ts ++ point mid s ∷ []) (point mid s)
-      ran_reopened answered failed = record {
+      pub ran_reopened : Did facts mid mid q (Refused Reopen) → IsTrue mid.failed → RanSoFar facts start (xs ++ Some (q, Refused Reopen) ∷ []) (ts ++ point mid s ∷ []) (point mid s)
+      ran_reopened did failed = record {
         steps = steps;
         last = sym (last_more start u ts);
         states = λ k. states_after facts k start (xs ++ x ∷ []) (ts ++ u ∷ []) steps;
@@ -252,7 +252,7 @@ module _ {D : Type 0} (facts : D → DiskFacts) where
           x = Some (q, Refused Reopen)
 
           steps : LeadsThrough facts start (xs ++ x ∷ []) (ts ++ u ∷ [])
-          steps = steps_on x u (record { answered = answered; applied = inr (failed, refl) })
+          steps = steps_on x u (record { did = did; applied = inr (failed, refl) })
 
     -- what asks for no change isn't an acknowledged command
     no_command : {P : Type 0} (e : Request × Reply) → None ≡ Some e → P
@@ -338,8 +338,8 @@ module _ {D : Type 0} (facts : D → DiskFacts) where
     pub runs_turn : (q : Request) (r : Reply)
         → ((t : State) → IsAt facts mid t → Applies facts mid new t q r)
         → ((t : State) → IsAt facts mid t → IfAccepted r (AreCallsExactly (calls_of t q) (facts mid.disk) (facts new.disk)))
-        → Answered facts mid new q r → RunsVia facts old (registries ++ new ∷ []) new s (xs ++ Some (q, r) ∷ [])
-    runs_turn q r applies calls answered =
+        → Did facts mid new q r → RunsVia facts old (registries ++ new ∷ []) new s (xs ++ Some (q, r) ∷ [])
+    runs_turn q r applies calls did =
         let t = so_far.0 in
         let ts = so_far.1 in ⊎_elim
         (λ at. let applied = applies t at in (
@@ -347,13 +347,13 @@ module _ {D : Type 0} (facts : D → DiskFacts) where
           ts
               ++ point new applied.0 ∷ [],
           via applied.0 ts so_far.2,
-          ran_more (point old s) mid t xs ts so_far.3 q new applied.0 r answered
+          ran_more (point old s) mid t xs ts so_far.3 q new applied.0 r did
               (record { at = at; applied = applied.1; calls = calls t at }),
         ))
         (λ failed.
-        let reopen : r ≡ Refused Reopen = answered.reopen.1 failed in
-        let same : new ≡ mid = answered.failed failed in
-        let nothing : Answered facts mid mid q (Refused Reopen) = subst (λ (y : Reply). Answered facts mid mid q y) reopen (subst (λ (k : Opened D). Answered facts mid k q r) same answered) in
+        let reopen : r ≡ Refused Reopen = did.reopen.1 failed in
+        let same : new ≡ mid = did.failed failed in
+        let nothing : Did facts mid mid q (Refused Reopen) = subst (λ (y : Reply). Did facts mid mid q y) reopen (subst (λ (k : Opened D). Did facts mid k q r) same did) in
         let ran : RanSoFar facts (point old s) (xs ++ Some (q, Refused Reopen) ∷ []) (ts ++ point mid t ∷ []) (point mid t) = ran_reopened (point old s) mid t xs ts so_far.3 q nothing failed in (
           t,
           ts ++ point new t ∷ [],

@@ -101,21 +101,17 @@ KeepsState old new = (new.root ≡ old.root) × (new.entries ≡ old.entries) ×
 
 -- a command leaves what a change leaves, or, as a bind and a listing, what was known of the state
 abbrev pub Leaves : {D : Type 0} → Opened D → Opened D → Request → Reply → Type 0
-Leaves old new (install bytes) answer = ChangeLeaves old new answer
-Leaves old new (replace bytes) answer = ChangeLeaves old new answer
-Leaves old new (remove name) answer = ChangeLeaves old new answer
-Leaves old new (set_preloads names) answer = ChangeLeaves old new answer
 Leaves old new (bind program base) answer = KeepsState old new × (program_refusal program base ≢ None → new ≡ old)
 Leaves old new list answer = new ≡ old
+Leaves old new change answer = ChangeLeaves old new answer
 
--- A command was answered so, on any disk.
-pub record Answered {D : Type 0} (facts : D → DiskFacts) (old new : Opened D) (request : Request) (answer : Reply) : Type 0 where
+-- what a command that was answered so did, on any disk
+pub record Did {D : Type 0} (facts : D → DiskFacts) (old new : Opened D) (request : Request) (answer : Reply) : Type 0 where
   -- after a failed write or sync the disk has to be opened again, and nothing is done
   pub reopen : (answer ≡ Refused Reopen) ↔ IsTrue old.failed
   pub failed : IsTrue old.failed → new ≡ old
   -- S1 comes only where a call of the disk failed
   pub device : answer ≡ Refused Device → (facts old.disk).failures < (facts new.disk).failures
-  pub answers : IsAnswerTo request answer
   pub leaves : Leaves old new request answer
   -- what somebody holds stays held by as many, and on an honest disk its bytes are what they were
   pub held : KeepsHeld facts old new
@@ -123,6 +119,11 @@ pub record Answered {D : Type 0} (facts : D → DiskFacts) (old new : Opened D) 
   pub holds_before : AreHolds old
   pub holds_after : AreHolds new
   pub calls : AreCalls (facts old.disk) (facts new.disk)
+
+-- a command was answered so: this it did, and this is how it may be answered
+pub record Answered {D : Type 0} (facts : D → DiskFacts) (old new : Opened D) (request : Request) (answer : Reply) : Type 0 where
+  pub did : Did facts old new request answer
+  pub answers : IsAnswerTo request answer
 
 -- commands were answered so, one after the other, one answer each
 abbrev pub AreAnswered : {D : Type 0} → (D → DiskFacts) → Opened D → Opened D → List Request → List Reply → Type 0

@@ -1,34 +1,36 @@
 -- What opening, making or upgrading the registry on a disk ends with (own).
-use Rattle.std.specs.Prelude.{◌≡◌, ◌≢◌, ◌+◌, ◌<◌, ◌⊎◌, [], Result, IsTrue, IsFalse, IfOk, IfErr, MatchResult, length, sum_by}
-use Rattle.sector_disk.specs.Disk.{DiskFacts, Mixture, LeavesOnly, GrowsBehindSync, AreCalls, AreCallsExactly}
+use Rattle.std.specs.Prelude.{◌≡◌, ◌≢◌, ◌+◌, ◌⊎◌, ℕ, Result, IsTrue, IfOk, IfErr, MatchResult, length, sum_by}
+use Rattle.sector_disk.specs.Disk.{DiskFacts, Mixture, LeavesOnly, GrowsBehindSync, AreCallsExactly}
 use Rattle.states.specs.Cost.{catalogues_for}
-use Rattle.states.specs.Geometry.{IsGeometry}
 use Rattle.states.specs.State.{State}
 use Rattle.store.specs.IsRead.{file_sectors}
+use Rattle.store.specs.AnyDisk.{EndsOnAnyDisk, OpensOnAnyDisk, MakesOnAnyDisk}
 use Rattle.store.specs.Makes.{Makes}
-use Rattle.store.specs.Opened.{Opened, disk_after}
+use Rattle.store.specs.Opened.{Opened, disk_after, calls_to_open}
 use Rattle.store.specs.Opening.{RefusesLook, IsRefusalOfUpgrade}
 use Rattle.store.specs.Opens.{Opens}
-use Rattle.store.specs.Stands.{catalogues_of}
 use Rattle.store.specs.Step.{refusal_of_upgrade, answer_of, IsUpgradeAnswer}
 use Rattle.store.specs.Upgraded.{upgraded, IsRelistedFrom}
 use Rattle.store.specs.declared.refusal.StoreRefusal.{StoreRefusal}
-use Rattle.store.specs.declared.refusal.StoreRefusal.TheVariants.{Device, BadGeometry, OutOfMemory}
+use Rattle.store.specs.declared.refusal.StoreRefusal.TheVariants.{Device, OutOfMemory}
 use Rattle.registry.specs.Opened.{IsAt}
 use Rattle.registry.specs.Stands.{Stands, StandsOld, StandsEither}
 use Rattle.registry.specs.Upgraded.{IsNotOld, IsUpgradeOf}
 
+-- how many calls opening a registry makes: those of opening the store, and one for each sector of each file
+abbrev pub opening_calls : {D : Type 0} → Opened D → ℕ
+opening_calls registry = calls_to_open registry + sum_by file_sectors registry.entries
+
 -- the registry that the disk holds was opened, or the disk was refused and handed back
 pub record EndsOpening {D : Type 0} (facts : D → DiskFacts) (disk : D) (opening : Result (Opened D) (StoreRefusal × D)) : Type 0 where
   pub opened : Opens Stands facts (IsAt facts) disk opening
-  -- it made exactly the calls of opening: those of the store, and one for each sector of each file
-  pub all_calls : IfOk opening (λ registry.
-      AreCallsExactly (3 + length (catalogues_of registry.root) + length registry.entries + sum_by file_sectors registry.entries)
-      (facts disk) (facts registry.disk))
+  pub on_any_disk : OpensOnAnyDisk facts disk opening
+  pub all_calls : IfOk opening (λ registry. AreCallsExactly (opening_calls registry) (facts disk) (facts registry.disk))
 
 -- an empty registry was made on the disk, or the disk was refused and handed back
-abbrev pub EndsMaking : {D : Type 0} → (D → DiskFacts) → D → Result (Opened D) (StoreRefusal × D) → Type 0
-EndsMaking facts disk making = Makes Stands facts (IsAt facts) disk making
+pub record EndsMaking {D : Type 0} (facts : D → DiskFacts) (disk : D) (making : Result (Opened D) (StoreRefusal × D)) : Type 0 where
+  pub made : Makes Stands facts (IsAt facts) disk making
+  pub on_any_disk : MakesOnAnyDisk facts disk making
 
 -- the registry that the disk holds is one of version 2 now, or the disk was refused and handed back
 pub record EndsUpgrading {D : Type 0} (facts : D → DiskFacts) (disk : D) (upgrading : Result (Opened D) (StoreRefusal × D)) : Type 0 where
@@ -52,18 +54,10 @@ pub record EndsUpgrading {D : Type 0} (facts : D → DiskFacts) (disk : D) (upgr
   pub refused : IsTrue (facts disk).honest → IsNotOld (facts disk).now → IfErr upgrading (λ e. RefusesLook StandsEither (facts disk).now e.0)
   -- it made exactly the calls of opening; on version 1 those for the catalogues, the root and two syncs too
   pub calls_current : IsTrue (facts disk).honest → (s : State) → Stands (facts disk).now s → IfOk upgrading (λ registry.
-      AreCallsExactly (3 + length (catalogues_of registry.root) + length registry.entries + sum_by file_sectors registry.entries)
-      (facts disk) (facts registry.disk))
+      AreCallsExactly (opening_calls registry) (facts disk) (facts registry.disk))
   pub calls_old : IsTrue (facts disk).honest → (s : State) → StandsOld (facts disk).now s → IfOk upgrading (λ registry.
       AreCallsExactly (3 + length registry.entries + sum_by file_sectors registry.entries + (catalogues_for (length registry.entries) + 3))
       (facts disk) (facts registry.disk))
   pub log_old : IsTrue (facts disk).honest → (s : State) → StandsOld (facts disk).now s → IfOk upgrading (λ registry.
       GrowsBehindSync (catalogues_for (length registry.entries) + 3) (facts disk).log (facts registry.disk).log)
-  -- the rest holds on any disk, also on one that lies
-  pub geometry : IfOk upgrading (λ registry. IsGeometry (facts disk).sectors)
-  pub usable : IfOk upgrading (λ registry. IsFalse registry.failed)
-  pub unheld : IfOk upgrading (λ registry. registry.held ≡ [])
-  pub refusals : IfErr upgrading (λ e. IsRefusalOfUpgrade (facts disk).sectors e.0)
-  pub device : IfErr upgrading (λ e. e.0 ≡ Device → (facts disk).failures < (facts e.1).failures)
-  pub untouched : IfErr upgrading (λ e. e.0 ≡ BadGeometry → e.1 ≡ disk)
-  pub calls : AreCalls (facts disk) (facts (disk_after upgrading))
+  pub on_any_disk : EndsOnAnyDisk (IsRefusalOfUpgrade (facts disk).sectors) facts disk upgrading

@@ -9,7 +9,7 @@ use Rattle.requests.specs.declared.reply.Reply.{Reply}
 use Rattle.registry.specs.Stands.{Stands}
 use Rattle.registry.specs.Opened.{IsAt}
 use Rattle.registry.specs.Applied.{Applied}
-use Rattle.registry.specs.Answered.{Answered}
+use Rattle.registry.specs.Answered.{Did}
 use Rattle.registry.specs.Calls.{IfAccepted, calls_of}
 use Rattle.registry.specs.Acknowledged.{Exchange, commanded, acknowledged, state_after, AreAccepted, IsAcknowledgedAt}
 
@@ -34,7 +34,7 @@ pub record AppliesAt {D : Type 0} (facts : D → DiskFacts) (p : Point D) (reque
 
 -- one command of a run: it is applied; or a write or a sync has failed before, and nothing is done
 pub record Goes {D : Type 0} (facts : D → DiskFacts) (p : Point D) (request : Request) (answer : Reply) (p' : Point D) : Type 0 where
-  pub answered : Answered facts p.registry p'.registry request answer
+  pub did : Did facts p.registry p'.registry request answer
   pub applied : AppliesAt facts p request answer p' ⊎ (IsTrue p.registry.failed × (p' ≡ p))
 
 -- the registry stays at its state, and what a stop may leave meanwhile it might have left before

@@ -1,12 +1,11 @@
 -- What rounds of commands do to a disk in memory, with a stop after each (own).
-use Rattle.std.specs.Prelude.{◌≡◌, ◌⊎◌, ◌+◌, ◌<◌, ◌%◌, ℕ, true, List, [], length, map, slice_index, sum_by}
+use Rattle.std.specs.Prelude.{◌≡◌, ◌⊎◌, ◌<◌, ◌%◌, ℕ, true, List, [], length, map, slice_index}
 use Rattle.sector_disk.specs.declared.memory.Memory.{Memory}
 use Rattle.sector_disk.specs.declared.fuse.Fuse.{Fuse}
 use Rattle.sector_disk.specs.Disk.{Sector, sector, DiskFacts, Mixture, LeavesOnly, IsSameDisk, IsStopped, AreCalls, AreCallsExactly}
 use Rattle.sector_disk.specs.Memory.{memory_facts, memory_choices, HasOneChoice}
 use Rattle.sector_disk.specs.Fuse.{fuse_facts, inner_of, plan_of}
 use Rattle.store.specs.Opened.{Opened}
-use Rattle.store.specs.Stands.{catalogues_of}
 use Rattle.store.specs.declared.refusal.StoreRefusal.{StoreRefusal}
 use Rattle.store.specs.declared.refusal.StoreRefusal.TheVariants.{Device, OutOfMemory}
 use Rattle.states.specs.State.{State}
@@ -15,9 +14,9 @@ use Rattle.requests.specs.declared.reply.Reply.{Reply}
 use Rattle.registry.specs.declared.rounds.Round.{Round}
 use Rattle.registry.specs.declared.rounds.RoundReplies.{RoundReplies}
 use Rattle.registry.specs.declared.rounds.RoundReplies.TheVariants.{Ran, NotRun}
-use Rattle.store.specs.IsRead.{file_sectors}
 use Rattle.registry.specs.Stands.{Stands}
 use Rattle.registry.specs.Opened.{IsAt}
+use Rattle.registry.specs.Opening.{opening_calls}
 use Rattle.registry.specs.Ran.{RunsOver}
 use Rattle.registry.specs.Acknowledged.{commanded, AreAccepted, state_after}
 
@@ -68,11 +67,6 @@ pub record WritesNothing (before after : DiskFacts) : Type 0 where
   pub leaves : LeavesOnly before after (Mixture before)
   pub now : after.now ≡ before.now
   pub calls : AreCalls before after
-
--- how many calls the opening of a registry makes: a sync, the two roots, the catalogues, the
--- entries, and the sectors of the files
-abbrev pub opening_calls : {D : Type 0} → Opened D → ℕ
-opening_calls registry = 3 + length (catalogues_of registry.root) + length registry.entries + sum_by file_sectors registry.entries
 
 -- The disk was opened, and the requests were answered over that registry, of which nobody held a
 -- version, up to the last disk.

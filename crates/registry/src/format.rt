@@ -5,12 +5,17 @@ use std::alloc::Global;
 use store::{Store, StoreRefusal};
 
 impl<D: Disk> Registry<D> {
-    ghost use Rattle.registry.specs.Opening.{EndsMaking};
+    ghost use Rattle.store.specs.AnyDisk.{MakesOnAnyDisk};
+    ghost use Rattle.store.specs.Makes.{Makes};
+    ghost use Rattle.registry.specs.Opened.{IsAt};
+    ghost use Rattle.registry.specs.Stands.{Stands};
 
     /// Makes an empty registry of version 2 on a disk where no root was written yet, of neither
     /// version. It writes one sector. It refuses with S6, S11, S4 or S1, and hands the disk back.
     pub fn format(alloc: Global, disk: D) -> Result<Registry<D>, (StoreRefusal, D)>
-        ensures { EndsMaking D.facts disk result }
+        // On an honest disk.
+        ensures making { Makes Stands D.facts (IsAt D.facts) disk result }
+        ensures on_any_disk { MakesOnAnyDisk D.facts disk result }
     {
         let store = Store::format(alloc, disk)?;
         Ok(Registry { alloc, store })

@@ -6,11 +6,13 @@ use std::alloc::Global;
 use store::{Store, StoreRefusal};
 
 impl<D: Disk> Registry<D> {
-    ghost use Rattle.std.specs.Prelude.{◌≡◌, ◌⊎◌, IsTrue, MatchResult};
-    ghost use Rattle.store.specs.Opens.{OpensByEntries};
+    ghost use Rattle.std.specs.Prelude.{◌≡◌, ◌⊎◌, IsTrue, IfOk, MatchResult};
+    ghost use Rattle.sector_disk.specs.Disk.{AreCallsExactly};
+    ghost use Rattle.store.specs.AnyDisk.{OpensOnAnyDisk};
+    ghost use Rattle.store.specs.Opens.{Opens, OpensByEntries};
     ghost use Rattle.states.specs.State.{State};
     ghost use Rattle.registry.specs.Opened.{IsAt};
-    ghost use Rattle.registry.specs.Opening.{EndsOpening};
+    ghost use Rattle.registry.specs.Opening.{opening_calls};
     ghost use Rattle.registry.specs.Stands.{Stands};
 
     /// Opens the registry that a disk holds, after a stop too. It writes nothing: it syncs, and
@@ -19,7 +21,13 @@ impl<D: Disk> Registry<D> {
     /// S11, and hands the disk back: S12 is told of a disk of version 1, which `upgrade` takes, and
     /// S5 also where a file isn't a library of its entry's name.
     pub fn open(alloc: Global, disk: D) -> Result<Registry<D>, (StoreRefusal, D)>
-        ensures opening { EndsOpening D.facts disk result }
+        // On an honest disk.
+        ensures opening { Opens Stands D.facts (IsAt D.facts) disk result }
+        ensures on_any_disk { OpensOnAnyDisk D.facts disk result }
+
+        // A sync, and a read of each sector that is named above.
+        ensures all_calls { IfOk result (λ registry. AreCallsExactly (opening_calls registry)
+            (D.facts disk) (D.facts registry.disk)) }
     {
         let store = Store::open(alloc, disk)?;
         admit_current(alloc, store)

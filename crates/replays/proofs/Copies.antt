@@ -55,7 +55,7 @@ module _ {D : Type 0} (facts : D → DiskFacts) where
   usable_at_last (r ∷ requests) start [] led changes usable = absurd led
   usable_at_last (r ∷ requests) start (t ∷ points) led changes usable =
       usable_at_last requests t points led.1 (All-tail IsChange r requests changes)
-      (usable_behind start.registry t.registry r (All-head IsChange r requests changes) led.0.answered.leaves)
+      (usable_behind start.registry t.registry r (All-head IsChange r requests changes) led.0.did.leaves)
 
   module _ (old new : Opened D) (s s' : State) (requests : List Request) (points : List (Point D)) (ran : Ran facts (point old s) (map done requests) points (point new s')) where
     state_is : s' ≡ state_after s requests

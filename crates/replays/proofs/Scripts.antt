@@ -11,10 +11,9 @@ use Rattle.std.proofs.lemmas.Grind.{flat_map-append}
 use Rattle.hex.specs.Hex.{encode_lower}
 use Rattle.elf_file.specs.Constant.{FILE_HEADER_SIZE}
 use Rattle.elf_file.specs.Header.{is_too_short}
-use Rattle.elf_file.specs.Refusal.{file_refusal, file_refusals, header_refusal, header_tests}
 use Rattle.elf_file.specs.declared.refusal.ObjectRefusal.TheVariants.{TooShort}
 use Rattle.elf_file.proofs.FirstOf.{none_at, when_none}
-use Rattle.elf_dynamic.specs.Refusal.{first_refusal, refusals}
+use Rattle.elf_dynamic.specs.Refusal.{first_refusal, object_tests}
 use Rattle.elf_dynamic.specs.Strings.{soname}
 use Rattle.hash_check.specs.Soname.{has_bad_soname, is_library_name, is_name_byte}
 use Rattle.states.specs.State.{Library, State, has_name, names_of}
@@ -40,20 +39,16 @@ use Rattle.replays.proofs.States.{install_of}
 
 -- ---- what holds of a library's file and name
 
-header_fine : (file : List ℕ) → first_refusal file ≡ None → header_refusal file ≡ None
-unfolding first_refusal file_refusal
-header_fine file h = none_at (file_refusals file) 0 (none_at (refusals file) 0 h)
-
-long_enough : (file : List ℕ) → header_refusal file ≡ None → is_too_short file ≡ false
-unfolding header_refusal
-long_enough file h = when_none TooShort (is_too_short file) (none_at (header_tests file) 0 h)
+long_enough : (file : List ℕ) → first_refusal file ≡ None → is_too_short file ≡ false
+unfolding first_refusal
+long_enough file h = when_none TooShort (is_too_short file) (none_at (object_tests file) 0 h)
 
 has_bytes : (n : ℕ) → nat_lt n FILE_HEADER_SIZE ≡ false → 0 < n
 has_bytes n h = grind (arith, nat_tests)
 
 -- no library's file is empty
 some_bytes : (file : List ℕ) → library_refusal file ≡ None → 0 < length file
-some_bytes file h = has_bytes (length file) (long_enough file (header_fine file (taken_memory file h).0))
+some_bytes file h = has_bytes (length file) (long_enough file (taken_memory file h).0)
 
 good_name : (l : Library) → soname l.bytes ≡ Some l.name → (has_bad_soname l.bytes ≡ true → ⊥) → is_library_name l.name ≡ true
 unfolding has_bad_soname

@@ -275,13 +275,13 @@ module _ {D O : Type 0} (facts : D → DiskFacts) (contents : O → Option (List
 
     alone : beside u ≡ 0
     alone =
-        stands_alone facts is.old (is.opened.stands honest empty_state empty) (holds is.old.disk) u is.opened.unheld
+        stands_alone facts is.old (is.opened.opened.stands honest empty_state empty) (holds is.old.disk) u is.opened.on_any_disk.ends.unheld
         (subst (KeepsStore facts (begun is.old)) (sym is.planned.run.2) (keeps_store facts (begun is.old) lines answers is.planned.run.0 is.planned.run.1))
 
     same_sectors : (facts u.store.disk).sectors ≡ (facts disk).sectors
     same_sectors =
         (subst (KeepsStore facts (begun is.old)) (sym is.planned.run.2) (keeps_store facts (begun is.old) lines answers is.planned.run.0 is.planned.run.1)).3
-        ∙ is.opened.calls.sectors
+        ∙ is.opened.on_any_disk.ends.calls.sectors
 
     refused_line : (why : Refusal) (last : Drafted D) (line : List ℕ) → IsLine line → LineStep facts u line (reply.Refused why) last → BeginsWith io.unread lines (ended line)
         → All (λ answer. answer ≡ reply.Done) answers × IsHindrance s (facts disk).sectors why
@@ -333,7 +333,7 @@ module _ {D O : Type 0} (facts : D → DiskFacts) (contents : O → Option (List
   program_renews (inl (lines, answers, u, is, inl it)) = committed lines answers u is it
   program_renews (inl (lines, answers, u, is, inr (inl it))) = inr (refused lines answers u is it)
   program_renews (inl (lines, answers, u, is, inr (inr it))) = inr (broken lines answers u is it)
-  program_renews (inr (why, opens, said)) = inr (inr (inr (inr (why, opens.stands honest empty_state empty, said))))
+  program_renews (inr (why, opens, said)) = inr (inr (inr (inr (why, opens.opened.stands honest empty_state empty, said))))
 
   -- ---- all of it or nothing
 
@@ -359,7 +359,7 @@ module _ {D O : Type 0} (facts : D → DiskFacts) (contents : O → Option (List
       (it.any_moment honest empty_state empty))
   program_leaves (inl (lines, answers, u, is, inr (inl it))) = weaken _ MayBeLeft nothing_new (it.any_moment honest empty_state empty)
   program_leaves (inl (lines, answers, u, is, inr (inr it))) = weaken _ MayBeLeft nothing_new (it.any_moment honest empty_state empty)
-  program_leaves (inr (why, opens, said)) = weaken _ MayBeLeft (λ m mixture. inl mixture) (opens.any_moment honest)
+  program_leaves (inr (why, opens, said)) = weaken _ MayBeLeft (λ m mixture. inl mixture) (opens.opened.any_moment honest)
 
 -- ---- a dump that was cut
 
@@ -398,5 +398,5 @@ module _ {D O : Type 0} (facts : D → DiskFacts) (contents : O → Option (List
   cut_changes_nothing (inl (lines, answers, u, is, inr (inr it))) = (not_broken it.fault ends _ io it.told, it.any_moment)
   cut_changes_nothing (inr (why, opens, said)) = (
     λ is. not_done why (sym is ∙ said.0),
-    λ honest t stands. weaken _ (λ m. Mixture (facts disk) m ⊎ sectors.Stands m t) (λ m mixture. inl mixture) (opens.any_moment honest),
+    λ honest t stands. weaken _ (λ m. Mixture (facts disk) m ⊎ sectors.Stands m t) (λ m mixture. inl mixture) (opens.opened.any_moment honest),
   )

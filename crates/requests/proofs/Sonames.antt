@@ -6,10 +6,9 @@ use Rattle.std.proofs.lemmas.Bool.Decides.{nat_tests}
 use Rattle.elf_file.specs.Constant.{LARGEST_FILE}
 use Rattle.elf_file.specs.FirstOf.{◌when◌, first_of}
 use Rattle.elf_file.specs.Segment.{is_too_large, has_high_segment}
-use Rattle.elf_file.specs.Refusal.{segment_tests, segment_refusal, file_refusals, file_refusal}
 use Rattle.elf_file.specs.declared.refusal.ObjectRefusal.TheVariants.{BadSoname, TooLarge}
 use Rattle.elf_file.proofs.FirstOf.{none_at, when_none}
-use Rattle.elf_dynamic.specs.Refusal.{refusals, first_refusal}
+use Rattle.elf_dynamic.specs.Refusal.{object_tests, first_refusal}
 use Rattle.elf_dynamic.specs.Strings.{soname}
 use Rattle.hash_check.specs.FileRefusal.{first_file_refusal, ReadNeedsMemory}
 use Rattle.hash_check.specs.Soname.{has_bad_soname, is_library_name}
@@ -54,13 +53,9 @@ pub name_is : (file name : List ℕ) → soname file ≡ Some name → name ≡ 
 unfolding name_of
 name_is file name h = sym (ap (λ o. unwrap_or o []) h)
 
-segments_fine : (file : List ℕ) → first_refusal file ≡ None → segment_refusal file ≡ None
-unfolding first_refusal file_refusal
-segments_fine file h = none_at (file_refusals file) 1 (none_at (refusals file) 0 h)
-
-size_fine : (file : List ℕ) → segment_refusal file ≡ None → is_too_large file ≡ false
-unfolding segment_refusal
-size_fine file h = when_none TooLarge (is_too_large file) (none_at (segment_tests file) 2 h)
+size_fine : (file : List ℕ) → first_refusal file ≡ None → is_too_large file ≡ false
+unfolding first_refusal
+size_fine file h = when_none TooLarge (is_too_large file) (none_at (object_tests file) 12 h)
 
 short : (file : List ℕ) → is_too_large file ≡ false → length file ≤ LARGEST_FILE
 short file fine = by (length file) (has_high_segment file) fine
@@ -70,7 +65,7 @@ short file fine = by (length file) (has_high_segment file) fine
 
 -- no library's file is longer than 16 MiB
 pub short_file : (l : Library) → IsLibrary l → length l.bytes ≤ LARGEST_FILE
-short_file l is = short l.bytes (size_fine l.bytes (segments_fine l.bytes (object_taken l.bytes (file_taken l.bytes is.accepted))))
+short_file l is = short l.bytes (size_fine l.bytes (object_taken l.bytes (file_taken l.bytes is.accepted)))
 
 -- the first refusal of a file as a library, from what reading and naming it say
 pub is_fine : (file : List ℕ) → first_file_refusal file ≡ None → has_bad_soname file ≡ false → library_refusal file ≡ None

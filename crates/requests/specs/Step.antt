@@ -25,8 +25,7 @@ accepted s (install bytes) = with_new (name_of bytes) bytes s
 accepted s (replace bytes) = with_bytes (name_of bytes) bytes s
 accepted s (remove name) = without name s
 accepted s (set_preloads names) = with_preloads names s
-accepted s (bind program base) = s
-accepted s list = s
+accepted s request = s
 
 -- what an accepted command is answered
 abbrev pub reply_of : State → Request → Reply
@@ -51,10 +50,9 @@ refusal_at p request = first_refusal (table_of p) request
 abbrev pub TakesMemory : Request → Type 0
 TakesMemory (install bytes) = ReadNeedsMemory bytes
 TakesMemory (replace bytes) = ReadNeedsMemory bytes
-TakesMemory (remove name) = ⊥
-TakesMemory (set_preloads names) = ⊥
 TakesMemory (bind program base) = ReadNeedsMemory program
 TakesMemory list = Unit {0}
+TakesMemory request = ⊥
 
 -- the state is this one now, and no write or sync failed
 pub record Leads (p : Phase) (s : State) (p' : Phase) : Type 0 where

@@ -9,7 +9,7 @@ use Rattle.states.specs.Room.{RoomRefusal, Room, change_tests, put_tests, new_te
 use Rattle.requests.specs.Library.{library_refusal, name_of}
 use Rattle.states.specs.State.{has_name}
 use Rattle.requests.specs.Table.{Table}
-use Rattle.requests.specs.Request.{Request, install, replace, remove, set_preloads, bind, list}
+use Rattle.requests.specs.Request.{Request, install, replace, remove, set_preloads}
 use Rattle.requests.specs.declared.refusal.Refusal.{Refusal}
 use Rattle.requests.specs.declared.refusal.Refusal.TheVariants.{Object, AlreadyInstalled, NotInstalled, InPreloads, RepeatedPreload}
 use Rattle.requests.specs.declared.refusal.Refusal.TheVariants.{TooManyPreloads, Full, Fragmented, TooMany, GenerationEnd}
@@ -73,8 +73,7 @@ tests_of t (install bytes) = install_tests t bytes
 tests_of t (replace bytes) = replace_tests t bytes
 tests_of t (remove name) = remove_tests t name
 tests_of t (set_preloads names) = preload_tests t names
-tests_of t (bind program base) = []
-tests_of t list = []
+tests_of t request = []
 
 -- the refusal of a command by the first of these tests that applies
 abbrev pub first_refusal : Table → Request → Option Refusal

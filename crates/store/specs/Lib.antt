@@ -3,6 +3,7 @@ pub mod NameOrder
 pub mod Opened
 pub mod Holds
 pub mod Opening
+pub mod AnyDisk
 pub mod Opens
 pub mod Looked
 pub mod Makes

@@ -1,5 +1,5 @@
 -- What `look` sees.
-use Rattle.std.specs.Prelude.{◌≡◌, ◌+◌, ◌<◌, ◌⊎◌, [], length, IsTrue, IsFalse, IfOk, IfErr, MatchResult, Result, Ok, Err}
+use Rattle.std.specs.Prelude.{◌≡◌, ◌+◌, ◌<◌, ◌⊎◌, [], IsTrue, IsFalse, IfOk, IfErr, MatchResult, Result, Ok, Err}
 use Rattle.sector_disk.specs.Disk.{DiskFacts, Mixture, LeavesOnly, MayAddSync, AreCallsExactly, AreCallsAtMost}
 use Rattle.roots.specs.Limits.{most_catalogues}
 use Rattle.states.specs.Geometry.{IsGeometry}
@@ -8,9 +8,9 @@ use Rattle.store.specs.declared.refusal.StoreRefusal.{StoreRefusal}
 use Rattle.store.specs.declared.refusal.StoreRefusal.TheVariants.{BadGeometry, Device, OutOfMemory}
 use Rattle.store.specs.declared.look.Look.{Look}
 use Rattle.store.specs.declared.look.Look.TheVariants.{Current, Old}
-use Rattle.store.specs.Opened.{Opened, IsAt, IsOldAt}
+use Rattle.store.specs.Opened.{Opened, IsAt, IsOldAt, calls_to_open}
 use Rattle.store.specs.Opening.{RefusesLook, IsRefusalOfLook}
-use Rattle.store.specs.Stands.{Stands, StandsOld, StandsEither, catalogues_of}
+use Rattle.store.specs.Stands.{Stands, StandsOld, StandsEither}
 use Rattle.states.specs.State.{State}
 
 -- the store that is seen, of whatever version
@@ -56,5 +56,4 @@ pub record Looks {D : Type 0} (facts : D → DiskFacts) (disk : D) (looking : Re
   pub device : IfErr looking (λ e. e.0 ≡ Device → (facts disk).failures < (facts e.1).failures)
   pub untouched : IfErr looking (λ e. e.0 ≡ BadGeometry → e.1 ≡ disk)
   pub calls : AreCallsAtMost (3 + most_catalogues + most_libraries) (facts disk) (facts (looked_after looking))
-  pub all_calls : IfOk looking (λ look.
-      AreCallsExactly (3 + length (catalogues_of (seen look).root) + length (seen look).entries) (facts disk) (facts (seen look).disk))
+  pub all_calls : IfOk looking (λ look. AreCallsExactly (calls_to_open (seen look)) (facts disk) (facts (seen look).disk))

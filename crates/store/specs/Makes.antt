@@ -1,12 +1,11 @@
--- What making an empty disk of version 2 does, whatever the maker wants of the state that it holds (own).
-use Rattle.std.specs.Prelude.{◌≡◌, ◌≢◌, ◌<◌, ◌⊎◌, [], List, Result, IsTrue, IsFalse, IfOk, IfErr, OnOk}
-use Rattle.sector_disk.specs.Disk.{Sector, DiskFacts, Mixture, LeavesOnly, GrowsBehindSync, AreCallsExactly, AreCallsAtMost}
-use Rattle.states.specs.Geometry.{IsGeometry}
+-- What making an honest disk an empty one of version 2 does, whatever the maker wants of the state that it holds (own).
+use Rattle.std.specs.Prelude.{◌≡◌, ◌≢◌, ◌⊎◌, List, Result, IsTrue, IfOk, IfErr, OnOk}
+use Rattle.sector_disk.specs.Disk.{Sector, DiskFacts, Mixture, LeavesOnly, GrowsBehindSync}
 use Rattle.states.specs.State.{State, empty_state}
 use Rattle.store.specs.Opened.{Opened, disk_after}
-use Rattle.store.specs.Opening.{HasRootMagic, RefusesFormat, IsRefusalOfFormat}
+use Rattle.store.specs.Opening.{HasRootMagic, RefusesFormat}
 use Rattle.store.specs.declared.refusal.StoreRefusal.{StoreRefusal}
-use Rattle.store.specs.declared.refusal.StoreRefusal.TheVariants.{Device, AlreadyFormatted, BadGeometry, OutOfMemory}
+use Rattle.store.specs.declared.refusal.StoreRefusal.TheVariants.{Device, AlreadyFormatted}
 
 -- The empty state was made on the disk, or the disk was refused and handed back. StandsFor says
 -- which states its sectors may hold, and AtFor when the store is at one.
@@ -21,12 +20,3 @@ pub record Makes (StandsFor : List Sector → State → Type 0) {D : Type 0} (fa
   pub left_alone : IsTrue (facts disk).honest → IfErr making (λ e. e.0 ≡ AlreadyFormatted → LeavesOnly (facts disk) (facts e.1) (Mixture (facts disk)))
   pub now : IsTrue (facts disk).honest → IfErr making (λ e. e.0 ≢ Device → (facts e.1).now ≡ (facts disk).now)
   pub log : IsTrue (facts disk).honest → IfOk making (λ made. GrowsBehindSync 2 (facts disk).log (facts made.disk).log)
-  -- the rest holds on any disk, also on one that lies
-  pub geometry : IfOk making (λ _. IsGeometry (facts disk).sectors)
-  pub usable : IfOk making (λ made. IsFalse made.failed)
-  pub unheld : IfOk making (λ made. made.held ≡ [])
-  pub refusals : IfErr making (λ e. IsRefusalOfFormat (facts disk).sectors e.0)
-  pub device : IfErr making (λ e. e.0 ≡ Device → (facts disk).failures < (facts e.1).failures)
-  pub untouched : IfErr making (λ e. (e.0 ≡ BadGeometry) ⊎ (e.0 ≡ OutOfMemory) → e.1 ≡ disk)
-  pub calls : AreCallsAtMost 5 (facts disk) (facts (disk_after making))
-  pub all_calls : IfOk making (λ made. AreCallsExactly 5 (facts disk) (facts made.disk))

@@ -1,5 +1,5 @@
 -- A store in memory, and when it is at a state.
-use Rattle.std.specs.Prelude.{Bool, List, IsTrue, IsFalse, Result, Ok, Err}
+use Rattle.std.specs.Prelude.{ℕ, ◌+◌, Bool, List, length, IsTrue, IsFalse, Result, Ok, Err}
 use Rattle.sector_disk.specs.Disk.{Sector, DiskFacts, Mixture}
 use Rattle.roots.specs.declared.root.Root.{Root}
 use Rattle.roots.specs.declared.version.Version.{Version}
@@ -8,7 +8,7 @@ use Rattle.store.specs.declared.placed_entry.PlacedEntry.{PlacedEntry}
 use Rattle.store.specs.declared.refusal.StoreRefusal.{StoreRefusal}
 use Rattle.states.specs.State.{State}
 use Rattle.store.specs.declared.holds.HeldRow.{HeldRow}
-use Rattle.store.specs.Stands.{StandsBy}
+use Rattle.store.specs.Stands.{StandsBy, catalogues_of}
 
 -- what a store keeps: its disk, the current root, its entries with their sectors, what is held,
 -- and whether a write or a sync failed
@@ -32,6 +32,10 @@ IsAt facts store s = IsAtBy Two facts store s
 -- a store of version 1 is at a state
 abbrev pub IsOldAt : {D : Type 0} → (D → DiskFacts) → Opened D → State → Type 0
 IsOldAt facts store s = IsAtBy One facts store s
+
+-- how many calls open it: a sync, and a read of each of the two root sectors, of each catalogue and of each entry
+abbrev pub calls_to_open : {D : Type 0} → Opened D → ℕ
+calls_to_open store = 3 + length (catalogues_of store.root) + length store.entries
 
 -- the disk of the store, or the one that is handed back
 abbrev pub disk_after : {D : Type 0} → Result (Opened D) (StoreRefusal × D) → D

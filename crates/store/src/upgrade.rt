@@ -12,11 +12,10 @@ impl<D: Disk> Store<D> {
     ghost use Rattle.roots.specs.Limits.{most_catalogues, most_root_entries};
     ghost use Rattle.states.specs.Limits.{most_libraries};
     ghost use Rattle.states.specs.Cost.{catalogues_for};
-    ghost use Rattle.store.specs.Opened.{IsAt, disk_after};
+    ghost use Rattle.store.specs.Opened.{IsAt, disk_after, calls_to_open};
     ghost use Rattle.store.specs.Opening.{RefusesLook, IsRefusalOfUpgrade};
     ghost use Rattle.states.specs.Geometry.{IsGeometry};
     ghost use Rattle.store.specs.Stands.{Stands, StandsOld, StandsEither};
-    ghost use Rattle.store.specs.Stands.{catalogues_of};
     ghost use Rattle.store.specs.Step.{refusal_of_upgrade, answer_of, IsUpgradeAnswer};
     ghost use Rattle.store.specs.Upgraded.{upgraded, IsNotOld, IsUpgradeOf, IsRelistedFrom};
     ghost use Rattle.states.specs.State.{State};
@@ -68,8 +67,7 @@ impl<D: Disk> Store<D> {
         // twice.
         ensures calls_current { IsTrue (D.facts disk).honest → (s : State)
             → Stands (D.facts disk).now s → IfOk result (λ store. AreCallsExactly
-            (3 + length (catalogues_of store.root) + length store.entries)
-            (D.facts disk) (D.facts store.disk)) }
+            (calls_to_open store) (D.facts disk) (D.facts store.disk)) }
         ensures calls_old { IsTrue (D.facts disk).honest → (s : State)
             → StandsOld (D.facts disk).now s → IfOk result (λ store. AreCallsExactly
             (3 + length store.entries + (catalogues_for (length store.entries) + 3))

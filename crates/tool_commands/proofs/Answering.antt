@@ -1,14 +1,13 @@
 -- A command to a registry of which no file was read when it was opened.
-use Rattle.std.proofs.Common.{◌≡◌, ◌+◌, List, length, Ok, inl, inr, ap, sym, subst, ◌∙◌}
+use Rattle.std.proofs.Common.{◌≡◌, List, Ok, inl, inr, ap, sym, subst, ◌∙◌}
 use Rattle.std.specs.Prelude.{◌≢◌, ◌⊎◌, IsTrue}
-use Rattle.sector_disk.specs.Disk.{Sector, DiskFacts, Mixture, LeavesOnly, AreCallsExactly}
+use Rattle.sector_disk.specs.Disk.{Sector, DiskFacts, Mixture, LeavesOnly}
 use Rattle.sector_disk.proofs.Moments.{goes_on, weaken}
 use Rattle.states.specs.State.{State}
 use Rattle.store.specs.Opened.{Opened}
 use Rattle.store.specs.Opened as store
-use Rattle.store.specs.Opens.{Opens}
+use Rattle.store.specs.Opens.{Opens, OpensByEntries}
 use Rattle.store.specs.Stands as sectors
-use Rattle.store.specs.Stands.{catalogues_of}
 use Rattle.requests.specs.Request.{Request, install, replace, remove, set_preloads, bind, list}
 use Rattle.requests.specs.declared.refusal.Refusal.{Refusal}
 use Rattle.requests.specs.declared.refusal.Refusal.TheVariants.{Device}
@@ -42,23 +41,21 @@ module _ {D : Type 0} (facts : D → DiskFacts) (disk left : D) (old new : Opene
   )
 
   -- a registry that was opened and then answered
-  pub answered : Opens sectors.Stands facts (store.IsAt facts) disk (Ok old) → AreCallsExactly (3 + length (catalogues_of old.root) + length old.entries) (facts disk) (facts old.disk)
-      → DiskStep facts old request reply new → left ≡ new.disk → IsAnswered facts disk request reply left
-  answered opened calls step back = record {
+  pub answered : OpensByEntries facts disk (Ok old) → DiskStep facts old request reply new → left ≡ new.disk → IsAnswered facts disk request reply left
+  answered is step back = record {
     old = old;
-    opened = opened;
-    opening_calls = calls;
+    opened = is;
     new = new;
     step = step;
     any_moment = λ honest s stands.
-        let did = step.untested s (opened.stands honest s stands) in (
+        let did = step.untested s (is.opened.stands honest s stands) in (
           did.0,
           did.1,
           subst (λ (d : D). LeavesOnly (facts disk) (facts d) (MayBeLeft s did.0)) (sym back)
-              (goes_on (MayBeLeft s did.0) (weaken _ (MayBeLeft s did.0) (λ m h. inl h) (opened.any_moment honest)) (weaken _ (MayBeLeft s did.0) (λ m h. inr h) did.1.any_moment)),
+              (goes_on (MayBeLeft s did.0) (weaken _ (MayBeLeft s did.0) (λ m h. inl h) (is.opened.any_moment honest)) (weaken _ (MayBeLeft s did.0) (λ m h. inr h) did.1.any_moment)),
         );
-    unwritten = λ honest change refusal is other.
-        let kept = same old new request refusal change (subst (Leaves old new request) is step.on_any_disk.leaves) other in
-        nothing opened honest (back ∙ ap (λ (o : Opened D). o.disk) kept);
+    unwritten = λ honest change refusal told other.
+        let kept = same old new request refusal change (subst (Leaves old new request) told step.on_any_disk.did.leaves) other in
+        nothing is.opened honest (back ∙ ap (λ (o : Opened D). o.disk) kept);
     back = back;
   }

@@ -1,5 +1,5 @@
 -- What is told of what the symbols of a program are bound to (own).
-use Rattle.std.specs.Prelude.{◌≡◌, ◌≢◌, ◌⊎◌, ◌+◌, ℕ, List, Option, None, Ok, Err, length, map, false, is_none, if◌then◌else◌}
+use Rattle.std.specs.Prelude.{◌≡◌, ◌≢◌, ◌⊎◌, ℕ, List, Option, None, Ok, Err, map, false, is_none, if◌then◌else◌}
 use Rattle.bindings.specs.Bindings.{bindings_text}
 use Rattle.bindings.specs.Dependencies.{dependencies_text}
 use Rattle.image.specs.Placement.{Placed, lacks_room, place}
@@ -16,12 +16,11 @@ use Rattle.requests.specs.declared.refusal.Refusal.{Refusal}
 use Rattle.requests.specs.declared.refusal.Refusal.TheVariants.{Damaged}
 use Rattle.scope.specs.LoadOrder.{Need, available, load_order, missing, names_of}
 use Rattle.scope.specs.Objects.{Named}
-use Rattle.sector_disk.specs.Disk.{AreCallsExactly, DiskFacts}
+use Rattle.sector_disk.specs.Disk.{DiskFacts}
 use Rattle.states.specs.State.{State}
 use Rattle.store.specs.IsRead.{IsRead}
 use Rattle.store.specs.Opened.{IsAt, Opened}
-use Rattle.store.specs.Opens.{Opens}
-use Rattle.store.specs.Stands.{Stands, catalogues_of}
+use Rattle.store.specs.Opens.{OpensByEntries}
 use Rattle.store.specs.declared.refusal.StoreRefusal.{StoreRefusal}
 use Rattle.tool_parts.specs.Said.{memory_line, refusal_line, said_line}
 use Rattle.tool_parts.specs.Streams.{Streams, SaysOnly, TellsOnly}
@@ -92,9 +91,8 @@ pub record ToldBindings {D : Type 0} (facts : D → DiskFacts) (old new : Opened
 -- back so.
 pub record IsAskedFor {D : Type 0} (facts : D → DiskFacts) (disk : D) (program : List ℕ) (base : ℕ) (io : Streams) (status : Status) (left : D) : Type 0 where
   pub old : Opened D
-  pub opened : Opens Stands facts (IsAt facts) disk (Ok old)
   -- no file was read
-  pub opening_calls : AreCallsExactly (3 + length (catalogues_of old.root) + length old.entries) (facts disk) (facts old.disk)
+  pub opened : OpensByEntries facts disk (Ok old)
   pub new : Opened D
   pub tells : ToldBindings facts old new program base io status
   pub back : left ≡ new.disk
@@ -103,4 +101,4 @@ pub record IsAskedFor {D : Type 0} (facts : D → DiskFacts) (disk : D) (program
 abbrev pub BindingsEnds : {D : Type 0} → (D → DiskFacts) → D → List ℕ → ℕ → Streams → Status → D → Type 0
 BindingsEnds facts disk program base io status left =
     IsAskedFor facts disk program base io status left
-    ⊎ ((refusal : StoreRefusal) × Opens Stands facts (IsAt facts) disk (Err (refusal, left)) × SaysOnly (disk_status refusal) (refusal_line refusal) io status)
+    ⊎ ((refusal : StoreRefusal) × OpensByEntries facts disk (Err (refusal, left)) × SaysOnly (disk_status refusal) (refusal_line refusal) io status)

@@ -1,17 +1,17 @@
 -- What the forms end with, over a state, and what a disk ends with: what was told and said, and the status (own).
-use Rattle.std.specs.Prelude.{◌≡◌, ◌≢◌, ◌⊎◌, ◌↔◌, ◌+◌, ◌≤◌, ◌<◌, ℕ, List, All, Option, None, Ok, Err, length, slice_index_or, codes, count_by, is_none}
+use Rattle.std.specs.Prelude.{◌≡◌, ◌≢◌, ◌⊎◌, ◌↔◌, ◌≤◌, ◌<◌, ℕ, List, All, Option, None, Ok, Err, length, slice_index_or, codes, count_by, is_none}
 use Rattle.extents.specs.Layout.{unused_count}
 use Rattle.extents.specs.Runs.{unused_runs}
 use Rattle.requests.specs.Library.{IsLibrary}
-use Rattle.sector_disk.specs.Disk.{AreCallsExactly, DiskFacts}
+use Rattle.sector_disk.specs.Disk.{DiskFacts}
 use Rattle.states.specs.Cost.{free}
 use Rattle.states.specs.State.{Library, State}
 use Rattle.store.specs.Holds.{layout_in_use}
 use Rattle.store.specs.IsRead.{IsRead}
 use Rattle.store.specs.Names.{IsFileSize}
 use Rattle.store.specs.Opened.{IsAt, Opened}
-use Rattle.store.specs.Opens.{Opens}
-use Rattle.store.specs.Stands.{Stands, catalogues_of, no_library}
+use Rattle.store.specs.Opens.{OpensByEntries}
+use Rattle.store.specs.Stands.{no_library}
 use Rattle.store.specs.Step.{longest_unused, refusal_of_new}
 use Rattle.store.specs.declared.refusal.StoreRefusal.{StoreRefusal}
 use Rattle.contents.specs.File.{HasFile}
@@ -104,9 +104,8 @@ EndsUnopened question ends before after status = (status ≡ ends) × (after ≡
 -- handed back so.
 pub record IsAsked {D : Type 0} (facts : D → DiskFacts) (disk : D) (question : Question) (io : Streams) (status : Status) (left : D) : Type 0 where
   pub store : Opened D
-  pub opened : Opens Stands facts (IsAt facts) disk (Ok store)
   -- no file was read
-  pub opening_calls : AreCallsExactly (3 + length (catalogues_of store.root) + length store.entries) (facts disk) (facts store.disk)
+  pub opened : OpensByEntries facts disk (Ok store)
   -- and then it was only read
   pub read : Opened D
   pub only_read : IsRead facts store read
@@ -120,5 +119,5 @@ pub record IsAsked {D : Type 0} (facts : D → DiskFacts) (disk : D) (question :
 abbrev pub DiskEnds : {D : Type 0} → (D → DiskFacts) → D → Question → Streams → Status → D → Type 0
 DiskEnds facts disk question io status left =
     IsAsked facts disk question io status left
-    ⊎ ((refusal : StoreRefusal) × Opens Stands facts (IsAt facts) disk (Err (refusal, left))
+    ⊎ ((refusal : StoreRefusal) × OpensByEntries facts disk (Err (refusal, left))
     × EndsUnopened question (disk_status refusal) io.before io.after status × Says io (refusal_line refusal))

@@ -1,5 +1,5 @@
 -- Which form the words of a command line are (own).
-use Rattle.std.specs.Prelude.{ℕ, List, [], ◌∷◌, Bool, true, false, Option, Some, None, if◌then◌else◌, bytes_eq, codes}
+use Rattle.std.specs.Prelude.{ℕ, List, [], ◌∷◌, map, Bool, true, false, Option, Some, None, Result, Ok, Err, Vec, String, string_bytes, if◌then◌else◌, bytes_eq, codes}
 use Rattle.std.specs.Option.{option_map}
 use Rattle.program_parts.specs.Base.{base_of}
 use Rattle.tool_commands.specs.declared.form.Action.{Action}
@@ -99,3 +99,13 @@ line_of asked = record { disk = asked.disk.now; deed = deed_of asked.action }
 abbrev pub reads_input : Deed → Bool
 reads_input update = true
 reads_input deed = false
+
+-- words are a command line, and what is to be done is such
+abbrev pub asks_for : (Deed → Bool) → Option CommandLine → Bool
+asks_for is_such (Some line) = is_such line.deed
+asks_for is_such None = false
+
+-- the command line that the words of the process are, where they were read
+abbrev pub line_read : {A Z E : Type 0} → Result (Vec (String A) Z) E → Option CommandLine
+line_read (Ok words) = command_line (map (λ word. string_bytes word) words.items)
+line_read (Err e) = None

@@ -1,5 +1,7 @@
 -- What the program ends with by its words, over the file of a disk of which nothing is known (own).
-use Rattle.std.specs.Prelude.{◌≡◌, ◌⊎◌, ◌<◌, ℕ, List, Option, length}
+use Rattle.std.specs.Prelude.{◌≡◌, ◌≢◌, ◌⊎◌, ◌<◌, ℕ, List, Option, Some, None, Bool, true, false, length}
+use Rattle.std.specs.declared.io.ErrorKind.{ErrorKind}
+use Rattle.std.specs.declared.io.ErrorKind.TheVariants.{OutOfMemory}
 use Rattle.requests.specs.Request.{Request}
 use Rattle.requests.specs.Request as request
 use Rattle.file_disk.specs.FileDisk.{file_facts, IsNew}
@@ -15,17 +17,19 @@ use Rattle.program_parts.specs.Streams as program
 use Rattle.program_parts.specs.declared.file.FileFault.{FileFault}
 use Rattle.program_parts.specs.declared.file.FileFault.TheVariants as read_file
 use Rattle.program_parts.specs.declared.status.Status.{Status}
-use Rattle.program_parts.specs.declared.status.Status.TheVariants.{Refused, Failed, NoMemory}
+use Rattle.program_parts.specs.declared.status.Status.TheVariants.{Refused, BadWords, Failed, NoMemory}
 use Rattle.store.specs.declared.refusal.StoreRefusal.TheVariants.{BadGeometry}
 use Rattle.tool_commands.specs.Bindings.{BindingsEnds}
 use Rattle.tool_commands.specs.Ends.{DiskEnds, EndsUnopened}
 use Rattle.tool_commands.specs.Form.{CommandLine, Deed, Question, digest, dump, tell, replace, remove, update, executable, bindings}
 use Rattle.tool_commands.specs.Request.{RequestEnds}
+use Rattle.tool_commands.specs.Said.{usage_line}
 use Rattle.tool_parts.specs.Said.{memory_line, refusal_line}
-use Rattle.tool_parts.specs.Streams.{Streams, IsUntold}
+use Rattle.tool_parts.specs.Streams.{Streams, IsUntold, SaysOnly}
 use Rattle.tool_commands.specs.declared.telling.Telling.{Telling}
 use Rattle.tool_commands.specs.declared.telling.Telling.TheVariants.{Text, Executable}
 use Rattle.updates.specs.Ends.{UpdateEnds}
+use Rattle.updates.specs.Streams.{outputs_of}
 
 -- what a file ends with that isn't opened as a disk
 abbrev pub open_status : OpenFault → Status
@@ -80,43 +84,50 @@ ReadEnds Ends io status =
     ((bytes : List ℕ) × (length bytes < read_limit) × Ends bytes)
     ⊎ ((fault : FileFault) × (status ≡ read_status fault) × IsUntold io × SaysUnread fault io.errors_before io.errors_after)
 
--- the streams of an update, whose input has this yet to give
-abbrev pub with_input : Option (List ℕ) → Streams → program.Streams
-with_input unread io =
-    record { unread = unread; before = io.before; after = io.after; errors_before = io.errors_before; errors_after = io.errors_after }
+-- the process exits with the number of a status that is so
+abbrev pub ExitsWith : (Status → Type 0) → ℕ → Type 0
+ExitsWith IsSo number = (status : Status) × IsSo status × (number ≡ status_number status)
 
 -- what an output holds, where that is known
 module _ {O : Type 0} (contents : O → Option (List ℕ)) where
   -- an update was run over it
-  abbrev pub UpdateAskEnds : Option (List ℕ) → Streams → Status → Type 0
-  UpdateAskEnds unread io status = OpenEnds (λ disk left. UpdateEnds file_facts disk contents (with_input unread io) status left) io status
+  abbrev pub UpdateAskEnds : program.Streams → Status → Type 0
+  UpdateAskEnds io status = OpenEnds (λ disk left. UpdateEnds file_facts disk contents io status left) (outputs_of io) status
 
-  -- what is done, with what the input has yet to give
-  abbrev pub DeedEnds : Deed → Option (List ℕ) → Streams → Status → Type 0
-  DeedEnds (tell question) unread io status = TellEnds question io status
-  DeedEnds (replace path) unread io status = ReadEnds (λ bytes. AskEnds (request.replace bytes) Text io status) io status
-  DeedEnds (remove name) unread io status = AskEnds (request.remove name) Text io status
-  DeedEnds update unread io status = UpdateAskEnds unread io status
-  DeedEnds (executable path base) unread io status = ReadEnds (λ bytes. AskEnds (request.bind bytes base) Executable io status) io status
-  DeedEnds (bindings path base) unread io status = ReadEnds (λ bytes. BindingsAskEnds bytes base io status) io status
+  -- what is done
+  abbrev pub DeedEnds : Deed → program.Streams → Status → Type 0
+  DeedEnds (tell question) io status = TellEnds question (outputs_of io) status
+  DeedEnds (replace path) io status = ReadEnds (λ bytes. AskEnds (request.replace bytes) Text (outputs_of io) status) (outputs_of io) status
+  DeedEnds (remove name) io status = AskEnds (request.remove name) Text (outputs_of io) status
+  DeedEnds update io status = UpdateAskEnds io status
+  DeedEnds (executable path base) io status = ReadEnds (λ bytes. AskEnds (request.bind bytes base) Executable (outputs_of io) status) (outputs_of io) status
+  DeedEnds (bindings path base) io status = ReadEnds (λ bytes. BindingsAskEnds bytes base (outputs_of io) status) (outputs_of io) status
 
-  -- a command line is done; or its disk is the file behind a standard stream, and nothing was told
-  abbrev pub IsEnd : CommandLine → Option (List ℕ) → Streams → Status → Type 0
-  IsEnd line unread io status = DeedEnds line.deed unread io status ⊎ ((status ≡ Failed) × IsUntold io)
+  -- For words that are none of the forms just the usage is said, and no others have their status: what
+  -- these ask is done; or their disk is the file behind a standard stream, and nothing was told.
+  abbrev pub IsEnd : Option CommandLine → program.Streams → Status → Type 0
+  IsEnd None io status = SaysOnly BadWords usage_line (outputs_of io) status
+  IsEnd (Some line) io status = (status ≢ BadWords) × (DeedEnds line.deed io status ⊎ ((status ≡ Failed) × IsUntold (outputs_of io)))
 
   -- with the number that the process exits with
-  abbrev pub LineEnds : CommandLine → Option (List ℕ) → Streams → ℕ → Type 0
-  LineEnds line unread io number = (status : Status) × IsEnd line unread io status × (number ≡ status_number status)
+  abbrev pub LineEnds : Option CommandLine → program.Streams → ℕ → Type 0
+  LineEnds line io number = ExitsWith (IsEnd line io) number
 
--- what is done is silent at status 0: all but an executable file, beside which more may be said
-abbrev pub IsSilentDeed : Deed → Type 0
-IsSilentDeed (executable path base) = ⊥
-IsSilentDeed deed = Unit {0}
+  -- Words that weren't read, by why not: where memory was refused just that is said; and any others end as
+  -- words that are none of the forms.
+  abbrev pub UnreadEnds : ErrorKind → program.Streams → ℕ → Type 0
+  UnreadEnds why io number =
+      (why ≡ OutOfMemory → ExitsWith (SaysOnly NoMemory memory_line (outputs_of io)) number) × (why ≢ OutOfMemory → LineEnds None io number)
 
--- something is said only where nothing is told, but for a script that is cut, for digests, of which
--- some library has none, and for an update whose lines a fault ended
-abbrev pub IsApartDeed : Deed → Type 0
-IsApartDeed (tell digest) = ⊥
-IsApartDeed (tell (dump purpose)) = ⊥
-IsApartDeed update = ⊥
-IsApartDeed deed = IsSilentDeed deed
+-- at status 0 something may be said too: beside an executable file
+abbrev pub warns : Deed → Bool
+warns (executable path base) = true
+warns deed = false
+
+-- something may be said beside what is told: of digests, of which some library has none, of a script that
+-- is cut, of an update whose lines a fault ended, and beside an executable file
+abbrev pub says_beside : Deed → Bool
+says_beside (tell digest) = true
+says_beside (tell (dump purpose)) = true
+says_beside update = true
+says_beside deed = warns deed

@@ -1,12 +1,11 @@
 -- What a command does to a registry on a disk of which no file is read when it is opened, and what it tells (own).
-use Rattle.std.specs.Prelude.{◌≡◌, ◌≢◌, ◌⊎◌, ◌+◌, Ok, Err, IsTrue, length}
+use Rattle.std.specs.Prelude.{◌≡◌, ◌≢◌, ◌⊎◌, Ok, Err, IsTrue}
 use Rattle.sector_disk.specs.Disk.{DiskFacts, Mixture, LeavesOnly, AreCallsExactly}
 use Rattle.states.specs.State.{State}
 use Rattle.store.specs.Opened.{Opened}
 use Rattle.store.specs.Opened as store
-use Rattle.store.specs.Opens.{Opens}
+use Rattle.store.specs.Opens.{OpensByEntries}
 use Rattle.store.specs.Stands as sectors
-use Rattle.store.specs.Stands.{catalogues_of}
 use Rattle.store.specs.declared.refusal.StoreRefusal.{StoreRefusal}
 use Rattle.requests.specs.Request.{Request, bind, list}
 use Rattle.requests.specs.declared.refusal.Refusal.{Refusal}
@@ -47,9 +46,8 @@ IsChange request = Unit {0}
 -- it, and the disk is left so.
 pub record IsAnswered {D : Type 0} (facts : D → DiskFacts) (disk : D) (request : Request) (answer : Reply) (left : D) : Type 0 where
   pub old : Opened D
-  pub opened : Opens sectors.Stands facts (store.IsAt facts) disk (Ok old)
   -- no file was read
-  pub opening_calls : AreCallsExactly (3 + length (catalogues_of old.root) + length old.entries) (facts disk) (facts old.disk)
+  pub opened : OpensByEntries facts disk (Ok old)
   pub new : Opened D
   pub step : DiskStep facts old request answer new
   -- a stop at any moment leaves what it could leave before, the byte strings that an honest disk
@@ -66,4 +64,4 @@ pub record IsAnswered {D : Type 0} (facts : D → DiskFacts) (disk : D) (request
 abbrev pub RequestEnds : {D : Type 0} → (D → DiskFacts) → D → Request → Telling → Streams → Status → D → Type 0
 RequestEnds facts disk request telling io status left =
     ((answer : Reply) × IsAnswered facts disk request answer left × TellsReply telling answer io status)
-    ⊎ ((refusal : StoreRefusal) × Opens sectors.Stands facts (store.IsAt facts) disk (Err (refusal, left)) × SaysOnly (disk_status refusal) (refusal_line refusal) io status)
+    ⊎ ((refusal : StoreRefusal) × OpensByEntries facts disk (Err (refusal, left)) × SaysOnly (disk_status refusal) (refusal_line refusal) io status)

@@ -1,9 +1,9 @@
 // The words of the process.
 
-ghost use Rattle.std.specs.Prelude.{◌≡◌, ◌≢◌, ◌≤◌, ◌⊎◌, IfOk, IfSome, OnErr, None};
-ghost use Rattle.std.specs.Prelude.{false, map, string_bytes};
-ghost use Rattle.tool_commands.specs.Form.{command_line, reads_input};
-ghost use Rattle.tool_commands.specs.Outcome.{IsApartDeed, IsSilentDeed, LineEnds};
+ghost use Rattle.std.specs.Prelude.{◌≡◌, ◌≢◌, ◌≤◌, ◌⊎◌, IfErr, OnOk, None, false};
+ghost use Rattle.std.specs.IoError.{error_kind};
+ghost use Rattle.tool_commands.specs.Form.{asks_for, line_read, reads_input};
+ghost use Rattle.tool_commands.specs.Outcome.{LineEnds, UnreadEnds, says_beside, warns};
 
 use crate::command::run_words;
 use crate::said::bad_words;
@@ -27,38 +27,32 @@ pub fn run_arguments<R: Files<File = File> + Clock, I: Read, O: Write, E: Write>
 ) -> u8
     ensures most { result ≤ 4 }
 
-    // Words that were read: 2 exactly where they are none of the forms.
-    ensures bad_words { IfOk words (λ list.
-        command_line (map (λ word. string_bytes word) list.items) ≡ None → result ≡ 2) }
-    ensures form { IfOk words (λ list.
-        result ≡ 2 → command_line (map (λ word. string_bytes word) list.items) ≡ None) }
+    // Words that were read end as they do in `run_words`.
+    ensures ends { OnOk words (LineEnds O.contents (line_read words) (record {
+      unread = I.remaining input.old;
+      before = O.contents output.old;
+      after = O.contents output.new;
+      errors_before = E.contents errors.old;
+      errors_after = E.contents errors.new;
+    }) result) }
 
-    // Words of a form: what is told and said, and the status that goes with it.
-    ensures ends { IfOk words (λ list.
-        IfSome (command_line (map (λ word. string_bytes word) list.items)) (λ line.
-        LineEnds O.contents line (I.remaining input.old) (record {
-          before = O.contents output.old;
-          after = O.contents output.new;
-          errors_before = E.contents errors.old;
-          errors_after = E.contents errors.new;
-        }) result)) }
-    ensures silent { IfOk words (λ list.
-        IfSome (command_line (map (λ word. string_bytes word) list.items)) (λ line.
-        IsSilentDeed line.deed → result ≡ 0
-        → E.contents errors.new ≡ E.contents errors.old)) }
-    ensures apart { IfOk words (λ list.
-        IfSome (command_line (map (λ word. string_bytes word) list.items)) (λ line.
-        IsApartDeed line.deed → result ≢ 3 → (E.contents errors.new ≡ E.contents errors.old)
-        ⊎ (O.contents output.new ≡ O.contents output.old))) }
+    // Words that weren't: by why not.
+    ensures not_read { IfErr words (λ e. UnreadEnds O.contents (error_kind e) (record {
+      unread = I.remaining input.old;
+      before = O.contents output.old;
+      after = O.contents output.new;
+      errors_before = E.contents errors.old;
+      errors_after = E.contents errors.new;
+    }) result) }
 
-    ensures unread { IfOk words (λ list.
-        IfSome (command_line (map (λ word. string_bytes word) list.items)) (λ line.
-        reads_input line.deed ≡ false → input.new ≡ input.old)) }
-
-    // Words that weren't read: nothing is given to the output, and the input isn't read.
-    ensures err { OnErr words ((result ≡ 2) ⊎ (result ≡ 4)) }
-    ensures same { OnErr words (output.new ≡ output.old) }
-    ensures left_alone { OnErr words (input.new ≡ input.old) }
+    // Only an update reads the input.
+    ensures unread { asks_for reads_input (line_read words) ≡ false → input.new ≡ input.old }
+    ensures same { line_read words ≡ None → output.new ≡ output.old }
+    ensures silent { asks_for warns (line_read words) ≡ false → result ≡ 0
+        → E.contents errors.new ≡ E.contents errors.old }
+    ensures apart { asks_for says_beside (line_read words) ≡ false → result ≢ 3
+        → (E.contents errors.new ≡ E.contents errors.old)
+        ⊎ (O.contents output.new ≡ O.contents output.old) }
 {
     match words {
         Ok(words) => run_words(rt, alloc, &words, input, output, errors),

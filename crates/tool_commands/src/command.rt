@@ -1,11 +1,8 @@
 // A command line.
 
-ghost use Rattle.std.specs.Prelude.{◌≡◌, ◌≢◌, ◌≤◌, ◌⊎◌, IfSome, None, false, map};
-ghost use Rattle.std.specs.Prelude.{string_bytes};
-ghost use Rattle.program_parts.specs.Said.{AppendsFront};
-ghost use Rattle.tool_commands.specs.Form.{command_line, deed_of, line_of, reads_input};
-ghost use Rattle.tool_commands.specs.Outcome.{IsApartDeed, IsEnd, IsSilentDeed, LineEnds};
-ghost use Rattle.tool_commands.specs.Said.{usage_line};
+ghost use Rattle.std.specs.Prelude.{◌≡◌, ◌≢◌, ◌≤◌, ◌⊎◌, Some, None, false, map, string_bytes};
+ghost use Rattle.tool_commands.specs.Form.{asks_for, command_line, deed_of, line_of, reads_input};
+ghost use Rattle.tool_commands.specs.Outcome.{IsEnd, LineEnds, says_beside, warns};
 
 use crate::form::{Action, Asked, read_words};
 use crate::on_file::run_asked;
@@ -25,7 +22,8 @@ fn run_apart<R: Files<File = File> + Clock, I: Read, O: Write, E: Write>(
     output: &mut O,
     errors: &mut E,
 ) -> Status
-    ensures ends { IsEnd O.contents (line_of asked.now) (I.remaining input.old) (record {
+    ensures ends { IsEnd O.contents (Some (line_of asked.now)) (record {
+      unread = I.remaining input.old;
       before = O.contents output.old;
       after = O.contents output.new;
       errors_before = E.contents errors.old;
@@ -54,41 +52,33 @@ pub fn run_words<R: Files<File = File> + Clock, I: Read, O: Write, E: Write>(
 ) -> u8
     ensures most { result ≤ 4 }
 
-    // Words that are none of the forms: nothing is given to the output, and nothing but a front of
-    // the usage to standard error.
-    ensures bad_words { command_line (map (λ word. string_bytes word) words.now) ≡ None
-        → result ≡ 2 }
-
-    // 2 is the answer to no others.
-    ensures form { result ≡ 2 → command_line (map (λ word. string_bytes word) words.now) ≡ None }
-
-    // Words of a form: what is told and said, and the status that goes with it.
-    ensures ends { IfSome (command_line (map (λ word. string_bytes word) words.now)) (λ line.
-        LineEnds O.contents line (I.remaining input.old) (record {
+    // What the status says of what was asked, and of what was told and said: 2 exactly where the
+    // words are none of the forms.
+    ensures ends { LineEnds O.contents (command_line (map (λ word. string_bytes word) words.now))
+        (record {
+          unread = I.remaining input.old;
           before = O.contents output.old;
           after = O.contents output.new;
           errors_before = E.contents errors.old;
           errors_after = E.contents errors.new;
-        }) result) }
+        }) result }
 
-    // At 0 nothing is given to standard error.
-    ensures silent { IfSome (command_line (map (λ word. string_bytes word) words.now)) (λ line.
-        IsSilentDeed line.deed → result ≡ 0 → E.contents errors.new ≡ E.contents errors.old) }
+    // Only an update reads the input.
+    ensures unread { asks_for reads_input (command_line (map (λ word. string_bytes word) words.now))
+        ≡ false → input.new ≡ input.old }
 
-    // What is said there isn't said on the output too, unless something failed.
-    ensures apart { IfSome (command_line (map (λ word. string_bytes word) words.now)) (λ line.
-        IsApartDeed line.deed → result ≢ 3 → (E.contents errors.new ≡ E.contents errors.old)
-        ⊎ (O.contents output.new ≡ O.contents output.old)) }
+    // Words that are none of the forms leave the output alone.
     ensures same { command_line (map (λ word. string_bytes word) words.now) ≡ None
         → output.new ≡ output.old }
 
-    // Only an update reads the input.
-    ensures unread { IfSome (command_line (map (λ word. string_bytes word) words.now)) (λ line.
-        reads_input line.deed ≡ false → input.new ≡ input.old) }
-    ensures left_alone { command_line (map (λ word. string_bytes word) words.now) ≡ None
-        → input.new ≡ input.old }
-    ensures told { command_line (map (λ word. string_bytes word) words.now) ≡ None
-        → AppendsFront (E.contents errors.old) (E.contents errors.new) usage_line }
+    // At 0 nothing is given to standard error, but beside an executable file.
+    ensures silent { asks_for warns (command_line (map (λ word. string_bytes word) words.now))
+        ≡ false → result ≡ 0 → E.contents errors.new ≡ E.contents errors.old }
+
+    // What is said there isn't said on the output too, unless something failed.
+    ensures apart { asks_for says_beside (command_line (map (λ word. string_bytes word) words.now))
+        ≡ false → result ≢ 3 → (E.contents errors.new ≡ E.contents errors.old)
+        ⊎ (O.contents output.new ≡ O.contents output.old) }
 {
     match read_words(words) {
         Some(asked) => run_apart(rt, alloc, &asked, input, output, errors).number(),

@@ -205,7 +205,8 @@ fn update<R: Files<File = File> + Clock, I: Read, O: Write, E: Write>(
     output: &mut O,
     errors: &mut E,
 ) -> Status
-    ensures { UpdateAskEnds O.contents (I.remaining input.old) (record {
+    ensures { UpdateAskEnds O.contents (record {
+      unread = I.remaining input.old;
       before = O.contents output.old;
       after = O.contents output.new;
       errors_before = E.contents errors.old;
@@ -231,13 +232,13 @@ pub(crate) fn run_asked<R: Files<File = File> + Clock, I: Read, O: Write, E: Wri
     output: &mut O,
     errors: &mut E,
 ) -> Status
-    ensures ends { DeedEnds O.contents (deed_of asked.now.action) (I.remaining input.old)
-        (record {
-          before = O.contents output.old;
-          after = O.contents output.new;
-          errors_before = E.contents errors.old;
-          errors_after = E.contents errors.new;
-        }) result }
+    ensures ends { DeedEnds O.contents (deed_of asked.now.action) (record {
+      unread = I.remaining input.old;
+      before = O.contents output.old;
+      after = O.contents output.new;
+      errors_before = E.contents errors.old;
+      errors_after = E.contents errors.new;
+    }) result }
     ensures unread { reads_input (deed_of asked.now.action) ≡ false → input.new ≡ input.old }
 {
     let disk = asked.disk;

@@ -1,13 +1,13 @@
 -- What a stop leaves of an update, from the opening of its disk to its end.
-use Rattle.std.proofs.Common.{◌≡◌, ◌+◌, ℕ, List, length, Option, Ok, inl, inr, refl, sym, subst, ◌∙◌, ap}
+use Rattle.std.proofs.Common.{◌≡◌, ℕ, List, Option, Ok, inl, inr, refl, sym, subst, ◌∙◌, ap}
 use Rattle.std.specs.Prelude.{◌⊎◌, IsTrue, OnOk, Result}
-use Rattle.sector_disk.specs.Disk.{Sector, DiskFacts, HoldsNow, Mixture, LeavesOnly, AreCallsExactly}
+use Rattle.sector_disk.specs.Disk.{Sector, DiskFacts, HoldsNow, Mixture, LeavesOnly}
 use Rattle.sector_disk.proofs.Moments.{goes_on, weaken}
 use Rattle.states.specs.State.{State}
 use Rattle.store.specs.Draft.{Drafted, IsDraftedAt, begun}
 use Rattle.store.specs.Opened.{Opened, IsAt}
-use Rattle.store.specs.Opens.{Opens}
-use Rattle.store.specs.Stands.{Stands, catalogues_of}
+use Rattle.store.specs.Opens.{OpensByEntries}
+use Rattle.store.specs.Stands.{Stands}
 use Rattle.requests.specs.declared.refusal.Refusal.{Refusal}
 use Rattle.requests.specs.declared.reply.Reply.{Reply}
 use Rattle.program_parts.specs.declared.status.Status.{Status}
@@ -23,13 +23,12 @@ use Rattle.updates.specs.inside.Begun.{EndsBegun, IsBroken, IsCommitted, IsRefus
 use Rattle.registry.proofs.Updating.{begun_at}
 use Rattle.updates.proofs.Drafts.{is_changed, is_update, planned_moment}
 
-module _ {D : Type 0} (facts : D → DiskFacts) (disk : D) (old : Opened D) (opened : Opens Stands facts (IsAt facts) disk (Ok old))
-    (calls : AreCallsExactly (3 + length (catalogues_of old.root) + length old.entries) (facts disk) (facts old.disk))
+module _ {D : Type 0} (facts : D → DiskFacts) (disk : D) (old : Opened D) (opened : OpensByEntries facts disk (Ok old))
     (holds : IsTrue (facts old.disk).honest → HoldsNow (facts old.disk)) (lines : List (List ℕ)) (answers : List Reply) (u : Drafted D)
     (planned : ArePlanned facts (begun old) u lines answers) where
   -- the draft began at the state that the disk holds
   starts : IsTrue (facts disk).honest → (s : State) → Stands (facts disk).now s → IsDraftedAt facts (begun old) s s
-  starts honest s stands = begun_at facts s old holds (opened.stands honest s stands)
+  starts honest s stands = begun_at facts s old holds (opened.opened.stands honest s stands)
 
   update_of : IsTrue (facts disk).honest → (s : State) → Stands (facts disk).now s → IsUpdate facts (begun old) u s (requests_of lines) answers
   update_of honest s stands = is_update facts s (begun old) u lines answers refl (starts honest s stands) planned
@@ -38,7 +37,6 @@ module _ {D : Type 0} (facts : D → DiskFacts) (disk : D) (old : Opened D) (ope
   is_begun = record {
     old = old;
     opened = opened;
-    opening_calls = calls;
     planned = planned;
     changed = is_changed facts (begun old) u lines answers refl planned;
     update = update_of;
@@ -50,7 +48,7 @@ module _ {D : Type 0} (facts : D → DiskFacts) (disk : D) (old : Opened D) (ope
   -- until all lines were answered
   pub to_draft : LeavesStanding facts disk u.store.disk
   to_draft honest s stands =
-      goes_on (Standing s) (weaken _ (Standing s) (λ m h. inl h) (opened.any_moment honest))
+      goes_on (Standing s) (weaken _ (Standing s) (λ m h. inl h) (opened.opened.any_moment honest))
       (weaken _ (Standing s) (λ m h. inr h) (planned_moment facts s (begun old) u lines answers (starts honest s stands) planned))
 
   -- until a refusal was answered
@@ -84,8 +82,7 @@ module _ {D : Type 0} (facts : D → DiskFacts) (disk : D) (old : Opened D) (ope
     pub once_committed : OnOk answer (IsAt facts new (updated s (requests_of lines)))
     once_committed = subst (λ (t : State). OnOk answer (IsAt facts new t)) update.made (commit.ok s (drafted_by s (requests_of lines)) update.at)
 
-module _ {D O : Type 0} (facts : D → DiskFacts) (contents : O → Option (List ℕ)) (disk : D) (old : Opened D) (opened : Opens Stands facts (IsAt facts) disk (Ok old))
-    (calls : AreCallsExactly (3 + length (catalogues_of old.root) + length old.entries) (facts disk) (facts old.disk))
+module _ {D O : Type 0} (facts : D → DiskFacts) (contents : O → Option (List ℕ)) (disk : D) (old : Opened D) (opened : OpensByEntries facts disk (Ok old))
     (holds : IsTrue (facts old.disk).honest → HoldsNow (facts old.disk)) (io : Streams) (status : Status) (new : Opened D) (left : D) (back : left ≡ new.disk) where
   is_run_by : (lines : List (List ℕ)) (answers : List Reply) (u : Drafted D) → ArePlanned facts (begun old) u lines answers
       → IsCommitted facts contents io lines answers u status new ⊎ (IsRefused facts contents io lines answers u status new ⊎ IsBroken facts contents io lines answers u status new)
@@ -94,7 +91,7 @@ module _ {D O : Type 0} (facts : D → DiskFacts) (contents : O → Option (List
     lines,
     answers,
     u,
-    is_begun facts disk old opened calls holds lines answers u planned,
+    is_begun facts disk old opened holds lines answers u planned,
     inl (record {
       read = h.2;
       held = h.0;
@@ -104,8 +101,8 @@ module _ {D O : Type 0} (facts : D → DiskFacts) (contents : O → Option (List
       commit = h.4;
       any_moment = λ honest s stands.
           subst (λ (k : D). LeavesOnly (facts disk) (facts k) (λ m. Mixture (facts disk) m ⊎ (Stands m s ⊎ Stands m (updated s (requests_of lines))))) (sym back)
-          (to_commit facts disk old opened calls holds lines answers u planned h.1 new h.4 honest s stands);
-      ok = once_committed facts disk old opened calls holds lines answers u planned h.1 new h.4;
+          (to_commit facts disk old opened holds lines answers u planned h.1 new h.4 honest s stands);
+      ok = once_committed facts disk old opened holds lines answers u planned h.1 new h.4;
       told = h.5;
       back = back;
     }),
@@ -115,12 +112,12 @@ module _ {D O : Type 0} (facts : D → DiskFacts) (contents : O → Option (List
         lines,
         answers,
         u,
-        is_begun facts disk old opened calls holds lines answers u planned,
+        is_begun facts disk old opened holds lines answers u planned,
         inr (inl (record {
           refusal = h.0;
           last = h.1;
           refused = h.2;
-          any_moment = subst (LeavesStanding facts disk) (sym same) (to_refusal facts disk old opened calls holds lines answers u planned io.unread h.1 h.0 h.2);
+          any_moment = subst (LeavesStanding facts disk) (sym same) (to_refusal facts disk old opened holds lines answers u planned io.unread h.1 h.0 h.2);
           told = h.4;
           back = same;
         })),
@@ -130,13 +127,13 @@ module _ {D O : Type 0} (facts : D → DiskFacts) (contents : O → Option (List
         lines,
         answers,
         u,
-        is_begun facts disk old opened calls holds lines answers u planned,
+        is_begun facts disk old opened holds lines answers u planned,
         inr (inr (record {
           fault = h.0;
           part = h.1;
           one_at_most = h.2;
           read = h.3;
-          any_moment = subst (LeavesStanding facts disk) (sym same) (to_draft facts disk old opened calls holds lines answers u planned);
+          any_moment = subst (LeavesStanding facts disk) (sym same) (to_draft facts disk old opened holds lines answers u planned);
           told = h.5;
           back = same;
         })),

@@ -1,14 +1,14 @@
 -- What an update ends with on the disk that it is given: what it did there, and what it told (own).
-use Rattle.std.specs.Prelude.{◌≡◌, ◌⊎◌, ◌↔◌, ◌+◌, ◌++◌, ℕ, List, length, Option, Result, Ok, Err, OnOk, IsTrue, false}
+use Rattle.std.specs.Prelude.{◌≡◌, ◌⊎◌, ◌↔◌, ◌++◌, ℕ, List, Option, Result, Ok, Err, OnOk, IsTrue, false}
 use Rattle.std.specs.Io.{StopsAt}
 use Rattle.std.specs.Io.KnownBytes.{Appends}
 use Rattle.std.specs.List.{list_any}
-use Rattle.sector_disk.specs.Disk.{DiskFacts, Mixture, LeavesOnly, AreCallsExactly}
+use Rattle.sector_disk.specs.Disk.{DiskFacts, Mixture, LeavesOnly}
 use Rattle.states.specs.State.{State}
 use Rattle.store.specs.Draft.{Drafted, begun}
 use Rattle.store.specs.Opened.{Opened, IsAt}
-use Rattle.store.specs.Opens.{Opens}
-use Rattle.store.specs.Stands.{Stands, catalogues_of}
+use Rattle.store.specs.Opens.{OpensByEntries}
+use Rattle.store.specs.Stands.{Stands}
 use Rattle.store.specs.declared.draft.Touched.TheVariants.{Nothing}
 use Rattle.store.specs.declared.refusal.StoreRefusal.{StoreRefusal}
 use Rattle.requests.specs.Step.{answer_of}
@@ -35,9 +35,8 @@ module _ {D : Type 0} (facts : D → DiskFacts) (disk : D) where
   -- it holds to a draft.
   pub record IsBegun (lines : List (List ℕ)) (answers : List Reply) (u : Drafted D) : Type 0 where
     pub old : Opened D
-    pub opened : Opens Stands facts (IsAt facts) disk (Ok old)
     -- no file was read
-    pub opening_calls : AreCallsExactly (3 + length (catalogues_of old.root) + length old.entries) (facts disk) (facts old.disk)
+    pub opened : OpensByEntries facts disk (Ok old)
     pub planned : ArePlanned facts (begun old) u lines answers
     -- something of the draft was changed exactly where a line asks for a change
     pub changed : (u.touched ≡ Nothing) ↔ (list_any asks_change (requests_of lines) ≡ false)
@@ -100,5 +99,5 @@ module _ {D : Type 0} (facts : D → DiskFacts) (disk : D) where
     abbrev pub UpdateEnds : Streams → Status → D → Type 0
     UpdateEnds io status left =
         IsRun io status left
-        ⊎ ((refusal : StoreRefusal) × Opens Stands facts (IsAt facts) disk (Err (refusal, left))
+        ⊎ ((refusal : StoreRefusal) × OpensByEntries facts disk (Err (refusal, left))
         × SaysOnly (disk_status refusal) (refusal_line refusal) io status)

@@ -1,6 +1,6 @@
 // What is written of the lines of an update.
 
-ghost use Rattle.std.specs.Prelude.{◌≡◌, IfErr, IfOk, OnOk};
+ghost use Rattle.std.specs.Prelude.{◌≡◌, IfErr, IfOk, OnErr, OnOk, true};
 ghost use Rattle.text_output.specs.Sends.{Sends};
 ghost use Rattle.updates.specs.Answer.{plan_text, update_refusal_text};
 ghost use Rattle.updates.specs.Status.{update_status};
@@ -34,6 +34,7 @@ pub(crate) fn put_plan<W: Write>(
     ensures ok { OnOk result (Sends (W.contents out.old) waiting.old (W.contents out.new)
         waiting.new (plan_text reply.now)) }
     ensures err { IfErr result (λ fault. fault ≡ WriteFailed) }
+    ensures failed { reply.now ≡ Reply.Done → OnErr result (waiting.new.failed ≡ true) }
 {
     match reply {
         Reply::Done => waiting.put(out, b"planned\n")?,
@@ -53,6 +54,8 @@ pub(crate) fn put_refusal<W: Write>(
         waiting.new (update_refusal_text refusal)) }
     ensures status { IfOk result (λ status. status ≡ update_status refusal) }
     ensures err { IfErr result (λ fault. fault ≡ WriteFailed) }
+    ensures failed { refusal ≡ UpdateRefusal.NoCommit
+        → OnErr result (waiting.new.failed ≡ true) }
 {
     match refusal {
         UpdateRefusal::BadLine => put_line_refusal(waiting, out, LineRefusal::BadLine)?,

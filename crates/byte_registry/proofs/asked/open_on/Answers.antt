@@ -12,7 +12,7 @@ returns-in-Ok-open_untested-clause-ok c =
       now = opened.now refl;
       log = opened.log refl;
       found = opened.ok refl;
-      unheld = opened.unheld;
+      unheld = c.in-Ok-open_untested.ensures.opening.on_any_disk.ends.unheld;
     }
 
 pub returns-in-Err-open_untested-clause-err : goal.returns-in-Err-open_untested-clause-err

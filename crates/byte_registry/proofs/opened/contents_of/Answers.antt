@@ -17,7 +17,7 @@ pub returns-in-Err-clause-err : goal.returns-in-Err-clause-err
 returns-in-Err-clause-err c =
     let opened = c.in-Err.ensures.opened in
     let given = c.in-Some.ensures.starts in
-    let no_device : c.in-Err.refusal ≢ Device = λ device. omega (arith, opened.device device, no_failure c.in-Some.disk c.in-Err._disk (opened.log refl)) in
+    let no_device : c.in-Err.refusal ≢ Device = λ device. omega (arith, c.in-Err.ensures.on_any_disk.ends.device device, no_failure c.in-Some.disk c.in-Err._disk (opened.log refl)) in
     record {
       why = inr (c.in-Some.ensures.some.0 refl, subst (λ m. RefusesOpen Stands m c.in-Err.refusal) given.now (opened.refused refl));
       no_failure = no_device;

@@ -32,23 +32,23 @@ returns c s stands =
       | in-Ok w ↦
           let old = w.in-Ok.registry in
           let new = w.run.new.self in
-          let at = w.in-Ok.ensures.opening.opened.stands refl s now in
+          let at = w.in-Ok.ensures.opening.stands refl s now in
           let opened : WritesNothing (fused_memory first) (fused_memory old.disk) =
-          record { leaves = w.in-Ok.ensures.opening.opened.any_moment refl; now = w.in-Ok.ensures.opening.opened.now refl; calls = w.in-Ok.ensures.opening.opened.calls } in
+          record { leaves = w.in-Ok.ensures.opening.any_moment refl; now = w.in-Ok.ensures.opening.now refl; calls = w.in-Ok.ensures.on_any_disk.ends.calls } in
           elim w.match-run.branch [
             | in-Ok-run w' ↦
                 let ran : WasRun first new.disk s (asked round) w'.in-Ok-run.replies.items = record {
                   old = old;
                   new = new;
                   opened = opened;
-                  calls = w.in-Ok.ensures.opening.all_calls;
+                  calls = w.in-Ok.ensures.all_calls;
                   at = at;
-                  unheld = w.in-Ok.ensures.opening.opened.unheld;
+                  unheld = w.in-Ok.ensures.on_any_disk.ends.unheld;
                   runs = subst (λ (l : List Command). RunsOver fused_memory old new s (map request_of l) w'.in-Ok-run.replies.items) w.deref.ensures.value (w'.in-Ok-run.ensures.ok s at);
                   ends = refl;
                 } in
                 round_ran disk s round first fused told memory result inner into stopped w'.in-Ok-run.replies new.disk ran
-                (more_calls w.in-Ok.ensures.opening.opened.calls (answered_calls fused_memory old new _ _ w'.in-Ok-run.ensures.on_any_disk))
+                (more_calls w.in-Ok.ensures.on_any_disk.ends.calls (answered_calls fused_memory old new _ _ w'.in-Ok-run.ensures.on_any_disk))
                 (w.replies-is ∙ (λ i. (w'.replies-is i, w.into_disk.ensures i)))
             | in-Err-run w' ↦
                 let same = w'.in-Err-run.ensures.err in
@@ -63,10 +63,10 @@ returns c s stands =
       | in-Err w ↦
           let refusal = w.in-Err.refusal in
           let last = w.in-Err.fuse in
-          let left = w.in-Err.ensures.opening.opened.any_moment refl in
+          let left = w.in-Err.ensures.opening.any_moment refl in
           let not_run : WasNotRun first last refusal = record {
-            opened = record { leaves = left; now = w.in-Err.ensures.opening.opened.now refl; calls = w.in-Err.ensures.opening.opened.calls };
-            why = ⊎_elim (λ failed. inl (failed, w.in-Err.ensures.opening.opened.device failed)) inr (w.in-Err.ensures.opening.opened.stands refl s now);
+            opened = record { leaves = left; now = w.in-Err.ensures.opening.now refl; calls = w.in-Err.ensures.on_any_disk.ends.calls };
+            why = ⊎_elim (λ failed. inl (failed, w.in-Err.ensures.on_any_disk.ends.device failed)) inr (w.in-Err.ensures.opening.stands refl s now);
           } in
           round_not_run disk s round first fused told memory result inner into stopped refusal last not_run
           (λ m mixture. fuse_stands disk s stands first fused.same m (left_now (Mixture (fused_memory first)) left m mixture)) w.replies-is

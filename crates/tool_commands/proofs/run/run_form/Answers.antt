@@ -22,8 +22,7 @@ returns-in-Ok g c =
     let status = c.run_opened-status.result in
     inl (record {
       store = store;
-      opened = opened.opened;
-      opening_calls = opened.all_calls;
+      opened = opened;
       read = c.run_opened-status.new.contents;
       only_read = did.read;
       back = c.into_disk.ensures;
@@ -35,4 +34,4 @@ pub returns-in-Err : goal.returns-in-Err
 returns-in-Err g c =
     let ends = subst (λ (said : Status). EndsUnopened (question_of c.args.form.now) said (g.O.Write.contents c.args.output.now) (g.O.Write.contents c.end_unopened.new.output) c.end_unopened.result)
     c.say_refusal-said.ensures.status c.end_unopened.ensures in
-    inr (c.in-Err.refusal, c.in-Err.ensures.opened, ends, c.say_refusal-said.ensures.said)
+    inr (c.in-Err.refusal, c.in-Err.ensures, ends, c.say_refusal-said.ensures.said)

@@ -14,7 +14,7 @@ returns-in-Ok g c =
       errors_before = g.E.Write.contents c.args.errors.now;
       errors_after = g.E.Write.contents ran.new.errors;
     } in
-    inl (is_run g.D.Disk.facts g.O.Write.contents c.args.disk c.in-Ok.registry e.opened e.all_calls (g.met.D.Disk.holds_now _) io ran.result.0 ran.result.1 c.into_disk.result c.into_disk.ensures ran.ensures)
+    inl (is_run g.D.Disk.facts g.O.Write.contents c.args.disk c.in-Ok.registry e (g.met.D.Disk.holds_now _) io ran.result.0 ran.result.1 c.into_disk.result c.into_disk.ensures ran.ensures)
 
 pub returns-in-Err : goal.returns-in-Err
-returns-in-Err g c = inr (c.in-Err.refusal, c.in-Err.ensures.opening.opened, (c.say_refusal.ensures.status, refl, c.say_refusal.ensures.said))
+returns-in-Err g c = inr (c.in-Err.refusal, c.in-Err.ensures.opening, (c.say_refusal.ensures.status, refl, c.say_refusal.ensures.said))

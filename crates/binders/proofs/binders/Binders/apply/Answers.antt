@@ -28,7 +28,7 @@ returns-clause-all_calls g c =
 
 pub returns-clause-fly_on : goal.returns-clause-fly_on
 returns-clause-fly_on g c =
-    let kept = c.apply.ensures.on_any_disk in
+    let kept = c.apply.ensures.on_any_disk.did in
     subst (λ (k : Slotted g.row.D.Denot). FlyOn g.D.Disk.facts k (with_slots c.apply.new.self c.self.inside.slots)) c.self.view_is
     (λ flights on. are_on_moved g.D.Disk.facts c.self.inside.registry c.apply.new.self c.self.inside.slots flights
     (λ b f flies. flies_kept g.D.Disk.facts flies c.apply.new.self kept.held (λ honest. subst IsTrue (sym kept.calls.honest) honest)) on)
@@ -36,7 +36,7 @@ returns-clause-fly_on g c =
 pub returns-clause-alone : goal.returns-clause-alone
 returns-clause-alone g c =
     subst (λ (k : Slotted g.row.D.Denot). HoldAlone k → HoldAlone (with_slots c.apply.new.self c.self.inside.slots)) c.self.view_is
-    (λ alone sector. c.apply.ensures.on_any_disk.held.holders sector ∙ alone sector)
+    (λ alone sector. c.apply.ensures.on_any_disk.did.held.holders sector ∙ alone sector)
 
 pub returns-clause-counted : goal.returns-clause-counted
 returns-clause-counted g c =

@@ -1,18 +1,16 @@
-use Rattle.std.proofs.Common.{◌≡◌, ℕ, List, None, ◌∙◌}
-use Rattle.elf_file.specs.Refusal.{file_refusal}
-use Rattle.elf_dynamic.specs.Refusal.{first_refusal, table_refusal, symbol_refusal, relocation_refusal}
+use Rattle.std.proofs.Common.{rules}
+use Rattle.elf_dynamic.proofs.Stages.{table_refuses, symbol_refuses}
 use Rattle.elf_dynamic.proofs.object.Object.read.Goals as goal
 
--- a file that none of the four kinds of tests refuses
-none-first : (file dynamic tables : List ℕ) → dynamic ≡ file → tables ≡ dynamic → file_refusal file ≡ None → table_refusal dynamic ≡ None
-    → symbol_refusal tables ≡ None → relocation_refusal tables ≡ None → first_refusal file ≡ None
-unfolding first_refusal
-none-first file dynamic tables d t one two three four =
-    let same : tables ≡ file = t ∙ d in
-    rw (one, ← d, two, ← t, three, four)
+pub returns-in_err-tables : goal.returns-in_err-tables
+returns-in_err-tables c =
+    let file = c.in_ok-dynamic.ensures in
+    let refused = table_refuses c.args.file.now c.in_ok-dynamic.dynamic _ file.1 file.0 c.in_err-tables.ensures in
+    search (rules, refused)
 
-pub returns : goal.returns
-returns c =
-    let a = c.in_ok-dynamic.ensures in
-    let b = c.in_ok-tables.ensures in
-    (none-first c.args.file.now c.in_ok-dynamic.dynamic c.in_ok-tables.tables a.1 b.1 a.0 b.0 c.in_ok-test_symbols.ensures c.in_ok-test_relocations.ensures, b.1 ∙ a.1)
+pub returns-in_err-test_symbols : goal.returns-in_err-test_symbols
+returns-in_err-test_symbols c =
+    let file = c.in_ok-dynamic.ensures in
+    let found = c.in_ok-tables.ensures in
+    let refused = symbol_refuses c.args.file.now c.in_ok-dynamic.dynamic c.in_ok-tables.tables _ file.1 found.1 file.0 found.0 c.in_err-test_symbols.ensures in
+    search (rules, refused)

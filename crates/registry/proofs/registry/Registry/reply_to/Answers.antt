@@ -48,30 +48,34 @@ pub returns-in-Bind-clause-on_any_disk : goal.returns-in-Bind-clause-on_any_disk
 returns-in-Bind-clause-on_any_disk g c before after =
     let bound = c.bind.ensures in
     subst (λ q. Answered g.D.Disk.facts c.args.self.now c.bind.new.self q c.bind.result) (sym (ap request_of c.in-Bind.is)) (record {
-      reopen = (bound.reopen, λ failed. (bound.failed failed).0);
-      failed = λ failed. (bound.failed failed).1;
-      device = bound.device;
+      did = record {
+        reopen = (bound.reopen, λ failed. (bound.failed failed).0);
+        failed = λ failed. (bound.failed failed).1;
+        device = bound.device;
+        leaves = ((bound.kept.0, bound.kept.1, bound.table, bound.kept.2), bound.alone);
+        held = bound.held;
+        holds_before = before;
+        holds_after = after;
+        calls = bound.calls;
+      };
       answers = bound.answers;
-      leaves = ((bound.kept.0, bound.kept.1, bound.table, bound.kept.2), bound.alone);
-      held = bound.held;
-      holds_before = before;
-      holds_after = after;
-      calls = bound.calls;
     })
 
 pub returns-in-List-clause-on_any_disk : goal.returns-in-List-clause-on_any_disk
 returns-in-List-clause-on_any_disk g c before after =
     let now = c.args.self.now in
     subst (λ q. Answered g.D.Disk.facts now now q c.list.result) (sym (ap request_of c.in-List.is)) (record {
-      reopen = c.list.ensures.reopen;
-      failed = λ failed. refl;
-      device = λ is. absurd (c.list.ensures.device is);
+      did = record {
+        reopen = c.list.ensures.reopen;
+        failed = λ failed. refl;
+        device = λ is. absurd (c.list.ensures.device is);
+        leaves = refl;
+        held = keeps_held_same g.D.Disk.facts now;
+        holds_before = before;
+        holds_after = after;
+        calls = no_calls (g.D.Disk.facts now.disk);
+      };
       answers = c.list.ensures.answers;
-      leaves = refl;
-      held = keeps_held_same g.D.Disk.facts now;
-      holds_before = before;
-      holds_after = after;
-      calls = no_calls (g.D.Disk.facts now.disk);
     })
 
 pub returns-in-Install-clause-all_calls : goal.returns-in-Install-clause-all_calls

@@ -51,7 +51,7 @@ loop-command-preserved g c =
           (let so_far = c.loop-command.invariant.runs s at in (
             so_far.0 ++ new ∷ [],
             runs_turn facts old c.loop-command.self new s (commanded (map request_of (take i xs)) c.loop-command.replies.items) so_far.0 so_far.1 asked c.apply-reply.result
-                c.apply-reply.ensures.applied (λ t at. c.apply-reply.ensures.all_calls t at.stored) c.apply-reply.ensures.on_any_disk,
+                c.apply-reply.ensures.applied (λ t at. c.apply-reply.ensures.all_calls t at.stored) c.apply-reply.ensures.on_any_disk.did,
           ))));
       answered =
           subst (λ (l : List Reply). AreAnswered facts old new (map request_of (take (i + 1) xs)) l) (sym items)

@@ -40,13 +40,15 @@ returns-in_err-store g c =
       calls_current = λ honest s stands. tt;
       calls_old = λ honest s stands. tt;
       log_old = λ honest s stands. tt;
-      geometry = tt;
-      usable = tt;
-      unheld = tt;
-      refusals = refuses_looked start.sectors e.0 look.refusals;
-      device = look.device;
-      untouched = look.untouched;
-      calls = look.calls.some;
+      on_any_disk = record {
+        geometry = tt;
+        usable = tt;
+        unheld = tt;
+        refusals = refuses_looked start.sectors e.0 look.refusals;
+        device = look.device;
+        untouched = look.untouched;
+        calls = look.calls.some;
+      };
     })
 
 pub returns-in-Current : goal.returns-in-Current
@@ -93,13 +95,15 @@ returns-in-Current g c =
           admitted_calls facts start store looked result admitted.kept admitted.all_calls;
       calls_old = λ honest s stands. absurd (none_old honest s stands);
       log_old = λ honest s stands. absurd (none_old honest s stands);
-      geometry = IfOk-weaker result _ _ (λ registry kept. look.geometry) admitted.kept;
-      usable = IfOk-weaker result _ _ (λ registry kept. kept.2) admitted.kept;
-      unheld = admitted.unheld;
-      refusals = refusals;
-      device = device_since facts c.args.disk store.disk calls result admitted.device;
-      untouched = untouched_since facts c.args.disk look.geometry result refusals;
-      calls = more_calls calls admitted.calls;
+      on_any_disk = record {
+        geometry = IfOk-weaker result _ _ (λ registry kept. look.geometry) admitted.kept;
+        usable = IfOk-weaker result _ _ (λ registry kept. kept.2) admitted.kept;
+        unheld = admitted.unheld;
+        refusals = refusals;
+        device = device_since facts c.args.disk store.disk calls result admitted.device;
+        untouched = untouched_since facts c.args.disk look.geometry result refusals;
+        calls = more_calls calls admitted.calls;
+      };
     }
 
 pub returns-in-Old : goal.returns-in-Old
@@ -153,11 +157,13 @@ returns-in-Old g c =
           relisted_calls facts start store looked (at.stands _ (g.met.D.Disk.holds_now _ at.honest)).of_version result admitted.placed admitted.all_calls;
       log_old = λ honest s stands.
           relisted_log facts store start.log (subst (λ l. MayAddSync start.log (facts (seen l).disk).log) is (look.log honest)) result admitted.placed (admitted.log (at_old honest s stands).honest);
-      geometry = IfOk-weaker result _ _ (λ registry usable. look.geometry) admitted.usable;
-      usable = admitted.usable;
-      unheld = admitted.unheld;
-      refusals = refusals;
-      device = device_since facts c.args.disk store.disk calls result admitted.device;
-      untouched = untouched_since facts c.args.disk look.geometry result refusals;
-      calls = more_calls calls admitted.calls;
+      on_any_disk = record {
+        geometry = IfOk-weaker result _ _ (λ registry usable. look.geometry) admitted.usable;
+        usable = admitted.usable;
+        unheld = admitted.unheld;
+        refusals = refusals;
+        device = device_since facts c.args.disk store.disk calls result admitted.device;
+        untouched = untouched_since facts c.args.disk look.geometry result refusals;
+        calls = more_calls calls admitted.calls;
+      };
     }

@@ -1,5 +1,6 @@
 use Rattle.std.proofs.Common.{rules, ◌≡◌, ◌⊎◌, inl, ⊎_elim, [], length, IsTrue, Err, refl, sym, arith, subst, ap, ◌∙◌}
 use Rattle.roots.specs.Root.{version_of}
+use Rattle.store.specs.AnyDisk.{MakesOnAnyDisk}
 use Rattle.store.specs.Makes.{Makes}
 use Rattle.store.specs.Opened.{IsAt}
 use Rattle.store.specs.Opening.{RefusesFormat, IsRefusalOfFormat}
@@ -33,47 +34,69 @@ invariant_of-result g c =
       ap version_of root,
     )
 
--- a disk that is refused before any call of it
-unmade : {D : Type 0} (facts : D → DiskFacts) (disk : D) → (IsTrue (facts disk).honest → HoldsNow (facts disk)) → (e : StoreRefusal) → (e ≡ AlreadyFormatted → ⊥) → (e ≡ Device → ⊥)
-    → IsRefusalOfFormat (facts disk).sectors e → Makes Stands facts (IsAt facts) disk (Err (e, disk))
-unmade facts disk holds e not_formatted not_device may = record {
-  any_moment = λ honest. at_rest (facts disk) (λ m. Mixture (facts disk) m ⊎ Stands m empty_state) (λ m mixture. inl mixture);
-  ok = λ honest. tt;
-  unformatted = λ honest. tt;
-  refused = λ honest. record { may = subst (λ n. IsRefusalOfFormat n e) (sym (holds honest).size) may; formatted = λ is. absurd (not_formatted is) };
-  left_alone = λ honest is. absurd (not_formatted is);
-  now = λ honest other. refl;
-  log = λ honest. tt;
-  geometry = tt;
-  usable = tt;
-  unheld = tt;
-  refusals = may;
-  device = λ is. absurd (not_device is);
-  untouched = λ either. refl;
-  calls = record { some = no_calls (facts disk); time = omega arith };
-  all_calls = tt;
-}
+module _ {D : Type 0} (facts : D → DiskFacts) (disk : D) (e : StoreRefusal) where
+  -- a disk that is refused before any call of it
+  unmade : (IsTrue (facts disk).honest → HoldsNow (facts disk)) → (e ≡ AlreadyFormatted → ⊥) → IsRefusalOfFormat (facts disk).sectors e
+      → Makes Stands facts (IsAt facts) disk (Err (e, disk))
+  unmade holds not_formatted may = record {
+    any_moment = λ honest. at_rest (facts disk) (λ m. Mixture (facts disk) m ⊎ Stands m empty_state) (λ m mixture. inl mixture);
+    ok = λ honest. tt;
+    unformatted = λ honest. tt;
+    refused = λ honest. record { may = subst (λ n. IsRefusalOfFormat n e) (sym (holds honest).size) may; formatted = λ is. absurd (not_formatted is) };
+    left_alone = λ honest is. absurd (not_formatted is);
+    now = λ honest other. refl;
+    log = λ honest. tt;
+  }
 
-pub returns-then-not-is_geometry : goal.returns-then-not-is_geometry
-returns-then-not-is_geometry g c =
+  unmade_on_any : (e ≡ Device → ⊥) → IsRefusalOfFormat (facts disk).sectors e → MakesOnAnyDisk facts disk (Err (e, disk))
+  unmade_on_any not_device may = record {
+    ends = record {
+      geometry = tt;
+      usable = tt;
+      unheld = tt;
+      refusals = may;
+      device = λ is. absurd (not_device is);
+      untouched = λ is. refl;
+      calls = no_calls (facts disk);
+    };
+    early = λ is. refl;
+    most_calls = record { some = no_calls (facts disk); time = omega arith };
+    all_calls = tt;
+  }
+
+pub returns-then-not-is_geometry-clause-making : goal.returns-then-not-is_geometry-clause-making
+returns-then-not-is_geometry-clause-making g c =
     let none : IsGeometry c.sectors-sectors.result → ⊥ = search rules in
-    unmade g.D.Disk.facts c.args.disk (g.met.D.Disk.holds_now _) BadGeometry geometry-formatted geometry-device
-    (subst (λ n. IsGeometry n → ⊥) c.sectors-sectors.ensures none)
+    unmade g.D.Disk.facts c.args.disk BadGeometry (g.met.D.Disk.holds_now _) geometry-formatted (subst (λ n. IsGeometry n → ⊥) c.sectors-sectors.ensures none)
 
-pub returns-in_default : goal.returns-in_default
-returns-in_default g c =
+pub returns-then-not-is_geometry-clause-on_any_disk : goal.returns-then-not-is_geometry-clause-on_any_disk
+returns-then-not-is_geometry-clause-on_any_disk g c =
+    let none : IsGeometry c.sectors-sectors.result → ⊥ = search rules in
+    unmade_on_any g.D.Disk.facts c.args.disk BadGeometry geometry-device (subst (λ n. IsGeometry n → ⊥) c.sectors-sectors.ensures none)
+
+pub returns-in_default-clause-making : goal.returns-in_default-clause-making
+returns-in_default-clause-making g c =
     let geometry : IsGeometry c.sectors-sectors.result = search rules in
-    unmade g.D.Disk.facts c.args.disk (g.met.D.Disk.holds_now _) OutOfMemory memory-formatted memory-device (subst IsGeometry c.sectors-sectors.ensures geometry)
+    unmade g.D.Disk.facts c.args.disk OutOfMemory (g.met.D.Disk.holds_now _) memory-formatted (subst IsGeometry c.sectors-sectors.ensures geometry)
 
-pub returns-in_default-new : goal.returns-in_default-new
-returns-in_default-new g c =
+pub returns-in_default-clause-on_any_disk : goal.returns-in_default-clause-on_any_disk
+returns-in_default-clause-on_any_disk g c =
     let geometry : IsGeometry c.sectors-sectors.result = search rules in
-    unmade g.D.Disk.facts c.args.disk (g.met.D.Disk.holds_now _) OutOfMemory memory-formatted memory-device (subst IsGeometry c.sectors-sectors.ensures geometry)
+    unmade_on_any g.D.Disk.facts c.args.disk OutOfMemory memory-device (subst IsGeometry c.sectors-sectors.ensures geometry)
 
-pub returns-in-Ok-write_first_root : goal.returns-in-Ok-write_first_root
-returns-in-Ok-write_first_root g c =
+pub returns-in_default-new-clause-making : goal.returns-in_default-new-clause-making
+returns-in_default-new-clause-making g c =
+    let geometry : IsGeometry c.sectors-sectors.result = search rules in
+    unmade g.D.Disk.facts c.args.disk OutOfMemory (g.met.D.Disk.holds_now _) memory-formatted (subst IsGeometry c.sectors-sectors.ensures geometry)
+
+pub returns-in_default-new-clause-on_any_disk : goal.returns-in_default-new-clause-on_any_disk
+returns-in_default-new-clause-on_any_disk g c =
+    let geometry : IsGeometry c.sectors-sectors.result = search rules in
+    unmade_on_any g.D.Disk.facts c.args.disk OutOfMemory memory-device (subst IsGeometry c.sectors-sectors.ensures geometry)
+
+pub returns-in-Ok-write_first_root-clause-making : goal.returns-in-Ok-write_first_root-clause-making
+returns-in-Ok-write_first_root-clause-making g c =
     let sectors = c.sectors-sectors.result in
-    let geometry : IsGeometry sectors = search rules in
     let wrote = c.in-Ok-write_first_root.ensures in
     record {
       any_moment = λ honest. either_stands sectors (c.write_first_root.ensures.any_moment honest);
@@ -89,18 +112,28 @@ returns-in-Ok-write_first_root g c =
       left_alone = λ honest. tt;
       now = λ honest. tt;
       log = wrote.log;
-      geometry = subst IsGeometry c.sectors-sectors.ensures geometry;
-      usable = refl;
-      unheld = c.new-in-Ok-write_first_root-3.ensures;
-      refusals = tt;
-      device = tt;
-      untouched = tt;
-      calls = c.write_first_root.ensures.calls;
-      all_calls = wrote.all_calls;
     }
 
-pub returns-in-Err : goal.returns-in-Err
-returns-in-Err g c =
+pub returns-in-Ok-write_first_root-clause-on_any_disk : goal.returns-in-Ok-write_first_root-clause-on_any_disk
+returns-in-Ok-write_first_root-clause-on_any_disk g c =
+    let geometry : IsGeometry c.sectors-sectors.result = search rules in
+    record {
+      ends = record {
+        geometry = subst IsGeometry c.sectors-sectors.ensures geometry;
+        usable = refl;
+        unheld = c.new-in-Ok-write_first_root-3.ensures;
+        refusals = tt;
+        device = tt;
+        untouched = tt;
+        calls = c.write_first_root.ensures.calls.some;
+      };
+      early = tt;
+      most_calls = c.write_first_root.ensures.calls;
+      all_calls = c.in-Ok-write_first_root.ensures.all_calls;
+    }
+
+pub returns-in-Err-clause-making : goal.returns-in-Err-clause-making
+returns-in-Err-clause-making g c =
     let disk = g.D.Disk.facts c.args.disk in
     let geometry : IsGeometry c.sectors-sectors.result = search rules in
     let size = subst IsGeometry c.sectors-sectors.ensures geometry in
@@ -118,18 +151,28 @@ returns-in-Err g c =
       left_alone = failed.left_alone;
       now = failed.now;
       log = λ honest. tt;
-      geometry = tt;
-      usable = tt;
-      unheld = tt;
-      refusals = ⊎_elim
-          (λ is. subst (IsRefusalOfFormat disk.sectors) (sym is) size)
-          (λ is. subst (IsRefusalOfFormat disk.sectors) (sym is) size)
-          failed.refusals;
-      device = failed.device;
-      untouched = λ either. ⊎_elim
-          (λ was. ⊎_elim (λ is. absurd (geometry-device (sym is ∙ was))) (λ is. absurd (memory-device (sym is ∙ was))) either)
-          (λ was. ⊎_elim (λ is. absurd (geometry-formatted (sym is ∙ was))) (λ is. absurd (memory-formatted (sym is ∙ was))) either)
-          failed.refusals;
-      calls = c.write_first_root.ensures.calls;
+    }
+
+pub returns-in-Err-clause-on_any_disk : goal.returns-in-Err-clause-on_any_disk
+returns-in-Err-clause-on_any_disk g c =
+    let disk = g.D.Disk.facts c.args.disk in
+    let geometry : IsGeometry c.sectors-sectors.result = search rules in
+    let size = subst IsGeometry c.sectors-sectors.ensures geometry in
+    let failed = c.in-Err.ensures in
+    record {
+      ends = record {
+        geometry = tt;
+        usable = tt;
+        unheld = tt;
+        refusals = ⊎_elim
+            (λ is. subst (IsRefusalOfFormat disk.sectors) (sym is) size)
+            (λ is. subst (IsRefusalOfFormat disk.sectors) (sym is) size)
+            failed.refusals;
+        device = failed.device;
+        untouched = λ is. ⊎_elim (λ was. absurd (geometry-device (sym is ∙ was))) (λ was. absurd (geometry-formatted (sym is ∙ was))) failed.refusals;
+        calls = c.write_first_root.ensures.calls.some;
+      };
+      early = λ is. ⊎_elim (λ was. absurd (memory-device (sym is ∙ was))) (λ was. absurd (memory-formatted (sym is ∙ was))) failed.refusals;
+      most_calls = c.write_first_root.ensures.calls;
       all_calls = tt;
     }

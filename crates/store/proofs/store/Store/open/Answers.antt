@@ -25,13 +25,17 @@ returns-then-not-is_geometry g c =
         ok = λ honest. tt;
         stands = λ honest s stands. absurd (no_geometry disk.now (here honest) Two s stands);
         refused = λ honest. geometry_refused_open Stands disk.now (here honest);
-        geometry = tt;
-        usable = tt;
-        unheld = tt;
-        refusals = none;
-        device = λ is. absurd (geometry-device is);
-        untouched = λ is. refl;
-        calls = no_calls disk;
+      };
+      on_any_disk = record {
+        ends = record {
+          geometry = tt;
+          usable = tt;
+          unheld = tt;
+          refusals = none;
+          device = λ is. absurd (geometry-device is);
+          untouched = λ is. refl;
+          calls = no_calls disk;
+        };
         old_calls = λ is. absurd (geometry-old is);
       };
       most_calls = record { some = no_calls disk; time = omega arith };
@@ -59,13 +63,17 @@ returns-in-Ok g c =
         ok = λ honest. (state_of now root items, held honest, at honest, λ other stands. one_state now Two Two other (state_of now root items) stands (held honest));
         stands = λ honest s stands. found_at_state facts c.beside.result c.find_current.new.disk now root items Two s stands (at honest) (finds.intact honest) two;
         refused = λ _. tt;
-        geometry = search rules;
-        usable = c.beside.ensures.usable;
-        unheld = c.beside.ensures.unheld;
-        refusals = tt;
-        device = tt;
-        untouched = tt;
-        calls = subst (λ d. AreCalls (facts c.args.disk) (facts d)) (sym c.beside.ensures.disk) calls;
+      };
+      on_any_disk = record {
+        ends = record {
+          geometry = search rules;
+          usable = c.beside.ensures.usable;
+          unheld = c.beside.ensures.unheld;
+          refusals = tt;
+          device = tt;
+          untouched = tt;
+          calls = subst (λ d. AreCalls (facts c.args.disk) (facts d)) (sym c.beside.ensures.disk) calls;
+        };
         old_calls = tt;
       };
       most_calls = subst (λ d. AreCallsAtMost (3 + most_catalogues + most_libraries) (facts c.args.disk) (facts d)) (sym c.beside.ensures.disk) finds.found.calls;
@@ -83,13 +91,17 @@ returns-in-Err g c =
         ok = λ _. tt;
         stands = λ honest s stands. refuses_open (g.D.Disk.facts c.args.disk).now s stands c.in-Err.refusal c.in-Err.ensures.refusals (finds.refused honest);
         refused = finds.refused;
-        geometry = tt;
-        usable = tt;
-        unheld = tt;
-        refusals = search rules;
-        device = finds.found.device;
-        untouched = search rules;
-        calls = finds.found.calls.some;
+      };
+      on_any_disk = record {
+        ends = record {
+          geometry = tt;
+          usable = tt;
+          unheld = tt;
+          refusals = search rules;
+          device = finds.found.device;
+          untouched = search rules;
+          calls = finds.found.calls.some;
+        };
         old_calls = c.in-Err.ensures.old_calls;
       };
       most_calls = finds.found.calls;
