@@ -20,16 +20,20 @@ cut_change remove a
 cut_change preload
 cut_change remove b
 
-# Several changes in one plan; then the disk gets each by itself.
+# Several changes in one plan; then the disk gets each by itself. Sectors that an update has written and
+# left are written again by its later changes, and of preloads alone the root is.
 cut_update() {
     ./cuts "$rlibreg" left disk "$data/program-1.so" update "$@"
 }
 cut_update install "$data/strong.so"
 cut_update install "$data/strong.so" , install "$data/long.so" , preload a b
 ./tool install disk "$data/strong.so" > /dev/null
+cut_update install "$data/long.so" , remove a
 ./tool install disk "$data/long.so" > /dev/null
 cut_update replace "$data/protected.so" , preload b , remove a
 cut_update remove b , install "$data/protected.so" , remove a
+cut_update replace "$data/protected.so" , replace "$data/strong.so" , replace "$data/protected.so"
+cut_update preload a , preload b a
 ./tool remove disk b > /dev/null
 ./tool remove disk a > /dev/null
 
@@ -46,6 +50,8 @@ for number in {1..64}; do
     LC_ALL=C sed "s/x000/$(printf x%03d "$number")/" "$data/numbered.so" > numbered.so
     ./tool install disk numbered.so > /dev/null
 done
+cut_update install "$data/strong.so" , install "$data/no-symbols.so"
 cut_change install "$data/strong.so"
 cut_change replace "$data/protected.so"
+cut_update remove x001 , remove x002
 cut_change remove x001

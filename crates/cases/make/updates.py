@@ -14,7 +14,7 @@ from disk import OnDisk, Refused
 from make import DATA, write_list
 from on_disk import A, B_520, NAMED_Q, after_text, bytes_of, find_files, library, with_changes
 from samples import DEFINED, FUNC, GLOBAL, Object, Symbol, build
-from scripts import bind, catalogues_for, install, replace, sectors_of
+from scripts import SECTOR, bind, catalogues_for, install, replace, sectors_of
 from sectors import read_entry
 
 OK, SAID = 'ok', 'rlibreg-tool: refused '
@@ -115,6 +115,12 @@ class CountsNoCatalogue(Draft):
         return super().is_too_long(need, len(self.entries))
 
 
+class FreesTheCataloguesThatStand(Draft):
+    def is_too_long(self, need, libraries):
+        fewer = len(self.root.listed) - catalogues_for(len(self.entries))
+        return super().is_too_long(need - 2 * max(0, fewer), libraries)
+
+
 class EndCommits(Draft):
     def update(self, text):
         status, told = super().update(text)
@@ -156,8 +162,8 @@ class BindsWhatStands(Draft):
         return reading.bind(base, program)
 
 
-WRONG = [FreesWhatStands, KeepsWhatItTookOut, CountsNoCatalogue, EndCommits, TakesACutCommit, GoesOn, CommitsNothing,
-         EachLineIsAGeneration, TellsOk, BindsWhatStands]
+WRONG = [FreesWhatStands, KeepsWhatItTookOut, CountsNoCatalogue, FreesTheCataloguesThatStand, EndCommits, TakesACutCommit, GoesOn,
+         CommitsNothing, EachLineIsAGeneration, TellsOk, BindsWhatStands]
 
 
 def run(before, text, reading=Draft):
@@ -191,6 +197,37 @@ def on(before, *lines, wanted=None, has='', end=b'\n'):
 
 def file(name):
     return (DATA / name).read_bytes()
+
+
+def sized(before, sectors):
+    """A disk of another size."""
+    how = 'cut' if sectors * SECTOR < len(bytes_of(before)) else 'pad'
+    first = '' if before.startswith('made=') else f' 0x10={sectors:02x}'
+    return f'{before}{first} 0x210={sectors:02x} {how}={sectors * SECTOR}'
+
+
+def at_the_last_sector(before, sectors, *lines):
+    """Two cases: a line has no room where the disk has one sector fewer, and all are made where it has so many."""
+    return [on(sized(before, sectors - 1), *lines, b'commit', wanted=S7), on(sized(before, sectors), *lines, b'commit', wanted=OK)]
+
+
+def rooms():
+    a, q, long, number = file(A), file(NAMED_Q), file('long.so'), file('numbered.so')
+    i, r, last = install, replace, at_the_last_sector
+    two_extents = [i(long), i(q), b'remove a', i(long + bytes(564))]
+    one, five, four = 'one.disk', 'made=sixty-five.changes', 'made=sixty-four.changes'
+    return [
+        ('How much room an update takes, to the last sector: beside what stands, for what it puts, and for catalogues twice. What it puts and\n'
+         'takes out again is free for its next line.',
+         last(one, 10, r(a), r(a)) + last(one, 10, b'remove a', i(q)) + last(one, 10, r(a), b'remove a', i(a), r(a))
+         + last(one, 12, r(a), r(a), r(a), r(long))),
+        ('A file in two extents: the four sectors that an earlier line left, and one behind.', [
+            on('formatted.disk 0x10=0b pad=5632', *two_extents, b'commit', wanted=S7),
+            on('formatted.disk 0x10=0c pad=6144', *two_extents, b'commit', wanted=OK, has='0x1300=02000000040000000800000001')]),
+        ('64 and 65 libraries: room for a second catalogue, and for both that stand where one is enough for the list.',
+         last(four, 138, i(q), b'remove x000', i(number)) + last(five, 142, b'remove x000', b'remove x001', i(q), i(number))
+         + last(five, 140, r(number), r(number[:0xda] + b'001' + number[0xdd:]))),
+    ]
 
 
 def changes():
@@ -273,6 +310,6 @@ def tell_wrong():
 
 if __name__ == '__main__':
     find_files()
-    parts = changes() + dumps()
+    parts = changes() + rooms() + dumps()
     tell_wrong()
     write_list('updates.txt', parts)

@@ -4,4 +4,4 @@ mod alike;
 mod files;
 mod layouts;
 mod random;
-mod stops;
+pub(crate) mod stops;

@@ -1,13 +1,9 @@
-// Tests of `store`, `snapshots` and `contents`.
+// Tests of `store`.
 
-mod calls;
+mod byte_strings;
 mod disks;
 mod each_call;
 mod faults;
-mod libraries;
 mod reads;
 mod sectors;
 mod seen;
-mod snapshot;
-mod told;
-mod updates;

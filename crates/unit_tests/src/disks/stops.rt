@@ -9,6 +9,17 @@ pub(crate) fn write<D: Disk>(disk: &mut D, at: u32, content: u8) -> bool {
     at < disk.sectors() && disk.write(at, &[content; SECTOR_BYTES]).is_ok()
 }
 
+/// The value that all bytes have, if there is one.
+pub(crate) fn value_of(bytes: &[u8]) -> Option<u8> {
+    let first = bytes.first().copied();
+    for byte in bytes {
+        if Some(*byte) != first {
+            return None;
+        }
+    }
+    first
+}
+
 /// The content of a sector, or None where there is none, where the disk failed, and where its bytes
 /// differ.
 pub(crate) fn read<D: Disk>(disk: &mut D, at: u32) -> Option<u8> {
@@ -16,7 +27,7 @@ pub(crate) fn read<D: Disk>(disk: &mut D, at: u32) -> Option<u8> {
     if at >= disk.sectors() || disk.read(at, &mut sector).is_err() {
         return None;
     }
-    (sector == [sector[0]; SECTOR_BYTES]).then_some(sector[0])
+    value_of(&sector)
 }
 
 /// Fills each sector with its number modulo 251: whether all were written.

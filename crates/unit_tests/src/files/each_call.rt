@@ -98,9 +98,12 @@ fn a_program_is_bound_alone(rt: HostRuntime) -> Result<(), Fail> {
 /// Whether an order is that of a program and the library a, which has no symbol but that of index
 /// 0.
 fn is_order(order: &Order<'_>) -> bool {
-    Order::count(order) == 2
+    if Order::count(order) != 2 {
+        return false;
+    }
+    let symbols = Object::symbol_count(Order::object(order, 1).object());
+    symbols == 1
         && Order::name(order, 1) == b"a".as_slice()
-        && Object::symbol_count(Order::object(order, 1).object()) == 1
         && resolve(order, 1, 0) == Ok(Target::Zero)
 }
 

@@ -1,13 +1,8 @@
-// Names, and sectors of disks that are written by hand.
+// Sectors of disks that are written by hand.
 use crate::stores::sectors::write;
 use roots::{Catalogue, Entry, Root, encode_catalogue, encode_entry, encode_root};
 use sector_disk::Memory;
 use std::process::Abort;
-
-/// The name of library i: two characters, each for 6 bits of the number.
-pub(crate) fn numbered_name(i: u32) -> [u8; 2] {
-    [b'0' + (i / 64 % 64) as u8, b'0' + (i % 64) as u8]
-}
 
 /// Writes an entry.
 pub(crate) fn write_entry(rt: &impl Abort, disk: &mut Memory, at: u32, entry: &Entry) {

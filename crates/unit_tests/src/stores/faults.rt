@@ -1,6 +1,5 @@
 // A look of which each call of the disk fails in turn.
-use crate::stores::calls::Change::Put;
-use crate::stores::calls::{formatted, make_all};
+use crate::stores::byte_strings::{formatted, put};
 use crate::stores::sectors::copy;
 use crate::stores::seen::{Seen, look};
 use sector_disk::{Fuse, Memory};
@@ -10,8 +9,8 @@ use store::StoreRefusal;
 // A disk with 65 byte strings, which two catalogues list.
 fn sixty_five(rt: &(impl Abort + AllocGlobal)) -> Memory {
     let mut store = formatted(rt, 136);
-    for number in 0..65 {
-        make_all(rt, &mut store, &[(Put(number, 7, 64), None)]);
+    for letter in b'0'..b'0' + 65 {
+        put(rt, &mut store, letter, &[7; 64]);
     }
     store.into_disk()
 }

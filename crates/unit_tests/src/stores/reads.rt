@@ -1,5 +1,5 @@
 // What a store tells and reads of a disk that was written by hand.
-use crate::stores::calls::opened;
+use crate::stores::byte_strings::opened;
 use crate::stores::disks::{write_catalogue, write_entry, write_root};
 use crate::stores::sectors::{memory, write};
 use extents::Extent;

@@ -1,4 +1,5 @@
 // What can be seen of a disk of either version.
+use crate::disks::stops::value_of;
 use sector_disk::Disk;
 use store::{Look, Store, StoreRefusal};
 
@@ -25,17 +26,6 @@ pub(crate) fn look<D: Disk + Drop>(rt: &impl AllocGlobal, disk: D) -> Seen {
         }
         Err((refusal, _)) => Seen::Refused(refusal),
     }
-}
-
-// The value that all bytes have, if there is one.
-fn value_of(bytes: &[u8]) -> Option<u8> {
-    let first = bytes.first().copied();
-    for byte in bytes {
-        if Some(*byte) != first {
-            return None;
-        }
-    }
-    first
 }
 
 /// What a read gives, the length and the value that all bytes have, or its refusal.
