@@ -13,8 +13,6 @@ mod liars;
 #[cfg(test)]
 mod lines;
 #[cfg(test)]
-mod programs;
-#[cfg(test)]
 mod reading;
 #[cfg(test)]
 mod refused_binds;

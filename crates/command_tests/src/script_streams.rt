@@ -2,13 +2,13 @@
 
 ghost use Rattle.std.specs.Prelude.{⊤};
 
-use crate::programs::of_segments;
 use crate::streams::Turn::Says;
 use crate::streams::{Full, Stops, Turn, Turns};
 use binders::{Binders, Event, EventReply};
 use commands::{ScriptFault, Summary, TakesEvents, run_script};
 use registry::Registry;
 use requests::{Command, Reply};
+use samples::{library, put};
 use sector_disk::Memory;
 use std::alloc::Global;
 use std::io::ErrorKind;
@@ -198,16 +198,21 @@ fn takes_writes(
     Ok(holds && last == *ended && taken == *text)
 }
 
+/// Where a file has the size of its segment in memory.
+const MEMORY_SIZE_AT: usize = 104;
+
 #[test]
 fn a_writer_fails_within_an_image(rt: HostRuntime) -> Result<(), Fail> {
     let alloc = rt.alloc();
-    let program = hex::encode(alloc, of_segments(alloc, 2_000)?.as_slice())?;
+    let mut program = library(b'a', 0);
+    put(&mut program, MEMORY_SIZE_AT, &33_000u64.to_le_bytes());
+    let program = hex::encode(alloc, program.as_slice())?;
     let script = format!(in alloc; "list\nbind 0x0 {program}\nlist\n")?;
     let whole = run_stopped(alloc, script.as_bytes(), (usize::MAX, usize::MAX))?;
     // A line, two pieces of the image, a line; and the same where no write takes more than 8 KiB.
     let at_once = takes_writes(alloc, script.as_bytes(), &whole, (4, usize::MAX))?;
     let in_pieces = takes_writes(alloc, script.as_bytes(), &whole, (11, 8192))?;
-    let is_long = whole.1.len() > 72_000;
+    let is_long = whole.1.len() > 68_000;
     assert!(rt; (whole.0, is_long, at_once, in_pieces) == (Ok(summary(3, 0)), true, true, true));
     Ok(())
 }

@@ -1,9 +1,9 @@
 // The status where a stream takes or gives fewer bytes than there are.
 
-use crate::programs::of_segments;
 use crate::runs::{ends, words_of};
 use crate::streams::{Full, Turn, Turns};
 use commands::run_arguments;
+use samples::library;
 use std::io::ErrorKind;
 use std::test::Fail;
 use std::{fs, io};
@@ -70,8 +70,8 @@ fn needs_room(rt: &HostRuntime, words: &[&str], length: usize, status: u8) -> bo
 /// Command lines with the lengths of their texts, and their statuses: an image, a refusal of one, a
 /// listing of nothing, a refusal of a command, and a script of one listing.
 static TEXTS: [(&[&str], usize, u8); 5] = [
-    (&["image", "nine.so", "0x0"], 496, 0),
-    (&["image", "nine.so", "0x1"], 19, 1),
+    (&["image", "small.so", "0x0"], 784, 0),
+    (&["image", "small.so", "0x1"], 19, 1),
     (&["list", "empty.disk"], 4, 0),
     (&["remove", "empty.disk", "a"], 24, 1),
     (&["script", "empty.disk"], 4, 0),
@@ -84,12 +84,12 @@ fn formats(rt: &HostRuntime, disk: &str) -> bool {
 
 #[test]
 fn output_that_fails_is_status_3(rt: HostRuntime) -> Result<(), Fail> {
-    fs::write(&rt, "nine.so", of_segments(rt.alloc(), 9)?.as_slice())?;
+    fs::write(&rt, "small.so", &library(b'a', 0))?;
     assert!(rt; formats(&rt, "empty.disk"));
     for &(words, length, status) in &TEXTS {
         assert!(rt; needs_room(&rt, words, length, status));
     }
-    fs::remove_file(&rt, "nine.so")?;
+    fs::remove_file(&rt, "small.so")?;
     fs::remove_file(&rt, "empty.disk")?;
     Ok(())
 }
