@@ -3,8 +3,6 @@
 #![tactic(auto)]
 
 #[cfg(test)]
-mod each_call;
-#[cfg(test)]
 mod every_line;
 #[cfg(test)]
 mod harms;
@@ -28,5 +26,7 @@ mod statuses;
 mod streams;
 #[cfg(test)]
 mod together;
+#[cfg(test)]
+mod update_calls;
 #[cfg(test)]
 mod update_streams;

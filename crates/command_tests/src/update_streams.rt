@@ -10,8 +10,8 @@ use std::alloc::Global;
 use std::io::ErrorKind;
 use updates::run_update;
 
-// A disk that holds the library a.
-fn one(alloc: Global) -> Option<Memory> {
+/// A disk that holds the library a.
+pub(crate) fn one(alloc: Global) -> Option<Memory> {
     let Ok(mut registry) = Registry::format(alloc, Memory::new(alloc, 16).ok()?) else {
         return None;
     };
@@ -20,8 +20,8 @@ fn one(alloc: Global) -> Option<Memory> {
     matches!(made, Reply::Done).then_some(disk)
 }
 
-// How many libraries a disk holds.
-fn held(alloc: Global, disk: Memory) -> Option<usize> {
+/// How many libraries a disk holds.
+pub(crate) fn held(alloc: Global, disk: Memory) -> Option<usize> {
     let Ok(mut registry) = Registry::open(alloc, disk) else {
         return None;
     };

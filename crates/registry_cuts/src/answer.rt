@@ -9,19 +9,25 @@ use std::io::Write;
 /// What a reply to a change says that was made.
 pub(crate) const DONE: &[u8] = b"done";
 
-/// What the reply to a command says.
-pub(crate) fn answer(alloc: Global, reply: &Reply) -> Result<Vec<u8>> {
-    let mut text = Vec::new(alloc);
+// Puts what the reply to a command says.
+fn put_answer(text: &mut Vec<u8>, reply: &Reply) -> Result<()> {
     match reply {
         Reply::Done => text.extend_from_slice(DONE)?,
         Reply::Listing(listing) => write!(text, "{listing:?}")?,
         Reply::Bound(image) => {
-            if image.write_text(&mut text).is_err() {
+            if image.write_text(text).is_err() {
                 bail!("no memory for a text");
             }
         }
         Reply::Refused(refusal) => write!(text, "{refusal:?}")?,
     }
+    Ok(())
+}
+
+/// What the reply to a command says.
+pub(crate) fn answer(alloc: Global, reply: &Reply) -> Result<Vec<u8>> {
+    let mut text = Vec::new(alloc);
+    put_answer(&mut text, reply)?;
     Ok(text)
 }
 
@@ -38,7 +44,7 @@ pub(crate) fn answers(alloc: Global, replies: &[Reply]) -> Result<Vec<Vec<u8>>> 
 pub(crate) fn event_answer(alloc: Global, reply: &EventReply) -> Result<Vec<u8>> {
     let mut text = Vec::new(alloc);
     match reply {
-        EventReply::Replied(reply) => return answer(alloc, reply),
+        EventReply::Replied(reply) => put_answer(&mut text, reply)?,
         EventReply::Slot(slot) => write!(text, "slot {slot}")?,
         EventReply::Going => write!(text, "going")?,
     }

@@ -28,8 +28,8 @@ pub(crate) struct Course {
     pub(crate) probe: Probe,
 }
 
-/// Puts the cuts of each of so many calls of an event behind others.
-pub(crate) fn put_cuts(cuts: &mut Vec<Cut>, event: usize, before: u64, calls: u64) -> Result<()> {
+// Puts the cuts of each of so many calls of an event behind others.
+fn put_cuts(cuts: &mut Vec<Cut>, event: usize, before: u64, calls: u64) -> Result<()> {
     for at in 0..Cut::count(calls) {
         cuts.push(Cut::nth(event, before, at))?;
     }

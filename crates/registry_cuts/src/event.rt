@@ -6,8 +6,8 @@ use samples::{padded, program};
 use std::alloc::Global;
 use std::rc::Rc;
 
-/// The base of every program.
-pub(crate) const BASE: u64 = 0x10000;
+// The base of every program.
+const BASE: u64 = 0x10000;
 
 /// What happens to a registry with binders. `Begin` begins the binder of a program, `Advance` has
 /// the one in a slot make its next step, `Cancel` ends it.
@@ -161,30 +161,17 @@ impl Event {
         }
     }
 
-    /// How many calls of the disk a change makes in an update: the sectors of the file and its
-    /// entry. A removal and a choice of preloads make none.
-    pub(crate) fn line_calls(&self) -> u64 {
-        match self.what {
-            What::Install | What::Replace => (self.bytes.len().div_ceil(512) as u64).saturating_add(
-                1,
-            ),
-            _ => 0,
-        }
-    }
-
-    /// How many calls the commit of a change makes that leaves so many libraries: the catalogues, a
-    /// sync, the root, a sync. That of a choice of preloads writes the root alone.
-    pub(crate) fn commit_calls(&self, libraries: usize) -> u64 {
-        match self.what {
-            What::Choose => 2,
-            _ => (libraries.div_ceil(64) as u64).saturating_add(3),
-        }
-    }
-
-    /// How many calls of the disk a change makes that leaves so many libraries.
+    /// How many calls of the disk a change makes that leaves so many libraries: the sectors of the
+    /// file and its entry, the catalogues, a sync, the root, a sync. A removal writes no file, and
+    /// a choice of preloads the root alone.
     pub(crate) fn calls(&self, libraries: usize) -> u64 {
-        self.line_calls()
-            .saturating_add(self.commit_calls(libraries))
+        let catalogues = libraries.div_ceil(64) as u64;
+        let file = self.bytes.len().div_ceil(512) as u64;
+        match self.what {
+            What::Install | What::Replace => file.saturating_add(catalogues).saturating_add(4),
+            What::Remove => catalogues.saturating_add(3),
+            _ => 2,
+        }
     }
 
     /// Whether it is a change, where it isn't refused.

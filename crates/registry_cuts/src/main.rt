@@ -7,10 +7,8 @@
 mod answer;
 mod course;
 mod cut;
-mod draft;
 mod event;
 mod mixture;
-mod over_file;
 mod plain;
 mod rounds;
 mod row;
@@ -18,7 +16,6 @@ mod run;
 mod seen;
 mod sides;
 mod tally;
-mod updates;
 mod upgrades;
 mod wanted;
 

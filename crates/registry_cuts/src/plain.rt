@@ -23,26 +23,19 @@ struct Hold {
     until: usize,
 }
 
-impl Hold {
-    // Whether it stood behind so many changes.
-    fn stood(&self, changes: usize) -> bool {
-        self.since <= changes && changes < self.until
-    }
-}
-
-/// A binder: the event that began it, how many changes were done then, how many sectors each of its
-/// steps reads, the next one last, and its last answer.
+// A binder: the event that began it, how many changes were done then, how many sectors each of its
+// steps reads, the next one last, and its last answer.
 #[derive(Drop)]
-pub(crate) struct Flight {
+struct Flight {
     event: Rc<Event>,
     begun: usize,
     steps: Vec<u64>,
-    pub(crate) answer: Vec<u8>,
+    answer: Vec<u8>,
 }
 
 /// A plain registry with binders, on a disk of so many sectors.
 pub(crate) struct Plain {
-    pub(crate) alloc: Global,
+    alloc: Global,
     sectors: u32,
     // Whether binders keep what they were begun at. Where they don't, on purpose, they hold nothing
     // and are answered what stands at their last step.
@@ -50,10 +43,6 @@ pub(crate) struct Plain {
     registry: PlainRegistry,
     holds: Vec<Hold>,
     flights: Vec<Option<Flight>>,
-    /// How many changes stand on the disk while an update goes on: the others are its draft's.
-    pub(crate) stands: Option<usize>,
-    /// Whether a write or a sync failed.
-    pub(crate) failed: bool,
     // The changes that were done.
     old: Vec<Rc<Event>>,
     // The same, and behind them the one that failed, if one did.
@@ -72,8 +61,6 @@ impl Drop for Plain {
             registry: _registry,
             holds: _holds,
             flights: _flights,
-            stands: _,
-            failed: _,
             old: _old,
             new: _new,
             wanted: _,
@@ -81,14 +68,14 @@ impl Drop for Plain {
     }
 }
 
-/// What an event is answered, and how many calls of the disk it makes.
-pub(crate) type Told = (Vec<u8>, u64);
+// What an event is answered, and how many calls of the disk it makes.
+type Told = (Vec<u8>, u64);
 
-pub(crate) fn told(alloc: Global, reply: EventReply, calls: u64) -> Result<Told> {
+fn told(alloc: Global, reply: EventReply, calls: u64) -> Result<Told> {
     Ok((event_answer(alloc, &reply)?, calls))
 }
 
-pub(crate) fn refused(alloc: Global, refusal: Refusal) -> Result<Told> {
+fn refused(alloc: Global, refusal: Refusal) -> Result<Told> {
     told(alloc, EventReply::Replied(Reply::Refused(refusal)), 0)
 }
 
@@ -118,8 +105,6 @@ impl Plain {
             registry: PlainRegistry::new(alloc, sectors),
             holds: Vec::new(alloc),
             flights: Vec::new(alloc),
-            stands: None,
-            failed: false,
             old: Vec::new(alloc),
             new: Vec::new(alloc),
             wanted: Wanted::only(Which::New),
@@ -131,6 +116,10 @@ impl Plain {
             let _ = plain.happen(change, None)?;
         }
         Ok(plain)
+    }
+
+    fn has_failed(&self) -> bool {
+        self.new.len() > self.old.len()
     }
 
     // Notes a change that is done.
@@ -157,17 +146,17 @@ impl Plain {
         Ok(())
     }
 
-    // Whether a hold is kept by a binder, or by what stands while an update goes on.
+    // Whether a binder keeps a hold.
     fn is_kept(&self, hold: &Hold) -> bool {
         let is_held = self.flights.iter().any(|flight| match flight {
-            Some(flight) => hold.stood(flight.begun),
+            Some(flight) => hold.since <= flight.begun && flight.begun < hold.until,
             None => false,
         });
-        self.keeps && is_held || self.stands.is_some_and(|changes| hold.stood(changes))
+        self.keeps && is_held
     }
 
-    // How many sectors there are but for those of holds that are kept and listed no more.
-    fn kept_room(&self) -> u32 {
+    // How many sectors there are but for those of holds that only binders keep.
+    fn room(&self) -> u32 {
         let mut room = self.sectors;
         for hold in &self.holds {
             if hold.until <= self.old.len() && self.is_kept(hold) {
@@ -175,27 +164,6 @@ impl Plain {
             }
         }
         room
-    }
-
-    /// How many libraries there are.
-    pub(crate) fn libraries(&self) -> Result<usize> {
-        Ok(self.registry.list()?.libraries.len())
-    }
-
-    // How many libraries stood behind so many changes.
-    fn stood(&self, changes: usize) -> usize {
-        self.holds.iter().filter(|hold| hold.stood(changes)).count()
-    }
-
-    // How many sectors there are for a change. The catalogues that stand keep theirs in an update,
-    // where its draft has fewer, twice.
-    fn room(&self) -> Result<u32> {
-        let stands = self.stood(self.stands.unwrap_or(self.old.len()));
-        let fewer = stands
-            .div_ceil(64)
-            .saturating_sub(self.libraries()?.div_ceil(64));
-        let catalogues = u32::try_from(fewer.saturating_mul(2))?;
-        Ok(self.kept_room().saturating_sub(catalogues))
     }
 
     // How many sectors each step of a bind of a program reads, the first one last. The first reads
@@ -222,10 +190,7 @@ impl Plain {
     // others make none where they aren't done.
     fn calls(&self, event: &Event, is_done: bool) -> Result<u64> {
         if is_done {
-            return Ok(match self.stands {
-                Some(_) => event.line_calls(),
-                None => event.calls(self.libraries()?),
-            });
+            return Ok(event.calls(self.registry.list()?.libraries.len()));
         }
         let mut all = 0u64;
         if event.what == What::Bind {
@@ -241,10 +206,9 @@ impl Plain {
         answer(self.alloc, &self.registry.apply(&event.command()))
     }
 
-    // A command of which a call is cut, a change if it was done. In an update it changes nothing.
+    // A command of which a call is cut, a change if it was done.
     fn fail(&mut self, event: &Rc<Event>, is_done: bool, calls: u64, cut: Cut) -> Result<Told> {
-        self.failed = self.failed || is_done;
-        if is_done && self.stands.is_none() {
+        if is_done {
             self.new.push(Rc::clone(event)?)?;
             self.wanted = by_table(cut, calls);
         }
@@ -253,7 +217,7 @@ impl Plain {
 
     // A command; one of its calls is cut, if it makes any.
     fn give(&mut self, event: &Rc<Event>, cut: Option<Cut>) -> Result<Told> {
-        let room = self.room()?;
+        let room = self.room();
         self.registry.set_sectors(room);
         let text = self.ask(event)?;
         let is_done = text.as_slice() == DONE;
@@ -308,7 +272,7 @@ impl Plain {
             Some(Some(flight)) => flight.steps.last().copied().unwrap_or(0),
             _ => return refused(self.alloc, Refusal::NoSuchBinder),
         };
-        if self.failed {
+        if self.has_failed() {
             return refused(self.alloc, Refusal::Reopen);
         }
         if calls > 0 && cut.is_some() {
@@ -320,8 +284,8 @@ impl Plain {
         Ok((self.end(slot)?, calls))
     }
 
-    /// Takes the binder out of a slot, if one lives there.
-    pub(crate) fn take(&mut self, slot: usize) -> Option<Flight> {
+    // Takes the binder out of a slot, if one lives there.
+    fn take(&mut self, slot: usize) -> Option<Flight> {
         self.flights.get_mut(slot)?.take()
     }
 
@@ -333,7 +297,7 @@ impl Plain {
                 Some(_) => told(self.alloc, EventReply::Replied(Reply::Done), 0),
                 None => refused(self.alloc, Refusal::NoSuchBinder),
             },
-            _ if self.failed => refused(self.alloc, Refusal::Reopen),
+            _ if self.has_failed() => refused(self.alloc, Refusal::Reopen),
             What::Begin => self.begin(event),
             _ => self.give(event, cut),
         }
@@ -349,21 +313,15 @@ impl Plain {
         Ok(answers)
     }
 
-    // The changes that stand on the disk: in an update those before it.
-    fn standing(&self) -> &[Rc<Event>] {
-        let count = self.stands.unwrap_or(self.old.len());
-        self.old.get(..count).unwrap_or(&self.old)
-    }
-
     /// The changes behind which the one state stands, or the other.
     pub(crate) fn changes(&self, is_new: bool) -> &[Rc<Event>] {
-        if is_new { &self.new } else { self.standing() }
+        if is_new { &self.new } else { &self.old }
     }
 
     /// What is seen of the two states, where no binder lives.
     pub(crate) fn sides<'b>(&self, probe: &'b Probe) -> Result<Sides<'b>> {
         Ok(Sides {
-            old: Seen::of(self.alloc, self.sectors, self.standing(), probe)?,
+            old: Seen::of(self.alloc, self.sectors, &self.old, probe)?,
             new: Seen::of(self.alloc, self.sectors, &self.new, probe)?,
             probe,
         })

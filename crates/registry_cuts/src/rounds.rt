@@ -81,24 +81,22 @@ fn round<'b>(alloc: Global, turn: &Turn, events: &'b [Rc<Event>]) -> Result<Roun
     })
 }
 
-// What has to be told of a round that is cut so, and the plain registry behind it. Where its
-// opening is cut nothing is done, as where its first call is.
-fn outcome(alloc: Global, course: &Course, cut: Cut) -> Result<(Told, Plain)> {
-    let mut plain = course.plain(alloc, true)?;
+// What has to be told of a round of these events that is cut so. Where its opening is cut nothing
+// is done, as where its first call is.
+fn wanted(plain: &mut Plain, events: &[Rc<Event>], cut: Cut) -> Result<Told> {
     if cut.is_in_opening() {
-        let first = course.run.events.get(..1).unwrap_or(&course.run.events);
-        let _ = plain.run(first, cut)?;
-        return Ok((Err(StoreRefusal::Device), plain));
+        let _ = plain.run(events.get(..1).unwrap_or(events), cut)?;
+        return Ok(Err(StoreRefusal::Device));
     }
-    let answers = plain.run(&course.run.events, cut)?;
-    Ok((Ok(answers), plain))
+    Ok(Ok(plain.run(events, cut)?))
 }
 
 impl<'a> Ended<'a> {
     // Plays a round behind others that is cut so.
     fn of(tally: &Tally, past: &'a Past, course: &'a Course, cut: Cut) -> Result<Ended<'a>> {
         let alloc = tally.rt.alloc();
-        let (told, plain) = outcome(alloc, course, cut)?;
+        let mut plain = course.plain(alloc, true)?;
+        let told = wanted(&mut plain, &course.run.events, cut)?;
         let mut sides = plain.sides(&course.probe)?;
         if tally.on_purpose {
             sides.exchange();

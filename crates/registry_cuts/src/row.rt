@@ -5,7 +5,6 @@ use crate::event::Event;
 use crate::rounds::play_rounds;
 use crate::run::{Beginning, disk_after};
 use crate::tally::Tally;
-use crate::updates::cut_updates;
 use crate::upgrades::cut_making;
 use anyhow::{Context, Result, bail};
 use std::fs;
@@ -43,7 +42,6 @@ fn run_course(
     )?;
     match word {
         "list" => course.cut_list(tally),
-        "file" => course.compare_file(tally),
         "follow" => course.follow(tally),
         _ => course.cut_flights(tally),
     }
@@ -72,12 +70,6 @@ fn run_lists(tally: &mut Tally, sizes: &str, start: &[Rc<Event>], file: &str) ->
     Ok(())
 }
 
-// An update of these lines, on disks of these sizes behind these events.
-fn run_update(tally: &mut Tally, sizes: &str, before: &[Rc<Event>], text: &str) -> Result<()> {
-    let lines = Event::all(tally.rt.alloc(), text)?;
-    cut_updates(tally, sizes, before, &lines)
-}
-
 // What a word has done with a disk, after these changes.
 fn run_word(
     tally: &mut Tally,
@@ -92,9 +84,8 @@ fn run_word(
         "full" => cut_making(tally, Beginning::Full, disk, start),
         "newer" => cut_making(tally, Beginning::Newer, disk, start),
         "rounds" => play_rounds(tally, disk.parse::<u32>()?, start, rest),
-        "list" | "file" | "follow" | "binders" => run_events(tally, word, disk, start, rest),
+        "list" | "follow" | "binders" => run_events(tally, word, disk, start, rest),
         "lists" => run_lists(tally, disk, start, rest),
-        "update" => run_update(tally, disk, start, rest),
         _ => bail!("the word {word}"),
     }
 }

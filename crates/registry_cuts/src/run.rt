@@ -5,22 +5,11 @@ use crate::cut::{Cut, Powered};
 use crate::event::Event;
 use anyhow::{Result, bail};
 use binders::Binders;
-use file_disk::{FileDisk, FilePlan, MemoryFile, Turn};
 use registry::Registry;
-use sector_disk::{Disk, Memory};
+use sector_disk::Memory;
 use std::alloc::Global;
 use std::rc::Rc;
 use store::StoreRefusal;
-
-/// A file of which no call is cut, but one that nobody makes.
-pub(crate) const UNCUT: FilePlan = FilePlan {
-    call: u64::MAX,
-    turn: Turn {
-        most: 0,
-        fails: true,
-    },
-    forever: true,
-};
 
 /// How a registry begins on a disk.
 #[derive(Clone, Copy)]
@@ -48,9 +37,9 @@ pub(crate) struct Run {
 }
 
 // Lets events happen: the answers.
-fn happen<D: Disk>(
+fn happen(
     alloc: Global,
-    binders: &mut Binders<D>,
+    binders: &mut Binders<Powered>,
     events: &[Rc<Event>],
 ) -> Result<Vec<Vec<u8>>> {
     let mut given = Vec::new(alloc);
@@ -64,18 +53,7 @@ fn happen<D: Disk>(
 impl Run {
     /// Lets the first events happen, cut so: what is told of them, and the disk.
     pub(crate) fn cut(&self, alloc: Global, count: usize, cut: Cut) -> Result<(Told, Powered)> {
-        self.play(alloc, count, cut.of(self.disk.copy()?))
-    }
-
-    /// Lets all events happen over a file: what is told of them, and the file.
-    pub(crate) fn over_file(&self, alloc: Global) -> Result<(Told, MemoryFile)> {
-        let disk = FileDisk::over(alloc, MemoryFile::new(self.disk.copy()?, UNCUT))?;
-        let (told, disk) = self.play(alloc, self.events.len(), disk)?;
-        Ok((told, disk.into_file()))
-    }
-
-    // Lets the first events happen on this disk: what is told of them, and the disk.
-    fn play<D: Disk + Drop>(&self, alloc: Global, count: usize, disk: D) -> Result<(Told, D)> {
+        let disk = cut.of(self.disk.copy()?);
         let events = self.events.get(..count).unwrap_or(&self.events);
         let made = match self.beginning {
             Beginning::Open => Registry::open(alloc, disk),

@@ -9,7 +9,7 @@ use plain_registry::PlainRegistry;
 use registry::Registry;
 use requests::{Command, Reply};
 use samples::{SIZE, padded, program};
-use sector_disk::{Disk, Memory};
+use sector_disk::Memory;
 use std::alloc::Global;
 use std::rc::Rc;
 use store::StoreRefusal;
@@ -90,9 +90,9 @@ fn make(plain: &mut PlainRegistry, changes: &[Rc<Event>]) -> Result<()> {
 }
 
 // Asks a registry, if there is one.
-fn ask<D: Disk + Drop>(
+fn ask(
     alloc: Global,
-    made: std::result::Result<Registry<D>, (StoreRefusal, D)>,
+    made: std::result::Result<Registry<Powered>, (StoreRefusal, Powered)>,
     looks: &[Command<'_>],
 ) -> Result<Seen> {
     match made {
@@ -103,21 +103,6 @@ fn ask<D: Disk + Drop>(
             seen_of(alloc, &replies?)
         }
         Err((refusal, _)) => Ok(Seen::refused(alloc, refusal)),
-    }
-}
-
-/// Asks a registry.
-pub(crate) fn look_at<D: Disk + Drop>(
-    alloc: Global,
-    registry: Registry<D>,
-    probe: &Probe,
-) -> Result<Seen> {
-    match probe.looks(alloc) {
-        Ok(looks) => ask(alloc, Ok(registry), &looks),
-        Err(fault) => {
-            let _ = registry.into_disk();
-            Err(fault)
-        }
     }
 }
 

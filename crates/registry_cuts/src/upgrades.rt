@@ -31,17 +31,23 @@ struct Trial<'a> {
     sides: Sides<'a>,
 }
 
-// The disk in a file, all synced.
-fn disk_in(tally: &Tally, file: &str) -> Result<Memory> {
-    let bytes = fs::read(tally.rt, file).context(format_args!("the file {file}"))?;
-    let sectors = u32::try_from(bytes.len().div_ceil(SECTOR_BYTES))?;
-    let mut disk = Memory::new(tally.rt.alloc(), sectors)?;
+// Writes all sectors of a disk, and syncs.
+fn fill(disk: &mut Memory, bytes: &[u8]) -> Result<()> {
     for (at, sector) in (0..disk.sectors()).zip(bytes.chunks(SECTOR_BYTES)) {
         if at < disk.sectors() {
             disk.write(at, sector.try_into()?)?;
         }
     }
     disk.sync()?;
+    Ok(())
+}
+
+// The disk in a file, all synced.
+fn disk_in(tally: &Tally, file: &str) -> Result<Memory> {
+    let bytes = fs::read(tally.rt, file).context(format_args!("the file {file}"))?;
+    let sectors = u32::try_from(bytes.len().div_ceil(SECTOR_BYTES))?;
+    let mut disk = Memory::new(tally.rt.alloc(), sectors)?;
+    fill(&mut disk, &bytes)?;
     Ok(disk)
 }
 
