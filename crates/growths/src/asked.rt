@@ -2,7 +2,7 @@
 
 use crate::listed::listed;
 use image::{BindRefusal, Image};
-use registry::{Registry, Update};
+use registry::Registry;
 use requests::{Command, Refusal, Reply};
 use samples::{SIZE, library, program};
 use sector_disk::{Fuse, Memory};
@@ -44,8 +44,8 @@ fn is_whole(image: &Image) -> bool {
         && has_at(image, BASE.wrapping_add(0x2000), &library(b'a', 1))
 }
 
-/// The number of a refusal.
-pub(crate) fn number_of(refusal: &Refusal) -> &'static str {
+// The number of a refusal.
+fn number_of(refusal: &Refusal) -> &'static str {
     match refusal {
         Refusal::Object(_) => "C1",
         Refusal::AlreadyInstalled => "C2",
@@ -108,9 +108,4 @@ pub(crate) fn give(registry: &mut OnMemory, asked: Asked) -> Reply {
 /// What a command is answered.
 pub(crate) fn ask(registry: &mut OnMemory, asked: Asked) -> &'static str {
     word(&give(registry, asked))
-}
-
-/// What a line of an update is answered.
-pub(crate) fn plan(update: &mut Update<Fuse<Memory>>, asked: Asked) -> &'static str {
-    word(&update.apply(&command_of(asked, &file_of(asked))))
 }

@@ -7,15 +7,12 @@ mod counted;
 mod every_line;
 mod format;
 mod listed;
-mod old;
 mod replies;
 mod rounds;
 mod run;
 mod seen;
 mod steps;
 mod texts;
-mod updates;
-mod upgrades;
 mod words;
 
 use std::io;

@@ -8,8 +8,6 @@ use crate::rounds::rounds;
 use crate::seen::{before, is_as_before};
 use crate::steps::{STEPS, Step};
 use crate::texts::text;
-use crate::updates::update;
-use crate::upgrades::upgrade;
 use crate::words::Words;
 use registry::Registry;
 use sector_disk::{Fuse, Memory};
@@ -131,21 +129,15 @@ fn steps(alloc: Global, disk: Memory) -> Result<Went, AllocError> {
     Ok(Went::On(disk))
 }
 
-// What grows besides commands: an upgrade, and then what is done to a disk with a registry.
+// What grows besides commands.
 fn besides(alloc: Global, disk: Memory) -> Result<Option<Words>, AllocError> {
-    if let Some(words) = upgrade(alloc)? {
-        return Ok(Some(words));
-    }
     if let Some(words) = text(alloc, disk.copy()?)? {
         return Ok(Some(words));
     }
     if let Some(words) = script(alloc, disk.copy()?)? {
         return Ok(Some(words));
     }
-    if let Some(words) = rounds(alloc, disk.copy()?)? {
-        return Ok(Some(words));
-    }
-    update(alloc, disk)
+    rounds(alloc, disk)
 }
 
 /// Runs all: what is told where something is otherwise than without a refused growth. `Err` is a
