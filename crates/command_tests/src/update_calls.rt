@@ -6,6 +6,7 @@ use requests::{Command, Refusal, Reply};
 use samples::library;
 use sector_disk::{Fuse, Memory};
 use std::alloc::Global;
+use std::test::Fail;
 
 // How many calls the opening of that disk makes: a sync, and reads of two roots, the catalogue, an
 // entry and a file.
@@ -80,7 +81,7 @@ fn replaced(
 }
 
 #[test]
-fn what_an_update_replaced_is_free_behind_it(rt: HostRuntime) -> Result<(), std::test::Fail> {
+fn what_an_update_replaced_is_free_behind_it(rt: HostRuntime) -> Result<(), Fail> {
     // Beside the library two sectors are free: as many as another version of it takes.
     let Ok(mut registry) = Registry::format(rt.alloc(), Memory::new(rt.alloc(), 8)?) else {
         panic!(rt; "no registry")
