@@ -8,7 +8,7 @@ READING or PLAIN isn't there any more, where no clause rests on a definition of 
 crate that has definitions once.
 
 The first definition of a file may have the file's own comment. Constants share the comment of the first of them; any
-other definition without one is reported, and so is each row of over 160 columns.
+other definition without one is reported.
 """
 
 import re
@@ -17,14 +17,13 @@ from pathlib import Path
 
 ROOT = Path(__file__).resolve().parent.parent
 HEADINGS = ('Cited by the clauses of [PROOFS](PROOFS.md):', 'By contracts of single crates:')
-WIDEST = 160
 CLAUSES = [
     ('sector_disk/disk', 'read write sync', 'calls honest'),
     ('sector_disk/disk', 'sync', 'holds_now whole_sectors'),
     ('file_disk/sector_file', 'count_sectors read_at write_at sync', 'honest'),
     ('file_disk/disk', 'read write sync', 'honest any_moment cause'),
     ('file_disk/disk', 'follows_its_file', 'result'),
-    ('file_disk/open', 'over', 'starts'),
+    ('file_disk/open', 'over', 'file starts cause'),
     ('registry/format', 'format', 'making'),
     ('registry/open', 'open', 'opening'),
     ('registry/upgrade', 'upgrade', 'result'),
@@ -70,7 +69,7 @@ READING = [
         'sector_disk/Disk: DiskFacts Mixture IsRead IsWrite IsSync LeavesOnly']),
     ('8. Files of sectors', 'What each call does to an honest file, what its medium may have (POSIX; what kernels do), and a disk over it (own).', [
         'file_disk/SectorFile: FileFacts MediumAt IsFileCall IsFileRead IsFileWrite IsFileSync',
-        'file_disk/FileDisk: file_facts IsCovered FollowsTheFile IsAsTheFile']),
+        'file_disk/FileDisk: file_facts IsCovered FollowsTheFile IsOver IsAsTheFile HasCause']),
     ('9. Crash safety', 'What a stop leaves at each moment of one command, of many, of a script and of rounds (own).', [
         'registry/Opened: IsAt', 'registry/Applied: MayLeaveBy AppliedBy', 'registry/Untested: UntestedStep',
         'registry/Acknowledged: Exchange acknowledged AreAccepted',
@@ -88,6 +87,7 @@ PLAIN = {
     'file_disk/FileDisk: file_facts': 'a disk over a file: a stop may leave what waited, or what the medium had, since the last sync; reads give what waits first',
     'file_disk/FileDisk: IsCovered': 'what the medium may have from one file to a later one, a stop of the disk might have left since the moment before',
     'file_disk/FileDisk: FollowsTheFile': 'what the medium may have had since a moment of the disk, a stop of the disk might have left since then',
+    'file_disk/FileDisk: IsOver': 'a disk that was made over a file: only the sectors of the file were counted; the disk has as many, and reads give what it had',
     'byte_disk/ByteDisk: IsPlanOf': 'what a plan is to its disk: at each of its steps it leaves what the disk said of a moment, and each moment has such a step',
     'byte_disk/Plan: MayBeLeft': 'a stop after these steps may leave a sector with the content that it had when the last sync was done, or after some step since',
     'byte_registry/Asked: IsAsked': 'the bytes hold this state alone; the reply is by the step table, and once it is Done the steps lead to the state of acceptance',
@@ -369,9 +369,6 @@ def cited(files, clauses=CLAUSES):
 def table(*rows):
     """Rows of cells, the first of them the heading."""
     lines = ['| ' + ' | '.join(row) + ' |' for row in rows]
-    for line in lines:
-        if len(line) > WIDEST:
-            print(f'{len(line)} columns: {line[:60]}..')
     return [lines[0], '|' + '---|' * len(rows[0]), *lines[1:]]
 
 

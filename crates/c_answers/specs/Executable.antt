@@ -23,14 +23,13 @@ use Rattle.c_answers.specs.Numbers.{done, out_of_memory}
 use Rattle.c_answers.specs.Unsaid.{IsUncounted}
 use Rattle.c_answers.specs.declared.answer.Answer.{Answer}
 
--- the number of why there is no file: 400, and which of the tests refuses
+-- the number of a refusal; 406 was a test that no image failed, and isn't used again
 abbrev pub executable_number : ExecutableRefusal → ℕ
 executable_number refusal.NoEntry = 401
 executable_number refusal.StaticPie = 402
 executable_number refusal.PreInitializers = 403
 executable_number (refusal.Initializers name) = 404
 executable_number (refusal.Finalizers name) = 405
-executable_number refusal.OutOfOrder = 406
 executable_number refusal.TooManyHeaders = 407
 executable_number (refusal.WritableCode name) = 408
 executable_number refusal.NoRoom = 409

@@ -19,7 +19,8 @@ use image::Image;
 use requests::{Command, Reply};
 use std::alloc::Global;
 
-/// The number of why there is no executable file: 400, and which of the tests refuses.
+/// Returns the number of `refusal`. They rise from 401 on in the order of the tests; 406 was a test
+/// that no image failed, and isn't used again.
 fn executable_status(refusal: &ExecutableRefusal) -> u32
     ensures { result ≡ executable_number refusal.now }
 {
@@ -29,7 +30,6 @@ fn executable_status(refusal: &ExecutableRefusal) -> u32
         ExecutableRefusal::PreInitializers => 403,
         ExecutableRefusal::Initializers { name: _ } => 404,
         ExecutableRefusal::Finalizers { name: _ } => 405,
-        ExecutableRefusal::OutOfOrder => 406,
         ExecutableRefusal::TooManyHeaders => 407,
         ExecutableRefusal::WritableCode { name: _ } => 408,
         ExecutableRefusal::NoRoom => 409,

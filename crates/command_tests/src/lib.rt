@@ -29,4 +29,6 @@ mod together;
 #[cfg(test)]
 mod update_calls;
 #[cfg(test)]
+mod update_commits;
+#[cfg(test)]
 mod update_streams;

@@ -1,5 +1,5 @@
 -- What is promised of the file of segments.
-use Rattle.std.proofs.Common.{◌≡◌, ℕ, ◌-◌, ◌<◌, ◌≤◌, inl, inr, true, List, replicate, refl, sym, ap, ◌∙◌, subst, arith, Some}
+use Rattle.std.proofs.Common.{◌≡◌, ℕ, ◌-◌, ◌<◌, ◌≤◌, inl, inr, List, replicate, refl, sym, ap, ◌∙◌, subst, arith, Some}
 use Rattle.std.proofs.lemmas.List.{get_or-take}
 use Rattle.elf_file.specs.Header.{entry_address}
 use Rattle.elf_file.specs.Segment.{loads}
@@ -7,12 +7,12 @@ use Rattle.elf_file.specs.declared.segment.ProgramHeader.{ProgramHeader}
 use Rattle.std.specs.List.{All}
 use Rattle.executable.proofs.Congruent.{in-order-congruent}
 use Rattle.image.specs.Constant.{MEMORY_LIMIT}
-use Rattle.image.specs.Image.{ImageSegment, segments_byte}
+use Rattle.image.specs.Image.{AreRising, ImageSegment, segments_byte}
 use Rattle.image.specs.Loading.{Loaded, loaded_byte_at}
 use Rattle.executable.specs.Constant.{MOST_HEADERS}
 use Rattle.executable.specs.File.{file_with, front_of, table_of, put_in_order, is_below}
 use Rattle.executable.specs.Meaning.{IsExecutable, IsFileOf, IsFrom, IsOfHeaders, IsApart, IsCongruent, file_byte, loaded_by, headers_at}
-use Rattle.executable.specs.Piece.{is_rising, pieces_of}
+use Rattle.executable.specs.Piece.{pieces_of}
 use Rattle.executable.specs.Place.{header_count_of, headers_size, headers_room, place_of}
 use Rattle.executable.proofs.Bytes.{Loads}
 use Rattle.executable.proofs.Merged.{fine-of, keeps-all, only-all}
@@ -42,7 +42,7 @@ own-byte segments file place a b free h = record {
   is = sym (get_or-take (headers_size (header_count_of (pieces_of segments))) file (a - place) 0 (omega (arith, h.from, h.to))) ∙ h.is;
 }
 
-pub promised : (segments : List ImageSegment) (entry place : ℕ) → is_rising 0 segments ≡ true → entry ≤ MEMORY_LIMIT
+pub promised : (segments : List ImageSegment) (entry place : ℕ) → AreRising 0 segments → entry ≤ MEMORY_LIMIT
     → header_count_of (pieces_of segments) ≤ MOST_HEADERS → place_of (pieces_of segments) ≡ Some place → Promised segments entry (file_at entry place segments)
 promised segments entry place rising small few free =
     let pieces = pieces_of segments in

@@ -2,10 +2,10 @@
 use Rattle.std.proofs.Common.{◌≡◌, ℕ, ◌+◌, ◌-◌, ◌<◌, ◌≤◌, ◌⊎◌, inl, inr, Bool, true, false, cond, List, [], ◌∷◌, ◌++◌, length, get_or, Some, refl, sym, ◌∙◌, subst, arith}
 use Rattle.std.specs.Prelude.{◌==◌}
 use Rattle.std.proofs.lemmas.Bool.Decides.{leb_tells}
-use Rattle.image.specs.Image.{ImageSegment, segments_byte}
+use Rattle.image.specs.Image.{AreRising, ImageSegment, segments_byte}
 use Rattle.image.specs.Loading.{Loaded}
 use Rattle.image.specs.Constant.{MEMORY_LIMIT}
-use Rattle.executable.specs.Piece.{is_rising, page_of, end_of, piece_of, followed, pieces_from, cut_pieces}
+use Rattle.executable.specs.Piece.{page_of, end_of, piece_of, followed, pieces_from, cut_pieces}
 use Rattle.executable.proofs.Any.{AnyLoads, any-left, any-right, any-split}
 use Rattle.executable.proofs.Bytes.{Loads, segment-cases, segment-here, segment-there}
 use Rattle.executable.proofs.Fine.{FinePiece, Fine, bits-small, fine-behind}
@@ -27,7 +27,7 @@ skip s rest x e =
     ]
 
 fine-by : (from : ℕ) (p : Loaded) (s : ImageSegment) (rest : List ImageSegment) (t : Bool) → (length s.bytes == 0) ≡ t
-    → ((from : ℕ) (q : Loaded) → FinePiece from q → is_rising (end_of q) rest ≡ true → Fine from (pieces_from q rest))
+    → ((from : ℕ) (q : Loaded) → FinePiece from q → AreRising (end_of q) rest → Fine from (pieces_from q rest))
     → FinePiece from p → Rises (end_of p) s rest
     → Fine from (cond t (pieces_from p rest) ((followed p (piece_of s)).done ++ pieces_from (followed p (piece_of s)).last rest))
 fine-by from p s rest true e ih f r = ih from p f (rising-lower (end_of p) (s.address + length s.bytes) rest (omega (arith, r.above)) r.others)
@@ -37,7 +37,7 @@ fine-by from p s rest false e ih f r =
     all.fine (pieces_from last rest) (λ end over. ih end last (fine-behind end last over all.it) (rw all.ends r.others))
 
 -- they lie one above the other
-fine-from : (from : ℕ) (p : Loaded) (segments : List ImageSegment) → FinePiece from p → is_rising (end_of p) segments ≡ true → Fine from (pieces_from p segments)
+fine-from : (from : ℕ) (p : Loaded) (segments : List ImageSegment) → FinePiece from p → AreRising (end_of p) segments → Fine from (pieces_from p segments)
 fine-from from p [] f h = (f, tt)
 fine-from from p (s ∷ rest) f h = fine-by from p s rest (length s.bytes == 0) refl (λ from q. fine-from from q rest) f (rises (end_of p) s rest h)
 
@@ -46,7 +46,7 @@ fine-cut-by : (from : ℕ) (s : ImageSegment) (rest : List ImageSegment) (t : Bo
 fine-cut-by from s rest true e r ih = ih
 fine-cut-by from s rest false e r ih = fine-from 0 (piece_of s) rest (fine-piece s e r.low) r.others
 
-pub fine-cut : (from : ℕ) (segments : List ImageSegment) → is_rising from segments ≡ true → Fine 0 (cut_pieces segments)
+pub fine-cut : (from : ℕ) (segments : List ImageSegment) → AreRising from segments → Fine 0 (cut_pieces segments)
 fine-cut from [] h = tt
 fine-cut from (s ∷ rest) h =
     let r = rises from s rest h in
@@ -57,7 +57,7 @@ abbrev pub Either : Loaded → List ImageSegment → ℕ → ℕ → Type 0
 Either p segments a b = Loads p a b ⊎ (segments_byte segments a ≡ Some b)
 
 keeps-by : (p : Loaded) (s : ImageSegment) (rest : List ImageSegment) (t : Bool) → (length s.bytes == 0) ≡ t
-    → ((q : Loaded) → FinePiece 0 q → is_rising (end_of q) rest ≡ true → (a b : ℕ) → Either q rest a b → AnyLoads (pieces_from q rest) a b)
+    → ((q : Loaded) → FinePiece 0 q → AreRising (end_of q) rest → (a b : ℕ) → Either q rest a b → AnyLoads (pieces_from q rest) a b)
     → FinePiece 0 p → Rises (end_of p) s rest → (a b : ℕ) → Either p (s ∷ rest) a b
     → AnyLoads (cond t (pieces_from p rest) ((followed p (piece_of s)).done ++ pieces_from (followed p (piece_of s)).last rest)) a b
 keeps-by p s rest true e ih f r a b either =
@@ -77,7 +77,7 @@ keeps-by p s rest false e ih f r a b either =
     ]
 
 -- the pieces of a piece and the segments behind it load what these have
-keeps : (p : Loaded) (segments : List ImageSegment) → FinePiece 0 p → is_rising (end_of p) segments ≡ true
+keeps : (p : Loaded) (segments : List ImageSegment) → FinePiece 0 p → AreRising (end_of p) segments
     → (a b : ℕ) → Either p segments a b → AnyLoads (pieces_from p segments) a b
 keeps p [] f h a b (inl here) = inl here
 keeps p [] f h a b (inr there) = cc
@@ -92,7 +92,7 @@ keeps-cut-by from s rest a b false e r ih h =
     (elim (segment-cases s rest a b h) [ inl here ↦ inl (piece-loads s a b here) | inr more ↦ inr more ])
 
 -- the pieces load what the segments have
-pub keeps-cut : (from : ℕ) (segments : List ImageSegment) (a b : ℕ) → is_rising from segments ≡ true → segments_byte segments a ≡ Some b → AnyLoads (cut_pieces segments) a b
+pub keeps-cut : (from : ℕ) (segments : List ImageSegment) (a b : ℕ) → AreRising from segments → segments_byte segments a ≡ Some b → AnyLoads (cut_pieces segments) a b
 keeps-cut from [] a b h found = cc
 keeps-cut from (s ∷ rest) a b h found =
     let r = rises from s rest h in
@@ -118,7 +118,7 @@ same-page x y h k = omega arith
 -- all that is known of a piece and the segments behind it, whose bytes are among others
 pub record Leads (Has : ℕ → Type 0) (p : Loaded) (segments : List ImageSegment) : Type 0 where
   pub it : FinePiece 0 p
-  pub rising : is_rising (end_of p) segments ≡ true
+  pub rising : AreRising (end_of p) segments
   pub last : Has (end_of p - 1)
   pub all : (a b : ℕ) → segments_byte segments a ≡ Some b → Has a
 
@@ -220,7 +220,7 @@ only-cut-by Has from s rest a b false e r all ih h =
     ]
 
 -- and nothing else
-pub only-cut : (Has : ℕ → Type 0) (from : ℕ) (segments : List ImageSegment) (a b : ℕ) → is_rising from segments ≡ true
+pub only-cut : (Has : ℕ → Type 0) (from : ℕ) (segments : List ImageSegment) (a b : ℕ) → AreRising from segments
     → ((x y : ℕ) → segments_byte segments x ≡ Some y → Has x) → AnyLoads (cut_pieces segments) a b → Found Has segments a b
 only-cut Has from [] a b h all found = absurd found
 only-cut Has from (s ∷ rest) a b h all found =

@@ -3,10 +3,10 @@ use Rattle.std.proofs.Common.{◌≡◌, ℕ, ◌+◌, ◌-◌, ◌<◌, ◌≤�
 use Rattle.std.specs.Prelude.{not, nat_lt, ◌&&◌, ◌==◌}
 use Rattle.std.proofs.lemmas.Bool.Decides.{nat_tests}
 use Rattle.image.specs.Constant.{PAGE}
-use Rattle.image.specs.Image.{ImageSegment, segments_byte}
+use Rattle.image.specs.Image.{AreRising, ImageSegment, segments_byte}
 use Rattle.image.specs.Loading.{Loaded, loaded_byte_at}
 use Rattle.executable.specs.Meaning.{HasAny, IsBetween}
-use Rattle.executable.specs.Piece.{Pieces, is_rising, page_of, end_of, joined, finished, is_both, goes_on, merging, merged_from, merged, cut_pieces, pieces_of}
+use Rattle.executable.specs.Piece.{Pieces, page_of, end_of, joined, finished, is_both, goes_on, merging, merged_from, merged, cut_pieces, pieces_of}
 use Rattle.executable.specs.inside.Joining.{AreInRow}
 use Rattle.executable.proofs.Any.{AnyLoads, any-left, any-right, any-split, byte-any}
 use Rattle.executable.proofs.Bytes.{Loads}
@@ -83,7 +83,7 @@ fine-merged : (from : ℕ) (pieces : List Loaded) → Fine from pieces → Fine 
 fine-merged from [] fine = tt
 fine-merged from (p ∷ rest) fine = fine-merged-from from p rest fine.0 fine.1
 
-pub fine-of : (from : ℕ) (segments : List ImageSegment) → is_rising from segments ≡ true → Fine 0 (pieces_of segments)
+pub fine-of : (from : ℕ) (segments : List ImageSegment) → AreRising from segments → Fine 0 (pieces_of segments)
 fine-of from segments h = fine-merged 0 (map finished (cut_pieces segments)) (all-finished 0 (cut_pieces segments) (fine-cut from segments h))
 
 pub in-row : (from : ℕ) (pieces : List Loaded) → Fine from pieces → AreInRow from pieces
@@ -91,7 +91,7 @@ in-row from [] fine = tt
 in-row from (p ∷ rest) fine = let page = fine.0.page in (fine.0.short, omega (arith, page), fine.0.low, in-row (end_of p) rest fine.1)
 
 -- the pieces of segments may be merged
-pub row-of : (segments : List ImageSegment) → is_rising 0 segments ≡ true → AreInRow 0 (map finished (cut_pieces segments))
+pub row-of : (segments : List ImageSegment) → AreRising 0 segments → AreInRow 0 (map finished (cut_pieces segments))
 row-of segments h = in-row 0 (map finished (cut_pieces segments)) (all-finished 0 (cut_pieces segments) (fine-cut 0 segments h))
 
 keeps-from : (p : Loaded) (rest : List Loaded) → FinePiece 0 p → Fine (end_of p) rest → (a b : ℕ) → Loads p a b ⊎ AnyLoads rest a b → AnyLoads (merged_from p rest) a b
@@ -114,7 +114,7 @@ keeps-merged [] fine a b h = h
 keeps-merged (p ∷ rest) fine a b h = keeps-from p rest fine.0 fine.1 a b h
 
 -- the pieces load the byte that the segments have
-pub keeps-all : (from : ℕ) (segments : List ImageSegment) (a b : ℕ) → is_rising from segments ≡ true → segments_byte segments a ≡ Some b → loaded_byte_at (pieces_of segments) a ≡ Some b
+pub keeps-all : (from : ℕ) (segments : List ImageSegment) (a b : ℕ) → AreRising from segments → segments_byte segments a ≡ Some b → loaded_byte_at (pieces_of segments) a ≡ Some b
 keeps-all from segments a b h found =
     let cut = cut_pieces segments in
     any-byte 0 (pieces_of segments) a b (fine-of from segments h)
@@ -279,7 +279,7 @@ across segments Has a anchor h =
     }
 
 -- and else only zeros between bytes whose pages are the same or touch
-pub only-all : (from : ℕ) (segments : List ImageSegment) (a b : ℕ) → is_rising from segments ≡ true → loaded_byte_at (pieces_of segments) a ≡ Some b
+pub only-all : (from : ℕ) (segments : List ImageSegment) (a b : ℕ) → AreRising from segments → loaded_byte_at (pieces_of segments) a ≡ Some b
     → (segments_byte segments a ≡ Some b) ⊎ ((b ≡ 0) × IsBetween segments a)
 only-all from segments a b h found =
     let cut = cut_pieces segments in

@@ -12,18 +12,18 @@ use Rattle.executable.specs.Constant.{MOST_HEADERS}
 use Rattle.executable.specs.Entry.{entry_of, entry_among, is_code}
 use Rattle.executable.specs.Initializers.{first_initialized, first_finalized, is_preinitialized}
 use Rattle.executable.specs.inside.Calls.{HasNoCalls}
-use Rattle.executable.specs.Piece.{is_rising, pieces_of}
+use Rattle.executable.specs.Piece.{pieces_of}
 use Rattle.executable.specs.Place.{header_count_of, place_of}
 use Rattle.executable.specs.Refusal.{executable_refusal}
 use Rattle.executable.specs.StaticPie.{is_static_pie}
 use Rattle.executable.specs.WritableCode.{first_unasked}
 use Rattle.executable.specs.declared.refusal.ExecutableRefusal.{ExecutableRefusal}
-use Rattle.executable.specs.declared.refusal.ExecutableRefusal.TheVariants.{NoEntry, StaticPie, PreInitializers, Initializers, Finalizers, OutOfOrder, TooManyHeaders, WritableCode, NoRoom}
+use Rattle.executable.specs.declared.refusal.ExecutableRefusal.TheVariants.{NoEntry, StaticPie, PreInitializers, Initializers, Finalizers, TooManyHeaders, WritableCode, NoRoom}
 
-abbrev refusal_by : Option ℕ → Bool → Bool → Option (List ℕ) → Option (List ℕ) → Bool → Bool → Option (List ℕ) → Option ℕ → Option ExecutableRefusal
-refusal_by entry static before name last rising many code place =
+abbrev refusal_by : Option ℕ → Bool → Bool → Option (List ℕ) → Option (List ℕ) → Bool → Option (List ℕ) → Option ℕ → Option ExecutableRefusal
+refusal_by entry static before name last many code place =
     first_of ((NoEntry when is_none entry) ∷ (StaticPie when static) ∷ (PreInitializers when before) ∷ option_map Initializers name ∷ option_map Finalizers last
-    ∷ (OutOfOrder when not rising) ∷ (TooManyHeaders when many) ∷ option_map WritableCode code ∷ (NoRoom when is_none place) ∷ [])
+    ∷ (TooManyHeaders when many) ∷ option_map WritableCode code ∷ (NoRoom when is_none place) ∷ [])
 
 abbrev are_many : MemoryImage → Bool
 are_many image = nat_lt MOST_HEADERS (header_count_of (pieces_of image.segments))
@@ -34,30 +34,29 @@ place_in image = place_of (pieces_of image.segments)
 -- the refusal where there is an entry
 with-entry : (image : MemoryImage) (entry : ℕ) (static before : Bool) (name last : Option (List ℕ)) → entry_of image ≡ Some entry → is_static_pie image ≡ static → is_preinitialized image ≡ before
     → first_initialized image ≡ name → first_finalized image ≡ last
-    → executable_refusal image ≡ refusal_by (Some entry) static before name last (is_rising 0 image.segments) (are_many image) (first_unasked image) (place_in image)
+    → executable_refusal image ≡ refusal_by (Some entry) static before name last (are_many image) (first_unasked image) (place_in image)
 unfolding executable_refusal
 with-entry image entry static before name last e t b n l =
-    ap (λ x. refusal_by x (is_static_pie image) (is_preinitialized image) (first_initialized image) (first_finalized image) (is_rising 0 image.segments) (are_many image) (first_unasked image) (place_in image)) e
-    ∙ ap (λ x. refusal_by (Some entry) x (is_preinitialized image) (first_initialized image) (first_finalized image) (is_rising 0 image.segments) (are_many image) (first_unasked image) (place_in image)) t
-    ∙ ap (λ x. refusal_by (Some entry) static x (first_initialized image) (first_finalized image) (is_rising 0 image.segments) (are_many image) (first_unasked image) (place_in image)) b
-    ∙ ap (λ x. refusal_by (Some entry) static before x (first_finalized image) (is_rising 0 image.segments) (are_many image) (first_unasked image) (place_in image)) n
-    ∙ ap (λ x. refusal_by (Some entry) static before name x (is_rising 0 image.segments) (are_many image) (first_unasked image) (place_in image)) l
+    ap (λ x. refusal_by x (is_static_pie image) (is_preinitialized image) (first_initialized image) (first_finalized image) (are_many image) (first_unasked image) (place_in image)) e
+    ∙ ap (λ x. refusal_by (Some entry) x (is_preinitialized image) (first_initialized image) (first_finalized image) (are_many image) (first_unasked image) (place_in image)) t
+    ∙ ap (λ x. refusal_by (Some entry) static x (first_initialized image) (first_finalized image) (are_many image) (first_unasked image) (place_in image)) b
+    ∙ ap (λ x. refusal_by (Some entry) static before x (first_finalized image) (are_many image) (first_unasked image) (place_in image)) n
+    ∙ ap (λ x. refusal_by (Some entry) static before name x (are_many image) (first_unasked image) (place_in image)) l
 
 -- the refusal where nothing else would be called
-in-order : (image : MemoryImage) (entry : ℕ) (rising many : Bool) (code : Option (List ℕ)) (place : Option ℕ) → entry_of image ≡ Some entry → HasNoCalls image
-    → is_rising 0 image.segments ≡ rising → are_many image ≡ many → first_unasked image ≡ code → place_in image ≡ place
-    → executable_refusal image ≡ refusal_by (Some entry) false false None None rising many code place
-in-order image entry rising many code place e c r m w p =
+uncalled : (image : MemoryImage) (entry : ℕ) (many : Bool) (code : Option (List ℕ)) (place : Option ℕ) → entry_of image ≡ Some entry → HasNoCalls image
+    → are_many image ≡ many → first_unasked image ≡ code → place_in image ≡ place
+    → executable_refusal image ≡ refusal_by (Some entry) false false None None many code place
+uncalled image entry many code place e c m w p =
     with-entry image entry false false None None e c.static c.before c.initialized c.finalized
-    ∙ ap (λ x. refusal_by (Some entry) false false None None x (are_many image) (first_unasked image) (place_in image)) r
-    ∙ ap (λ x. refusal_by (Some entry) false false None None rising x (first_unasked image) (place_in image)) m
-    ∙ ap (λ x. refusal_by (Some entry) false false None None rising many x (place_in image)) w
-    ∙ ap (λ x. refusal_by (Some entry) false false None None rising many code x) p
+    ∙ ap (λ x. refusal_by (Some entry) false false None None x (first_unasked image) (place_in image)) m
+    ∙ ap (λ x. refusal_by (Some entry) false false None None many x (place_in image)) w
+    ∙ ap (λ x. refusal_by (Some entry) false false None None many code x) p
 
 pub no-entry : (image : MemoryImage) → entry_of image ≡ None → executable_refusal image ≡ Some NoEntry
 unfolding executable_refusal
 no-entry image e =
-    ap (λ x. refusal_by x (is_static_pie image) (is_preinitialized image) (first_initialized image) (first_finalized image) (is_rising 0 image.segments) (are_many image) (first_unasked image) (place_in image)) e
+    ap (λ x. refusal_by x (is_static_pie image) (is_preinitialized image) (first_initialized image) (first_finalized image) (are_many image) (first_unasked image) (place_in image)) e
 
 pub static-pie : (image : MemoryImage) (entry : ℕ) → entry_of image ≡ Some entry → is_static_pie image ≡ true → executable_refusal image ≡ Some StaticPie
 static-pie image entry e t = with-entry image entry true _ _ _ e t refl refl refl
@@ -73,24 +72,21 @@ pub finalizers : (image : MemoryImage) (entry : ℕ) (name : List ℕ) → entry
     → first_finalized image ≡ Some name → executable_refusal image ≡ Some (Finalizers name)
 finalizers image entry name e t b n l = with-entry image entry false false None (Some name) e t b n l
 
-pub out-of-order : (image : MemoryImage) (entry : ℕ) → entry_of image ≡ Some entry → HasNoCalls image → is_rising 0 image.segments ≡ false → executable_refusal image ≡ Some OutOfOrder
-out-of-order image entry e c r = in-order image entry false _ _ _ e c r refl refl refl
-
-pub too-many : (image : MemoryImage) (entry : ℕ) → entry_of image ≡ Some entry → HasNoCalls image → is_rising 0 image.segments ≡ true
+pub too-many : (image : MemoryImage) (entry : ℕ) → entry_of image ≡ Some entry → HasNoCalls image
     → MOST_HEADERS < header_count_of (pieces_of image.segments) → executable_refusal image ≡ Some TooManyHeaders
-too-many image entry e c r m = in-order image entry true true _ _ e c r (grind (arith, nat_tests)) refl refl
+too-many image entry e c m = uncalled image entry true _ _ e c (grind (arith, nat_tests)) refl refl
 
-pub writable-code : (image : MemoryImage) (entry : ℕ) (name : List ℕ) → entry_of image ≡ Some entry → HasNoCalls image → is_rising 0 image.segments ≡ true
+pub writable-code : (image : MemoryImage) (entry : ℕ) (name : List ℕ) → entry_of image ≡ Some entry → HasNoCalls image
     → header_count_of (pieces_of image.segments) ≤ MOST_HEADERS → first_unasked image ≡ Some name → executable_refusal image ≡ Some (WritableCode name)
-writable-code image entry name e c r m w = in-order image entry true false (Some name) _ e c r (grind (arith, nat_tests)) w refl
+writable-code image entry name e c m w = uncalled image entry false (Some name) _ e c (grind (arith, nat_tests)) w refl
 
-pub no-room : (image : MemoryImage) (entry : ℕ) → entry_of image ≡ Some entry → HasNoCalls image → is_rising 0 image.segments ≡ true
+pub no-room : (image : MemoryImage) (entry : ℕ) → entry_of image ≡ Some entry → HasNoCalls image
     → header_count_of (pieces_of image.segments) ≤ MOST_HEADERS → first_unasked image ≡ None → place_of (pieces_of image.segments) ≡ None → executable_refusal image ≡ Some NoRoom
-no-room image entry e c r m w p = in-order image entry true false None None e c r (grind (arith, nat_tests)) w p
+no-room image entry e c m w p = uncalled image entry false None None e c (grind (arith, nat_tests)) w p
 
-pub none-applies : (image : MemoryImage) (entry place : ℕ) → entry_of image ≡ Some entry → HasNoCalls image → is_rising 0 image.segments ≡ true
+pub none-applies : (image : MemoryImage) (entry place : ℕ) → entry_of image ≡ Some entry → HasNoCalls image
     → header_count_of (pieces_of image.segments) ≤ MOST_HEADERS → first_unasked image ≡ None → place_of (pieces_of image.segments) ≡ Some place → executable_refusal image ≡ None
-none-applies image entry place e c r m w p = in-order image entry true false None (Some place) e c r (grind (arith, nat_tests)) w p
+none-applies image entry place e c m w p = uncalled image entry false None (Some place) e c (grind (arith, nat_tests)) w p
 
 entry-by : (a entry : ℕ) (x t y : Bool) → nat_le a MEMORY_LIMIT ≡ t → cond (x && t && y) (Some a) None ≡ Some entry → entry ≤ MEMORY_LIMIT
 entry-by a entry true true true e h = let same : a ≡ entry = cc in let low : a ≤ MEMORY_LIMIT = grind (arith, nat_tests) in omega (arith, same, low)

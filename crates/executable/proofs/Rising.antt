@@ -1,43 +1,31 @@
 -- Segments that rise.
-use Rattle.std.proofs.Common.{◌≡◌, ℕ, ◌+◌, ◌<◌, ◌≤◌, inl, inr, Bool, true, false, List, [], ◌∷◌, length, Some, refl, arith}
-use Rattle.std.specs.Prelude.{nat_le, ◌&&◌, ◌==◌}
+use Rattle.std.proofs.Common.{◌≡◌, ℕ, ◌+◌, ◌<◌, ◌≤◌, inl, inr, true, false, List, [], ◌∷◌, length, Some, arith}
+use Rattle.std.specs.Prelude.{◌==◌}
 use Rattle.std.proofs.lemmas.Bool.Decides.{nat_tests}
 use Rattle.image.specs.Constant.{MEMORY_LIMIT}
-use Rattle.image.specs.Image.{ImageSegment, segments_byte}
-use Rattle.executable.specs.Piece.{is_rising}
+use Rattle.image.specs.Image.{AreRising, ImageSegment, segments_byte}
 use Rattle.executable.proofs.Bytes.{segment-cases}
 
 -- what is known of the first of segments that rise
 pub record Rises (from : ℕ) (s : ImageSegment) (rest : List ImageSegment) : Type 0 where
   pub above : from ≤ s.address
   pub low : s.address + length s.bytes ≤ MEMORY_LIMIT
-  pub others : is_rising (s.address + length s.bytes) rest ≡ true
+  pub others : AreRising (s.address + length s.bytes) rest
 
-rises-by : (from a e : ℕ) (t : Bool) → (nat_le from a && nat_le e MEMORY_LIMIT && t) ≡ true → (from ≤ a) × (e ≤ MEMORY_LIMIT) × (t ≡ true)
-rises-by from a e true h = grind (arith, nat_tests)
-rises-by from a e false h = absurd (grind (arith, nat_tests))
+pub rises : (from : ℕ) (s : ImageSegment) (rest : List ImageSegment) → AreRising from (s ∷ rest) → Rises from s rest
+rises from s rest h = record { above = h.0; low = h.1; others = h.2 }
 
-pub rises : (from : ℕ) (s : ImageSegment) (rest : List ImageSegment) → is_rising from (s ∷ rest) ≡ true → Rises from s rest
-rises from s rest h =
-    let r = rises-by from s.address (s.address + length s.bytes) (is_rising (s.address + length s.bytes) rest) h in
-    record { above = r.0; low = r.1; others = r.2 }
-
-lower-by : (n from a e : ℕ) (t : Bool) → n ≤ from → (nat_le from a && nat_le e MEMORY_LIMIT && t) ≡ true → (nat_le n a && nat_le e MEMORY_LIMIT && t) ≡ true
-lower-by n from a e true l h = grind (arith, nat_tests)
-lower-by n from a e false l h = absurd (grind (arith, nat_tests))
-
-pub rising-lower : (n from : ℕ) (segments : List ImageSegment) → n ≤ from → is_rising from segments ≡ true → is_rising n segments ≡ true
-rising-lower n from [] l h = refl
-rising-lower n from (s ∷ rest) l h = lower-by n from s.address (s.address + length s.bytes) (is_rising (s.address + length s.bytes) rest) l h
+pub rising-lower : (n from : ℕ) (segments : List ImageSegment) → n ≤ from → AreRising from segments → AreRising n segments
+rising-lower n from [] l h = tt
+rising-lower n from (s ∷ rest) l h = (omega (arith, l, h.0), h.1, h.2)
 
 -- their bytes lie above what they rise from
-pub rising-above : (from : ℕ) (segments : List ImageSegment) (a b : ℕ) → is_rising from segments ≡ true → segments_byte segments a ≡ Some b → from ≤ a
+pub rising-above : (from : ℕ) (segments : List ImageSegment) (a b : ℕ) → AreRising from segments → segments_byte segments a ≡ Some b → from ≤ a
 rising-above from [] a b h found = cc
 rising-above from (s ∷ rest) a b h found =
-    let r = rises from s rest h in
     elim (segment-cases s rest a b found) [
-      | inl here ↦ omega (arith, r.above, here.from)
-      | inr there ↦ omega (arith, r.above, rising-above (s.address + length s.bytes) rest a b r.others there)
+      | inl here ↦ omega (arith, h.0, here.from)
+      | inr there ↦ omega (arith, h.0, rising-above (s.address + length s.bytes) rest a b h.2 there)
     ]
 
 pub empty : (s : ImageSegment) → (length s.bytes == 0) ≡ true → length s.bytes ≡ 0

@@ -33,7 +33,6 @@ executable_refusal_text refusal.StaticPie = codes "refused StaticPie\n"
 executable_refusal_text refusal.PreInitializers = codes "refused PreInitializers\n"
 executable_refusal_text (refusal.Initializers name) = object_text (codes "refused Initializers ") name
 executable_refusal_text (refusal.Finalizers name) = object_text (codes "refused Finalizers ") name
-executable_refusal_text refusal.OutOfOrder = codes "refused OutOfOrder\n"
 executable_refusal_text refusal.TooManyHeaders = codes "refused TooManyHeaders\n"
 executable_refusal_text (refusal.WritableCode name) = object_text (codes "refused WritableCode ") name
 executable_refusal_text refusal.NoRoom = codes "refused NoRoom\n"

@@ -1,17 +1,11 @@
 -- The parts of an image that a file can load: what segments have in pages that permit the same (gABI chapter 5, program loading).
-use Rattle.std.specs.Prelude.{ℕ, ◌+◌, ◌-◌, ◌%◌, ◌==◌, Bool, true, not, ◌&&◌, nat_le, nat_lt, if◌then◌else◌}
+use Rattle.std.specs.Prelude.{ℕ, ◌+◌, ◌-◌, ◌%◌, ◌==◌, Bool, not, ◌&&◌, nat_le, nat_lt, if◌then◌else◌}
 use Rattle.std.specs.Prelude.{List, [], ◌∷◌, ◌++◌, length, map, take, drop, replicate}
 use Rattle.std.specs.Int.RustNames.{bit_and, bit_or}
-use Rattle.image.specs.Constant.{PAGE, MEMORY_LIMIT, PF_X, PF_W}
+use Rattle.image.specs.Constant.{PAGE, PF_X, PF_W}
 use Rattle.image.specs.Image.{ImageSegment}
 use Rattle.image.specs.Loading.{Loaded}
 use Rattle.image.specs.Permissions.{permission_bits}
-
--- each segment lies above those before it, all at or above `from`, and none ends above the limit
-abbrev pub is_rising : ℕ → List ImageSegment → Bool
-is_rising from [] = true
-is_rising from (s ∷ rest) =
-    nat_le from s.address && nat_le (s.address + length s.bytes) MEMORY_LIMIT && is_rising (s.address + length s.bytes) rest
 
 -- the first address of a page
 abbrev pub page_of : ℕ → ℕ

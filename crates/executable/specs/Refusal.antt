@@ -1,19 +1,19 @@
 -- Why a bound program isn't written as an executable file.
-use Rattle.std.specs.Prelude.{◌≡◌, ◌⊎◌, List, [], ◌∷◌, Option, Some, not, nat_lt, is_none}
+use Rattle.std.specs.Prelude.{◌≡◌, ◌⊎◌, List, [], ◌∷◌, Option, Some, nat_lt, is_none}
 use Rattle.std.specs.Option.{option_map}
 use Rattle.elf_file.specs.FirstOf.{◌when◌, first_of}
 use Rattle.image.specs.Image.{MemoryImage}
 use Rattle.executable.specs.Constant.{MOST_HEADERS}
 use Rattle.executable.specs.Entry.{entry_of}
 use Rattle.executable.specs.Initializers.{first_initialized, first_finalized, is_preinitialized}
-use Rattle.executable.specs.Piece.{is_rising, pieces_of}
+use Rattle.executable.specs.Piece.{pieces_of}
 use Rattle.executable.specs.Place.{header_count_of, place_of}
 use Rattle.executable.specs.StaticPie.{is_static_pie}
 use Rattle.executable.specs.WritableCode.{first_unasked}
 use Rattle.executable.specs.declared.refusal.ExecutableRefusal.{ExecutableRefusal}
-use Rattle.executable.specs.declared.refusal.ExecutableRefusal.TheVariants.{NoEntry, StaticPie, PreInitializers, Initializers, Finalizers, OutOfOrder, TooManyHeaders, WritableCode, NoRoom, OutOfMemory}
+use Rattle.executable.specs.declared.refusal.ExecutableRefusal.TheVariants.{NoEntry, StaticPie, PreInitializers, Initializers, Finalizers, TooManyHeaders, WritableCode, NoRoom, OutOfMemory}
 
--- no entry in own code; a static PIE; functions that nobody calls; out of order, as no bind gives; too many headers; writable code that no file asks for; no room
+-- no entry in own code; a static PIE; functions that nobody calls; too many headers; writable code that no file asks for; no room
 abbrev pub executable_tests : MemoryImage → List (Option ExecutableRefusal)
 executable_tests image =
     (NoEntry when is_none (entry_of image))
@@ -21,7 +21,6 @@ executable_tests image =
     ∷ (PreInitializers when is_preinitialized image)
     ∷ option_map Initializers (first_initialized image)
     ∷ option_map Finalizers (first_finalized image)
-    ∷ (OutOfOrder when not (is_rising 0 image.segments))
     ∷ (TooManyHeaders when nat_lt MOST_HEADERS (header_count_of (pieces_of image.segments)))
     ∷ option_map WritableCode (first_unasked image)
     ∷ (NoRoom when is_none (place_of (pieces_of image.segments)))

@@ -1,6 +1,6 @@
 // An executable file.
 
-ghost use Rattle.std.specs.Prelude.{◌≡◌, ℕ, ◌+◌, ◌<◌, ◌≤◌, ◌++◌, ◌⊎◌, replicate, length, true};
+ghost use Rattle.std.specs.Prelude.{◌≡◌, ℕ, ◌+◌, ◌<◌, ◌≤◌, ◌++◌, ◌⊎◌, replicate, length};
 ghost use Rattle.std.specs.Prelude.{Some, None, IfOk, OnOk, IfErr};
 ghost use Rattle.std.specs.List.{All, flat_map};
 ghost use Rattle.std.specs.Io.KnownBytes.{Appends};
@@ -12,7 +12,6 @@ ghost use Rattle.executable.specs.Meaning.{IsCongruent, file_byte, loaded_by};
 ghost use Rattle.executable.specs.File.{file_with, front_of, table_of, padded, piece_bytes};
 ghost use Rattle.executable.specs.Entry.{entry_of};
 ghost use Rattle.executable.specs.inside.Calls.{HasNoCalls};
-ghost use Rattle.executable.specs.Piece.{is_rising};
 ghost use Rattle.executable.specs.Refusal.{executable_refusal, IsAnswer};
 
 use crate::entry::entry_of;
@@ -22,7 +21,6 @@ use crate::merging::pieces_of;
 use crate::piece::Piece;
 use crate::place::{MEMORY_LIMIT, MOST_HEADERS, PAGE, padding, place_of};
 use crate::refusal::ExecutableRefusal;
-use crate::segments::is_rising;
 use crate::static_pie::is_static_pie;
 use crate::writable_code::{first_unasked, owner};
 use elf_file::u16_at;
@@ -162,20 +160,6 @@ fn entry_to_call(alloc: Global, image: &Image) -> Result<u64, ExecutableRefusal>
     Ok(entry)
 }
 
-/// The same of an image that is in order too.
-fn entry_of_good(alloc: Global, image: &Image) -> Result<u64, ExecutableRefusal>
-    ensures entry { IfOk result (λ entry. entry_of image.now ≡ Some entry) }
-    ensures called { OnOk result (HasNoCalls image.now) }
-    ensures rising { OnOk result (is_rising 0 image.now.segments ≡ true) }
-    ensures refused { IfErr result (IsAnswer image.now) }
-{
-    let entry = entry_to_call(alloc, image)?;
-    if !is_rising(image.segments()) {
-        return Err(ExecutableRefusal::OutOfOrder);
-    }
-    Ok(entry)
-}
-
 /// The file of these pieces, with headers at an address.
 fn file_of(
     alloc: Global,
@@ -196,8 +180,8 @@ fn file_of(
 
 /// The static executable file of a bound program, or the first of these: it has no entry in code of
 /// its own, it is a static PIE, it has pre-initializers, a library has initializers, or finalizers,
-/// the image is out of order, there are more program headers than the kernel takes, memory may be
-/// written and executed although no segment in it asks for both, no pages are free for the headers.
+/// there are more program headers than the kernel takes, memory may be written and executed although
+/// no segment in it asks for both, no pages are free for the headers.
 /// It takes as much memory as the image's bytes, up to three times as much where segments become
 /// one, and two passes over them.
 pub fn executable_of(alloc: Global, image: &Image) -> Result<Executable, ExecutableRefusal>
@@ -230,7 +214,7 @@ pub fn executable_of(alloc: Global, image: &Image) -> Result<Executable, Executa
     // What it loads rises, and no two of its segments share a page.
     ensures apart { IfOk result (λ file. IsApart 0 (loaded_by file)) }
 {
-    let entry = entry_of_good(alloc, image)?;
+    let entry = entry_to_call(alloc, image)?;
     let pieces = pieces_of(alloc, image.segments())?;
     if pieces.len() + 3 > MOST_HEADERS {
         return Err(ExecutableRefusal::TooManyHeaders);

@@ -47,7 +47,6 @@ pub fn put_executable_refusal<W: Write>(
         ExecutableRefusal::Finalizers { name } => {
             put_object(line, out, b"refused Finalizers ", name)
         }
-        ExecutableRefusal::OutOfOrder => line.put(out, b"refused OutOfOrder\n"),
         ExecutableRefusal::TooManyHeaders => line.put(out, b"refused TooManyHeaders\n"),
         ExecutableRefusal::WritableCode { name } => {
             put_object(line, out, b"refused WritableCode ", name)

@@ -1,8 +1,9 @@
 // Pieces that are one where the first goes on in the second.
 
-ghost use Rattle.std.specs.Prelude.{◌≡◌, ◌≤◌, ◌++◌, IfOk, OnOk, true};
+ghost use Rattle.std.specs.Prelude.{◌≡◌, ◌≤◌, ◌++◌, IfOk, OnOk};
 ghost use Rattle.image.specs.Constant.{MEMORY_LIMIT};
-ghost use Rattle.executable.specs.Piece.{is_rising, end_of, merging, merged, pieces_of};
+ghost use Rattle.image.specs.Image.{AreRising};
+ghost use Rattle.executable.specs.Piece.{end_of, merging, merged, pieces_of};
 ghost use Rattle.executable.specs.inside.Joining.{IsShort, AreInRow};
 
 use crate::piece::Piece;
@@ -48,7 +49,7 @@ fn merged(alloc: Global, pieces: Vec<Piece>) -> Result<Vec<Piece>, AllocError>
 
 /// The pieces of segments, as the file has them.
 pub(crate) fn pieces_of(alloc: Global, segments: &[Segment]) -> Result<Vec<Piece>, AllocError>
-    requires { is_rising 0 segments.now ≡ true }
+    requires { AreRising 0 segments.now }
     ensures { IfOk result (λ pieces. pieces.items ≡ pieces_of segments.now) }
 {
     let pieces = cut_pieces(alloc, segments)?;

@@ -1,10 +1,10 @@
 // The pieces of segments, before any two of them are one.
 
 ghost use Rattle.std.specs.Prelude.{◌≡◌, ◌+◌, ◌<◌, ◌≤◌, ◌++◌, ◌∷◌, IfOk, OnOk, List};
-ghost use Rattle.std.specs.Prelude.{length, map, true};
+ghost use Rattle.std.specs.Prelude.{length, map};
 ghost use Rattle.image.specs.Constant.{MEMORY_LIMIT};
-ghost use Rattle.image.specs.Image.{ImageSegment};
-ghost use Rattle.executable.specs.Piece.{is_rising, page_of, end_of, piece_of, finished};
+ghost use Rattle.image.specs.Image.{AreRising, ImageSegment};
+ghost use Rattle.executable.specs.Piece.{page_of, end_of, piece_of, finished};
 ghost use Rattle.executable.specs.Piece.{lower, upper, in_page, followed, pieces_from};
 ghost use Rattle.executable.specs.Piece.{cut_pieces};
 ghost use Rattle.executable.specs.inside.Joining.{pieces_after, IsFull, IsReady};
@@ -108,7 +108,7 @@ fn add(
 
 /// The pieces of segments. One pass over them, which copies their bytes.
 pub(crate) fn cut_pieces(alloc: Global, segments: &[Segment]) -> Result<Vec<Piece>, AllocError>
-    requires { is_rising 0 segments.now ≡ true }
+    requires { AreRising 0 segments.now }
     ensures { IfOk result (λ pieces. pieces.items ≡ map finished (cut_pieces segments.now)) }
 {
     let mut done = Vec::new(alloc);

@@ -28,9 +28,6 @@ pub enum ExecutableRefusal {
         /// Its name.
         name: Name,
     },
-    /// The segments don't rise, or end above 2^47 - 4,096. No image that a bind gives is so.
-    #[error("the image is out of order")]
-    OutOfOrder,
     /// There would be more than 1,170 program headers.
     #[error("the image has more segments than the kernel takes")]
     TooManyHeaders,

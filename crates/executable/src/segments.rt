@@ -3,9 +3,7 @@
 ghost use Rattle.std.specs.Prelude.{◌≡◌, take, drop};
 ghost use Rattle.image.specs.Heading.{holds};
 ghost use Rattle.image.specs.Image.{heading};
-ghost use Rattle.executable.specs.Piece.{is_rising};
 
-use crate::place::MEMORY_LIMIT;
 use image::Segment;
 
 /// Whether an address is one of a segment.
@@ -22,20 +20,4 @@ pub(crate) fn split(segments: &[Segment], count: usize) -> (&[Segment], &[Segmen
     ensures others { result.1.now ≡ drop count segments.now }
 {
     segments.split_at(count.min(segments.len()))
-}
-
-/// Whether each segment lies above those before it, and none ends above the limit.
-pub(crate) fn is_rising(segments: &[Segment]) -> bool
-    ensures { result ≡ is_rising 0 segments.now }
-{
-    let mut end = 0;
-    for segment in segments {
-        let size = segment.memory().len() as u64;
-        let address = segment.address();
-        if address < end || address > MEMORY_LIMIT || size > MEMORY_LIMIT - address {
-            return false;
-        }
-        end = address + size;
-    }
-    true
 }

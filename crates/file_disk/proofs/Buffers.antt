@@ -2,7 +2,7 @@
 use Rattle.std.proofs.Common.{◌≡◌, ◌<◌, ◌≤◌, ◌+◌, ◌-◌, ◌⊎◌, ◌&&◌, inl, inr, ⊎_elim, ℕ, Bool, true, false, List, length, refl, sym, ◌∙◌, ap, subst, arith}
 use Rattle.std.proofs.Common.{Option, Some, None, IsSome, if◌then◌else◌, nat_le, nat_lt}
 use Rattle.std.specs.Cmp.Derive.{both_true}
-use Rattle.std.specs.Prelude.{Result}
+use Rattle.std.specs.Prelude.{Result, is_err}
 use Rattle.std.proofs.lemmas.Bool.{leb-true, ltb-true, lt-ltb, le-leb, and_parts}
 use Rattle.std.proofs.lemmas.Option.{none-some}
 use Rattle.sector_disk.specs.Disk.{Sector, sector}
@@ -13,9 +13,10 @@ use Rattle.file_disk.specs.declared.sector_file.SectorFile.{Ghosts}
 use Rattle.file_disk.specs.Ahead.{KeepsOf}
 use Rattle.file_disk.specs.Buffered.{or_else, shown_at, Leaves}
 use Rattle.file_disk.specs.Gathered.{gathered_at}
-use Rattle.file_disk.specs.SectorFile.{FileFacts, IsGivenTo, IsCounted}
+use Rattle.file_disk.specs.SectorFile.{FileFacts, IsGivenTo, IsCounted, IsFileSync}
+use Rattle.file_disk.specs.inside.Buffered.{IsStill, IsGiven}
 use Rattle.file_disk.specs.inside.Transfer.{StaysWithin, IsWrittenAt}
-use Rattle.file_disk.proofs.Transfers.{within_none, within_more, within_weaker}
+use Rattle.file_disk.proofs.Transfers.{within_none, within_more, within_weaker, within_then}
 
 -- there is something exactly where the test holds
 some_true : {X : Type 0} (b : Bool) (x : X) → b ≡ true → ◌≡◌ {A = Option X} (if b then Some x else None) (Some x)
@@ -80,6 +81,13 @@ module _ {F : Type 0} {g : Ghosts F} where
       within_more (Leaves b) _ (g.facts b.file) (g.facts b.file) new (within_none (Leaves b) (g.facts b.file) (λ k c has. inr has)) counted.call
       (λ k c has. inr (counted.same.medium k c has))
 
+  -- calls, and then a sync
+  pub within_synced : {T E : Type 0} (b : Buffered F g) (mid new : FileFacts) (result : Result T E) → StaysWithin (Leaves b) (g.facts b.file) mid → IsFileSync mid new result
+      → StaysWithin (Leaves b) (g.facts b.file) new
+  within_synced b mid new result within step =
+      within_more (Leaves b) (is_err result) (g.facts b.file) mid new within step.call
+      (λ k c has. within.each mid.time k c within.later (omega arith) (step.medium k c has))
+
   module _ (b : Buffered F g) (done : ℕ) (new : FileFacts) (written : IsWrittenAt b.gathered.start b.gathered.contents.items done (g.facts b.file) new) where
     -- all that waits was given to the file
     pub within_given : StaysWithin (Leaves b) (g.facts b.file) new
@@ -103,3 +111,15 @@ module _ {F : Type 0} {g : Ghosts F} where
       let given = waits_given b.gathered k some.0 some.1 in
       ap (sector new.now) given.2 ∙ written.now.moved given.0 given.1 ∙ sym given.3 ∙ sym (shown_some b k some.0 some.1))
       (cases_option (gathered_at b.gathered k))
+
+  -- the file was left as it is, and then some calls were made
+  module _ (old mid new : Buffered F g) (still : IsStill old mid) (waits : mid.gathered ≡ old.gathered) where
+    still_then : StaysWithin (Leaves mid) (g.facts mid.file) (g.facts new.file) → StaysWithin (Leaves old) (g.facts old.file) (g.facts new.file)
+    still_then within = within_then (Leaves old) (Leaves mid) (g.facts old.file) (g.facts mid.file) (g.facts new.file) (leaves_before old mid still.within waits) still.within within
+
+    pub still_given : old.failed ≡ false → IsGiven mid new → IsGiven old new
+    still_given well given = record {
+      within = still_then given.within;
+      shown = λ k. given.shown k ∙ ap (λ gathered. or_else (gathered_at gathered k) (sector (g.facts mid.file).now k)) waits
+          ∙ ap (λ now. or_else (gathered_at old.gathered k) (sector now k)) (still.now well);
+    }

@@ -1,14 +1,21 @@
 -- What is said of a disk over a file.
-use Rattle.std.specs.Prelude.{◌≡◌, ◌≢◌, ◌⊎◌, ◌≤◌, ℕ, Bool, false, List, [], map, slice_index_or, Option, None, Some}
+use Rattle.std.specs.Prelude.{◌≡◌, ◌≢◌, ◌⊎◌, ◌≤◌, ℕ, Bool, false, List, [], map, slice_index_or, Option, None, Some, Ok, Err}
 use Rattle.std.specs.List.{range_with_len}
 use Rattle.sector_disk.specs.CallCount.{calls_made, calls_failed}
 use Rattle.sector_disk.specs.Disk.{Sector, sector, DiskFacts, MayLeave, LeftSince}
 use Rattle.file_disk.specs.declared.disk.FileDisk.{FileDisk}
+use Rattle.file_disk.specs.declared.open.OpenFault.{OpenFault}
+use Rattle.file_disk.specs.declared.open.OpenFault.TheVariants.{OutOfMemory}
 use Rattle.file_disk.specs.declared.sector_file.SectorFile.{Ghosts}
 use Rattle.file_disk.specs.Ahead.{ahead_at}
 use Rattle.file_disk.specs.Gathered.{gathered_at}
 use Rattle.file_disk.specs.Left.{LeftOf, shown_of, time_at}
-use Rattle.file_disk.specs.SectorFile.{FileFacts, MayHave, MediumAt}
+use Rattle.file_disk.specs.SectorFile.{FileFacts, MayHave, MediumAt, IsCounted}
+
+-- Why no disk is made over a file: memory was refused, or a count of the file's sectors failed and
+-- left the file as it is after.
+abbrev pub HasCause : {F : Type 0} → (F → FileFacts) → F → OpenFault → Type 0
+HasCause {F} facts file fault = (fault ≡ OutOfMemory) ⊎ ((after : F) × IsCounted {E = OpenFault} (facts file) (facts after) (Err fault))
 
 module _ {F : Type 0} {g : Ghosts F} where
   -- Reads give what waits over what the file has, as at the last moment at which no write or sync
@@ -77,6 +84,13 @@ module _ {F : Type 0} {g : Ghosts F} where
   pub record IsAsTheFile (disk : FileDisk F g) : Type 0 where
     pub now : (k : ℕ) → sector (file_facts disk).now k ≡ sector (facts_below disk).now k
     pub medium : (k : ℕ) (c : Sector) → MayHave (facts_below disk) k c → MayLeave (file_facts disk) k c
+
+  -- A disk that was made over a file: the file's sectors were counted and nothing else was done with
+  -- it. The disk has as many sectors, and reads give what the file had.
+  pub record IsOver (file : F) (disk : FileDisk F g) : Type 0 where
+    pub counted : IsCounted {E = OpenFault} (g.facts file) (facts_below disk) (Ok (file_facts disk).sectors)
+    pub sectors : (file_facts disk).sectors ≡ (g.facts file).sectors
+    pub now : (k : ℕ) → sector (file_facts disk).now k ≡ sector (g.facts file).now k
 
   -- the file's time at a moment of the disk
   abbrev pub file_time : FileDisk F g → ℕ → ℕ

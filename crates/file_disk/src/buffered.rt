@@ -20,6 +20,8 @@ pub(crate) struct Buffered<F: SectorFile> {
     pub(crate) ahead: Ahead,
     // Whether a write or a sync has failed. Then the file isn't asked for anything any more.
     pub(crate) failed: bool,
+    // Whether the file's length was compared since it was opened, or since the last sync.
+    compared: bool,
     // What is kept as the file gave it is never what a write has replaced.
     ghost apart: { IsApart gathered ahead },
     ghost few: { sectors < 2 ^ 32 },
@@ -54,6 +56,7 @@ impl<F: SectorFile + Drop> Buffered<F> {
             gathered: Gathered::new(alloc, sectors)?,
             ahead: Ahead::new(alloc, sectors)?,
             failed: false,
+            compared: false,
         })
     }
 }
@@ -74,8 +77,8 @@ impl<F: SectorFile> Buffered<F> {
         file
     }
 
-    // Fails where the file has another length than it had.
-    fn look(&mut self) -> Result<(), DiskFault>
+    // Compares the file's length with the disk's, and fails if they differ.
+    fn check_length(&mut self) -> Result<(), DiskFault>
         requires { self.old.failed ≡ false }
         ensures sectors { self.new.sectors ≡ self.old.sectors }
         ensures gathered { self.new.gathered ≡ self.old.gathered }
@@ -85,7 +88,10 @@ impl<F: SectorFile> Buffered<F> {
         ensures failed { self.new.failed ≡ is_err result }
     {
         match self.file.count_sectors() {
-            Ok(found) if found == self.sectors => Ok(()),
+            Ok(found) if found == self.sectors => {
+                self.compared = true;
+                Ok(())
+            }
             _ => {
                 self.failed = true;
                 Err(DiskFault::Failed)
@@ -93,8 +99,25 @@ impl<F: SectorFile> Buffered<F> {
         }
     }
 
-    // Gives all that waits to the file, if that still has its length: a write past the end of one
-    // that was cut would hide it. It waits on.
+    // Compares the length before the first write after the opening or a sync, so that a file that
+    // was cut isn't written, and before each write that reaches the file's end, which would hide a
+    // cut from the next sync.
+    fn check_write(&mut self) -> Result<(), DiskFault>
+        requires { self.old.failed ≡ false }
+        ensures sectors { self.new.sectors ≡ self.old.sectors }
+        ensures gathered { self.new.gathered ≡ self.old.gathered }
+        ensures ahead { self.new.ahead ≡ self.old.ahead }
+        ensures ok { IsTrue F.is_honest → OnOk result (IsStill self.old self.new) }
+        ensures err { IsTrue F.is_honest → OnErr result (IsFailed self.old self.new) }
+        ensures failed { self.new.failed ≡ is_err result }
+    {
+        if self.compared && self.gathered.end() < self.sectors as usize {
+            return Ok(());
+        }
+        self.check_length()
+    }
+
+    // Writes all that waits to the file. It waits on.
     fn give(&mut self) -> Result<(), DiskFault>
         requires { self.old.failed ≡ false }
         ensures sectors { self.new.sectors ≡ self.old.sectors }
@@ -104,7 +127,6 @@ impl<F: SectorFile> Buffered<F> {
         ensures err { IsTrue F.is_honest → OnErr result (IsFailed self.old self.new) }
         ensures failed { self.new.failed ≡ is_err result }
     {
-        self.look()?;
         let start = self.gathered.start();
         if write_all(&mut self.file, start, self.gathered.contents()).is_ok() {
             return Ok(());
@@ -125,6 +147,7 @@ impl<F: SectorFile> Buffered<F> {
         ensures same { OnErr result (self.new.gathered ≡ self.old.gathered) }
         ensures failed { self.new.failed ≡ is_err result }
     {
+        self.check_write()?;
         self.give()?;
         self.gathered.clear();
         Ok(())
@@ -190,9 +213,11 @@ impl<F: SectorFile> Buffered<F> {
         if self.failed {
             return Err(DiskFault::Failed);
         }
+        self.check_length()?;
         self.give()?; // what waits is let go only once it is synced
         if self.file.sync().is_ok() {
             self.gathered.clear();
+            self.compared = false;
             return Ok(());
         }
         self.failed = true;

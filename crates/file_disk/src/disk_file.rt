@@ -29,32 +29,23 @@ pub struct DiskFile {
     file: File,
     /// Whether it is open for reading alone.
     is_read_only: bool,
-    /// Whether it is a block device, and not a regular file.
-    is_device: bool,
 }
 
 impl DiskFile {
     /// Of a file that is open and locked. Any other but a regular one or a block device is refused.
     pub(crate) fn new(file: File, is_read_only: bool) -> Result<DiskFile, OpenFault> {
-        let is_device = match file.metadata() {
-            Ok(found) if found.is_file() => false,
-            Ok(found) if found.file_type().is_block_device() => true,
-            _ => return Err(OpenFault::CannotOpen),
-        };
-        Ok(DiskFile {
-            file,
-            is_read_only,
-            is_device,
-        })
+        match file.metadata() {
+            Ok(found) if found.is_file() || found.file_type().is_block_device() => {
+                Ok(DiskFile { file, is_read_only })
+            }
+            _ => Err(OpenFault::CannotOpen),
+        }
     }
 
-    /// Its length in bytes. A block device has it where it ends, and not in its metadata.
+    /// Its length in bytes: where it ends. The metadata of a block device doesn't have it, and
+    /// asking for those of a file takes three times as long.
     fn length(&mut self) -> io::Result<u64> {
-        if self.is_device {
-            self.file.seek(SeekFrom::End(0))
-        } else {
-            Ok(self.file.metadata()?.len())
-        }
+        self.file.seek(SeekFrom::End(0))
     }
 }
 

@@ -47,6 +47,13 @@ impl Gathered {
         self.start
     }
 
+    /// The number of the sector after the last of them.
+    pub(crate) fn end(&self) -> usize
+        ensures { result ≡ gathered_end self.now }
+    {
+        self.start as usize + self.contents.len()
+    }
+
     /// Whether none wait.
     pub(crate) fn is_empty(&self) -> bool
         ensures none { result ≡ true → (k : ℕ) → gathered_at self.now k ≡ None }
@@ -101,10 +108,7 @@ impl Gathered {
             self.contents[place] = *from;
             return;
         }
-        match self.contents.push(*from) {
-            Ok(()) => {}
-            Err(_) => unreachable!(),
-        }
+        self.contents.push_reserved(*from);
     }
 
     /// The contents of all of them, in a row.

@@ -1,8 +1,7 @@
 // Opening and making the file of a disk.
-ghost use Rattle.std.specs.Prelude.{◌≡◌, ◌≢◌, ◌*◌, ◌<◌, ◌^◌, ℕ, IfOk, IfSome, IfNone};
+ghost use Rattle.std.specs.Prelude.{◌≡◌, ◌≢◌, ◌*◌, ◌<◌, ◌^◌, ℕ, IfOk, IfErr, IfSome, IfNone};
 ghost use Rattle.std.specs.Prelude.{false, IsTrue};
-ghost use Rattle.file_disk.specs.FileDisk.{file_facts, facts_below, IsNew, IsAsTheFile};
-ghost use Rattle.file_disk.specs.SectorFile.{IsFileCall};
+ghost use Rattle.file_disk.specs.FileDisk.{file_facts, IsNew, IsAsTheFile, IsOver, HasCause};
 ghost use Rattle.file_disk.specs.declared.open.OpenFault.TheVariants.{OutOfMemory};
 
 use crate::disk::FileDisk;
@@ -82,13 +81,15 @@ pub(crate) fn is_free<R: Files>(rt: &R, path: &str) -> bool {
 }
 
 impl<F: SectorFile + Drop> FileDisk<F> {
-    /// A disk over an open file: it has as many sectors as the file has now.
+    /// Makes a disk over an open file. It has as many sectors as the file has now.
     pub fn over(alloc: Global, file: F) -> Result<FileDisk<F>, OpenFault>
         requires { IsTrue F.is_honest → (F.facts file).sync_failed ≡ false }
         ensures new { IfOk result (λ disk. IsNew disk) }
-        ensures file { IsTrue F.is_honest → IfOk result
-            (λ disk. IsFileCall false (F.facts file) (facts_below disk)) }
+        ensures file { IsTrue F.is_honest → IfOk result (λ disk. IsOver file disk) }
         ensures starts { IsTrue F.is_honest → IfOk result (λ disk. IsAsTheFile disk) }
+
+        // It fails only if memory is refused or the file's sectors can't be counted.
+        ensures cause { IsTrue F.is_honest → IfErr result (λ fault. HasCause F.facts file fault) }
     {
         let mut file = file;
         let sectors = file.count_sectors()?;

@@ -6,6 +6,7 @@ use Rattle.std.specs.List.{All, cons_option, filter_map, find, flat_map, range_w
 use Rattle.std.specs.Option.{option_map, option_or}
 use Rattle.std.specs.Int.{byte_at}
 use Rattle.std.proofs.lemmas.List.{length-append, length-map, map-append, take_all, reverse-append, get_or-map}
+use Rattle.std.proofs.lemmas.List.Elements.{All-append}
 use Rattle.std.proofs.lemmas.List.Folds.{find-append}
 use Rattle.std.proofs.lemmas.List.Sums.{sum_by-append}
 use Rattle.elf_file.specs.Segment.{loads}
@@ -17,7 +18,7 @@ use Rattle.image.specs.Bound.{AllAccepted, Bound, IsBound, bound_writes, placed_
 use Rattle.image.specs.Byte.{byte_after, byte_of}
 use Rattle.image.specs.Constant.{MEMORY_LIMIT}
 use Rattle.image.specs.Heading.{Heading, within, holds}
-use Rattle.image.specs.Image.{ImageSegment, MemoryImage, heading, image_byte, image_of, object_of, segments_byte}
+use Rattle.image.specs.Image.{AreRising, ImageSegment, MemoryImage, heading, image_byte, image_of, object_of, segments_byte}
 use Rattle.image.specs.Loading.{Loaded, all_loaded, heading_at, loaded_byte, loaded_byte_at, loaded_of}
 use Rattle.image.specs.Placement.{Placed, Stacked, reach}
 use Rattle.image.specs.Relocating.{Write, all_writes, base_at, file_at, last_write_at, relocations_of, symbol_value, value_with, write_with, writes_of, written_or}
@@ -25,7 +26,7 @@ use Rattle.image.specs.declared.object.ImageObject.{ImageObject}
 use Rattle.image.specs.inside.Bound.{IsFilled}
 use Rattle.image.specs.inside.Segments.{IsWhole, Rising}
 use Rattle.image.proofs.Holding.{within-below, within-true}
-use Rattle.image.proofs.Placing.{loads-rising}
+use Rattle.image.proofs.Placing.{loads-end, loads-rising}
 use Rattle.image.proofs.Relocating.{written_or-then, writes-more}
 use Rattle.image.proofs.Stacking.{headings_of, headings-loaded, loaded-more, low-at, mapped-more, placed_of, rising-append, stack-ends}
 use Rattle.image.proofs.Whole.{bound-rising, segments-bound}
@@ -186,17 +187,32 @@ filled-all objects image count is stacked accepted full =
 abbrev nowhere : ImageSegment
 nowhere = record { address = 0; permissions = 0; bytes = [] }
 
+-- no segment of an object whose memory doesn't reach above the limit ends above it
+low-own : (base : ℕ) (file : List ℕ) (ts : List ImageSegment) → base + reach file ≤ MEMORY_LIMIT → map heading ts ≡ map (heading_at base) (loads file)
+    → All (λ s. s.address + length s.bytes ≤ MEMORY_LIMIT) ts
+low-own base file ts fits hs k d l =
+    let high = subst (All (λ (h : Heading). h.address + h.size ≤ base + reach file)) (sym hs) (loads-end base file) k (heading d) (omega (arith, l, length-map ts heading)) in
+    let is : get_or (map heading ts) k (heading d) ≡ heading (get_or ts k d) = get_or-map heading ts k d (heading d) l in
+    omega (arith, subst (λ (h : Heading). h.address + h.size ≤ base + reach file) is high, fits)
+
+-- segments whose headings rise, and of which none ends above the limit, rise
+pub rising-segments : (from : ℕ) (ss : List ImageSegment) → Rising from (map heading ss) → All (λ s. s.address + length s.bytes ≤ MEMORY_LIMIT) ss → AreRising from ss
+rising-segments from [] rising low = tt
+rising-segments from (s ∷ ss) rising low =
+    (rising.0, low 0 s (omega arith), rising-segments (s.address + length s.bytes) ss rising.1 (λ k d l. low (suc k) d (omega (arith, l))))
+
 -- an image and an object above it are whole
 pub whole-more : (os : List ImageObject) (ss ts : List ImageSegment) (o : ImageObject) (base : ℕ) (file : List ℕ) → IsWhole os ss → first_refusal file ≡ None
-    → All (λ s. s.address + length s.bytes ≤ base) ss → map heading ts ≡ map (heading_at base) (loads file) → o.segment_count ≡ length (loads file)
+    → base + reach file ≤ MEMORY_LIMIT → All (λ s. s.address + length s.bytes ≤ base) ss → map heading ts ≡ map (heading_at base) (loads file) → o.segment_count ≡ length (loads file)
     → IsWhole (os ++ o ∷ []) (ss ++ ts)
-whole-more os ss ts o base file before accepted above hs count =
+whole-more os ss ts o base file before accepted fits above hs count =
     let ends : All (λ h. h.address + h.size ≤ base) (map heading ss) =
     λ k d l. let lt : k < length ss = omega (arith, l, length-map ss heading) in
     subst (λ (h : Heading). h.address + h.size ≤ base) (sym (get_or-map heading ss k nowhere d lt)) (above k nowhere lt) in
     record {
       rising = subst (Rising 0) (ap (λ l. map heading ss ++ l) (sym hs) ∙ sym (map-append heading ss ts))
           (rising-append 0 base (map heading ss) (map (heading_at base) (loads file)) before.rising (omega arith) ends (loads-rising base file accepted));
+      low = All-append (λ (s : ImageSegment). s.address + length s.bytes ≤ MEMORY_LIMIT) ss ts before.low (low-own base file ts fits hs);
       counted = sum_by-append (λ (p : ImageObject). p.segment_count) os (o ∷ [])
           ∙ (let e : sum_by (λ (p : ImageObject). p.segment_count) os + (sum_by (λ (p : ImageObject). p.segment_count) (o ∷ [])) ≡ length (ss ++ ts) =
           omega (arith, before.counted, count, length-append ss ts, length-map ts heading, ap length hs, length-map (loads file) (heading_at base)) in e);

@@ -60,7 +60,7 @@ impl<D: Disk> OldStore<D> {
         }
         let libraries = found.entries.len();
         let count = catalogues_for(libraries);
-        if (found.layout.unused_count() as usize) < 2 * count {
+        if (found.layout.free_count() as usize) < 2 * count {
             return Err((StoreRefusal::Full, disk));
         }
         let taken = take_catalogues(&mut found.layout, count);

@@ -35,7 +35,7 @@ fn most_sectors(layout: &Layout, catalogues: usize, spare: usize) -> usize
     ensures { result ≡ min (unused_count layout.now - (1 + catalogues + spare))
         (sector_count (longest_runs layout.now)) }
 {
-    let unused = (layout.unused_count() as usize).saturating_sub(1 + catalogues + spare);
+    let unused = (layout.free_count() as usize).saturating_sub(1 + catalogues + spare);
     unused.min(layout.longest_count() as usize)
 }
 
@@ -106,7 +106,7 @@ impl<D: Disk> Store<D> {
         // After a failed call nothing goes in.
         ensures failed { IsTrue self.now.failed → result.largest ≡ 0 }
     {
-        let sectors = self.kept.layout.unused_count();
+        let sectors = self.kept.layout.free_count();
         let catalogues = catalogues_for(self.kept.entries.len());
         UnusedSpace {
             sectors,

@@ -1,6 +1,5 @@
 -- The lines of an update, up to what ends them.
 use Rattle.std.proofs.Common.{◌≡◌, ◌≢◌, ◌<◌, ℕ, List, [], ◌∷◌, ◌++◌, length, Option, Some, None, refl, sym, subst}
-use Rattle.std.specs.Io.{StopsAt}
 use Rattle.std.specs.Io.KnownBytes.{Appends, Consumes}
 use Rattle.std.specs.List.{flat_map}
 use Rattle.std.proofs.KnownBytes.{Appends-nil, Consumes-nil}
@@ -19,6 +18,7 @@ use Rattle.updates.specs.declared.answer.UpdateRefusal.TheVariants as refusal
 use Rattle.updates.specs.declared.lines.Ending.{Ending}
 use Rattle.updates.specs.declared.lines.Ending.TheVariants.{Commit, Refused}
 use Rattle.updates.specs.inside.Line.{EndsLine, EndsLines, LineEnds, MissesLine}
+use Rattle.updates.specs.inside.Lines.{Broken, Ended}
 use Rattle.updates.proofs.Planned.{begins, just, planned_more, planned_none, read_more}
 use Rattle.updates.proofs.Texts.{texts_kept, texts_more}
 
@@ -28,36 +28,26 @@ module _ {D : Type 0} (facts : D → DiskFacts) where
   Answered unread rest before now old u = (lines : List (List ℕ)) × (answers : List Reply) × Consumes unread rest (flat_map ended lines) × ArePlanned facts old u lines answers
       × Appends before now (plan_texts answers)
 
-  -- they ended so
-  abbrev pub Ended : (unread before now : Option (List ℕ)) → Drafted D → Drafted D → Ending → Type 0
-  Ended unread before now old new ending = (lines : List (List ℕ)) × (answers : List Reply) × (mid : Drafted D) × ArePlanned facts old mid lines answers
-      × EndsLines facts unread lines mid new ending × Appends before now (plan_texts answers)
-
-  -- or a fault ended them
-  abbrev pub Broken : (unread before now : Option (List ℕ)) → Drafted D → Drafted D → ScriptFault → Type 0
-  Broken unread before now old new fault = (lines : List (List ℕ)) × (answers : List Reply) × (part : List ℕ) × ArePlanned facts old new lines answers × StopsAt part 10
-      × BeginsWith unread lines part × (fault ≢ Write → Appends before now (plan_texts answers))
-
   pub answered_none : (unread before : Option (List ℕ)) (u : Drafted D) → Answered unread unread before before u u
   answered_none unread before u = ([], [], Consumes-nil unread, planned_none facts u, Appends-nil before)
 
   module _ (unread rest before held : Option (List ℕ)) (old u : Drafted D) (so : Answered unread rest before held old u) where
     -- a read failed
-    pub broken_reading : (rest' held' : Option (List ℕ)) (part : List ℕ) (fault : ScriptFault) → Unread rest rest' held held' part fault → Broken unread before held' old u fault
+    pub broken_reading : (rest' held' : Option (List ℕ)) (part : List ℕ) (fault : ScriptFault) → Unread rest rest' held held' part fault → Broken facts unread before held' old u fault
     broken_reading rest' held' part Write h = (so.0, so.1, [], so.3, All-nil (λ b. b ≢ 10), begins unread rest so.0 so.2 rest [] (Consumes-nil rest), λ is. absurd (is refl))
     broken_reading rest' held' part Read h = (so.0, so.1, part, so.3, h.1, begins unread rest so.0 so.2 rest' part h.0, λ _. texts_kept before held held' (plan_texts so.1) so.4 h.2)
     broken_reading rest' held' part OutOfMemory h = (so.0, so.1, part, so.3, h.1, begins unread rest so.0 so.2 rest' part h.0, λ _. texts_kept before held held' (plan_texts so.1) so.4 h.2)
 
     -- nothing more is asked of the reader
-    pub broken_here : Broken unread before held old u Read
+    pub broken_here : Broken facts unread before held old u Read
     broken_here = (so.0, so.1, [], so.3, All-nil (λ b. b ≢ 10), begins unread rest so.0 so.2 rest [] (Consumes-nil rest), λ _. so.4)
 
     -- the end
-    pub ended_here : (held' : Option (List ℕ)) → IsAll rest [] → Appends held held' [] → Ended unread before held' old u (Refused refusal.NoCommit)
+    pub ended_here : (held' : Option (List ℕ)) → IsAll rest [] → Appends held held' [] → Ended facts unread before held' old u (Refused refusal.NoCommit)
     ended_here held' all kept = (so.0, so.1, u, so.3, (refl, just unread rest so.0 so.2 [] all), texts_kept before held held' (plan_texts so.1) so.4 kept)
 
     -- a line without a newline
-    pub ended_cut : (held' : Option (List ℕ)) (cut : List ℕ) → IsAll rest cut → IsLine cut → 0 < length cut → Appends held held' [] → Ended unread before held' old u (Refused refusal.CutLine)
+    pub ended_cut : (held' : Option (List ℕ)) (cut : List ℕ) → IsAll rest cut → IsLine cut → 0 < length cut → Appends held held' [] → Ended facts unread before held' old u (Refused refusal.CutLine)
     ended_cut held' cut all is_line some kept = (so.0, so.1, u, so.3, (refl, cut, is_line, some, just unread rest so.0 so.2 cut all), texts_kept before held held' (plan_texts so.1) so.4 kept)
 
     module _ (rest' mid : Option (List ℕ)) (line : List ℕ) (read : Consumes rest rest' (ended line)) (is_line : IsLine line) (kept : Appends held mid []) where
@@ -75,7 +65,7 @@ module _ {D : Type 0} (facts : D → DiskFacts) where
       ends_line new (Refused refusal.CutLine) h = absurd h
       ends_line new (Refused refusal.NoCommit) h = absurd h
 
-      pub ended_line : (new : Drafted D) (now : Option (List ℕ)) (ending : Ending) → LineEnds facts u new line mid now (Some ending) → Ended unread before now old new ending
+      pub ended_line : (new : Drafted D) (now : Option (List ℕ)) (ending : Ending) → LineEnds facts u new line mid now (Some ending) → Ended facts unread before now old new ending
       ended_line new now ending h = (so.0, so.1, u, so.3, ends_line new ending h.0, subst (λ (k : Option (List ℕ)). Appends before k (plan_texts so.1)) (sym h.1) reaches)
 
       -- it was answered
@@ -89,7 +79,7 @@ module _ {D : Type 0} (facts : D → DiskFacts) where
       )
 
       -- it wasn't answered, or its answer wasn't written
-      unanswered : (new : Drafted D) (now : Option (List ℕ)) → new ≡ u → now ≡ mid → (fault : ScriptFault) → Broken unread before now old new fault
+      unanswered : (new : Drafted D) (now : Option (List ℕ)) → new ≡ u → now ≡ mid → (fault : ScriptFault) → Broken facts unread before now old new fault
       unanswered new now same is fault = (
         so.0,
         so.1,
@@ -100,7 +90,7 @@ module _ {D : Type 0} (facts : D → DiskFacts) where
         λ _. subst (λ (k : Option (List ℕ)). Appends before k (plan_texts so.1)) (sym is) reaches,
       )
 
-      pub broken_line : (new : Drafted D) (now : Option (List ℕ)) (fault : ScriptFault) → MissesLine facts u new line mid now fault → Broken unread before now old new fault
+      pub broken_line : (new : Drafted D) (now : Option (List ℕ)) (fault : ScriptFault) → MissesLine facts u new line mid now fault → Broken facts unread before now old new fault
       broken_line new now Write h = (
         so.0 ++ line ∷ [],
         so.1 ++ h.0 ∷ [],

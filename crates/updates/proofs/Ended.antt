@@ -1,88 +1,114 @@
 -- What an update that has begun ends with, by what ended its lines.
-use Rattle.std.proofs.Common.{◌≡◌, ◌≢◌, ℕ, List, [], ◌++◌, Option, inl, inr, subst}
-use Rattle.std.specs.Io.{StopsAt}
+use Rattle.std.proofs.Common.{◌≡◌, ◌≢◌, ℕ, List, [], ◌++◌, Option, inl, inr, ap, subst, ◌∙◌}
+use Rattle.std.specs.Prelude.{◌⊎◌, Result}
 use Rattle.std.specs.Io.KnownBytes.{Appends}
 use Rattle.std.proofs.KnownBytes.{Appends-nil, Appends-trans}
 use Rattle.std.proofs.lemmas.List.Elements.{All-nil}
 use Rattle.sector_disk.specs.Disk.{DiskFacts}
 use Rattle.store.specs.Draft.{Drafted, begun}
 use Rattle.store.specs.Opened.{Opened}
+use Rattle.requests.specs.Step.{answer_of}
+use Rattle.requests.specs.declared.refusal.Refusal.{Refusal}
 use Rattle.requests.specs.declared.reply.Reply.{Reply}
+use Rattle.program_parts.specs.Reply.{reply_text}
 use Rattle.program_parts.specs.Said.{AppendsFront}
+use Rattle.program_parts.specs.Status.{reply_status}
+use Rattle.program_parts.specs.Streams.{Streams}
 use Rattle.program_parts.specs.declared.status.Status.{Status}
 use Rattle.program_parts.specs.declared.status.Status.TheVariants.{NoMemory}
 use Rattle.scripts.specs.Line.{ended}
 use Rattle.scripts.specs.declared.fault.ScriptFault.{ScriptFault}
 use Rattle.scripts.specs.declared.fault.ScriptFault.TheVariants.{Read, Write, OutOfMemory}
-use Rattle.updates.specs.Answer.{plan_texts, update_refusal_text}
-use Rattle.updates.specs.Lines.{ArePlanned, BeginsWith, IsRefusedAt, commit_line}
 use Rattle.tool_parts.specs.Said.{memory_line}
-use Rattle.updates.specs.Status.{update_status}
-use Rattle.program_parts.specs.Streams.{Streams}
-use Rattle.updates.specs.Streams.{BreaksOff, TellsOnly}
+use Rattle.tool_parts.specs.Streams as outputs
+use Rattle.updates.specs.Answer.{plan_texts, update_refusal_text}
+use Rattle.updates.specs.Commit.{Commits}
+use Rattle.updates.specs.Lines.{ArePlanned, commit_line}
+use Rattle.updates.specs.Said.{fault_line}
+use Rattle.updates.specs.Status.{fault_status, update_status}
+use Rattle.updates.specs.Streams.{BreaksOff, CannotWrite, TellsOnly}
 use Rattle.updates.specs.declared.answer.UpdateRefusal.{UpdateRefusal}
 use Rattle.updates.specs.declared.lines.Ending.{Ending}
 use Rattle.updates.specs.declared.lines.Ending.TheVariants.{Commit, Refused}
-use Rattle.updates.specs.inside.Begun.{EndsBegun, EndsCommit, ending_streams}
-use Rattle.updates.specs.inside.Ended.{EndsBy}
+use Rattle.updates.specs.inside.Begun.{EndsBegun}
 use Rattle.updates.specs.inside.Line.{EndsLines}
+use Rattle.updates.specs.inside.Lines.{Broken, Ended, Unsent}
 use Rattle.updates.proofs.Planned.{begins_shorter, begins_none, planned_none}
-use Rattle.updates.proofs.Texts.{texts_kept}
 
-module _ (unread before mid after errors_before errors_after : Option (List ℕ)) (status : Status) where
+module _ (unread before after errors_before errors_after : Option (List ℕ)) (status : Status) where
   abbrev pub all : Streams
   all = record { unread = unread; before = before; after = after; errors_before = errors_before; errors_after = errors_after }
 
-  abbrev pub end : Streams
-  end = ending_streams mid after errors_before errors_after
+  -- the outputs once the answers were written
+  abbrev pub end : Option (List ℕ) → outputs.Streams
+  end mid = record { before = mid; after = after; errors_before = errors_before; errors_after = errors_after }
 
-  -- a text was told behind others
-  tells_behind : (ends : Status) (texts text : List ℕ) → Appends before mid texts → TellsOnly ends text end status → TellsOnly ends (texts ++ text) all status
-  tells_behind ends texts text written (inl h) = inl (h.0, Appends-trans before mid after texts text written h.1, h.2)
-  tells_behind ends texts text written (inr h) = inr h
+  -- a text was written after others
+  tells_behind : (mid : Option (List ℕ)) (ends : Status) (texts text : List ℕ) → Appends before mid texts → outputs.TellsOnly ends text (end mid) status → TellsOnly ends (texts ++ text) all status
+  tells_behind mid ends texts text written (inl h) = inl (h.0, Appends-trans before mid after texts text written h.1, h.2)
+  tells_behind mid ends texts text written (inr h) = inr h
 
-  -- a fault was said behind texts
-  breaks_known : (fault : ScriptFault) (texts : List ℕ) → (fault ≢ Write → Appends before mid texts) → BreaksOff fault [] end status → BreaksOff fault texts all status
-  breaks_known Write texts written h = h
-  breaks_known Read texts written (inl h) = inl (h.0, texts_kept before mid after texts (written (λ is. cc is)) h.1, h.2)
-  breaks_known Read texts written (inr h) = inr h
-  breaks_known OutOfMemory texts written (inl h) = inl (h.0, texts_kept before mid after texts (written (λ is. cc is)) h.1, h.2)
-  breaks_known OutOfMemory texts written (inr h) = inr h
+  -- a fault was reported after texts
+  breaks_off : (fault : ScriptFault) (texts : List ℕ) → (fault ≢ Write → Appends before after texts) → status ≡ fault_status fault → AppendsFront errors_before errors_after (fault_line fault)
+      → BreaksOff fault texts all status
+  breaks_off Write texts written ends said = (ends, said)
+  breaks_off Read texts written ends said = inl (ends, written (λ is. cc is), said)
+  breaks_off OutOfMemory texts written ends said = inl (ends, written (λ is. cc is), said)
 
-  module _ {D O : Type 0} (facts : D → DiskFacts) (contents : O → Option (List ℕ)) (old : Drafted D) (new : Opened D) (lines : List (List ℕ)) (answers : List Reply) (u : Drafted D)
-      (planned : ArePlanned facts old u lines answers) where
+  -- the output failed
+  cannot_write : (fault : ScriptFault) → fault ≡ Write → status ≡ fault_status fault → AppendsFront errors_before errors_after (fault_line fault) → CannotWrite all status
+  cannot_write Write is ends said = (ends, said)
+  cannot_write Read is ends said = absurd (cc is)
+  cannot_write OutOfMemory is ends said = absurd (cc is)
+
+  module _ {D O : Type 0} (facts : D → DiskFacts) (contents : O → Option (List ℕ)) (old last : Drafted D) (new : Opened D) where
     -- by `commit`
-    pub by_commit : Appends before mid (plan_texts answers) → BeginsWith unread lines (ended commit_line) → EndsCommit facts contents u end status new → EndsBegun facts contents old all status new
-    by_commit written read (inl h) = (
-      lines,
-      answers,
-      u,
-      planned,
-      inl (h.0, h.1, read, texts_kept before mid (contents h.0) (plan_texts answers) written h.2, h.3, tells_behind _ (plan_texts answers) _ written h.4),
-    )
-    by_commit written read (inr h) = (lines, answers, u, planned, inr (inr (Write, [], All-nil (λ b. b ≢ 10), begins_shorter unread lines (ended commit_line) read, h.0, h.1)))
-
-    -- by a refusal
-    pub by_refusal : Appends before mid (plan_texts answers) → (refusal : UpdateRefusal) (last : Drafted D) → IsRefusedAt facts unread lines u last refusal → new ≡ last.store
-        → TellsOnly (update_status refusal) (update_refusal_text refusal) end status → EndsBegun facts contents old all status new
-    by_refusal written refusal last refused is told = (
-      lines,
-      answers,
-      u,
-      planned,
-      inr (inl (refusal, last, refused, is, tells_behind (update_status refusal) (plan_texts answers) (update_refusal_text refusal) written told)),
+    pub by_commit : (held : O) (answer : Result (Unit {0}) Refusal) → Ended facts unread before (contents held) old last Commit → Commits facts last answer new
+        → outputs.TellsOnly (reply_status (answer_of answer)) (reply_text (answer_of answer)) (end (contents held)) status → EndsBegun facts contents old all status new
+    by_commit held answer so commits told = (
+      so.0,
+      so.1,
+      so.2,
+      so.3,
+      inl (
+        held,
+        answer,
+        so.4.1,
+        so.5,
+        subst (λ (u : Drafted D). Commits facts u answer new) so.4.0 commits,
+        tells_behind (contents held) (reply_status (answer_of answer)) (plan_texts so.1) (reply_text (answer_of answer)) so.5 told,
+      ),
     )
 
-    -- by either
-    pub by_ending : Appends before mid (plan_texts answers) → (ending : Ending) (last : Drafted D) → EndsLines facts unread lines u last ending
-        → EndsBy facts contents ending last end status new → EndsBegun facts contents old all status new
-    by_ending written Commit last ends h = by_commit written ends.1 (subst (λ (v : Drafted D). EndsCommit facts contents v end status new) ends.0 h)
-    by_ending written (Refused why) last ends h = by_refusal written why last ends h.0 h.1
+    module _ (is : new ≡ last.store) where
+      -- by a refusal
+      pub by_refusal : (mid : Option (List ℕ)) (refusal : UpdateRefusal) → Ended facts unread before mid old last (Refused refusal)
+          → outputs.TellsOnly (update_status refusal) (update_refusal_text refusal) (end mid) status → EndsBegun facts contents old all status new
+      by_refusal mid refusal so told = (
+        so.0,
+        so.1,
+        so.2,
+        so.3,
+        inr (inl (refusal, last, so.4, is, tells_behind mid (update_status refusal) (plan_texts so.1) (update_refusal_text refusal) so.5 told)),
+      )
 
-    -- by a fault
-    pub by_fault : (fault : ScriptFault) (part : List ℕ) → StopsAt part 10 → BeginsWith unread lines part → new ≡ u.store → (fault ≢ Write → Appends before mid (plan_texts answers))
-        → BreaksOff fault [] end status → EndsBegun facts contents old all status new
-    by_fault fault part stops read is written told = (lines, answers, u, planned, inr (inr (fault, part, stops, read, is, breaks_known fault (plan_texts answers) written told)))
+      -- by either, but the output failed before it had all answers
+      unsent : (lines : List (List ℕ)) (answers : List Reply) (u : Drafted D) (ending : Ending) → ArePlanned facts old u lines answers → EndsLines facts unread lines u last ending
+          → CannotWrite all status → EndsBegun facts contents old all status new
+      unsent lines answers u Commit planned ends failed = (
+        lines,
+        answers,
+        u,
+        planned,
+        inr (inr (Write, [], All-nil (λ b. b ≢ 10), begins_shorter unread lines (ended commit_line) ends.1, is ∙ ap (λ (v : Drafted D). v.store) ends.0, failed)),
+      )
+      unsent lines answers u (Refused why) planned ends failed = (lines, answers, u, planned, inr (inl (why, last, ends, is, inr failed)))
+
+      -- by a fault
+      pub by_fault : (fault : ScriptFault) → status ≡ fault_status fault → AppendsFront errors_before errors_after (fault_line fault)
+          → Broken facts unread before after old last fault ⊎ Unsent facts unread old last fault → EndsBegun facts contents old all status new
+      by_fault fault ends said (inl so) = (so.0, so.1, last, so.3, inr (inr (fault, so.2, so.4, so.5, is, breaks_off fault (plan_texts so.1) so.6 ends said)))
+      by_fault fault ends said (inr so) = unsent so.1 so.2 so.3 so.4 so.5 so.6 (cannot_write fault so.0 ends said)
 
 -- memory was refused before any line was read
 pub by_memory : {D O : Type 0} (facts : D → DiskFacts) (contents : O → Option (List ℕ)) (old new : Opened D) (unread before errors_before errors_after : Option (List ℕ)) (status : Status) → new ≡ old

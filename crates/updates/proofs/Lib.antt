@@ -4,5 +4,5 @@ pub mod Drafts
 pub mod Ended
 pub mod Moments
 pub mod Planned
+pub mod Sent
 pub mod Texts
-pub mod Told

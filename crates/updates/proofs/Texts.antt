@@ -1,7 +1,7 @@
 -- What is written for the lines of an update, one behind the other.
-use Rattle.std.proofs.Common.{◌≡◌, ℕ, List, [], ◌∷◌, ◌++◌, append-nil, Option, Some, None, sym, ap, subst, ◌∙◌}
+use Rattle.std.proofs.Common.{◌≡◌, ℕ, List, [], ◌∷◌, ◌++◌, append-nil, Option, sym, ap, subst, ◌∙◌}
 use Rattle.std.specs.List.{flat_map}
-use Rattle.std.specs.Io.KnownBytes.{Appends, append_known}
+use Rattle.std.specs.Io.KnownBytes.{Appends}
 use Rattle.std.proofs.KnownBytes.{Appends-trans}
 use Rattle.std.proofs.lemmas.Grind.{flat_map-append}
 use Rattle.requests.specs.declared.reply.Reply.{Reply}
@@ -19,9 +19,3 @@ texts_more before mid now answers answer so_far more =
 -- nothing more
 pub texts_kept : (before mid now : Option (List ℕ)) (text : List ℕ) → Appends before mid text → Appends mid now [] → Appends before now text
 texts_kept before mid now text so_far none = subst (Appends before now) (append-nil text) (Appends-trans before mid now text [] so_far none)
-
--- what waited was sent: nothing more
-pub sent_all : (held now : Option (List ℕ)) (waiting : List ℕ) → Appends held now waiting → Appends (append_known held waiting) now []
-sent_all None now waiting sent = tt
-sent_all (Some x) None waiting sent = absurd sent
-sent_all (Some x) (Some y) waiting sent = sent ∙ sym (append-nil (x ++ waiting))

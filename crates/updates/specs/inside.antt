@@ -1,3 +1,4 @@
 pub mod Begun
-pub mod Ended
+pub mod Committed
 pub mod Line
+pub mod Lines

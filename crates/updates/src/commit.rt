@@ -1,32 +1,27 @@
 // The commit of an update.
 
-ghost use Rattle.std.specs.Io.KnownBytes.{append_known};
-ghost use Rattle.updates.specs.inside.Begun.{EndsCommit, ending_streams};
+ghost use Rattle.updates.specs.Commit.{Commits};
+ghost use Rattle.updates.specs.inside.Committed.{commit_result};
 
-use crate::telling::tell_commit;
-use program_parts::{Line, Status};
 use registry::{Registry, Update};
+use requests::Refusal;
 use sector_disk::Disk;
-use std::io::Write;
-use tool_parts::cannot_write;
 
-/// Sends the answers that wait still, then commits, and tells what came of it. Where the answers
-/// can't be sent nothing is committed.
-pub(crate) fn commit<D: Disk, O: Write, E: Write>(
-    update: Update<D>,
-    waiting: &mut Line,
-    output: &mut O,
-    errors: &mut E,
-) -> (Status, Registry<D>)
-    ensures { EndsCommit D.facts O.contents update (ending_streams
-        (append_known (O.contents output.old) waiting.old.waiting) (O.contents output.new)
-        (E.contents errors.old) (E.contents errors.new)) result.0 result.1 }
+/// Shows that a commit has succeeded. `report_commit` writes `ok` only if it is given one, and only
+/// `commit_draft` makes one: so `ok` is written after the commit.
+#[derive(Drop)]
+pub(crate) struct Committed {
+    // Private to this module, so that no other function makes one.
+    made: (),
+}
+
+/// Commits the draft of an update. It has no output, so nothing is written before the commit ends.
+pub(crate) fn commit_draft<D: Disk>(update: Update<D>) -> (Result<Committed, Refusal>, Registry<D>)
+    ensures { Commits D.facts update (commit_result result.0) result.1 }
 {
-    match waiting.send(output) {
-        Ok(()) => {
-            let (made, registry) = update.commit();
-            (tell_commit(waiting, output, errors, made), registry)
-        }
-        Err(_) => (cannot_write(errors), update.give_up()),
+    let (answer, registry) = update.commit();
+    match answer {
+        Ok(made) => (Ok(Committed { made }), registry),
+        Err(refusal) => (Err(refusal), registry),
     }
 }

@@ -7,9 +7,9 @@
 mod answer;
 mod commit;
 mod lines;
+mod report;
 mod run;
 mod said;
-mod telling;
 
 pub use answer::UpdateRefusal;
 pub use run::run_update;

@@ -1,17 +1,13 @@
 // The lines of an update, up to what ends them.
 
-ghost use Rattle.std.specs.Prelude.{◌≡◌, ◌≢◌, ℕ, List, IfErr, IfOk, MatchResult, bytes_eq, false};
-ghost use Rattle.std.specs.Io.{StopsAt};
+ghost use Rattle.std.specs.Prelude.{◌≡◌, ◌⊎◌, IfErr, IfOk, MatchResult, bytes_eq, false};
 ghost use Rattle.std.specs.Io.Buffered.{reader_remaining};
-ghost use Rattle.std.specs.Io.KnownBytes.{Appends, append_known};
-ghost use Rattle.store.specs.Draft.{Drafted};
-ghost use Rattle.requests.specs.declared.reply.Reply.{Reply};
+ghost use Rattle.std.specs.Io.KnownBytes.{append_known};
 ghost use Rattle.registry.specs.Updating.{is_refusal};
-ghost use Rattle.updates.specs.Answer.{plan_texts};
 ghost use Rattle.scripts.specs.Asked.{request_asked};
-ghost use Rattle.updates.specs.Lines.{ArePlanned, BeginsWith, commit_line};
-ghost use Rattle.updates.specs.inside.Line.{AskedEnds, EndsLines, LineEnds};
-ghost use Rattle.updates.specs.inside.Line.{MissesAsked, MissesLine};
+ghost use Rattle.updates.specs.Lines.{commit_line};
+ghost use Rattle.updates.specs.inside.Line.{AskedEnds, LineEnds, MissesAsked, MissesLine};
+ghost use Rattle.updates.specs.inside.Lines.{Broken, Ended, Unsent};
 
 use crate::answer::{UpdateRefusal, put_plan};
 use program_parts::Line;
@@ -102,29 +98,23 @@ fn answer_line<D: Disk, O: Write>(
     }
 }
 
-/// Reads and answers lines up to what ends them. None that stands behind it is answered.
-pub(crate) fn answer_lines<D: Disk, I: Read, O: Write>(
+/// Reads lines and answers each, up to the one that ends them. Some answers may still be in the
+/// buffer then.
+fn read_lines<D: Disk, I: Read, O: Write>(
     alloc: Global,
     update: &mut Update<D>,
     pages: &mut BufReader<&mut I>,
     waiting: &mut Line,
     output: &mut O,
 ) -> Result<Ending, ScriptFault>
-    ensures ok { IfOk result (λ ending.
-        (lines : List (List ℕ)) × (replies : List Reply) × (mid : Drafted D)
-        × ArePlanned D.facts update.old mid lines replies
-        × EndsLines D.facts (reader_remaining (λ r. I.remaining r.now) pages.old) lines mid
-        update.new ending
-        × Appends (append_known (O.contents output.old) waiting.old.waiting)
-        (append_known (O.contents output.new) waiting.new.waiting) (plan_texts replies)) }
-    ensures err { IfErr result (λ fault.
-        (lines : List (List ℕ)) × (replies : List Reply) × (part : List ℕ)
-        × ArePlanned D.facts update.old update.new lines replies
-        × StopsAt part 10
-        × BeginsWith (reader_remaining (λ r. I.remaining r.now) pages.old) lines part
-        × (fault ≢ ScriptFault.Write
-        → Appends (append_known (O.contents output.old) waiting.old.waiting)
-        (append_known (O.contents output.new) waiting.new.waiting) (plan_texts replies))) }
+    ensures ok { IfOk result (Ended D.facts
+        (reader_remaining (λ r. I.remaining r.now) pages.old)
+        (append_known (O.contents output.old) waiting.old.waiting)
+        (append_known (O.contents output.new) waiting.new.waiting) update.old update.new) }
+    ensures err { IfErr result (Broken D.facts
+        (reader_remaining (λ r. I.remaining r.now) pages.old)
+        (append_known (O.contents output.old) waiting.old.waiting)
+        (append_known (O.contents output.new) waiting.new.waiting) update.old update.new) }
 {
     let mut line = Vec::new(alloc);
     for _ in 0..u64::MAX {
@@ -139,4 +129,28 @@ pub(crate) fn answer_lines<D: Disk, I: Read, O: Write>(
         }
     }
     Err(ScriptFault::Read)
+}
+
+/// Reads lines and answers each, up to the one that ends them; no line after it is read. Whatever
+/// ends them, all answers have been written when it returns, unless the output failed. It can't
+/// commit: the update stays with its caller.
+pub(crate) fn answer_lines<D: Disk, I: Read, O: Write>(
+    alloc: Global,
+    update: &mut Update<D>,
+    pages: &mut BufReader<&mut I>,
+    output: &mut O,
+) -> Result<Ending, ScriptFault>
+    // Exactly the answers were written.
+    ensures ok { IfOk result (Ended D.facts (reader_remaining (λ r. I.remaining r.now) pages.old)
+        (O.contents output.old) (O.contents output.new) update.old update.new) }
+    ensures err { IfErr result (λ fault.
+        Broken D.facts (reader_remaining (λ r. I.remaining r.now) pages.old)
+        (O.contents output.old) (O.contents output.new) update.old update.new fault
+        ⊎ Unsent D.facts (reader_remaining (λ r. I.remaining r.now) pages.old)
+        update.old update.new fault) }
+{
+    let mut waiting = Line::new();
+    let ended = read_lines(alloc, update, pages, &mut waiting, output);
+    waiting.send(output)?;
+    ended
 }

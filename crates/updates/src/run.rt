@@ -1,19 +1,16 @@
 // An update over the registry on a disk.
 
 ghost use Rattle.std.specs.Prelude.{IsFalse};
-ghost use Rattle.std.specs.Io.Buffered.{reader_remaining};
-ghost use Rattle.std.specs.Io.KnownBytes.{append_known};
 ghost use Rattle.store.specs.Draft.{begun};
 ghost use Rattle.updates.specs.Ends.{UpdateEnds};
-ghost use Rattle.updates.specs.inside.Begun.{EndsBegun, ending_streams};
-ghost use Rattle.updates.specs.inside.Ended.{EndsBy};
+ghost use Rattle.updates.specs.inside.Begun.{EndsBegun};
 
-use crate::commit::commit;
+use crate::commit::commit_draft;
 use crate::lines::{Ending, answer_lines};
-use crate::said::no_memory;
-use crate::telling::{break_off, tell_refusal};
-use program_parts::{Line, Status};
-use registry::{Registry, Update};
+use crate::report::{report_commit, report_refusal};
+use crate::said::{no_memory, say_fault};
+use program_parts::Status;
+use registry::Registry;
 use sector_disk::Disk;
 use std::alloc::Global;
 use std::io::{BufReader, Read, Write};
@@ -22,55 +19,10 @@ use tool_parts::say_refusal;
 /// How many bytes are read at once.
 const PAGE: usize = 0x10000;
 
-/// Ends an update by what ended its lines: commits it, or gives it up.
-fn end_lines<D: Disk, O: Write, E: Write>(
-    update: Update<D>,
-    waiting: &mut Line,
-    output: &mut O,
-    errors: &mut E,
-    ending: Ending,
-) -> (Status, Registry<D>)
-    ensures { EndsBy D.facts O.contents ending update (ending_streams
-        (append_known (O.contents output.old) waiting.old.waiting) (O.contents output.new)
-        (E.contents errors.old) (E.contents errors.new)) result.0 result.1 }
-{
-    match ending {
-        Ending::Commit => commit(update, waiting, output, errors),
-        Ending::Refused(refusal) => {
-            let status = tell_refusal(waiting, output, errors, refusal);
-            (status, update.give_up())
-        }
-    }
-}
-
-/// Answers the lines of an update that has begun, and commits it or gives it up.
-fn run_begun<D: Disk, I: Read, O: Write, E: Write>(
-    alloc: Global,
-    update: Update<D>,
-    pages: &mut BufReader<&mut I>,
-    output: &mut O,
-    errors: &mut E,
-) -> (Status, Registry<D>)
-    ensures { EndsBegun D.facts O.contents update (record {
-      unread = reader_remaining (λ r. I.remaining r.now) pages.old;
-      before = O.contents output.old;
-      after = O.contents output.new;
-      errors_before = E.contents errors.old;
-      errors_after = E.contents errors.new;
-    }) result.0 result.1 }
-{
-    let mut update = update;
-    let mut waiting = Line::new();
-    match answer_lines(alloc, &mut update, pages, &mut waiting, output) {
-        Ok(ending) => end_lines(update, &mut waiting, output, errors, ending),
-        Err(fault) => (
-            break_off(&mut waiting, output, errors, fault),
-            update.give_up(),
-        ),
-    }
-}
-
-/// Begins an update of a registry, and runs it.
+/// Begins an update of a registry, answers its lines, and commits it or gives it up. Only this
+/// function has both the output and the update itself, and it writes nothing itself: `answer_lines` writes
+/// and can't commit, `commit_draft` commits and has no output, and `report_commit` writes `ok` and
+/// has no disk.
 fn run_opened<D: Disk, I: Read, O: Write, E: Write>(
     alloc: Global,
     registry: Registry<D>,
@@ -90,9 +42,19 @@ fn run_opened<D: Disk, I: Read, O: Write, E: Write>(
     let Ok(mut pages) = BufReader::with_capacity(alloc, PAGE, input) else {
         return (no_memory(errors), registry);
     };
-    match registry.update() {
-        Ok(update) => run_begun(alloc, update, &mut pages, output, errors),
-        Err((_, registry)) => (no_memory(errors), registry),
+    let mut update = match registry.update() {
+        Ok(update) => update,
+        Err((_, registry)) => return (no_memory(errors), registry),
+    };
+    match answer_lines(alloc, &mut update, &mut pages, output) {
+        Ok(Ending::Commit) => {
+            let (answer, registry) = commit_draft(update);
+            (report_commit(answer, output, errors), registry)
+        }
+        Ok(Ending::Refused(refusal)) => {
+            (report_refusal(refusal, output, errors), update.give_up())
+        }
+        Err(fault) => (say_fault(fault, errors), update.give_up()),
     }
 }
 

@@ -2,10 +2,11 @@
 use Rattle.std.specs.Prelude.{ℕ, ◌≡◌, ◌+◌, ◌-◌, ◌^◌, ◌<◌, ◌≤◌, Bool, ◌&&◌, true, nat_le, if◌then◌else◌}
 use Rattle.std.specs.Prelude.{List, [], ◌∷◌, ◌++◌, length, map, take, drop, replicate, sum_by, Option, Some, None}
 use Rattle.std.specs.Int.{byte_at}
-use Rattle.std.specs.List.{list_any}
+use Rattle.std.specs.List.{All, list_any}
 use Rattle.byteorder.specs.Endian.{little_bytes}
 use Rattle.scope.specs.Objects.{Named}
 use Rattle.image.specs.Bound.{AllAccepted}
+use Rattle.image.specs.Constant.{MEMORY_LIMIT}
 use Rattle.image.specs.Heading.{Heading, within}
 use Rattle.image.specs.Image.{ImageSegment, heading}
 use Rattle.image.specs.Loading.{Loaded}
@@ -57,9 +58,10 @@ after None old address = old
 abbrev pub Lands : List Heading → Write → Type 0
 Lands headings w = (w.place < 2 ^ 64) × (list_any (room_in w.place) headings ≡ true)
 
--- the segments rise, and the objects have all of them
+-- the segments rise, none of them ends above the limit, and the objects have all of them
 pub record IsWhole (objects : List ImageObject) (segments : List ImageSegment) : Type 0 where
   pub rising : Rising 0 (map heading segments)
+  pub low : All (λ s. s.address + length s.bytes ≤ MEMORY_LIMIT) segments
   pub counted : sum_by (λ o. o.segment_count) objects ≡ length segments
 
 -- objects at bases

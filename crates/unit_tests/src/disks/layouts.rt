@@ -42,7 +42,7 @@ fn even_sectors() -> [(u32, u32); MOST_EXTENTS] {
 fn lays_out_the_largest_scattered_disk(rt: HostRuntime) -> Result<(), AllocError> {
     let mut layout = Layout::new(rt.alloc(), 4_194_304)?;
     claim_odd(&mut layout, MOST_SECTORS);
-    let free = layout.unused_count();
+    let free = layout.free_count();
     let fragmented = layout.take(33).err() == Some(TakeRefusal::Fragmented);
     let taken = gives(&mut layout, 32, &even_sectors());
     assert!(rt; free == 2_097_151 && fragmented && taken && layout.take_one() == Ok(66));

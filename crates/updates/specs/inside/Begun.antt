@@ -1,5 +1,5 @@
 -- What an update that has begun ends with, whatever disk it is on.
-use Rattle.std.specs.Prelude.{◌≡◌, ◌⊎◌, ◌++◌, ℕ, List, [], Option, None, Result}
+use Rattle.std.specs.Prelude.{◌≡◌, ◌⊎◌, ◌++◌, ℕ, List, Option, Result}
 use Rattle.std.specs.Io.{StopsAt}
 use Rattle.std.specs.Io.KnownBytes.{Appends}
 use Rattle.sector_disk.specs.Disk.{DiskFacts}
@@ -18,22 +18,10 @@ use Rattle.updates.specs.Commit.{Commits}
 use Rattle.updates.specs.Lines.{ArePlanned, BeginsWith, IsRefusedAt, commit_line}
 use Rattle.updates.specs.Status.{update_status}
 use Rattle.program_parts.specs.Streams.{Streams}
-use Rattle.updates.specs.Streams.{BreaksOff, CannotWrite, TellsOnly}
+use Rattle.updates.specs.Streams.{BreaksOff, TellsOnly}
 use Rattle.updates.specs.declared.answer.UpdateRefusal.{UpdateRefusal}
 
--- the streams once nothing more is read
-abbrev pub ending_streams : Option (List ℕ) → Option (List ℕ) → Option (List ℕ) → Option (List ℕ) → Streams
-ending_streams before after errors_before errors_after =
-    record { unread = None; before = before; after = after; errors_before = errors_before; errors_after = errors_after }
-
 module _ {D O : Type 0} (facts : D → DiskFacts) (contents : O → Option (List ℕ)) where
-  -- what waits was sent, the draft was committed, and what came of it was told; or the output failed before
-  abbrev pub EndsCommit : Drafted D → Streams → Status → Opened D → Type 0
-  EndsCommit u io status new =
-      ((held : O) × (answer : Result (Unit {0}) Refusal) × Appends io.before (contents held) [] × Commits facts u answer new
-      × TellsOnly (reply_status (answer_of answer)) (reply_text (answer_of answer)) io status)
-      ⊎ ((new ≡ u.store) × CannotWrite io status)
-
   module _ (io : Streams) (lines : List (List ℕ)) (answers : List Reply) (u : Drafted D) (status : Status) (new : Opened D) where
     -- behind lines that led to a draft came `commit`
     abbrev pub IsCommitted : Type 0

@@ -10,7 +10,7 @@ returns-in-Some c =
     let put = c.in-Some.ensures in
     let said = nothing_said c.of.result 0 c.of.ensures in (
       inl (ap (λ (a : Answer). a.status) c.of.ensures, record { object_places = put.objects; segment_places = put.segments; size = put.end; bytes = put.bytes }),
-      record { objects = ap length c.objects.ensures.objects; segments = ap length c.segments.ensures },
+      record { objects = ap length c.objects.ensures.objects; segments = ap length c.segments.ensures.segments },
       record { preloads = said.0.unlisted.preloads; generation = said.0.unlisted.generation },
       record { text = said.1.text; file = said.1.file },
     )
@@ -27,7 +27,7 @@ returns-in-None c =
           size = omega (arith, c.saturating_add.ensures, c.segments_bytes.ensures, c.objects_bytes.ensures, length-append (segment_bytes image.segments) (object_names image.objects));
         },
       ),
-      record { objects = ap length c.objects.ensures.objects; segments = ap length c.segments.ensures },
+      record { objects = ap length c.objects.ensures.objects; segments = ap length c.segments.ensures.segments },
       record { preloads = said.0.unlisted.preloads; generation = said.0.unlisted.generation },
       record { text = said.1.text; file = said.1.file },
     )

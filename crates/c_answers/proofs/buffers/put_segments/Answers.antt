@@ -10,8 +10,8 @@ pub returns-in_err-at-clause-small : goal.returns-in_err-at-clause-small
 returns-in_err-at-clause-small c =
     let segments = c.args.image.now.segments in
     none_holds c.from_residual.result (inr (room_lacks (λ (s : ImageSegment). s.bytes) segments c.loop-i.i c.segment-item.result
-    (omega (arith, ap length c.segments-segment-items.ensures))
-    (subst (λ (l : List ImageSegment). c.segment-item.result ≡ get_or l c.loop-i.i c.segment-item.result) c.segments-segment-items.ensures
+    (omega (arith, ap length c.segments-segment-items.ensures.segments))
+    (subst (λ (l : List ImageSegment). c.segment-item.result ≡ get_or l c.loop-i.i c.segment-item.result) c.segments-segment-items.ensures.segments
     c.segment-item.is) c.loop-i.at c.loop-i.invariant.at (length c.args.bytes.now)
     (omega (arith, c.in_err-at.ensures.small, c.loop-i.auto.bytes, ap length c.memory.ensures))))
 
@@ -23,11 +23,11 @@ loop-i-preserved c =
     let was = c.loop-i.invariant in
     let bytes = λ (x : ImageSegment). x.bytes in
     record {
-      at = end_more bytes segments i s (omega (arith, ap length c.segments-segment-items.ensures))
-          (subst (λ (l : List ImageSegment). c.segment-item.result ≡ get_or l c.loop-i.i c.segment-item.result) c.segments-segment-items.ensures
+      at = end_more bytes segments i s (omega (arith, ap length c.segments-segment-items.ensures.segments))
+          (subst (λ (l : List ImageSegment). c.segment-item.result ≡ get_or l c.loop-i.i c.segment-item.result) c.segments-segment-items.ensures.segments
           c.segment-item.is) c.loop-i.at was.at c.in_ok-at.at (c.in_ok-at.ensures.end ∙ ap (λ l. c.loop-i.at + length l) c.memory.ensures);
-      bytes = front_more bytes segments i s (omega (arith, ap length c.segments-segment-items.ensures))
-          (subst (λ (l : List ImageSegment). c.segment-item.result ≡ get_or l c.loop-i.i c.segment-item.result) c.segments-segment-items.ensures
+      bytes = front_more bytes segments i s (omega (arith, ap length c.segments-segment-items.ensures.segments))
+          (subst (λ (l : List ImageSegment). c.segment-item.result ≡ get_or l c.loop-i.i c.segment-item.result) c.segments-segment-items.ensures.segments
           c.segment-item.is) c.loop-i.at was.at c.loop-i.bytes c.put_memory.new.out c.in_ok-at.at was.bytes
           (c.in_ok-at.ensures.front ∙ ap (λ l. take c.loop-i.at c.loop-i.bytes ++ l) c.memory.ensures);
       places = take_more_set c.loop-i.places i c.place_of.result (omega arith)
@@ -35,8 +35,8 @@ loop-i-preserved c =
           ∙ ap (λ p. places_of 0 (take i segments) ++ p ∷ []) (c.place_of.ensures ∙ ap (λ n. place_of n s) (omega (arith, was.at)))
           ∙ sym (segment_more 0 (take i segments) s)
           ∙ ap (places_of 0) (ap (λ x. take i segments ++ x ∷ [])
-          (subst (λ (l : List ImageSegment). c.segment-item.result ≡ get_or l c.loop-i.i c.segment-item.result) c.segments-segment-items.ensures
-          c.segment-item.is) ∙ sym (take_more segments i s (omega (arith, ap length c.segments-segment-items.ensures))));
+          (subst (λ (l : List ImageSegment). c.segment-item.result ≡ get_or l c.loop-i.i c.segment-item.result) c.segments-segment-items.ensures.segments
+          c.segment-item.is) ∙ sym (take_more segments i s (omega (arith, ap length c.segments-segment-items.ensures.segments))));
     }
 
 pub returns-in_err-at-clause-end : goal.returns-in_err-at-clause-end

@@ -23,12 +23,6 @@ returns-in-WritableCode g c =
     let put = c.put_object-in-WritableCode in
     subst (λ (r : ExecutableRefusal). OnOk put.result (Sends (w c.args.out.now) c.args.line.now (w put.new.out) put.new.line (executable_refusal_text r))) (sym c.in-WritableCode.is) put.ensures
 
-pub returns-in-OutOfOrder : goal.returns-in-OutOfOrder
-returns-in-OutOfOrder g c =
-    let w = g.W.Write.contents in
-    let put = c.put-in-OutOfOrder in
-    subst (λ (r : ExecutableRefusal). OnOk put.result (Sends (w c.args.out.now) c.args.line.now (w put.new.out) put.new.self (executable_refusal_text r))) (sym c.in-OutOfOrder.is) put.ensures.ok
-
 pub returns-in-NoRoom : goal.returns-in-NoRoom
 returns-in-NoRoom g c =
     let w = g.W.Write.contents in

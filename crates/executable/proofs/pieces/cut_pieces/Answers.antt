@@ -1,9 +1,9 @@
 use Rattle.std.proofs.Common.{◌≡◌, ◌+◌, ◌≤◌, ◌<◌, ◌==◌, ℕ, true, List, [], ◌∷◌, ◌++◌, drop, length, map, get_or, Option, Some, None, refl, sym, ap, ◌∙◌, subst, arith}
 use Rattle.std.proofs.lemmas.Bool.{eq-eqb}
 use Rattle.std.proofs.lemmas.List.{drop_more, drop_all, append-nil}
-use Rattle.image.specs.Image.{ImageSegment}
+use Rattle.image.specs.Image.{AreRising, ImageSegment}
 use Rattle.image.specs.Loading.{Loaded}
-use Rattle.executable.specs.Piece.{is_rising, finished}
+use Rattle.executable.specs.Piece.{finished}
 use Rattle.executable.specs.inside.Joining.{pieces_after, IsReady}
 use Rattle.executable.proofs.Rising.{Rises, rises}
 use Rattle.executable.proofs.pieces.cut_pieces.Goals as goal
@@ -24,9 +24,9 @@ front : (segments : List ImageSegment) (i : ℕ) (s : ImageSegment) → i < leng
 front segments i s lt is = drop_more segments i s lt ∙ ap (λ x. x ∷ drop (i + 1) segments) (sym is)
 
 -- what is known of it
-here : (segments : List ImageSegment) (i from : ℕ) (s : ImageSegment) → i < length segments → s ≡ get_or segments i s → is_rising from (drop i segments) ≡ true
+here : (segments : List ImageSegment) (i from : ℕ) (s : ImageSegment) → i < length segments → s ≡ get_or segments i s → AreRising from (drop i segments)
     → Rises from s (drop (i + 1) segments)
-here segments i from s lt is rising = rises from s (drop (i + 1) segments) (subst (λ l. is_rising from l ≡ true) (front segments i s lt is) rising)
+here segments i from s lt is rising = rises from s (drop (i + 1) segments) (subst (AreRising from) (front segments i s lt is) rising)
 
 pub add-requires-clause-last : goal.add-requires-clause-last
 add-requires-clause-last c =

@@ -3,6 +3,7 @@
 use crate::disks::alike::{are_same, call_both};
 use crate::disks::files::fake::{Fake, Plan, WELL, disk, reopened};
 use crate::disks::stops::{fill, is_filled, read, write};
+use file_disk::{FileDisk, FilePlan, MemoryFile, OpenFault, Turn};
 use sector_disk::{Disk, Memory};
 use std::alloc::Global;
 
@@ -114,4 +115,44 @@ fn waiting_and_kept(alloc: Global) -> Option<[Option<u8>; 4]> {
 fn what_is_not_synced_is_lost_and_what_is_stays(rt: HostRuntime) {
     let wanted = [Some(9), Some(7), Some(7), Some(8)];
     assert!(rt; waiting_and_kept(rt.alloc()) == Some(wanted));
+}
+
+// Sectors of an honest file, the call of it that fails, and how many sectors the disk over it has.
+const OVER: [(u32, u64, Result<u32, OpenFault>); 5] = [
+    (0, 0, Ok(0)),
+    (1, 0, Ok(1)),
+    (8, 0, Ok(8)),
+    (8, 2, Ok(8)),
+    (8, 1, Err(OpenFault::CannotOpen)),
+];
+
+// How many sectors the disk over such a file has.
+fn over(alloc: Global, sectors: u32, call: u64) -> Result<u32, OpenFault> {
+    let turn = Turn {
+        most: 0,
+        fails: true,
+    };
+    let plan = FilePlan {
+        call,
+        turn,
+        forever: false,
+    };
+    let file = MemoryFile::new(Memory::new(alloc, sectors)?, plan);
+    let disk: FileDisk<MemoryFile> = FileDisk::over(alloc, file)?;
+    Ok(disk.sectors())
+}
+
+// The first line of the table that is answered otherwise.
+fn over_otherwise(alloc: Global) -> Option<usize> {
+    for (line, (sectors, call, answer)) in OVER.iter().enumerate() {
+        if over(alloc, *sectors, *call) != *answer {
+            return Some(line);
+        }
+    }
+    None
+}
+
+#[test]
+fn an_honest_file_is_opened_unless_its_count_fails(rt: HostRuntime) {
+    assert!(rt; over_otherwise(rt.alloc()) == None);
 }

@@ -7,11 +7,12 @@ use sector_disk::Disk;
 use std::alloc::Global;
 
 // Writes, syncs and writes again; then nothing may succeed that fails once.
-fn seven_calls(disk: &mut FileDisk<Fake>) -> [bool; 7] {
+fn eight_calls(disk: &mut FileDisk<Fake>) -> [bool; 8] {
     [
         write(disk, 1, 11),
         write(disk, 2, 12),
         write(disk, 6, 16),
+        write(disk, 4, 14),
         disk.sync().is_ok(),
         write(disk, 3, 13),
         disk.sync().is_ok(),
@@ -25,7 +26,7 @@ fn four_sectors(disk: &mut FileDisk<Fake>) -> [Option<u8>; 4] {
 }
 
 // Whether these are the first calls, so many, and no other.
-fn are_first(done: [bool; 7], count: usize) -> bool {
+fn are_first(done: [bool; 8], count: usize) -> bool {
     for (call, is_done) in done.iter().enumerate() {
         if *is_done != (call < count) {
             return false;
@@ -59,28 +60,29 @@ fn fails_so(alloc: Global, fails: u64, failed: usize, contents: [Option<u8>; 4])
     let Some(mut disk) = disk(alloc, 8, Plan { fails, ..WELL }) else {
         return false;
     };
-    let done = are_first(seven_calls(&mut disk), failed);
+    let done = are_first(eight_calls(&mut disk), failed);
     let read = four_sectors(&mut disk) == contents;
     let again = works_again(alloc, disk.into_file());
     done && read && again
 }
 
-// The file's calls behind that of the opening are: length and write of sectors 1 and 2; length and
-// write of 6, and sync; length and write of 3, and sync; length and sync. The call that fails; the
-// call of the disk that fails, counted from 0; and what sectors 1, 2, 3 and 6 read as after it:
-// what waited stays readable.
-const CALLS: [(u64, usize, [Option<u8>; 4]); 11] = [
+// After the call of the opening the file's calls are: length and write of sectors 1 and 2; write
+// of 6; length and write of 4, and sync; length and write of 3, and sync; length and sync. Each
+// line has the call that fails; the call of the disk that fails then, counted from 0; and how
+// sectors 1, 2, 3 and 6 read after it: a sector that waited stays readable.
+const CALLS: [(u64, usize, [Option<u8>; 4]); 12] = [
     (2, 2, [Some(11), Some(12), None, None]),
     (3, 2, [Some(11), Some(12), None, None]),
     (4, 3, [None, None, None, Some(16)]),
-    (5, 3, [None, None, None, Some(16)]),
-    (6, 3, [None, None, None, Some(16)]),
-    (7, 5, [None, None, Some(13), None]),
-    (8, 5, [None, None, Some(13), None]),
-    (9, 5, [None, None, Some(13), None]),
-    (10, 6, [None; 4]),
-    (11, 6, [None; 4]),
-    (0, 7, [Some(11), Some(12), Some(13), Some(16)]),
+    (5, 4, [None; 4]),
+    (6, 4, [None; 4]),
+    (7, 4, [None; 4]),
+    (8, 6, [None, None, Some(13), None]),
+    (9, 6, [None, None, Some(13), None]),
+    (10, 6, [None, None, Some(13), None]),
+    (11, 7, [None; 4]),
+    (12, 7, [None; 4]),
+    (0, 8, [Some(11), Some(12), Some(13), Some(16)]),
 ];
 
 // The first call of the table that fails otherwise.

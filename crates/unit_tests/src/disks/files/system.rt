@@ -114,35 +114,58 @@ fn a_file_that_was_cut_is_not_written(rt: HostRuntime) {
     assert!(rt; begun && kept && ended && lost);
 }
 
-// What is written before a file is cut, and what is written then; where nothing is, it is synced.
-const CUT: [(&[u32], Option<u32>); 3] = [(&[], None), (&[1, 4], None), (&[1, 4], Some(6))];
+// What is written to a disk of eight sectors, how many bytes its file then has, and which sector
+// is written next; if none is, the disk is synced.
+const RESIZED: [(&[u32], u64, Option<u32>); 7] = [
+    (&[], 512, None),
+    (&[1, 4], 512, None),
+    (&[1], 512, Some(4)),
+    (&[1, 7], 512, Some(3)),
+    (&[], 9 * 512, None),
+    (&[1, 4], 9 * 512, None),
+    (&[1], 9 * 512, Some(4)),
+];
 
-// Makes a disk, writes these sectors, and leaves one sector of its file: whether the next call
-// succeeds, and whether the file has that sector alone.
-fn next_call(
+// Makes and syncs a disk, writes these sectors, and gives its file another length: the disk, if all
+// of that was done.
+fn resized(
     rt: &HostRuntime,
     path: &str,
     before: &[u32],
-    then: Option<u32>,
-) -> Result<(bool, bool), OpenFault> {
+    length: u64,
+) -> Result<Option<FileDisk<DiskFile>>, OpenFault> {
     let mut disk = make(rt, path)?;
-    let mut begun = true;
+    let mut begun = disk.sync().is_ok();
     for at in before {
         begun = write(&mut disk, *at, 5) && begun;
     }
-    begun = set_length(rt, path, 512) && begun;
-    let done = match then {
+    let is_resized = set_length(rt, path, length);
+    Ok((begun && is_resized).then_some(disk))
+}
+
+// Whether the next call of such a disk fails, and its file has only zeros then.
+fn is_seen(
+    rt: &HostRuntime,
+    path: &str,
+    before: &[u32],
+    length: u64,
+    next: Option<u32>,
+) -> Result<bool, OpenFault> {
+    let Some(mut disk) = resized(rt, path, before, length)? else {
+        return Ok(false);
+    };
+    let done = match next {
         Some(at) => write(&mut disk, at, 6),
         None => disk.sync().is_ok(),
     };
-    Ok((done, begun && is_file(rt, path, 512, 0)))
+    Ok(!done && is_file(rt, path, length as usize, 0))
 }
 
-// The first of them that doesn't fail, or that writes into the file.
-fn cut_unseen(rt: &HostRuntime, folder: &str, path: &str) -> Option<usize> {
-    for (case, (before, then)) in CUT.iter().enumerate() {
+// The first case whose next call doesn't fail, or writes into the file.
+fn unseen(rt: &HostRuntime, folder: &str, path: &str) -> Option<usize> {
+    for (case, (before, length, next)) in RESIZED.iter().enumerate() {
         let begun = make_folder(rt, folder);
-        if !begun || next_call(rt, path, before, *then) != Ok((false, true)) {
+        if !begun || is_seen(rt, path, before, *length, *next) != Ok(true) {
             return Some(case);
         }
     }
@@ -150,11 +173,29 @@ fn cut_unseen(rt: &HostRuntime, folder: &str, path: &str) -> Option<usize> {
 }
 
 #[test]
-fn the_next_write_or_sync_sees_that_a_file_was_cut(rt: HostRuntime) {
+fn a_file_that_was_cut_or_grew_is_not_written(rt: HostRuntime) {
     let folder = "file_disk_test_seen";
-    let unseen = cut_unseen(&rt, folder, "file_disk_test_seen/disk");
+    let case = unseen(&rt, folder, "file_disk_test_seen/disk");
     let ended = fs::remove_dir_all(&rt, folder).is_ok();
-    assert!(rt; (unseen, ended) == (None, true));
+    assert!(rt; (case, ended) == (None, true));
+}
+
+// Cuts a file between two writes before a sync, neither of which reaches its end: whether the
+// second write and then the sync succeed.
+fn cut_between(rt: &HostRuntime, path: &str) -> Result<(bool, bool), OpenFault> {
+    let Some(mut disk) = resized(rt, path, &[1, 4], 512)? else {
+        return Ok((false, true));
+    };
+    Ok((write(&mut disk, 6, 6), disk.sync().is_ok()))
+}
+
+#[test]
+fn a_cut_between_two_writes_is_seen_by_the_sync(rt: HostRuntime) {
+    let folder = "file_disk_test_between";
+    let begun = make_folder(&rt, folder);
+    let answers = cut_between(&rt, "file_disk_test_between/disk");
+    let ended = fs::remove_dir_all(&rt, folder).is_ok();
+    assert!(rt; begun && ended && answers == Ok((true, false)));
 }
 
 // What can't be opened, and what can't be made.

@@ -27,7 +27,7 @@ new-requires c =
     let count : o.segment_count ≡ length (loads file) = ap (λ (x : ImageObject). x.segment_count) c.in_ok-image_object.ensures in
     subst (λ (xs : List ImageObject). IsWhole xs c.append.new.self.items) (sym c.in_ok-push.ensures.items)
     (subst (λ (ys : List ImageSegment). IsWhole (os ++ o ∷ []) ys) (sym c.in_ok-append.ensures.items)
-    (whole-more os ss own o base file c.self.invariant c.in_ok-own.ensures.accepted above lie count))
+    (whole-more os ss own o base file c.self.invariant c.in_ok-own.ensures.accepted c.requires.fits above lie count))
 
 pub returns-clause-bytes : goal.returns-clause-bytes
 returns-clause-bytes c =

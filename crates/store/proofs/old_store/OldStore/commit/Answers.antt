@@ -37,7 +37,7 @@ use Rattle.store.specs.inside.Kept.{IsKept}
 use Rattle.store.proofs.Refusals.{end-device, full-device}
 use Rattle.store.proofs.Outcomes.{still, upgrade_ends}
 use Rattle.store.proofs.old_store.OldStore.commit.Given as given
-use Rattle.store.proofs.old_store.OldStore.commit.Goals.{After-unused_count, After-next_root-root, After-carry_out, After-beside}
+use Rattle.store.proofs.old_store.OldStore.commit.Goals.{After-free_count, After-next_root-root, After-carry_out, After-beside}
 use Rattle.store.proofs.old_store.OldStore.commit.Goals as goal
 
 -- the next root lists the same entries by the catalogues that were taken
@@ -52,7 +52,7 @@ relisted g c =
       one = c.self.invariant.2;
       claimed = c.take_catalogues-taken.ensures.claimed;
       enough = omega (arith, c.take_catalogues-taken.ensures.count, c.catalogues_for-count.ensures, ap catalogues_for count);
-      free = omega (arith, c.if-unused_count-count.false, c.unused_count.ensures.value, c.catalogues_for-count.ensures, ap catalogues_for count);
+      free = omega (arith, c.if-free_count-count.false, c.free_count.ensures.value, c.catalogues_for-count.ensures, ap catalogues_for count);
       later = omega (arith, c.if-found.false, kept.root_fits.generation);
       is_next = c.next_root-root.ensures
           ∙ ap (λ n. next_root c.self.inside.found.root n c.as_slice.result.now (listed_preloads c.self.inside.found.root)) count
@@ -153,14 +153,14 @@ returns-in-Ok-clause-ok g c s at_entry =
     }
 
 -- a commit is refused by its generation or for want of room, and not otherwise
-usable_of : (g : given.Over) (c : After-unused_count g) (s : State) → IsOldAt g.D.Disk.facts c.args.self s → s.generation ≢ last_generation
+usable_of : (g : given.Over) (c : After-free_count g) (s : State) → IsOldAt g.D.Disk.facts c.args.self s → s.generation ≢ last_generation
 usable_of g c s at_entry is =
     let at = subst (λ store. IsOldAt g.D.Disk.facts store s) (sym c.self.view_is) at_entry in
     let by = at.stands (g.D.Disk.facts c.self.inside.disk).now (g.met.D.Disk.holds_now _ at.honest) in
     omega (arith, is, ap (λ t. t.generation) by.is, c.if-found.false)
 
-room_of : (g : given.Over) (c : After-unused_count g) (s : State) → IsOldAt g.D.Disk.facts c.args.self s
-    → (c.unused_count.result < 2 * c.catalogues_for-count.result) ↔ (c.self.inside.found.root.sectors < root_sectors + taken_by s)
+room_of : (g : given.Over) (c : After-free_count g) (s : State) → IsOldAt g.D.Disk.facts c.args.self s
+    → (c.free_count.result < 2 * c.catalogues_for-count.result) ↔ (c.self.inside.found.root.sectors < root_sectors + taken_by s)
 room_of g c s at_entry =
     let at = subst (λ store. IsOldAt g.D.Disk.facts store s) (sym c.self.view_is) at_entry in
     let now = (g.D.Disk.facts c.self.inside.disk).now in
@@ -169,31 +169,31 @@ room_of g c s at_entry =
     let count : c.len-libraries.result ≡ length c.self.inside.found.entries.items = omega (arith, c.len-libraries.ensures) in
     let all : c.catalogues_for-count.result ≡ catalogues_for (length c.self.inside.found.entries.items) = c.catalogues_for-count.ensures ∙ ap catalogues_for count in
     let is = old_free_is c.self.inside.found.root c.self.inside.found.entries.items [] c.self.inside.found.layout c.self.invariant.0.kept refl now s whole (at.stands now holds) in (
-      λ lt. is.0 (omega (arith, lt, c.unused_count.ensures.value, all)),
-      λ lt. omega (arith, is.1 lt, c.unused_count.ensures.value, all),
+      λ lt. is.0 (omega (arith, lt, c.free_count.ensures.value, all)),
+      λ lt. omega (arith, is.1 lt, c.free_count.ensures.value, all),
     )
 
-pub returns-then-unused_count-count-clause-refused : goal.returns-then-unused_count-count-clause-refused
-returns-then-unused_count-count-clause-refused g c s at =
-    let before = (goal.at.returns-then-unused_count-count-clause-refused g c).After-unused_count in
-    let first = upgrade_full c.self.inside.found.root.sectors s (usable_of g before s at) ((room_of g before s at).0 c.if-unused_count-count.true) in
+pub returns-then-free_count-count-clause-refused : goal.returns-then-free_count-count-clause-refused
+returns-then-free_count-count-clause-refused g c s at =
+    let before = (goal.at.returns-then-free_count-count-clause-refused g c).After-free_count in
+    let first = upgrade_full c.self.inside.found.root.sectors s (usable_of g before s at) ((room_of g before s at).0 c.if-free_count-count.true) in
     subst (λ store. IsExactAnswer (refusal_of_upgrade store.root.sectors s) (Err Full)) c.self.view_is
     (subst (λ refusal. IsExactAnswer refusal (Err Full)) (sym first) refl)
 
-accepted_of : (g : given.Over) (c : After-unused_count g) (s : State) → IsOldAt g.D.Disk.facts c.args.self s
-    → 2 * c.catalogues_for-count.result ≤ c.unused_count.result → refusal_of_upgrade c.self.inside.found.root.sectors s ≡ None
+accepted_of : (g : given.Over) (c : After-free_count g) (s : State) → IsOldAt g.D.Disk.facts c.args.self s
+    → 2 * c.catalogues_for-count.result ≤ c.free_count.result → refusal_of_upgrade c.self.inside.found.root.sectors s ≡ None
 accepted_of g c s at enough = upgrade_accepted c.self.inside.found.root.sectors s (usable_of g c s at)
     (⊎_elim (λ few. omega (arith, (room_of g c s at).1 few, enough)) (λ room. room) (cases_lt c.self.inside.found.root.sectors (root_sectors + taken_by s)))
 
 pub returns-in-Err-clause-refused : goal.returns-in-Err-clause-refused
 returns-in-Err-clause-refused g c s at =
-    let first = accepted_of g (goal.at.returns-in-Err-clause-refused g c).After-unused_count s at (omega (arith, c.if-unused_count-count.false)) in
+    let first = accepted_of g (goal.at.returns-in-Err-clause-refused g c).After-free_count s at (omega (arith, c.if-free_count-count.false)) in
     subst (λ store. IsExactAnswer (refusal_of_upgrade store.root.sectors s) (Err c.from.result)) c.self.view_is
     (subst (λ refusal. IsExactAnswer refusal (Err c.from.result)) (sym first) c.from.ensures)
 
 pub returns-in-Ok-clause-refused : goal.returns-in-Ok-clause-refused
 returns-in-Ok-clause-refused g c s at =
-    let first = accepted_of g (goal.at.returns-in-Ok-clause-refused g c).After-unused_count s at (omega (arith, c.if-unused_count-count.false)) in
+    let first = accepted_of g (goal.at.returns-in-Ok-clause-refused g c).After-free_count s at (omega (arith, c.if-free_count-count.false)) in
     subst (λ store. IsExactAnswer (refusal_of_upgrade store.root.sectors s) (Ok tt)) c.self.view_is
     (subst (λ refusal. IsExactAnswer refusal (Ok tt)) (sym first) tt)
 
@@ -225,8 +225,8 @@ returns-then-found-clause-few g c =
     subst (λ store. length store.entries ≤ most_root_entries) c.self.view_is
     (few_kept c.self.inside.found.root c.self.inside.found.entries.items c.self.inside.found.layout c.self.invariant.0.kept c.self.invariant.2)
 
-pub returns-then-unused_count-count-clause-few : goal.returns-then-unused_count-count-clause-few
-returns-then-unused_count-count-clause-few g c =
+pub returns-then-free_count-count-clause-few : goal.returns-then-free_count-count-clause-few
+returns-then-free_count-count-clause-few g c =
     subst (λ store. length store.entries ≤ most_root_entries) c.self.view_is
     (few_kept c.self.inside.found.root c.self.inside.found.entries.items c.self.inside.found.layout c.self.invariant.0.kept c.self.invariant.2)
 
@@ -252,17 +252,17 @@ returns-then-found-clause-untouched g c other = ap (λ store. store.disk) c.self
 pub returns-then-found-clause-device : goal.returns-then-found-clause-device
 returns-then-found-clause-device g c is = absurd (end-device is)
 
-pub returns-then-unused_count-count-clause-any_moment : goal.returns-then-unused_count-count-clause-any_moment
-returns-then-unused_count-count-clause-any_moment g c s at = stays g.D.Disk.facts s c.self.view_is at
+pub returns-then-free_count-count-clause-any_moment : goal.returns-then-free_count-count-clause-any_moment
+returns-then-free_count-count-clause-any_moment g c s at = stays g.D.Disk.facts s c.self.view_is at
 
-pub returns-then-unused_count-count-clause-calls : goal.returns-then-unused_count-count-clause-calls
-returns-then-unused_count-count-clause-calls g c = still g.D.Disk.facts c.self.view_is
+pub returns-then-free_count-count-clause-calls : goal.returns-then-free_count-count-clause-calls
+returns-then-free_count-count-clause-calls g c = still g.D.Disk.facts c.self.view_is
 
-pub returns-then-unused_count-count-clause-untouched : goal.returns-then-unused_count-count-clause-untouched
-returns-then-unused_count-count-clause-untouched g c other = ap (λ store. store.disk) c.self.view_is
+pub returns-then-free_count-count-clause-untouched : goal.returns-then-free_count-count-clause-untouched
+returns-then-free_count-count-clause-untouched g c other = ap (λ store. store.disk) c.self.view_is
 
-pub returns-then-unused_count-count-clause-device : goal.returns-then-unused_count-count-clause-device
-returns-then-unused_count-count-clause-device g c is = absurd (full-device is)
+pub returns-then-free_count-count-clause-device : goal.returns-then-free_count-count-clause-device
+returns-then-free_count-count-clause-device g c is = absurd (full-device is)
 
 pub returns-then-found-clause-refused : goal.returns-then-found-clause-refused
 returns-then-found-clause-refused g c s at =

@@ -13,7 +13,7 @@ returns-clause-sectors g c =
     let root = c.self.inside.kept.root in
     let entries = c.self.inside.kept.entries.items in
     let used = layout_of root.sectors (in_use root entries c.self.inside.kept.held) in
-    c.unused_count-sectors.ensures.value
+    c.free_count-sectors.ensures.value
     ∙ sym (unused_count-same used c.self.inside.kept.layout (same_layout root entries c.self.inside.kept.held c.self.inside.kept.layout c.self.invariant.0))
     ∙ ap (λ store. unused_count (layout_in_use store)) c.self.view_is
 
@@ -31,14 +31,14 @@ returns-clause-free g c =
     let spare : c.catalogues_for-catalogues.result ≡ catalogues_for (length c.self.inside.kept.entries.items) =
     omega (arith, c.catalogues_for-catalogues.ensures, c.len.ensures) in
     c.saturating_sub.ensures
-    ∙ ap (λ n. c.unused_count-sectors.result - n) (spare ∙ ap (λ store. catalogues_for (length store.entries)) c.self.view_is)
+    ∙ ap (λ n. c.free_count-sectors.result - n) (spare ∙ ap (λ store. catalogues_for (length store.entries)) c.self.view_is)
 
 pub returns-clause-state : goal.returns-clause-state
 returns-clause-state g c s at =
     let counted = facts_of g.D.Disk.facts (λ disk honest. g.met.D.Disk.holds_now _ honest) (λ disk honest. g.met.D.Disk.whole_sectors _ honest) c.self.view_is c.self.invariant.0 at in
     let count = counted.count ∙ ap (λ store. length store.entries) c.self.view_is in
-    let left : c.unused_count-sectors.result ≡ free (room_of c.args.self.now) s + catalogues_for (length s.libraries) =
-    c.unused_count-sectors.ensures.value
+    let left : c.free_count-sectors.result ≡ free (room_of c.args.self.now) s + catalogues_for (length s.libraries) =
+    c.free_count-sectors.ensures.value
     ∙ sym counted.room
     ∙ ap (λ store. free (room_of store) s + catalogues_for (length store.entries)) c.self.view_is
     ∙ ap (λ n. free (room_of c.args.self.now) s + catalogues_for n) (sym count) in

@@ -1,7 +1,7 @@
 use Rattle.std.specs.Io.Buffered.{reader_remaining}
 use Rattle.std.specs.Io.KnownBytes.{append_known}
 use Rattle.updates.proofs.Answered.{Answered}
-use Rattle.updates.proofs.lines.answer_lines.Given as goal
+use Rattle.updates.proofs.lines.read_lines.Given as goal
 
 abbrev pub invariant-loop : goal.invariant-loop
 invariant-loop g l =
