@@ -1,12 +1,13 @@
 #!/usr/bin/env python3
-"""Makes what is generated of the documents, counts their words, and looks up their names.
+"""Makes what is generated of the documents, and looks up the names in all of them.
 
     python3 bench/documents.py            writes the pages anew
     python3 bench/documents.py --check    writes nothing, and fails where a page would change
 
-It fails where a document has more words than LIMITS gives it, where a name in it isn't in the tree: a path of the
-repository, or a word of the code (with `_`, `::` or a capital letter within it) between backquotes; and where the list of
-bench/README.md doesn't name each file of bench/ once.
+It fails if a name between backquotes isn't in the tree, if the list of bench/README.md doesn't name each file of bench/
+once, or if a crate doesn't export a name of docs/PROMISED_CALLS.txt. A name is a path, or a word of the code: one with
+`_`, `::` or a capital letter within it. A crate's page means files of its own crate by `src/`, `specs/`, `proofs/`,
+`data/` and `must-fail/`; any other page means files of some crate. All other paths begin at the root of the repository.
 """
 
 import re
@@ -15,20 +16,19 @@ from pathlib import Path
 
 import clauses
 import definitions
+import promised
 
 ROOT = Path(__file__).resolve().parent.parent
 PROOFS, DEFINITIONS, CLAUSES = (ROOT / 'docs' / f'{name}.md' for name in ('PROOFS', 'DEFINITIONS', 'CLAUSES'))
-LIMITS = {
-    'README.md': 1300, 'docs/ARCHITECTURE.md': 2505, 'docs/C.md': 3610, 'docs/CASES.md': 1585, 'docs/COMMANDS.md': 5100,
-    'docs/DECISIONS.md': 4340, 'docs/FORMATS.md': 3330, 'docs/GUIDE.md': 1700, 'docs/LINKING.md': 1600, 'docs/NEWS.md': 210,
-    'docs/PERFORMANCE.md': 2000, 'docs/PROOFS.md': 4340, 'docs/PYTHON.md': 1407, 'docs/TOOL.md': 1460}
-OF_A_CRATE = 200
 # names of the standards, of the system and of the toolchain, which the tree doesn't spell
 ELSEWHERE = {'sqlite_std_file', 'elf_x86_64', 'thread_local', 'lW', '__cxa_atexit', 'luaL_openlibs'}
-WORD = re.compile(r'\S*\w\S*')
 QUOTED = re.compile(r'`([^`\n]+)`')
 NAME = re.compile(r'[A-Za-z_][\w]*(?:::[A-Za-z_]\w*)*')
 PATH = re.compile(r'^[\w.{},*-]+(?:/[\w.{},*-]+)+/?$')
+BRACES = re.compile(r'\{([^{}]*)\}')
+OF_THE_ROOT, IN_A_CRATE = ('crates', 'docs', 'bench', 'c', 'python', '.ci'), ('src', 'specs', 'proofs', 'data', 'must-fail')
+# what a build makes, and a path that stands for many
+MADE, ANY_FILE = 'out', 'proofs/FILE'
 
 
 def replaced(text, mark, lines):
@@ -49,22 +49,36 @@ def pages():
 
 
 def written():
-    """The documents that are written by hand, with the words that each may have."""
-    crates = {f'crates/{path.parent.name}/README.md': OF_A_CRATE for path in sorted(ROOT.glob('crates/*/README.md'))}
-    return {name: limit for name, limit in {**LIMITS, **crates}.items() if (ROOT / name).exists()}
+    """The documents that are written by hand."""
+    found = [ROOT / 'README.md', *sorted(ROOT.glob('docs/*.md')), *sorted(ROOT.glob('crates/*/README.md'))]
+    return [path.relative_to(ROOT).as_posix() for path in found if path not in (CLAUSES, DEFINITIONS)]
 
 
 def words_of_the_tree():
-    """Every word of the code, and every path."""
-    words, paths = set(), set()
+    """Every word of the code."""
+    words = set()
     for path in ROOT.rglob('*'):
         parts = path.relative_to(ROOT).parts
-        if 'out' in parts or parts[0] == '.git':
+        if MADE in parts or parts[0] == '.git':
             continue
-        paths.update('/'.join(parts[k:]) for k in range(len(parts)))
         if path.is_file() and path.suffix in ('.rt', '.antt', '.py', '.c', '.h', '.sh', '.rs', '.txt', '.edit', '') and path.stat().st_size < 2 ** 22:
             words.update(re.findall(r'[A-Za-z_]\w*', path.read_text(errors='replace')))
-    return words, paths
+    return words
+
+
+def expanded(path):
+    """The paths that braces stand for."""
+    found = BRACES.search(path)
+    if not found:
+        return [path]
+    return [it for part in found[1].split(',') for it in expanded(path[:found.start()] + part + path[found.end():])]
+
+
+def is_there(path, crate):
+    """Whether a path of the repository is there, as a page of a crate names it, or one of no crate."""
+    if path.split('/')[0] in OF_THE_ROOT:
+        return any(ROOT.glob(path))
+    return any(ROOT.glob(f'crates/{crate or "*"}/{path}'))
 
 
 def is_in_code(name):
@@ -72,13 +86,13 @@ def is_in_code(name):
     return '_' in name.strip('_') or '::' in name or re.search(r'[a-z][A-Z]', name)
 
 
-def unknown_names(text, words, paths):
-    """The names between backquotes that the tree hasn't."""
+def unknown_names(text, words, crate):
+    """The names between backquotes that the tree hasn't, of a page of a crate, or of none."""
     text = re.sub(r'^    .*$', '', text, flags=re.M)
     for quoted in QUOTED.findall(text):
-        if PATH.match(quoted) and quoted.split('/')[0] in ('crates', 'docs', 'bench', 'c', 'src', 'specs', 'proofs', 'data', '.ci'):
-            if not any(mark in quoted for mark in '{*') and quoted.strip('/') not in paths and 'out' not in quoted.split('/') and not quoted.startswith('proofs/FILE'):
-                yield quoted
+        if PATH.match(quoted) and quoted.split('/')[0] in OF_THE_ROOT + IN_A_CRATE:
+            if MADE not in quoted.split('/') and not quoted.startswith(ANY_FILE):
+                yield from (path for path in expanded(quoted) if not is_there(path.strip('/'), crate))
             continue
         for name in NAME.findall(quoted):
             if is_in_code(name) and any(part not in words and part not in ELSEWHERE for part in name.split('::')):
@@ -97,25 +111,23 @@ def main():
     for name in unlisted():
         print(f'bench/README.md names {name} not once')
         wrong += 1
+    for fault in promised.broken():
+        print(fault)
+        wrong += 1
     for path, text in pages().items():
         if '--check' not in sys.argv:
             path.write_text(text)
         elif not path.exists() or path.read_text() != text:
             print(f'{path.relative_to(ROOT)} would change: python3 bench/documents.py')
             wrong += 1
-    words, paths = words_of_the_tree()
-    total = 0
-    for name, limit in written().items():
+    words = words_of_the_tree()
+    for name in written():
         text = (ROOT / name).read_text()
-        count = len(WORD.findall(text))
-        total += count
-        if count > limit:
-            print(f'{name} has {count:,} words, and may have {limit:,}')
-            wrong += 1
-        for unknown in sorted(set(unknown_names(text, words, paths))):
+        crate = name.split('/')[1] if name.startswith('crates/') else None
+        for unknown in sorted(set(unknown_names(text, words, crate))):
             print(f'{name} names {unknown}, which is nowhere')
             wrong += 1
-    print(f'documents: {total:,} words, {wrong} wrong')
+    print(f'documents: {wrong} wrong')
     sys.exit(wrong != 0)
 
 

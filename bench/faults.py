@@ -2,14 +2,15 @@
 """Runs each changing command of the program `rlibreg`, and `update` of `rlibreg-tool`, on a disk in a file, and has one system
 call after the other fail, or kills the program at it. Wants strace.
 
-    python3 bench/faults.py PROGRAM FOLDER [--tool RLIBREG_TOOL]
+    python3 bench/faults.py PROGRAM FOLDER [--tool RLIBREG_TOOL] [--dynamic DYNAMIC]
 
 After each run the disk, as a whole machine still has it, is listed, and a program is bound from it: both have to be as
 before the command or as after it, and as after it where the command answered `ok`. So `format` of a disk that isn't there
 leaves none, or a whole registry; the other name under which it is made is left by a kill alone, or where it can't be taken
 away (`making.py` has more of this). At last every two syncs of a command fail. It prints, for each command and each kind
 of fault, how many runs ended how. Before that come the standard streams that are closed or fail (`streams.py`), of
-RLIBREG_TOOL too.
+RLIBREG_TOOL too. After it, reads and writes move fewer bytes than was asked for (`short.py`); some of these runs need
+DYNAMIC, a folder that `DYNAMIC=yes c/build.sh` has made.
 """
 
 import argparse
@@ -21,6 +22,7 @@ from pathlib import Path
 
 from libraries import Made
 from old_disks import old_disk
+from short import try_short_calls
 from streams import Streams, ToolStreams, try_streams
 
 SECTORS = '64'
@@ -133,6 +135,7 @@ def main():
     words.add_argument('program', type=Path)
     words.add_argument('folder', type=Path)
     words.add_argument('--tool', type=Path)
+    words.add_argument('--dynamic', type=Path)
     given = words.parse_args()
     program, folder = given.program, given.folder
     folder.mkdir(parents=True, exist_ok=True)
@@ -159,6 +162,9 @@ def main():
         commands = []
     for words, start in commands:
         bench.trial(words, start)
+    dynamic = given.dynamic and Bench(given.dynamic / 'rlibreg', given.dynamic / 'rlibreg-tool', folder)
+    if commands:
+        held &= try_short_calls(bench, dynamic, commands, two)
     print(f'faults: {bench.wrong} wrong')
     shutil.rmtree(folder)
     sys.exit(0 if held and not bench.wrong else 1)

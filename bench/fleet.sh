@@ -43,51 +43,53 @@ for number in map(int, sys.argv[2:]):
 
 # ways: a script for each. `url` is the server's folder, `number` the version that is wanted.
 ways() {
-    local ways=$root/try switch copy image list
-    switch=$(of Partitions 'rm -rf')
-    copy=$(of Partitions 'flock -s' | head -n 1)
-    image=$(of Fleets 'casync extract')
+    local ways=$root/try disks image switch list
+    disks=$(of Partitions 'a=/dev' | head -n 1)
+    image=$(of Fleets 'url/sum -O')
+    switch=$(of Fleets '--as-is $a')
     list=$(of Fleets ' before')
     cat > "$ways/casync" << END
-a=\$(readlink /etc/rlibreg/disk) b=/dev/disk/by-partlabel/rlibreg_a url=\$url/\$number
-[ \$a != \$b ] || b=/dev/disk/by-partlabel/rlibreg_b
-$copy
+$disks url=\$url/\$number
 $image
-$switch
 END
-    cat > "$ways/rauc" << 'END'
+    cat > "$ways/rauc" << END
+$disks
+END
+    cat >> "$ways/rauc" << 'END'
 curl -sSfo bundle $url/$number/bundle
-a=$(readlink /etc/rlibreg/disk)
+live=$(rlibreg-switch --which $a $b)
 pkill -x rauc && sleep 1
-rauc --override-boot-slot=${a##*_} service > service 2>&1 &
+rauc --override-boot-slot=${live##*_} service > service 2>&1 &
 until rauc status > /dev/null 2>&1; do sleep 0.2; done
 rauc install bundle
 END
     cat > "$ways/backend" << END
 #!/bin/bash
 set -eu
+$disks
+live=\$(rlibreg-switch --which \$a \$b)
 case \$1 in
-    get-primary) readlink /etc/rlibreg/disk | sed 's/.*_//' ;;
+    get-primary) echo \${live##*_} ;;
     get-state) echo good ;;
     set-primary)
-        b=/dev/disk/by-partlabel/rlibreg_\$2
-        $switch
+        [ \${live##*_} = \$2 ] ||
+            $switch
         ;;
 esac
 END
     cat > "$ways/ostree" << END
-b=/var/registry/\$number/disk
-[ "\$(readlink /etc/rlibreg/disk)" != \$b ] || exit 0 # done again, it would remove what the link names
+new=/var/registry/\$number/disk
+[ ! /etc/rlibreg/disk -ef \$new ] || exit 0 # the next lines would remove the live registry
 # Without the commit before its delta, the file would come whole too.
 for only in --commit-metadata-only ''; do
     ostree --repo=/var/ostree pull --url=\$url/ostree \$only fleet v\$number
 done
 rm -rf /var/registry/\$number
 ostree --repo=/var/ostree checkout -H --fsync=true fleet:v\$number /var/registry/\$number
-$switch
+$(of Fleets '$new')
 END
     cat > "$ways/list" << END
-a=\$(readlink /etc/rlibreg/disk) url=\$url/lists
+url=\$url/lists
 $list
 END
     chmod 755 "$ways/backend"

@@ -9,7 +9,7 @@ word() {
     sed -n "s/.*fleet\.$1=\([a-z0-9]*\).*/\1/p" /proc/cmdline
 }
 server=http://10.0.2.2:$(word port)
-a=/dev/disk/by-partlabel/rlibreg_a
+a=/dev/disk/by-partlabel/rlibreg_a b=/dev/disk/by-partlabel/rlibreg_b
 repository=/var/ostree
 
 failed() {
@@ -44,6 +44,7 @@ forgets() {
 begins() {
     forgets none
     dd if=/try/image-"$2" of=$a conv=fsync status=none
+    rlibreg format $b "$(blockdev --getsz $b)" || [ $? = 1 ] # it has a registry
     ln -sfn $a /etc/rlibreg/disk
     [ "$1" != ostree ] || runs ostree "$2" || failed "$1 doesn't begin"
     [ "$(version)" = "$2" ] || failed "$1 doesn't begin with $2"

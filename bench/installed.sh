@@ -193,10 +193,9 @@ partitions() {
         eval "$(commands $page Partitions a=/dev)"
         rlibreg install $a libone.so
         printf 'install %s\ncommit\n' "$(od -An -v -tx1 libtwo.so | tr -d ' \n')" > changes
-        eval "$(commands $page Partitions 'flock -s')"
-        a=$b b=/dev/disk/by-partlabel/rlibreg_c
-        eval "$(commands $page Partitions 'dd if=/dev/zero')"
-        eval "$(commands $page Partitions 'rm -rf')"
+        eval "$(commands $page Partitions 'rlibreg-switch $a')"
+        echo commit > changes
+        eval "$(commands $page Partitions c=/dev)"
         rlibreg-tool digest /etc/rlibreg/disk | cmp - <(sha256sum libone.so libtwo.so)
         [ "$(rlibreg-run /etc/rlibreg/disk main | head -n 1)" = '+one +two main' ]
         echo 'docs/DEVICES.md: partitions as written, over loop devices'

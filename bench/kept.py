@@ -1,9 +1,10 @@
 #!/usr/bin/env python3
 """Starts a program from images that are kept, beside changes of its disk and kills of both.
 
-    python3 bench/kept.py PROGRAMS [SECONDS [FOLDER]]
+    python3 bench/kept.py PROGRAMS [SECONDS [FOLDER [loop]]]
 
-PROGRAMS has rlibreg and rlibreg-run (c/build.sh). Disk and images lie in FOLDER, or in memory. Twenty loops start a
+PROGRAMS has rlibreg and rlibreg-run (c/build.sh). Disk and images lie in FOLDER, or in memory. With the word `loop`, which
+wants root, the disk is a loop device over a file there, whose images need no moment without changes. Twenty loops start a
 program that prints which version of a library it has, each start with `rlibreg-run -c`, every other one with -v too,
 which tells what it did, but has the loader's C library set up first; one loop puts further versions in the place of
 the library, at times so slowly that images are kept between, and empties the folder of images. Some starts and some
@@ -12,6 +13,7 @@ than the last that was acknowledged before it, and none that wasn't begun. It en
 """
 
 import collections
+import contextlib
 import os
 import random
 import subprocess
@@ -20,6 +22,8 @@ import tempfile
 import threading
 import time
 from pathlib import Path
+
+from media import loop
 
 COMPILE = ['gcc', '-O1', '-fPIC', '-nostdlib', '-fno-stack-protector', '-Wl,--hash-style=sysv']
 STARTS, VERSIONS = 20, 4000
@@ -33,10 +37,10 @@ void _start(void) {
 
 
 class Versions:
-    """Which versions the disk may have."""
+    """Which versions the disk may have, and where it is."""
 
     def __init__(self):
-        self.guard = threading.Lock()
+        self.guard, self.disk = threading.Lock(), 'disk'
         self.begun = self.acknowledged = 0
 
     def begin(self):
@@ -73,7 +77,7 @@ def change(words, library, folder, versions, choose, until):
     while time.time() < until and versions.begun < VERSIONS:
         version = versions.begin()
         (folder / 'new.so').write_bytes(library.replace(b'000000', b'%06d' % version))
-        ended = killed_at_times([*words, 'replace', 'disk', 'new.so'], choose, 0.1)
+        ended = killed_at_times([*words, 'replace', versions.disk, 'new.so'], choose, 0.1)
         if ended is None:
             continue # it may have been made
         assert ended[0] == 0 and ended[1] == b'ok\n', ended
@@ -89,7 +93,7 @@ def start(words, versions, choose, until, counts, wrong):
     while time.time() < until:
         oldest = versions.acknowledged
         tells = ['-v'] if choose.random() < 0.5 else []
-        ended = killed_at_times([*words, *tells, '-c', 'kept', 'disk', './program'], choose, 0.1)
+        ended = killed_at_times([*words, *tells, '-c', 'kept', versions.disk, './program'], choose, 0.1)
         newest = versions.begun
         if ended is None:
             counts['killed'] += 1
@@ -105,13 +109,15 @@ def main():
     built, seconds = Path(sys.argv[1]).resolve(), float(sys.argv[2]) if len(sys.argv) > 2 else 60
     counts, wrong, versions = collections.Counter(), [], Versions()
     memory = '/dev/shm' if os.access('/dev/shm', os.W_OK) else None
-    with tempfile.TemporaryDirectory(dir=sys.argv[3] if len(sys.argv) > 3 else memory) as name:
-        folder = Path(name).resolve()
+    with contextlib.ExitStack() as stack:
+        folder = Path(stack.enter_context(tempfile.TemporaryDirectory(dir=sys.argv[3] if len(sys.argv) > 3 else memory))).resolve()
         os.chdir(folder)
         library = make(folder)
         (folder / 'kept').mkdir(mode=0o700)
         for words in (['format', 'disk', '512'], ['install', 'disk', 'libv.so']):
             subprocess.run([built / 'rlibreg', *words], check=True, capture_output=True)
+        if sys.argv[4:] == ['loop']:
+            versions.disk = str(stack.enter_context(loop(folder / 'disk')))
         until = time.time() + seconds
         threads = [threading.Thread(target=start, args=(
             [built / 'rlibreg-run'], versions, random.Random(k), until, counts, wrong)) for k in range(STARTS)]

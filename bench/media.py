@@ -16,6 +16,7 @@ import contextlib
 import fcntl
 import mmap
 import os
+import re
 import shutil
 import stat
 import subprocess
@@ -101,6 +102,13 @@ def partition(device, number, start, sectors):
             return path
         time.sleep(0.02)
     raise NotHere('partitions get no nodes')
+
+
+def are_in_order(calls, changes):
+    """Whether a sync comes before all else, and of a change one directly before each write of a root, and one after it."""
+    made = [call for call in calls if call != 'read']
+    roots = [at for at, call in enumerate(made) if call == 'root']
+    return calls[:1] == ['sync'] and bool(roots) == changes and made[-1:] == ['sync'] and all(made[at - 1] == 'sync' for at in roots)
 
 
 class Media:
@@ -629,9 +637,40 @@ class Media:
                 fail, heal = [lambda how=how: system('blockdev', how, device) for how in ('--setro', '--setrw')]
                 self.within_a_script(kind, device, plain[0], fail, heal)
 
+    def synced(self):
+        """A command syncs a device before it reads it, a change also before it writes its root and after that. A sync that fails
+        is answered S1, and the device holds what it held before the change or after it."""
+        if not has('strace'):
+            raise NotHere('there is no strace')
+        with loop(zeros(self.image, 64)) as device:
+            self.make(device, 64, 'a.so', 'b.so')
+            before, plain = device.read_bytes(), self.answers(device)
+            for words, given in self.reads(str(device))[:2] + self.changes(str(device)):
+                calls = self.calls_of(device, words, given)
+                kind = f'the syncs of a device by {words[0]}'
+                self.want(kind, are_in_order(calls, (words, given) in self.changes(str(device))), words, calls)
+                after = self.answers(device)
+                for number in range(1, calls.count('sync') + 1):
+                    self.write_at(device, 0, before)
+                    fault = ['strace', '-qq', '-o', '/dev/null', '-e', f'inject=fsync:error=EIO:when={number}']
+                    ended = self.by.run(words, given, wrapped=fault)
+                    self.want(kind, ended[:2] == (3, S1) or self.by.unread(ended, device), words, 'by sync', number, ended)
+                    self.want(kind, self.answers(device) in (plain, after), words, 'by sync', number, self.answers(device))
+                self.write_at(device, 0, before)
+
+    def calls_of(self, device, words, given):
+        """The syncs, reads and writes of the device, in their order; `root` is the write of one root."""
+        log = self.folder / 'calls'
+        ended = self.by.run(words, given, wrapped=['strace', '-qq', '-y', '-o', str(log), '-e', 'trace=fsync,fdatasync,pread64,pwrite64'])
+        assert ended.status == 0, (words, ended)
+        calls = re.findall(rf'^(\w+)\(\d+<{device}>(?:\)|.*, (\d+), (\d+)\)) += \d+$', log.read_text(), re.M)
+        names = {'fsync': 'sync', 'fdatasync': 'sync', 'pread64': 'read', 'pwrite64': 'write'}
+        return ['root' if (name, size) == ('pwrite64', str(SECTOR)) and int(at) <= SECTOR else names[name] for name, size, at in calls]
+
     def run(self):
         for part in (self.read_only_media, self.another_user, self.devices, self.odd_sizes, self.partitions, self.unseen, self.in_use, self.two_nodes,
-                     self.locks, self.under_the_cache, self.eight_at_once, self.under_a_file, self.full_medium, self.shorter, self.read_only_device):
+                     self.locks, self.under_the_cache, self.eight_at_once, self.under_a_file, self.full_medium, self.synced, self.shorter,
+                     self.read_only_device):
             try:
                 part()
             except NotHere as why:

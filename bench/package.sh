@@ -1,7 +1,8 @@
 #!/usr/bin/env bash
-# package.sh BUILT FOLDER [RELEASE]..  makes of what c/build.sh has put into BUILT a Debian package in
-# FOLDER, which has no errors by lintian, if that is here, and whose bytes are the same each time; then
-# installs it in a bare Debian of each RELEASE, as bookworm or trixie, runs what it has, and removes it.
+# package.sh BUILT FOLDER [RELEASE]..  makes a Debian package in FOLDER from the files that c/build.sh has
+# put into BUILT. It has each file that c/install.sh installs, lintian (if installed) finds no errors in
+# it, and its bytes are the same each time. Then the script installs it in a bare Debian of each RELEASE,
+# such as bookworm or trixie, runs what it has, and removes it.
 #
 # It wants dpkg-dev, and pandoc for manual pages. Who makes it is DEBFULLNAME with DEBEMAIL, or else the
 # last commit's author. With a RELEASE it is for root, needs debootstrap, and has some 50 MB from a mirror.
@@ -43,7 +44,7 @@ depends() {
 tree() {
     local page doc=$1/usr/share/doc/rlibreg
     DESTDIR=$1 PYTHONDIR=/usr/lib/python3/dist-packages c/install.sh /usr "$built" > "$room/said"
-    rm -r "$1/usr/share/rlibreg" # dpkg has the list
+    mv "$1/usr/share/rlibreg/installed" "$room/installed" # dpkg has a list of its own
     strip --strip-unneeded "$1"/usr/bin/rlibreg{,-tool} "$1"/usr/lib/librlibreg.so.*.*.*
     strip --strip-debug --enable-deterministic-archives "$1/usr/lib/librlibreg.a"
     cp c/debian/copyright "$doc/copyright"
@@ -77,6 +78,18 @@ make() {
     dpkg-deb --root-owner-group --build "$room/tree" "$1" > "$room/said"
 }
 
+# whole FILE: whether the package has each file that install.sh has listed. Manual pages are compressed.
+whole() {
+    sed '/^#/d; /\/$/d; \|/share/rlibreg/installed$|d; s|/man/man[13]/.*|&.gz|' "$room/installed" |
+        sort > "$room/listed"
+    dpkg-deb --fsys-tarfile "$1" | tar -t | sed 's/^\.//' | sort > "$room/packed"
+    comm -23 "$room/listed" "$room/packed" > "$room/missing"
+    [ -s "$room/missing" ] || return 0
+    echo 'package.sh: the package lacks:' >&2
+    cat "$room/missing" >&2
+    exit 1
+}
+
 # What a new user does with it, in a Debian that has python3 and no compiler.
 cat > "$room/day.sh" << 'END'
 set -eEuo pipefail
@@ -94,7 +107,12 @@ rlibreg install disk libgreeting.so
 [ "$(rlibreg-tool check disk | head -n 1 | cut -d' ' -f1,2)" = 'ok libgreeting.so' ]
 [ "$(ldconfig -p | grep -c "librlibreg.so.${VERSION%.*} ")" = 1 ]
 python3 -c 'import rlibreg; print(rlibreg.Registry("disk").list())'
-rm disk
+[ "$(rlibreg-tool bindings disk program 0x0 | /usr/share/rlibreg/bindings-to-dot | grep -c -- '->')" = 1 ]
+rlibreg format other 256
+ln -s disk link
+rlibreg-switch --link link disk other rlibreg-tool info disk
+[ "$(rlibreg list link)" = "$(rlibreg list disk)" ]
+rm disk other link
 dpkg -r rlibreg > /dev/null
 everything > after
 if diff before after | grep -v ' /try/\(before\|after\)$' | grep '^[<>]'; then exit 1; fi
@@ -125,6 +143,7 @@ try() {
 make "$package"
 make "$room/again.deb"
 cmp "$package" "$room/again.deb"
+whole "$package"
 if command -v lintian > /dev/null; then
     lintian --fail-on error "$package"
 else

@@ -6,12 +6,14 @@
 #
 # - Units and rule by systemd's own checkers, as far as RELEASE has them.
 # - A loop device with direct I/O: what is made on it is, byte for byte, what is made in a file.
+# - Two of these: rlibreg-switch is killed with all that it has started, at 40 random moments, to and fro.
+#   The link then leads to the old state or to the new one, and the same switch succeeds.
 # - The node's group and mode; the service that waits, the one that starts, its kept image; the switch;
-#   growing, also where a copy was cut before.
+#   growing, also after a switch was cut; and the way back to the shorter partition.
 # - A program that the initramfs starts, and a first process, from a registry on a partition.
 # - dm-verity: the same over it; a changed byte, and another root hash, start nothing.
-# - The power goes CUTS times (5) while a copy, its change and the switch go to and fro: the link names one
-#   of the two, whose registry is whole, and all is done again.
+# - The power fails CUTS times (5) while rlibreg-switch goes to and fro: the link leads to one of the two
+#   partitions, whose registry is whole, and the next switch succeeds.
 #
 # It is for root, needs debootstrap, qemu-system-x86, fdisk, e2fsprogs and gcc, and has some 250 MB
 # from a mirror of Debian. ACCEL is qemu's -accel.
@@ -21,10 +23,11 @@ PATH=$built:$PATH
 release=${2:-bookworm} cuts=${3:-5}
 cd "$(dirname "$0")/.."
 room=$(mktemp -d)
-page=$PWD/docs/DEVICES.md loop=
+page=$PWD/docs/DEVICES.md switch=$PWD/c/rlibreg-switch loop= loops=()
 . bench/guest.sh
 mkdir "$room/made"
-trap 'ended=$?; [ -z "$guest" ] || kill "$guest" || true; [ -z "$loop" ] || losetup -d "$loop"
+trap 'ended=$?; [ -z "$guest" ] || kill "$guest" || true
+    for loop in $loop "${loops[@]}"; do losetup -d "$loop"; done
     rm -rf "$room"; exit $ended' EXIT
 
 # Two libraries of one name, a program that prints what they say, and one that is the first process.
@@ -68,6 +71,42 @@ over_a_loop_device() {
     rm file same
     cd - > /dev/null
     echo 'a loop device: as written, with direct I/O'
+}
+
+# A switch of two loop devices that is killed, and is then run again.
+killed_over_loop_devices() {
+    local number name before after wanted began took=0 moment reached=0
+    cd "$room/made"
+    for number in 0 1; do
+        eval "$(of Partitions 'fallocate')"
+        loops+=("$loop") loop=
+        mv file disk-$number
+        rlibreg format "${loops[number]}" 8192 > said
+    done
+    rlibreg install "${loops[0]}" libone.so > said
+    ln -s "${loops[0]}" link
+    for number in {0..40}; do
+        name=libother.so
+        [ $((number % 2)) = 1 ] || name=libone.so
+        printf 'replace %s\ncommit\n' "$(od -An -v -tx1 $name | tr -d ' \n')" > changes
+        wanted=$(sha256sum < $name | cut -d ' ' -f 1)
+        before=$(rlibreg-tool digest link | cut -d ' ' -f 1)
+        moment=$(awk "BEGIN {print 0.01 + 1.2 * $took * $RANDOM / 32768}")
+        { timeout -s KILL "$moment" "$switch" --link "$PWD/link" "${loops[@]}" < changes > said || true; } 2> said
+        after=$(rlibreg-tool digest link | cut -d ' ' -f 1)
+        [ "$after" = "$before" ] || [ "$after" = "$wanted" ] || failed "a killed switch leaves $after"
+        [ "$after" = "$before" ] || reached=$((reached + 1))
+        began=$EPOCHREALTIME
+        "$switch" --link "$PWD/link" "${loops[@]}" < changes > said
+        after=$(rlibreg-tool digest link | cut -d ' ' -f 1)
+        [ "$after" = "$wanted" ] || failed "a switch after a kill leaves $after"
+        took=$(awk "BEGIN {print $EPOCHREALTIME - $began}")
+    done
+    for loop in "${loops[@]}"; do losetup -d "$loop"; done
+    loops=() loop=
+    rm disk-0 disk-1 link changes said
+    cd - > /dev/null
+    echo "two loop devices: 40 switches that were killed, of which $reached had been made, and each again"
 }
 
 # A Debian with what is installed, and what the guest needs beside it.
@@ -120,7 +159,7 @@ journalctl -b -o cat -u 'rlibreg*' | grep '^library\|^rlibreg: one'
 find /var/cache/rlibreg -type f -printf 'rlibreg: kept by %u in %h\n'
 printf 'replace %s\ncommit\n' $(od -An -v -tx1 libother.so | tr -d ' \n') > changes
 END
-        of Partitions 'flock -s'
+        of Partitions 'rlibreg-switch $a'
         cat << 'END'
 start
 journalctl -b -o cat -u 'rlibreg*' | grep '^rlibreg: other'
@@ -128,16 +167,17 @@ END
         of Partitions 'veritysetup format' | sed 's/$/ > tree/'
         cat << 'END'
 sed -n 's/^Root hash:[[:space:]]*/rlibreg: roothash=/p' tree
-a=$b b=/dev/disk/by-partlabel/rlibreg_c
-rlibreg format $b $(blockdev --getsz $b)
-rlibreg-tool dump $a commit | head -c 9999 | rlibreg-tool update $b || echo 'rlibreg: a copy is cut'
 END
-        of Partitions 'dd if=/dev/zero'
-        of Partitions 'rm -rf'
+        of Partitions 'c=/dev' | sed '$d'
+        cat << 'END'
+rlibreg-switch --resize $b $c sh -c 'kill -9 $PPID' || echo 'rlibreg: a switch is cut'
+END
+        of Partitions 'c=/dev' | tail -n 1
         cat << 'END'
 echo "rlibreg: there are $(rlibreg-tool info /etc/rlibreg/disk | sed -n 's/^sectors //p') sectors"
-rlibreg-tool dump $a | cmp - <(rlibreg-tool dump $b)
+rlibreg-tool dump $b | cmp - <(rlibreg-tool dump $c)
 start
+rlibreg-switch --resize $c $a < changes
 echo 'rlibreg: the day is over'
 poweroff -f
 END
@@ -153,10 +193,9 @@ rlibreg list /etc/rlibreg/disk
 rlibreg-run /etc/rlibreg/disk /usr/bin/program
 echo 'rlibreg: to and fro'
 while :; do
-    a=/dev/disk/by-partlabel/rlibreg_a b=/dev/disk/by-partlabel/rlibreg_b
-    [ "$(readlink /etc/rlibreg/disk)" != $b ] || { a=$b; b=${b%b}a; }
 END
-        of Partitions 'flock -s'
+        of Partitions 'a=/dev' | head -n 1
+        of Partitions 'rlibreg-switch $a'
         printf 'echo "rlibreg: switched"\ndone\n'
     } > "$root/try/cuts.sh"
     chmod 755 "$root/try/day.sh" "$root/try/cuts.sh"
@@ -178,6 +217,7 @@ END
 
 programs
 over_a_loop_device
+killed_over_loop_devices
 prepare
 checkers
 scripts
@@ -186,7 +226,7 @@ partitions 'size=4M, name=rlibreg_a' 'size=8M, name=rlibreg_c' 'size=4M, name=rl
 boot
 ended
 said 'the node is root:rlibreg 640' '^library libgreeting.so' '^rlibreg: one' '^rlibreg: other' \
-    'kept by rlibreg in /var/cache/rlibreg/usr-bin-program' 'roothash=' 'a copy is cut' \
+    'kept by rlibreg in /var/cache/rlibreg/usr-bin-program' 'roothash=' 'a switch is cut' \
     'there are 16384 sectors' 'the day is over'
 echo 'systemd, the switch, growing: as written'
 hash=$(sed -n 's/^rlibreg: roothash=//p' "$room/said")
@@ -222,7 +262,7 @@ for ((i = 0; i <= cuts; i++)); do
     boot init=/try/cuts.sh
     if [ "$i" -lt "$cuts" ]; then begun 'to and fro'; else begun 'rlibreg: switched'; fi
     power_cut 3
-    said 'the link names /dev/disk/by-partlabel/rlibreg_[abc]$' '^library libgreeting.so' '^rlibreg: other'
+    said 'the link names /dev/disk/by-partlabel/rlibreg_[ab]$' '^library libgreeting.so' '^rlibreg: other'
     ! grep 'rlibreg: failed' "$room/said" || failed "it doesn't go on"
     switches=$((switches + $(grep -c '^rlibreg: switched' "$room/said" || true)))
 done

@@ -8,10 +8,13 @@ it that is kept, and from registries that have 330 MB of others beside them, few
 The words are those of real_programs.py, by which Lua is built. Each start runs an empty script. The least and the
 median of some hundred starts in turn are printed, in milliseconds, and the least of the processor behind them; once with
 nothing beside, and once beside a process that writes and syncs a file of the same file system. Images are kept in a folder
-of that file system, and in one of tmpfs.
+of that file system, and in one of tmpfs. The loop device is held open, so that the system keeps all of it in memory.
 """
 
+import contextlib
+import os
 import shutil
+import subprocess
 from pathlib import Path
 
 import real_builds
@@ -34,12 +37,33 @@ def crowded(programs, build, number, size):
     return disk
 
 
-def all_variants(bench, build, made, on_disk, in_memory):
+@contextlib.contextmanager
+def device(disk):
+    """A loop device over a copy of a disk, held open; or None where there can be none."""
+    copy = disk.with_suffix('.device')
+    shutil.copy(disk, copy)
+    made = subprocess.run(['losetup', '--find', '--show', copy], capture_output=True, text=True) if os.geteuid() == 0 else None
+    if made is None or made.returncode:
+        print('skipped: a loop device')
+        yield None
+        return
+    name = made.stdout.strip()
+    try:
+        with open(name, 'rb') as it:
+            it.read()
+            yield name
+    finally:
+        subprocess.run(['losetup', '--detach', name], check=True)
+
+
+def all_variants(bench, build, made, on_disk, in_memory, loop):
     static, registry, *rest = made
     yield from (static, registry)
     run, *disk = registry.before
     for name, kept in (('registry, -c', on_disk), ('registry, -c in memory', in_memory)):
         yield registry._replace(name=name, before=[run, '-c', kept, *disk])
+    if loop:
+        yield registry._replace(name='a device, -c', before=[run, '-c', on_disk, loop])
     yield from rest
     if shutil.which('lua5.4'):
         yield static._replace(name="the system's loader", file=Path(shutil.which('lua5.4')).read_bytes())
@@ -59,9 +83,9 @@ def main():
     bench, sources, _ = asked_for()
     build = real_builds.lua(bench.folder / 'Lua', sources)
     made = [*bench.variants(build, bench.registry(build), 'lua')]
-    with kept_folder(bench.folder) as on_disk, kept_folder() as in_memory:
+    with kept_folder(bench.folder) as on_disk, kept_folder() as in_memory, device(build.folder / 'disk') as loop:
         ways = {it.name: (words_of(it, emptied(bench.folder / it.name)), {})
-                for it in all_variants(bench, build, made, on_disk, in_memory)}
+                for it in all_variants(bench, build, made, on_disk, in_memory, loop)}
         timed(ways, STARTS, 'Lua')
         with writer(bench.folder):
             timed(ways, STARTS_BESIDE, 'beside a writer, Lua')

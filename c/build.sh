@@ -51,7 +51,7 @@ fi
 cp "$RLIBREG_C" "$folder/proved.a"
 
 # The C over them, and what gives the proved calls their memory.
-parts='file disk_file streams place new_disk names turn front status'
+parts='file disk_file process streams place new_disk names turn front status'
 for part in $parts; do
     $cc $flags -c -o "$folder/rlibreg_$part.o" "c/rlibreg_$part.c"
 done
@@ -68,16 +68,17 @@ END
     rm proved.a $(printf 'rlibreg_%s.o ' $parts)
 )
 cp c/rlibreg.h "$folder/"
-# linked STATUS MESSAGE NAME WORD..: links one that ends so where it can't begin for want of memory.
+# linked STATUS STREAM MESSAGE NAME WORD..: links a program that, if it is refused the memory to begin
+# with, prints a message to a standard stream and exits with a status.
 linked() {
-    $cc $flags $hardened $linking -DOUT_OF_MEMORY="$1" -DMESSAGE="\"$3: $2\\n\"" \
-        -Wl,-e,rlibreg_entry -o "$folder/$3" c/rlibreg_entry.c c/rlibreg_stack.c "${@:4}"
+    $cc $flags $hardened $linking -DOUT_OF_MEMORY="$1" -DSTREAM="$2" -DMESSAGE="\"$3\\n\"" \
+        -Wl,-e,rlibreg_entry -o "$folder/$4" c/rlibreg_entry.c c/rlibreg_stack.c "${@:5}"
 }
 
 # What the loader does before its C library is set up: it may call nothing of it, and have no address
 # in its data, since nothing is relocated. A start takes as long as it touches pages: so its constants
 # are in its code, headers and code in one segment, and where `.bss` begins none is filled up.
-early='early kernel words key kept kept_file folder start debugger'
+early='early kernel words key kept kept_file compare folder start debugger'
 alone='-fPIE -ffreestanding -fno-stack-protector -fno-tree-loop-distribute-patterns'
 (
     for part in $early; do
@@ -96,28 +97,31 @@ alone='-fPIE -ffreestanding -fno-stack-protector -fno-tree-loop-distribute-patte
         exit 1
     fi
 )
-linked 126 'memory: Cannot allocate memory' rlibreg-run -DSTARTS_EARLY -Wl,--build-id=sha1 \
+linked 126 2 'rlibreg-run: memory: Cannot allocate memory' rlibreg-run -DSTARTS_EARLY -Wl,--build-id=sha1 \
     -Wl,-z,noseparate-code -T "$folder/filled.ld" \
-    c/rlibreg_run.c c/rlibreg_run_{base,calls,image,keep,named,objects,order,program}.c \
+    c/rlibreg_run.c c/rlibreg_run_{base,calls,image,keep,named,objects,order,program,rights,sources,stretches}.c \
     "$folder/early.o" "$folder/librlibreg.a"
 rm "$folder/early.o" "$folder/filled.ld"
 
-# program NAME OBJECT CRATE WORD..: a program, with what its language can't ask of the system. OBJECT
-# is what `rt run` links, by which it is made where it is empty; the words are those of a run.
+# program NAME STREAM MESSAGE OBJECT CRATE WORD..: a program, with what its language can't ask of the
+# system. OBJECT is what `rt run` links; if it is empty, `rt run` makes it by a run with the words.
+# STREAM and MESSAGE are as for `linked`.
 program() {
-    local name=$1 object=$2 crate=$3
-    shift 3
+    local name=$1 stream=$2 message=$3 object=$4 crate=$5
+    shift 5
     if [ -z "$object" ]; then
         (cd "crates/$crate" && rt run --backend "$compiler" -- "$@" > /dev/null)
         object=crates/$crate/out/$crate.o
     fi
-    linked 4 'refused S11 OutOfMemory' "$name" \
-        -Wl,--gc-sections,--wrap=fsync,--wrap=flock,--wrap=main c/rlibreg_{main,front,names,turn}.c \
+    linked 4 "$stream" "$message" "$name" \
+        -Wl,--gc-sections,--wrap=open,--wrap=fsync,--wrap=flock,--wrap=main c/rlibreg_{main,front,names,turn}.c \
         c/rlibreg_program_{lock,sync}.c "$object" "$kit/c/libos_c.a" \
         "$kit/c/liblibc_c.a" -lm
 }
-program rlibreg "${RLIBREG_O:-}" rlibreg image data/minimal.so 0x10000
-program rlibreg-tool "${RLIBREG_TOOL_O:-}" rlibreg_tool info data/disk
+# A refusal of a command belongs on standard output, one of the tool on standard error.
+refusal='refused S11 OutOfMemory'
+program rlibreg 1 "$refusal" "${RLIBREG_O:-}" rlibreg image data/minimal.so 0x10000
+program rlibreg-tool 2 "rlibreg-tool: $refusal" "${RLIBREG_TOOL_O:-}" rlibreg_tool info data/disk
 
 # The shared library exports what the header declares, and no other name.
 version=$(c/version.sh)
@@ -138,10 +142,10 @@ soname=librlibreg.so.${version%.*}
     ln -s "$soname" librlibreg.so
 )
 
-# The driver, with where its programs begin, what C++ asks for, what reads version scripts, and the
-# kernel's headers.
+# The driver, with its specs, what links, where its programs begin, what C++ asks for, what reads version
+# scripts and files of words, and the kernel's headers.
 $cc $flags -g0 -c -o "$folder/rlibreg_begin.o" c/rlibreg_begin.c
-cp c/rlibreg-gcc c/rlibreg_plus.cc c/rlibreg_versions.awk "$folder/"
+cp c/rlibreg-{gcc,ld} c/rlibreg{,_plus}.specs c/rlibreg_plus.cc c/rlibreg_{versions,words}.awk "$folder/"
 ln -sf rlibreg-gcc "$folder/rlibreg-g++"
 mkdir -p "$folder/rlibreg_kernel"
 for headers in /usr/include/{,"$($cc -print-multiarch)/"}{linux,asm,asm-generic}; do

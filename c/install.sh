@@ -67,7 +67,9 @@ add_all() {
     add 755 "$2/rlibreg-tool" "$1/bin/rlibreg-tool"
     add 755 "$2/rlibreg-gcc" "$1/bin/rlibreg-gcc"
     add link rlibreg-gcc "$1/bin/rlibreg-g++"
-    for name in rlibreg_begin.o rlibreg_plus.cc rlibreg_versions.awk; do
+    add 755 "$here/rlibreg-switch" "$1/bin/rlibreg-switch"
+    add 755 "$2/rlibreg-ld" "$1/lib/rlibreg/rlibreg-ld"
+    for name in rlibreg{,_plus}.specs rlibreg_begin.o rlibreg_plus.cc rlibreg_{versions,words}.awk; do
         add 644 "$2/$name" "$1/lib/rlibreg/$name"
     done
     for name in "$2"/rlibreg_kernel/*; do

@@ -1,8 +1,8 @@
 #!/usr/bin/env bash
 # manual.sh FOLDER DOCUMENTS makes the manual pages rlibreg.1, rlibreg-tool.1, rlibreg-run.1,
-# rlibreg-gcc.1 and rlibreg.3 from docs/COMMANDS.md, docs/TOOL.md, docs/LINKING.md and docs/C.md, by
-# pandoc, and those of the calls from rlibreg.h, by python3; what is left out it says. DOCUMENTS is the
-# folder in which the pages say that the documents are.
+# rlibreg-gcc.1, rlibreg-switch.1 and rlibreg.3 from docs/COMMANDS.md, docs/TOOL.md, docs/LINKING.md,
+# docs/DEVICES.md and docs/C.md, by pandoc, and the pages of the calls from rlibreg.h, by python3. It
+# prints what it leaves out. The pages say that the documents are in the folder DOCUMENTS.
 set -eu
 cd "$(dirname "$0")/../docs"
 folder=$1
@@ -30,7 +30,7 @@ page() {
 
 ## See also
 
-rlibreg(1), rlibreg-gcc(1), rlibreg-run(1), rlibreg-tool(1), rlibreg(3).
+rlibreg(1), rlibreg-gcc(1), rlibreg-run(1), rlibreg-switch(1), rlibreg-tool(1), rlibreg(3).
 
 GUIDE, LINKING and other names in capital letters are documents in \`$documents\`; files of
 \`c\` and \`crates\` are those of the source.
@@ -53,6 +53,7 @@ section() {
 }
 section C rlibreg-run | page rlibreg-run 1 'starts a program with the libraries of a registry'
 section LINKING rlibreg-gcc | page rlibreg-gcc 1 'compiles and links what a registry takes'
+section DEVICES rlibreg-switch | page rlibreg-switch 1 'changes a registry by way of a second disk'
 
 # The other sections of C.md.
 {

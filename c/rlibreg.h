@@ -60,9 +60,10 @@
  *   file is mapped. So does a file that is made shorter during a call, and, but for rlibreg_format,
  *   a hole that is read on a full tmpfs. Who has to live on reads the bytes into memory under the
  *   lock, which fails with an errno, and makes the calls over bytes: the host of docs/C.md does.
- * - Each call looks at the file's length, and a change, before it and behind it, whether the path
- *   still names the file. Where one isn't as it was the answer is S1, errno ESTALE, or why the path
- *   can't be looked at: so a change isn't answered 0 which nobody would see.
+ * - Each call looks at the file's length, and a change, before it and after it, whether the path
+ *   still names the file, or the same block device. If one isn't as it was, the answer is S1, with
+ *   errno ESTALE, or why the path can't be looked at: so a change isn't answered 0 which nobody would
+ *   see.
  * - A disk that may only be read, or is on a file system for reading alone, can be looked at. There
  *   a sync that is answered EINVAL has nothing to do, and is taken for done; one that is answered
  *   EROFS has failed, since a file system that a failure has made read-only answers so.
@@ -81,6 +82,14 @@
  * - Calls may be made at once in several threads, on different struct rlibreg. One struct is used
  *   by one thread at a time. No call is made from a signal handler, nor, in a process of several
  *   threads, from a child between fork and exec. A thread that makes calls has 512 KiB of stack.
+ * - A child is told from its parent even if both have the same process number, as process 1 of a
+ *   container and process 1 of a process namespace that it makes. A child of vfork, or of clone(2)
+ *   with CLONE_VM, shares its parent's memory, and makes no calls. If fork can't be watched for want
+ *   of memory (pthread_atfork), nothing is opened: RLIBREG_SYSTEM, with errno ENOMEM.
+ * - pthread_cancel ends no call that opens, changes or closes a file: the call returns first, and
+ *   the thread ends at its next cancellation point. It keeps the lock until rlibreg_close, which a
+ *   cleanup handler calls (pthread_cleanup_push). A wait for a lock isn't cancelled either: a limit
+ *   ends it (rlibreg_wait_limit). A thread that can be cancelled asynchronously makes no calls.
  * - malloc, realloc and free are the program's, of one allocator. malloc and realloc align a block
  *   to each power of two up to 16 that divides its size. Each block is given back before the call
  *   ends, but for those of which the second layer says who frees them.
@@ -157,7 +166,7 @@ enum {
     RLIBREG_PRE_INITIALIZERS = 403, /* it has pre-initializers, which nobody would run */
     RLIBREG_INITIALIZERS = 404,     /* a library has initializers; the text names it */
     RLIBREG_FINALIZERS = 405,       /* a library has finalizers; the text names it */
-    RLIBREG_OUT_OF_ORDER = 406,     /* the segments don't rise: of no image that a bind gives */
+    /* 406 was OutOfOrder, which no image ever was. It isn't used again. */
     RLIBREG_TOO_MANY_HEADERS = 407, /* there are more segments than the kernel takes */
     RLIBREG_WRITABLE_CODE = 408,    /* an object's memory could be written and executed */
     RLIBREG_NO_PAGES = 409          /* no pages are free for the headers */
@@ -335,9 +344,9 @@ uint32_t rlibreg_bindings(const uint8_t *disk, size_t disk_length, const uint8_t
  * left as it was. It takes the memory of the image, and up to five times that of its segments.
  *
  * RLIBREG_NO_ENTRY, RLIBREG_STATIC_PIE, RLIBREG_PRE_INITIALIZERS, RLIBREG_INITIALIZERS,
- * RLIBREG_FINALIZERS, RLIBREG_OUT_OF_ORDER, RLIBREG_TOO_MANY_HEADERS, RLIBREG_WRITABLE_CODE or
- * RLIBREG_NO_PAGES where the image has no such file, by the first that applies: TEXT has the line
- * of `rlibreg-tool executable`. Refusals: B1 to B5; S3, S5, S6, S11, S12. */
+ * RLIBREG_FINALIZERS, RLIBREG_TOO_MANY_HEADERS, RLIBREG_WRITABLE_CODE or RLIBREG_NO_PAGES where the
+ * image has no such file, by the first that applies: TEXT has the line of `rlibreg-tool
+ * executable`. Refusals: B1 to B5; S3, S5, S6, S11, S12. */
 uint32_t rlibreg_executable(const uint8_t *disk, size_t disk_length, const uint8_t *program,
                             size_t program_length, uint64_t base, uint8_t *bytes,
                             size_t bytes_room, char *text, size_t text_room,
@@ -404,10 +413,12 @@ uint32_t rlibreg_check(const uint8_t *disk, size_t disk_length, rlibreg_finding 
  *     RLIBREG_SYNC in four bytes: a sync, which brings all that was written before to the medium.
  *
  * Carry them out in their order, and begin none after a sync before that sync has succeeded.
- * Between two syncs neighbouring sectors may go in one write. Where a write or a sync fails, stop:
- * what the disk holds is known again once it is read anew, after a sync. A power cut at any moment
- * leaves the registry from before or the one after, and nothing else; after the last step, which is
- * a sync, the one after. The disk is the one that was given: nobody wrote to it in between.
+ * Between two syncs neighbouring sectors may go in one write. A plan may write a sector more than
+ * once between two syncs, as that of an update that installs a library and removes it again does.
+ * The last of these writes counts, so don't sort them. If a write or a sync fails, stop: what the
+ * disk holds is known again once it is read again, after a sync. A power cut at any moment leaves
+ * the registry from before or the one after, and nothing else; after the last step, which is a sync,
+ * the one after. The disk is the one that was given: nobody wrote to it in between.
  *
  * A plan takes 516 bytes for each sector and 4 for each sync: an installation or a replacement
  * those of the file's bytes, and at most 37 steps beside; every other plan but that of an update at

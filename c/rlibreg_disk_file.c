@@ -25,21 +25,27 @@ static void free_list(void) {
     pthread_mutex_unlock(&guard);
 }
 
-/* A child of fork begins without any, whatever another thread was doing in its parent. What that
- * waits for is closed in the child: else its mark would stay with it (rlibreg_turn.h). */
+/* A child of fork begins without any, whatever another thread was doing in its parent. The files for
+ * which that thread waits are closed in the child: otherwise the thread's marks would stay with them
+ * (rlibreg_turn.h). */
 static void empty_list(void) {
+    rlibreg_process_end();
     for (struct disk_file *it = enlisted; it; it = it->next) {
         if (!it->is_waiting) continue;
         close(it->fd);
         it->fd = -1;
-        it->owner = 0;
+        it->owner.number = 0;
     }
     enlisted = NULL;
     free_list();
 }
 
+/* Why forks aren't watched yet, or 0. A process of which a fork could go unseen opens no disk. */
+static int why_unwatched; /* under the guard, after the first call */
+
 static void watch_forks(void) {
-    pthread_atfork(hold_list, free_list, empty_list);
+    why_unwatched = pthread_atfork(hold_list, free_list, empty_list);
+    rlibreg_process_begin();
 }
 
 /* A number of the thread, which no other has. */
@@ -74,15 +80,12 @@ static int waits_for(const struct disk_file *wanted, uint64_t thread, unsigned s
     return 0;
 }
 
-/* Puts a file into the list; or doesn't where it would be waited for, by a thread for itself. */
-static uint32_t enlist(struct disk_file *it, const struct stat *found, unsigned flags,
-                       int is_waiting) {
-    static pthread_once_t once = PTHREAD_ONCE_INIT;
-    static unsigned searches; /* under the guard */
+/* Puts a file into the list, under the guard. Doesn't if the thread would wait for itself. */
+static uint32_t put_into_list(struct disk_file *it, const struct stat *found, unsigned flags,
+                              int is_waiting) {
+    static unsigned searches;
     struct disk_file wanted = *it;
-    pthread_once(&once, watch_forks);
-    hold_list();
-    wanted.owner = getpid();
+    wanted.owner = rlibreg_this_process();
     wanted.thread = this_thread();
     wanted.device = found->st_dev;
     wanted.number = found->st_ino;
@@ -91,12 +94,27 @@ static uint32_t enlist(struct disk_file *it, const struct stat *found, unsigned 
     wanted.next = enlisted;
     int never = flags & RLIBREG_WAIT && waits_for(&wanted, wanted.thread, ++searches);
     if (!never) enlisted = it, *it = wanted;
-    free_list();
     return never ? RLIBREG_HELD : RLIBREG_DONE;
 }
 
-void rlibreg_disk_file_enlist(struct disk_file *it, const struct stat *found) {
-    enlist(it, found, RLIBREG_CHANGES, 0);
+static uint32_t enlist(struct disk_file *it, const struct stat *found, unsigned flags,
+                       int is_waiting) {
+    static pthread_once_t once = PTHREAD_ONCE_INIT;
+    uint32_t status = RLIBREG_SYSTEM;
+    pthread_once(&once, watch_forks);
+    hold_list();
+    if (why_unwatched) watch_forks();
+    int why = why_unwatched;
+    if (enlisted && !rlibreg_is_this_process(&enlisted->owner))
+        enlisted = NULL; /* this is a child of clone(2), which runs no handler */
+    if (!why) status = put_into_list(it, found, flags, is_waiting);
+    free_list();
+    if (why) errno = why;
+    return status;
+}
+
+uint32_t rlibreg_disk_file_enlist(struct disk_file *it, const struct stat *found) {
+    return enlist(it, found, RLIBREG_CHANGES, 0);
 }
 
 static void end_waiting(struct disk_file *it) {
@@ -140,7 +158,8 @@ static int lock(const struct disk_file *it, int is_device, unsigned flags) {
 }
 
 uint32_t rlibreg_disk_file_lock(struct disk_file *it, const struct stat *found, unsigned flags) {
-    if (enlist(it, found, flags, 1)) return RLIBREG_HELD;
+    uint32_t status = enlist(it, found, flags, 1);
+    if (status) return status;
     int failed = lock(it, S_ISBLK(found->st_mode), flags);
     end_waiting(it);
     if (!failed) return RLIBREG_DONE;
@@ -224,8 +243,8 @@ void rlibreg_disk_file_close(struct disk_file *it) {
     int why = errno;
     if (it->bytes) munmap((void *)it->bytes, it->length);
     if (it->claim >= 0) close(it->claim);
-    if (it->owner) strike(it);
-    if (it->owner == getpid()) rlibreg_unlock(it->fd);
+    if (it->owner.number) strike(it);
+    if (it->owner.number && rlibreg_is_this_process(&it->owner)) rlibreg_unlock(it->fd);
     if (it->fd >= 0) close(it->fd);
     *it = (struct disk_file){ .fd = -1, .claim = -1, .until = it->until };
     errno = why;

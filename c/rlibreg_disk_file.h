@@ -3,6 +3,7 @@
 #define RLIBREG_DISK_FILE_H
 
 #include "rlibreg.h"
+#include "rlibreg_process.h"
 
 #include <limits.h>
 #include <sys/stat.h>
@@ -16,7 +17,7 @@ struct disk_file {
     const uint8_t *bytes; /* its map, or null */
     size_t length;
 
-    pid_t owner; /* the process that asked for the lock, or 0 */
+    struct process owner; /* the process that asked for the lock, or none */
     dev_t device;
     ino_t number;
     int is_alone;           /* whether the lock is held alone */
@@ -52,12 +53,13 @@ uint32_t rlibreg_disk_file_map(struct disk_file *it, unsigned flags);
  * -1 with errno, EIO where the two differ still. */
 int rlibreg_meet_front(int fd, int (*sync)(int));
 
-/* Locks a file that is open, and puts it into the list of the locks of this process. Gives a status:
- * RLIBREG_HELD, with RLIBREG_WAIT too, where this thread would wait for itself. */
+/* Locks a file that is open, and puts it into the list of the locks of this process. Returns a
+ * status: RLIBREG_HELD, with RLIBREG_WAIT too, if this thread would wait for itself, and
+ * RLIBREG_SYSTEM with ENOMEM if forks can't be watched. */
 uint32_t rlibreg_disk_file_lock(struct disk_file *it, const struct stat *found, unsigned flags);
 
-/* Puts a file that is locked alone into that list. */
-void rlibreg_disk_file_enlist(struct disk_file *it, const struct stat *found);
+/* Puts a file that is locked exclusively into that list. Returns a status, as the call above. */
+uint32_t rlibreg_disk_file_enlist(struct disk_file *it, const struct stat *found);
 
 /* This thread is the one that uses the file. */
 void rlibreg_disk_file_use(struct disk_file *it);
@@ -116,6 +118,13 @@ void rlibreg_new_disk_end(const struct new_disk *it, const struct disk_file *fil
 
 /* Syncs the folder in which a path's file is, and has its names on the medium. */
 int rlibreg_sync_folder(const char *path);
+
+/* Whether two files are one: the same inode, or the same block device by whichever node. */
+int rlibreg_is_same_file(const struct stat *one, const struct stat *other);
+
+/* Whether a path, relative to a folder, names a file. If it doesn't, errno says why: ESTALE if it
+ * names another file (rlibreg_names.c). */
+int rlibreg_path_names(int folder, const char *path, const struct stat *file);
 
 /* Behind a sync of a folder that succeeded: whether the medium has its names (rlibreg_names.c). 0,
  * also where nobody can tell, or -1 with errno. */

@@ -1,15 +1,17 @@
 /* The entry of the loader and the programs, before that of the C library. The start of a static C
  * library takes memory: where it gets none it ends by a signal, or with a status of its own. So the
  * system is asked first. There is no C library yet, and nothing is relocated: no address is kept in
- * data, and no function has an array or a structure on its stack. build.sh says what OUT_OF_MEMORY
- * and MESSAGE are, and that the loader STARTS_EARLY, where it can. */
+ * data, and no function has an array or a structure on its stack. build.sh says what OUT_OF_MEMORY,
+ * STREAM and MESSAGE are, and that the loader STARTS_EARLY, where it can. */
 #define _GNU_SOURCE
+#include "rlibreg_disk_file.h"
 #include "rlibreg_stack.h"
 
 #ifdef STARTS_EARLY
 #include "rlibreg_run_early.h"
 #endif
 
+#include <signal.h>
 #include <stdint.h>
 #include <sys/mman.h>
 #include <sys/stat.h>
@@ -31,35 +33,46 @@ __asm__(".globl rlibreg_entry\n"
         "  mov %rbx, %rdx\n"
         "  jmp _start\n");
 
-static long ask(long number, const void *a, const void *b, long c) {
-    register long kind __asm__("r10") = MAP_PRIVATE | MAP_ANONYMOUS, fd __asm__("r8") = -1;
+static long ask(long number, const void *a, const void *b, long c, long d) {
+    register long fourth __asm__("r10") = d, fd __asm__("r8") = -1;
     register long from __asm__("r9") = 0;
     long result;
     __asm__ volatile("syscall"
                      : "=a"(result)
-                     : "a"(number), "D"(a), "S"(b), "d"(c), "r"(kind), "r"(fd), "r"(from)
+                     : "a"(number), "D"(a), "S"(b), "d"(c), "r"(fourth), "r"(fd), "r"(from)
                      : "rcx", "r11", "memory");
     return result;
 }
 
-int rlibreg_names_errors(char **words) {
-    static struct stat errors, found;
-    if (ask(SYS_fstat, (void *)2, &errors, 0)) return 0;
+static long ask_of_file(long number, const void *file, struct stat *found) {
+    return ask(number, file, found, 0, 0);
+}
+
+int rlibreg_names_stream(int stream, char **words) {
+    static struct stat behind, found;
+    if (ask_of_file(SYS_fstat, (void *)(long)stream, &behind)) return 0;
     for (; *words; words++)
-        if (!ask(SYS_stat, *words, &found, 0) && found.st_dev == errors.st_dev &&
-            found.st_ino == errors.st_ino && found.st_rdev == errors.st_rdev)
+        if (!ask_of_file(SYS_stat, *words, &found) && rlibreg_is_same_file(&found, &behind))
             return 1;
     return 0;
 }
 
-static void ask_for_memory(char **words) {
+/* Prints the message. A pipe without a reader ends nothing: its signal stays blocked. */
+static void refuse(char **words) {
     static const char message[] = MESSAGE;
-    long map = ask(SYS_mmap, NULL, (void *)MEMORY, PROT_READ | PROT_WRITE);
-    if (map < 0 && map > -4096) {
-        if (!rlibreg_names_errors(words)) ask(SYS_write, (void *)2, message, sizeof message - 1);
-        ask(SYS_exit_group, (void *)OUT_OF_MEMORY, NULL, 0);
+    static const uint64_t pipe_signal = (uint64_t)1 << (SIGPIPE - 1);
+    if (!rlibreg_names_stream(STREAM, words)) {
+        ask(SYS_rt_sigprocmask, (void *)SIG_BLOCK, &pipe_signal, 0, sizeof pipe_signal);
+        ask(SYS_write, (void *)STREAM, message, sizeof message - 1, 0);
     }
-    ask(SYS_munmap, (void *)map, (void *)MEMORY, 0);
+    ask(SYS_exit_group, (void *)OUT_OF_MEMORY, NULL, 0, 0);
+}
+
+static void ask_for_memory(char **words) {
+    const int kind = MAP_PRIVATE | MAP_ANONYMOUS;
+    long map = ask(SYS_mmap, NULL, (void *)MEMORY, PROT_READ | PROT_WRITE, kind);
+    if (map < 0 && map > -4096) refuse(words);
+    ask(SYS_munmap, (void *)map, (void *)MEMORY, 0, 0);
 }
 
 /* The words stand behind their number. */

@@ -4,6 +4,7 @@
 #include "rlibreg_turn.h"
 
 #include <errno.h>
+#include <pthread.h>
 #include <stdlib.h>
 #include <string.h>
 #include <sys/mman.h>
@@ -26,6 +27,23 @@ struct rlibreg {
     rlibreg_answer answer;
     int why; /* errno as the last answer without the first layer left it */
 };
+
+/* ---- Cancellation
+ *
+ * A thread isn't cancelled within a call that opens, changes or closes a file. It would keep the lock
+ * there, and after a part of a change nobody could go on: of the current root, which is written last,
+ * it isn't known whether the medium has it. */
+
+/* A call begins. Returns how cancellation was set, for end_call. */
+static int begin_call(void) {
+    int before;
+    pthread_setcancelstate(PTHREAD_CANCEL_DISABLE, &before);
+    return before;
+}
+
+static void end_call(int before) {
+    pthread_setcancelstate(before, &before);
+}
 
 /* ---- Answers */
 
@@ -90,9 +108,11 @@ static void let_go(rlibreg *it) {
 
 void rlibreg_close(rlibreg *it) {
     if (!it) return;
+    int before = begin_call();
     let_go(it);
     free(it->text);
     free(it);
+    end_call(before);
 }
 
 const char *rlibreg_text(const rlibreg *it) {
@@ -114,9 +134,9 @@ int rlibreg_errno(const rlibreg *it) {
 
 /* ---- The file */
 
-/* Whether the file was opened by another process, of which this one is a child by fork. */
+/* Whether another process opened the file, of which this one is a child. */
 static int is_inherited(const rlibreg *it) {
-    return it->file.fd >= 0 && it->file.owner != getpid();
+    return it->file.fd >= 0 && !rlibreg_is_this_process(&it->file.owner);
 }
 
 void rlibreg_wait_limit(rlibreg *it, int milliseconds) {
@@ -139,8 +159,11 @@ static uint32_t open_file(rlibreg *it, const char *path, unsigned flags) {
 
 uint32_t rlibreg_open(rlibreg *it, const char *path, unsigned flags) {
     if (it->file.fd >= 0) return say(it, RLIBREG_BAD_ARGUMENT, "");
+    int before = begin_call();
     begin_waiting(it);
-    return open_file(it, path, flags);
+    uint32_t status = open_file(it, path, flags);
+    end_call(before);
+    return status;
 }
 
 /* A write, a sync or a look at the file has failed. */
@@ -284,7 +307,7 @@ static int is_stream(const rlibreg *it) {
 
 /* Plans a change and carries it out. The file is looked at before and behind it: it may have been
  * cut, or another have been put in its place. */
-static uint32_t change(rlibreg *it, plan_call *call, const void *asked, size_t length) {
+static uint32_t change_file(rlibreg *it, plan_call *call, const void *asked, size_t length) {
     uint8_t *plan;
     uint32_t status = refuse(it);
     if (status) return status;
@@ -299,6 +322,13 @@ static uint32_t change(rlibreg *it, plan_call *call, const void *asked, size_t l
     free(plan);
     errno = why;
     return has_failed ? fail(it) : RLIBREG_DONE;
+}
+
+static uint32_t change(rlibreg *it, plan_call *call, const void *asked, size_t length) {
+    int before = begin_call();
+    uint32_t status = change_file(it, call, asked, length);
+    end_call(before);
+    return status;
 }
 
 uint32_t rlibreg_upgrade(rlibreg *it) {
@@ -422,6 +452,7 @@ uint32_t rlibreg_format(rlibreg *it, const char *path, uint32_t sectors, unsigne
         return say(it, RLIBREG_BAD_ARGUMENT, "");
     size_t length = (size_t)sectors * SECTOR;
     unsigned how = RLIBREG_CHANGES | (flags & RLIBREG_WAIT);
+    int before = begin_call();
     begin_waiting(it);
     uint32_t status = format_file(it, path, length, how);
     if (it->file.fd < 0 && is_system_fault(status, ENOENT))
@@ -431,6 +462,7 @@ uint32_t rlibreg_format(rlibreg *it, const char *path, uint32_t sectors, unsigne
         status = format_file(it, path, length, how);
     }
     if (status) let_go(it);
+    end_call(before);
     return status;
 }
 

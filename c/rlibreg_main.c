@@ -1,5 +1,5 @@
 /* What a program does before its language begins: linked over its `main` by build.sh, which says what
- * OUT_OF_MEMORY and MESSAGE are. */
+ * OUT_OF_MEMORY, STREAM and MESSAGE are. */
 #define _GNU_SOURCE
 #include "rlibreg_stack.h"
 
@@ -31,7 +31,9 @@ static void give_words(int argc, char **argv, char **environment) {
 #endif
 
 int __wrap_main(int argc, char **argv, char **environment) {
-    rlibreg_grow_stack(STACK, OUT_OF_MEMORY, rlibreg_names_errors(argv) ? "" : MESSAGE);
+    struct refused_stack refused = { OUT_OF_MEMORY, STREAM, MESSAGE };
+    if (rlibreg_names_stream(STREAM, argv)) refused.message = "";
+    rlibreg_grow_stack(STACK, refused);
 #ifndef __GLIBC__
     give_words(argc, argv, environment);
 #endif

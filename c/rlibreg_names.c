@@ -1,4 +1,4 @@
-/* Whether the medium has the names of a folder.
+/* Whether a path names a file, and whether the medium has the names of a folder.
  *
  * ext4's sync of a folder succeeds where the system couldn't write the journal before, and a power
  * cut takes the names. But no change begins over such a journal (EROFS), not even the removal of an
@@ -13,6 +13,18 @@
 #include <sys/xattr.h>
 
 #define NO_ATTRIBUTE "user.rlibreg.none"
+
+int rlibreg_is_same_file(const struct stat *one, const struct stat *other) {
+    if (S_ISBLK(one->st_mode) && S_ISBLK(other->st_mode)) return one->st_rdev == other->st_rdev;
+    return one->st_dev == other->st_dev && one->st_ino == other->st_ino;
+}
+
+int rlibreg_path_names(int folder, const char *path, const struct stat *file) {
+    struct stat found;
+    if (fstatat(folder, path, &found, 0)) return 0;
+    errno = ESTALE;
+    return rlibreg_is_same_file(&found, file);
+}
 
 int rlibreg_names_last(int folder) {
     struct statvfs found;

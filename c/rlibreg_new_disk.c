@@ -152,7 +152,8 @@ uint32_t rlibreg_new_disk_make(struct new_disk *it, const char *path, size_t len
     uint32_t status = make_locked(it, file, flags);
     if (status) return status;
     if (fstat(file->fd, &made)) return RLIBREG_SYSTEM;
-    rlibreg_disk_file_enlist(file, &made);
+    status = rlibreg_disk_file_enlist(file, &made);
+    if (status) return status;
     if (fill(file->fd, length)) return RLIBREG_SYSTEM;
     return rlibreg_disk_file_map(file, RLIBREG_CHANGES);
 }

@@ -36,10 +36,9 @@ int rlibreg_has_length(const struct disk_file *file) {
 }
 
 int rlibreg_is_in_place(const struct place *it, const struct disk_file *file) {
-    struct stat now;
+    struct stat opened;
     if (!rlibreg_has_length(file)) return 0;
     if (!it->path[0]) return 1; /* it has no name yet */
-    if (fstatat(it->folder, it->path, &now, 0)) return 0;
-    errno = ESTALE;
-    return now.st_dev == file->device && now.st_ino == file->number;
+    if (fstat(file->fd, &opened)) return 0;
+    return rlibreg_path_names(it->folder, it->path, &opened);
 }

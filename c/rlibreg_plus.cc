@@ -10,30 +10,54 @@ int sched_yield();
 }
 namespace std {
 enum class align_val_t : size {};
-}
+struct nothrow_t {
+    explicit nothrow_t() = default;
+};
+extern const nothrow_t nothrow;
+const nothrow_t nothrow{};
+} // namespace std
+using std::align_val_t;
+using std::nothrow_t;
 
 /* Memory, or the end. */
 static void *or_abort(void *memory) {
     if (!memory) abort();
     return memory;
 }
-
-void *operator new(size bytes) { return or_abort(malloc(bytes ? bytes : 1)); }
-void *operator new[](size bytes) { return operator new(bytes); }
-void *operator new(size bytes, std::align_val_t unit) {
-    size mask = size(unit) - 1;
-    return or_abort(aligned_alloc(mask + 1, bytes ? (bytes + mask) & ~mask : mask + 1));
+/* A block has at least one byte, so its address is its own. The size isn't rounded up to a multiple of
+ * `unit`, which could wrap: musl asks for none. It returns null if size and unit exceed the address
+ * space. */
+static void *block(size bytes) { return malloc(bytes ? bytes : 1); }
+static void *block(size bytes, align_val_t unit) {
+    return aligned_alloc(size(unit), bytes ? bytes : 1);
 }
-void *operator new[](size bytes, std::align_val_t unit) { return operator new(bytes, unit); }
+
+void *operator new(size bytes) { return or_abort(block(bytes)); }
+void *operator new[](size bytes) { return or_abort(block(bytes)); }
+void *operator new(size bytes, align_val_t unit) { return or_abort(block(bytes, unit)); }
+void *operator new[](size bytes, align_val_t unit) { return or_abort(block(bytes, unit)); }
+
+void *operator new(size bytes, const nothrow_t &) noexcept { return block(bytes); }
+void *operator new[](size bytes, const nothrow_t &) noexcept { return block(bytes); }
+void *operator new(size bytes, align_val_t unit, const nothrow_t &) noexcept {
+    return block(bytes, unit);
+}
+void *operator new[](size bytes, align_val_t unit, const nothrow_t &) noexcept {
+    return block(bytes, unit);
+}
 
 void operator delete(void *memory) noexcept { free(memory); }
 void operator delete[](void *memory) noexcept { free(memory); }
 void operator delete(void *memory, size) noexcept { free(memory); }
 void operator delete[](void *memory, size) noexcept { free(memory); }
-void operator delete(void *memory, std::align_val_t) noexcept { free(memory); }
-void operator delete[](void *memory, std::align_val_t) noexcept { free(memory); }
-void operator delete(void *memory, size, std::align_val_t) noexcept { free(memory); }
-void operator delete[](void *memory, size, std::align_val_t) noexcept { free(memory); }
+void operator delete(void *memory, align_val_t) noexcept { free(memory); }
+void operator delete[](void *memory, align_val_t) noexcept { free(memory); }
+void operator delete(void *memory, size, align_val_t) noexcept { free(memory); }
+void operator delete[](void *memory, size, align_val_t) noexcept { free(memory); }
+void operator delete(void *memory, const nothrow_t &) noexcept { free(memory); }
+void operator delete[](void *memory, const nothrow_t &) noexcept { free(memory); }
+void operator delete(void *memory, align_val_t, const nothrow_t &) noexcept { free(memory); }
+void operator delete[](void *memory, align_val_t, const nothrow_t &) noexcept { free(memory); }
 
 extern "C" {
 /* A guard's first byte says that the object is made, its second that a thread makes it. */

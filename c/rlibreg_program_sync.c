@@ -1,35 +1,72 @@
-/* What the programs do with a sync of a disk beside what their language has: linked over their fsync
- * by build.sh. See rlibreg_disk_file.c, which does the same for the calls over a file. */
+/* What the programs add to their language when they open and sync a disk: build.sh links it over
+ * their open and fsync. rlibreg_disk_file.c does the same for the calls over a file. */
 #define _GNU_SOURCE
 #include "rlibreg_disk_file.h"
 #include "rlibreg_turn.h"
 
 #include <errno.h>
+#include <fcntl.h>
+#include <stdarg.h>
+#include <string.h>
 
+int __real_open(const char *path, int flags, ...);
+int __wrap_open(const char *path, int flags, ...);
 int __real_fsync(int fd);
 int __wrap_fsync(int fd);
 
 enum { NUMBERS = 64 };
 
-static int is_folder(int fd) {
-    struct stat found;
-    return !fstat(fd, &found) && S_ISDIR(found.st_mode);
+/* The disk that is open for changes, and the path by which it was opened. The program opens nothing
+ * else for writing, and never changes its working directory. A disk that `format` makes isn't kept
+ * here: it gets its name only after its last sync. */
+static struct {
+    int fd;
+    char path[PATH_MAX];
+} changed = { .fd = -1 };
+
+static void keep_path(int fd, const char *path, int flags) {
+    if (fd == changed.fd) changed.fd = -1; /* the number is another file's now */
+    if ((flags & O_ACCMODE) == O_RDONLY || flags & O_CREAT) return;
+    changed.fd = fd;
+    strcpy(changed.path, path); /* the system opens no longer path */
 }
 
-/* Behind the first sync of a file that succeeds the medium has to have the roots that the system
- * shows; of a descriptor of a high number, behind each sync. The program opens its disk once, so a
- * number stands for one file; that of a folder may have been the disk's. */
-int __wrap_fsync(int fd) {
+int __wrap_open(const char *path, int flags, ...) {
+    va_list more;
+    va_start(more, flags);
+    mode_t mode = flags & O_CREAT ? va_arg(more, mode_t) : 0;
+    va_end(more);
+    int fd = __real_open(path, flags, mode);
+    if (fd >= 0) keep_path(fd, path, flags);
+    return fd;
+}
+
+/* Whether the path of the disk that is open for changes still names it. If it doesn't, nobody will
+ * see what was written, and the sync fails. */
+static int is_in_place(int fd, const struct stat *found) {
+    return fd != changed.fd || rlibreg_path_names(AT_FDCWD, changed.path, found);
+}
+
+/* After the first successful sync of a file, the medium has to have the roots that the system shows.
+ * A descriptor with a high number is looked at after each sync. The program opens its disk once, so
+ * a number belongs to one file. */
+static int meet_front_once(int fd) {
     static char was_synced[NUMBERS];
+    if (fd < NUMBERS && was_synced[fd]) return 0;
+    if (rlibreg_meet_front(fd, __real_fsync)) return -1;
+    if (fd < NUMBERS) was_synced[fd] = 1;
+    return 0;
+}
+
+int __wrap_fsync(int fd) {
+    struct stat found;
     int early_fault = rlibreg_take_early_fault();
     if (__real_fsync(fd)) return -1;
     if (early_fault) {
         errno = early_fault;
         return -1;
     }
-    if (is_folder(fd)) return rlibreg_names_last(fd);
-    if (fd < NUMBERS && was_synced[fd]) return 0;
-    if (rlibreg_meet_front(fd, __real_fsync)) return -1;
-    if (fd < NUMBERS) was_synced[fd] = 1;
-    return 0;
+    if (fstat(fd, &found)) return -1;
+    if (S_ISDIR(found.st_mode)) return rlibreg_names_last(fd);
+    return meet_front_once(fd) || !is_in_place(fd, &found) ? -1 : 0;
 }

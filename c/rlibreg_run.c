@@ -25,7 +25,7 @@
 #include <malloc.h>
 #endif
 
-/* The loader takes some 24 KiB, beside what depends on its words. */
+/* The loader takes some 56 KiB, beside what depends on its words. */
 enum { STACK = 128 << 10 };
 
 void fail(const char *what) {
@@ -79,9 +79,10 @@ static void load(struct program *it, struct keeping *keeping, const char *disk) 
     uint32_t status = rlibreg_open(registry, disk, RLIBREG_WAIT);
     if (status == RLIBREG_SYSTEM) fail(disk);
     if (status) give_up(FAILED, disk, rlibreg_status_name(status));
-    look_at_disk(keeping, it, rlibreg_descriptor(registry));
+    look_at_disk(keeping, it, disk, rlibreg_descriptor(registry));
     sigaction(SIGBUS, &ours, &usual);
     map_program(it, registry, disk);
+    look_at_image(keeping, it, rlibreg_descriptor(registry));
     sigaction(SIGBUS, &usual, NULL);
     rlibreg_close(registry);
 }
@@ -131,8 +132,10 @@ int main(int argc, char **argv, char **environment) {
     struct keeping keeping = { .folder = -1, .user = geteuid(), .say = say };
     int disk = read_words(&program, &keeping, argc, argv), is_taken = 0;
     char **words = argv + disk + 1;
-    rlibreg_grow_stack(STACK + pointers_in(words, environment), FAILED,
-                       "rlibreg-run: the stack: Cannot allocate memory\n");
+    const struct refused_stack refused = {
+        FAILED, STDERR_FILENO, "rlibreg-run: the stack: Cannot allocate memory\n"
+    };
+    rlibreg_grow_stack(STACK + pointers_in(words, environment), refused);
     program.path = words[0];
     open_program(&program);
     if (keeping.path) is_taken = take_kept(&keeping, &program, argv[disk]);

@@ -50,9 +50,6 @@ _Noreturn void give_up(int status, const char *what, const char *why);
 void open_program(struct program *it);
 void read_program(struct program *it);
 
-/* The program header of a number; gives whether its bytes have it. */
-int header_at(const struct program *it, size_t number, Elf64_Phdr *one);
-
 /* Of what the base has to be a multiple. Before the program is bound its bytes may be any, and what
  * this gives of them is good for nothing but to bind it: that says what is wrong with them. */
 uint64_t unit_of(const struct program *it);
@@ -103,6 +100,10 @@ int is_code(const rlibreg_image *image, const rlibreg_object *object, uint64_t a
  * and null where the address is in none of its segments. */
 const uint8_t *memory_at(const rlibreg_image *image, const rlibreg_object *object, uint64_t address,
                          uint64_t *length);
+
+/* Reads an object's program header of a number. Returns whether its memory has it. */
+int header_at(const rlibreg_image *image, const rlibreg_object *object, size_t number,
+              Elf64_Phdr *one);
 
 struct pages fixed_pages(const rlibreg_image *image, const rlibreg_object *object);
 

@@ -6,19 +6,44 @@
 
 #include <errno.h>
 #include <fcntl.h>
+#include <limits.h>
 
 /* ---- Whose it is */
 
-static int is_ours_alone(const struct keeping *it, const struct stat *file) {
-    return (file->st_uid == it->user || !file->st_uid) && !(file->st_mode & (S_IWGRP | S_IWOTH));
+/* An owner that has no number here, in a user namespace, is shown as another user. So the kernel says
+ * whether the file is ours: only its owner may ask for it to be read without a note of when. */
+static int is_owner(const struct keeping *it, int fd, const struct stat *file) {
+    return !file->st_uid || (file->st_uid == it->user && !kernel_set_flags(fd, O_NOATIME));
+}
+
+static int is_ours_alone(const struct keeping *it, int fd, const struct stat *file) {
+    return !(file->st_mode & (S_IWGRP | S_IWOTH)) && is_owner(it, fd, file);
+}
+
+/* The length of a path without the slashes and dots at its end, which would make open follow a link. */
+static size_t length_of_name(const char *path) {
+    size_t length = strlen(path);
+    for (;;) {
+        size_t dot = length > 1 && path[length - 1] == '.' && path[length - 2] == '/';
+        if (length - dot > 1 && path[length - dot - 1] == '/')
+            length -= dot + 1;
+        else
+            return length;
+    }
 }
 
 int open_folder(struct keeping *it) {
     struct stat found;
-    it->folder = kernel_open(AT_FDCWD, it->path, O_RDONLY | O_DIRECTORY | O_NOFOLLOW | O_CLOEXEC);
+    char name[PATH_MAX];
+    size_t length = length_of_name(it->path);
+    it->folder = -1;
+    if (length >= sizeof name) return -ENAMETOOLONG;
+    memcpy(name, it->path, length);
+    name[length] = 0;
+    it->folder = kernel_open(AT_FDCWD, name, O_RDONLY | O_DIRECTORY | O_NOFOLLOW | O_CLOEXEC);
     if (it->folder < 0) return it->folder;
-    if (!kernel_fstat(it->folder, &found) && is_ours_alone(it, &found)) {
-        it->others = found.st_mode;
+    if (!kernel_fstat(it->folder, &found) && is_ours_alone(it, it->folder, &found)) {
+        it->is_for_all = (found.st_mode & S_IROTH) != 0;
         return 0;
     }
     close_folder(it);
@@ -35,7 +60,7 @@ int open_kept(const struct keeping *it, const char *name, uint64_t *length) {
     int fd = kernel_open(it->folder, name,
                          O_RDONLY | O_NOFOLLOW | O_CLOEXEC | O_NOCTTY | O_NONBLOCK);
     if (fd < 0) return fd;
-    if (!kernel_fstat(fd, &found) && S_ISREG(found.st_mode) && is_ours_alone(it, &found) &&
+    if (!kernel_fstat(fd, &found) && S_ISREG(found.st_mode) && is_ours_alone(it, fd, &found) &&
         found.st_nlink <= 1) {
         *length = (uint64_t)found.st_size;
         return fd;

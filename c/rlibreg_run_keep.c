@@ -10,27 +10,25 @@
 #include <sys/stat.h>
 #include <unistd.h>
 
-void look_at_disk(struct keeping *it, const struct program *program, int disk) {
-    struct stat found;
+void look_at_disk(struct keeping *it, const struct program *program, const char *path, int disk) {
     if (!it->may_keep) return;
-    it->may_keep = !fstat(disk, &found) && !key_of_disk(disk, &it->key) &&
-                   is_settled(&it->key.disk);
+    it->may_keep = !key_of_disk(disk, &it->key) && is_settled(&it->key.disk);
     if (!it->may_keep) {
         say_more(it, "nothing is kept: the disk was changed just now, or tells too little");
         return;
     }
-    it->others &= found.st_mode & program->found.st_mode;
+    it->is_for_all = it->is_for_all && may_all_read(path, disk) &&
+                     may_all_read(program->path, program->fd);
     give_name(it, program);
 }
 
-/* ---- Pieces */
+void look_at_image(struct keeping *it, const struct program *program, int disk) {
+    if (!it->may_keep || !is_compared(&it->key.disk)) return;
+    it->may_keep = !take_sources(&it->sources, program, disk, &it->key);
+    if (!it->may_keep) say_more(it, "nothing is kept: what was bound can't be read again");
+}
 
-/* The pieces of an image, while they are found. */
-struct pieces {
-    struct piece *at;
-    size_t count;
-    int is_too_many;
-};
+/* ---- Pieces */
 
 static struct piece *last_of(struct pieces *it) {
     return it->count ? &it->at[it->count - 1] : NULL;
@@ -75,82 +73,14 @@ static uint64_t place_pieces(struct pieces *it, uint64_t at) {
     return at;
 }
 
-/* ---- The program's bytes, where its file is compared: most are equal to pages of the image, which
- * stand in the kept file once */
-
-/* The stretches of the program's file, while they are found: each from an address, or from 0 where it
- * isn't in a page that is kept. */
-struct stretches {
-    struct stretch at[MOST_STRETCHES];
-    size_t count;
-    uint64_t others; /* the bytes from 0 */
-};
-
-static const struct piece *piece_with(const struct pieces *it, uint64_t address) {
-    for (size_t i = 0; i < it->count; i++)
-        if (it->at[i].from && it->at[i].address <= address &&
-            address - it->at[i].address < it->at[i].length)
-            return &it->at[i];
-    return NULL;
-}
-
-/* The address of a page with the bytes that the program's file has at a place, or 0. */
-static uint64_t page_of(const struct program *it, const struct pieces *pieces, uint64_t at) {
-    Elf64_Phdr one;
-    for (size_t i = 0; header_at(it, i, &one); i++) {
-        if (one.p_type != PT_LOAD || at < one.p_offset || one.p_filesz < PAGE ||
-            at - one.p_offset > one.p_filesz - PAGE)
-            continue;
-        uint64_t address = it->object.base + one.p_vaddr + (at - one.p_offset);
-        if (!(address % PAGE) && piece_with(pieces, address) &&
-            !memcmp((const void *)address, it->bytes + at, PAGE))
-            return address;
-    }
-    return 0;
-}
-
-static void add_stretch(struct stretches *it, uint64_t length, uint64_t address,
-                        const struct pieces *pieces) {
-    struct stretch *last = it->count ? &it->at[it->count - 1] : NULL;
-    if (!address) it->others += length;
-    int goes_on = last && !address && !last->from;
-    if (last && address && last->from && last->from + last->length == address)
-        goes_on = piece_with(pieces, last->from) == piece_with(pieces, address);
-    if (goes_on)
-        last->length += length;
-    else
-        it->at[it->count++] = (struct stretch){ length, address };
-}
-
-static void find_stretches(struct stretches *it, const struct program *program,
-                           const struct pieces *pieces) {
-    for (uint64_t at = 0, step; at < program->length; at += step) {
-        step = program->length - at < PAGE ? program->length - at : PAGE;
-        add_stretch(it, step, step == PAGE ? page_of(program, pieces, at) : 0, pieces);
-    }
-}
-
-/* Gives the stretches their places in the file, once the pieces have theirs. */
-static void place_stretches(struct stretches *it, const struct pieces *pieces, uint64_t others) {
-    for (size_t i = 0; i < it->count; i++) {
-        struct stretch *one = &it->at[i];
-        const struct piece *piece = piece_with(pieces, one->from);
-        if (one->from) {
-            one->from = piece->from + (one->from - piece->address);
-        } else {
-            one->from = others;
-            others += one->length;
-        }
-    }
-}
-
-/* ---- The file */
+/* ---- Its beginning */
 
 static struct counts counts_of(const struct keeping *it, const struct program *program,
                                const struct pieces *pieces,
                                const struct stretches *stretches) {
     struct counts counts = { .pieces = pieces->count, .objects = program->image.object_count };
-    counts.stretches = stretches->count;
+    counts.of_program = stretches->first;
+    counts.of_disk = stretches->count - stretches->first;
     counts.others = stretches->others;
     counts.initializers = program->initializers.count;
     counts.finalizers = program->finalizers.count;
@@ -178,31 +108,38 @@ static void put_objects(const struct program *program, const struct kept_file *f
     }
 }
 
-/* The beginning of a file, up to the program's other bytes: to be freed, or null. */
+/* Fills the parts of a beginning behind its head. */
+static void fill_beginning(const struct kept_file *file, const struct program *program,
+                           const struct pieces *pieces, const struct stretches *stretches) {
+    memcpy(file->pieces, pieces->at, pieces->count * sizeof *pieces->at);
+    if (stretches->count)
+        memcpy(file->stretches, stretches->at, stretches->count * sizeof *stretches->at);
+    put_objects(program, file);
+    put_calls(file->calls, &program->initializers);
+    put_calls(file->calls + file->head->counts.initializers, &program->finalizers);
+}
+
+/* Makes the beginning of a file, in memory that is to be freed; or returns null. */
 static void *make_beginning(const struct keeping *it, const struct program *program,
-                            struct pieces *pieces, const char *disk) {
-    struct stretches stretches = { .count = 0 };
-    if (it->key.program.kind == OF_BYTES && program->length <= MOST_COMPARED)
-        find_stretches(&stretches, program, pieces);
-    struct counts counts = counts_of(it, program, pieces, &stretches);
-    struct head head = { .key = it->key, .counts = counts };
+                            struct pieces *pieces, struct stretches *stretches, const char *disk) {
+    struct head head = { .key = it->key };
     memcpy(head.form, kept_form, sizeof head.form);
+    head.counts = counts_of(it, program, pieces, stretches);
     head.place = number_of_paths(it, program, disk);
-    head.length = place_pieces(pieces, place_of_pages(&counts));
-    place_stretches(&stretches, pieces, place_of_others(&counts));
-    void *beginning = is_head(&head, head.length) ? calloc(1, place_of_others(&counts)) : NULL;
+    head.length = place_pieces(pieces, place_of_pages(&head.counts));
+    place_stretches(stretches, place_of_others(&head.counts));
+    void *beginning = is_head(&head, head.length) ? calloc(1, place_of_others(&head.counts)) : NULL;
     if (!beginning) return NULL;
     memcpy(beginning, &head, sizeof head);
     struct kept_file file = parts_of(beginning);
-    memcpy(file.pieces, pieces->at, pieces->count * sizeof *pieces->at);
-    memcpy(file.stretches, stretches.at, stretches.count * sizeof *stretches.at);
-    put_objects(program, &file);
-    put_calls(file.calls, &program->initializers);
-    put_calls(file.calls + counts.initializers, &program->finalizers);
+    fill_beginning(&file, program, pieces, stretches);
+    file.head->check = check_of(file.head);
     if (is_whole(&file)) return beginning;
     free(beginning);
     return NULL;
 }
+
+/* ---- The file */
 
 static int write_all(int fd, const void *bytes, uint64_t length, uint64_t at) {
     while (length) {
@@ -216,20 +153,27 @@ static int write_all(int fd, const void *bytes, uint64_t length, uint64_t at) {
     return 0;
 }
 
+/* Writes the stretches that are in no page of the image, out of the bytes that they are of. */
+static int write_others(int fd, const struct stretch *it, uint64_t count, const uint8_t *bytes) {
+    for (const struct stretch *end = it + count; it < end; it++)
+        if (!it->address && write_all(fd, bytes + it->at, it->length, it->from)) return -1;
+    return 0;
+}
+
 /* It is on the medium before anyone maps it: else a process may find other bytes in a page that the
  * system couldn't write and had to drop. */
-static int write_file(int fd, const struct program *program, const struct kept_file *file) {
+static int write_file(int fd, const struct keeping *it, const struct program *program,
+                      const struct kept_file *file) {
     const struct counts *counts = &file->head->counts;
-    const uint8_t *bytes = program->bytes;
-    if (write_all(fd, file->head, place_of_others(counts), 0)) return -1;
-    for (uint64_t i = 0; i < counts->stretches; bytes += file->stretches[i++].length) {
-        const struct stretch *it = &file->stretches[i];
-        if (it->from >= place_of_pages(counts)) continue;
-        if (write_all(fd, bytes, it->length, it->from)) return -1;
-    }
+    const struct stretch *of_disk = file->stretches + counts->of_program;
+    if (write_all(fd, file->head, place_of_others(counts), 0) ||
+        write_others(fd, file->stretches, counts->of_program, program->bytes) ||
+        write_others(fd, of_disk, counts->of_disk, it->sources.copy))
+        return -1;
     for (uint64_t i = 0; i < counts->pieces; i++) {
-        const struct piece *it = &file->pieces[i];
-        if (it->from && write_all(fd, (const void *)it->address, it->length, it->from)) return -1;
+        const struct piece *one = &file->pieces[i];
+        if (one->from && write_all(fd, (const void *)one->address, one->length, one->from))
+            return -1;
     }
     return ftruncate(fd, (off_t)file->head->length) || fdatasync(fd) ? -1 : 0;
 }
@@ -246,7 +190,7 @@ static void keep_file(struct keeping *it, const struct program *program, void *b
     if (!may_be_so_long(file.head->length)) return;
     drop_older(it, file.head);
     int fd = make_file(it);
-    if (fd >= 0 && !write_file(fd, program, &file)) {
+    if (fd >= 0 && !write_file(fd, it, program, &file)) {
         it->file = fd;
     } else if (fd >= 0) {
         int why = errno;
@@ -255,17 +199,28 @@ static void keep_file(struct keeping *it, const struct program *program, void *b
     }
 }
 
+/* Finds all that is kept of an image, and makes its beginning; or returns null. */
+static void *describe(const struct keeping *it, const struct program *program, const char *disk) {
+    struct pieces pieces = { .at = malloc(MOST_PIECES * sizeof *pieces.at) };
+    struct stretches stretches = { 0 };
+    void *beginning = NULL;
+    if (pieces.at) each_pages(program, find_pieces, &pieces);
+    if (it->key.program.kind == OF_BYTES) find_stretches_of_program(&stretches, program, &pieces);
+    if (it->sources.copy) find_stretches_of_disk(&stretches, program, &it->sources, &pieces);
+    if (pieces.at && !pieces.is_too_many && !stretches.has_failed)
+        beginning = make_beginning(it, program, &pieces, &stretches, disk);
+    free(pieces.at);
+    free(stretches.at);
+    return beginning;
+}
+
 void keep(struct keeping *it, const struct program *program, const char *disk) {
-    struct pieces pieces = { 0 };
     if (!it->may_keep) return;
     errno = ENOMEM;
-    pieces.at = malloc(MOST_PIECES * sizeof *pieces.at);
-    if (pieces.at) each_pages(program, find_pieces, &pieces);
-    if (pieces.at && !pieces.is_too_many)
-        it->beginning = make_beginning(it, program, &pieces, disk);
+    it->beginning = describe(it, program, disk);
     if (it->beginning) keep_file(it, program, it->beginning);
     if (!it->file) say_error(it, errno);
-    free(pieces.at);
+    free_sources(&it->sources);
 }
 
 /* Maps pages from the file where this process has them for itself. That they can be is seen first,

@@ -8,8 +8,8 @@
 #include <fcntl.h>
 #include <sys/mman.h>
 
-/* How much of a program is read at once. */
-enum { AT_ONCE = 8 << 10 };
+/* How long a beginning may be without a map of its own. */
+enum { USUAL = 8 << 10 };
 
 void say_more(const struct keeping *it, const char *what) {
     if (it->says_more && it->say) it->say(it, what, 0);
@@ -19,65 +19,72 @@ void say_error(const struct keeping *it, int error) {
     if (it->says_more && it->say) it->say(it, NULL, error);
 }
 
-/* ---- Which image */
+/* ---- Its beginning */
 
-/* Whether the program's file still has these bytes at a place. It is read, since others may cut it. */
-static int has_bytes(const struct program *program, uint64_t at, const uint8_t *bytes,
-                     uint64_t length) {
-    uint8_t piece[AT_ONCE];
-    uint64_t step;
-    for (uint64_t end = at + length; at < end; at += step, bytes += step) {
-        step = end - at < AT_ONCE ? end - at : AT_ONCE;
-        if (kernel_read(program->fd, piece, step, at) != (int64_t)step ||
-            memcmp(piece, bytes, step))
-            return 0;
-    }
-    return 1;
+/* Gives the beginning of a kept file memory that stays, and takes it away again. Of most it is a page
+ * that takes no call. */
+static void *take_room(uint64_t length) {
+    static _Alignas(struct head) uint8_t usual[USUAL];
+    const int how = PROT_READ | PROT_WRITE, kind = MAP_PRIVATE | MAP_ANONYMOUS;
+    int64_t map = length > USUAL ? kernel_map(0, length, how, kind, -1, 0) : (int64_t)usual;
+    return map < 0 ? NULL : (void *)map;
 }
 
-static int has_all_bytes(const struct program *program, const struct kept_file *it) {
-    uint64_t at = 0;
-    for (uint64_t i = 0; i < it->head->counts.stretches; at += it->stretches[i++].length)
-        if (!has_bytes(program, at, (const uint8_t *)it->head + it->stretches[i].from,
-                       it->stretches[i].length))
-            return 0;
-    return 1;
+static void free_beginning(const struct kept_file *it) {
+    uint64_t length = it->head ? place_of_others(&it->head->counts) : 0;
+    if (length > USUAL) kernel_unmap((uint64_t)it->head, length);
 }
 
-/* Whether a file of this form, which is mapped, is the image that is looked for. */
-static int fits(const struct kept_file *it, const struct program *program, const struct key *key) {
-    const struct counts *counts = &it->head->counts;
+static int read_beginning(int kept, uint64_t length, struct kept_file *file) {
+    struct head head;
+    int other = length < sizeof head ? IS_OTHER : read_exactly(kept, &head, sizeof head, 0);
+    if (other || !is_head(&head, length)) return other ? other : IS_OTHER;
+    uint64_t all = place_of_others(&head.counts);
+    void *room = take_room(all);
+    if (!room) return IS_OTHER;
+    *file = parts_of(memcpy(room, &head, sizeof head));
+    other = read_exactly(kept, file->head + 1, all - sizeof head, sizeof head);
+    return other || check_of(file->head) == head.check ? other : IS_OTHER;
+}
+
+/* Whether a file's beginning is that of the image that is looked for. */
+static int is_of_key(const struct kept_file *it, const struct key *key) {
     uint64_t compared = key->program.kind == OF_BYTES ? key->program.length : 0;
-    return is_same_key(&it->head->key, key) && counts->program == compared && is_whole(it) &&
-           has_all_bytes(program, it);
+    return is_same_key(&it->head->key, key) && it->head->counts.program == compared && is_whole(it);
 }
 
 /* ---- Its pages */
 
 /* A kernel before 4.17 gives other pages where these are taken. */
-static int map_piece(const struct piece *it, int fd) {
+static int map_piece(const struct piece *it, int kept) {
     int kind = MAP_PRIVATE | MAP_FIXED_NOREPLACE | (it->from ? 0 : MAP_ANONYMOUS);
     int64_t map =
-        kernel_map(it->address, it->length, (int)it->how, kind, it->from ? fd : -1, it->from);
+        kernel_map(it->address, it->length, (int)it->how, kind, it->from ? kept : -1, it->from);
     if (map == (int64_t)it->address) return 0;
     if (map < 0) return (int)map;
     kernel_unmap((uint64_t)map, it->length);
     return -EEXIST;
 }
 
+static void unmap_pieces(const struct piece *it, uint64_t count) {
+    while (count-- > 0) kernel_unmap(it[count].address, it[count].length);
+}
+
 /* Maps all pieces, or none. */
-static int map_pieces(const struct kept_file *it, int fd) {
+static int map_pieces(const struct kept_file *it, int kept) {
     for (uint64_t i = 0; i < it->head->counts.pieces; i++) {
-        int error = map_piece(&it->pieces[i], fd);
+        int error = map_piece(&it->pieces[i], kept);
         if (!error) continue;
-        while (i-- > 0) kernel_unmap(it->pieces[i].address, it->pieces[i].length);
+        unmap_pieces(it->pieces, i);
         return error;
     }
     return 0;
 }
 
-/* What the rest of the loader asks of an image, but for the segments: in the file's beginning. All of
- * that stays mapped, which costs no memory, and a call less. */
+/* ---- Taking it */
+
+/* Gives the rest of the loader what it asks of an image, except for the segments. All of that is in
+ * the beginning, which stays. */
 static void take_objects(struct program *program, const struct kept_file *it) {
     const struct counts *counts = &it->head->counts;
     program->image.objects = it->objects;
@@ -90,30 +97,46 @@ static void take_objects(struct program *program, const struct kept_file *it) {
         (struct calls){ .at = it->calls + counts->initializers, .count = counts->finalizers };
 }
 
-/* Takes an image from its file, which is mapped: nobody cuts it once it has a name. */
-static int take_mapped(struct keeping *it, struct program *program, int fd,
-                       const struct kept_file *file) {
-    int error = map_pieces(file, fd);
+/* Leaves an image that isn't taken. One that can't be read would be in the way of each start. */
+static void leave(const struct keeping *it, int other) {
+    if (other == IS_OTHER) {
+        say_more(it, "the image there is another one");
+    } else {
+        say_error(it, -other);
+        kernel_remove(it->folder, it->name);
+    }
+}
+
+/* Maps an image of the key, and compares what it was bound from: in its own pages, which the program
+ * is going to need. */
+static int take_image(struct keeping *it, struct program *program, int disk, int kept,
+                      const struct kept_file *file) {
+    int error = map_pieces(file, kept);
     if (error) {
         say_error(it, -error);
         it->may_keep = 0; /* another one at other addresses would come in its place */
+        return 0;
+    }
+    int other = compare_image(program, disk, kept, file);
+    if (other) {
+        unmap_pieces(file->pieces, file->head->counts.pieces);
+        leave(it, other);
         return 0;
     }
     take_objects(program, file);
     return 1;
 }
 
-static int take_file(struct keeping *it, struct program *program, int fd, uint64_t length) {
-    int64_t map = -ENODATA;
-    int is_taken = 0;
+static int take_file(struct keeping *it, struct program *program, int disk, int kept,
+                     uint64_t length) {
     struct kept_file file = { 0 };
-    if (length >= sizeof(struct head)) map = kernel_map(0, length, PROT_READ, MAP_PRIVATE, fd, 0);
-    if (map >= 0 && is_head((const struct head *)map, length)) file = parts_of((void *)map);
-    if (file.head && fits(&file, program, &it->key))
-        is_taken = take_mapped(it, program, fd, &file);
+    int is_taken = 0, other = read_beginning(kept, length, &file);
+    if (!other && !is_of_key(&file, &it->key)) other = IS_OTHER;
+    if (other)
+        leave(it, other);
     else
-        say_more(it, "the image there is another one");
-    if (map >= 0 && !is_taken) kernel_unmap((uint64_t)map, length);
+        is_taken = take_image(it, program, disk, kept, &file);
+    if (!is_taken) free_beginning(&file);
     return is_taken;
 }
 
@@ -136,13 +159,10 @@ static int is_stream(const struct state *disk) {
     return 0;
 }
 
-/* Reads a disk's roots as they are. Nothing is started whose output goes into it. */
-static int find_key(struct keeping *it, const struct program *program, const char *disk) {
-    int fd = kernel_open(AT_FDCWD, disk, O_RDONLY | O_CLOEXEC | O_NOCTTY | O_NONBLOCK);
-    int is_found = fd >= 0 && !key_of_loader(&it->key) && !key_of_disk(fd, &it->key) &&
-                   !is_stream(&it->key.disk);
-    if (fd >= 0) kernel_close(fd);
-    if (!is_found || key_of_program(program, &it->key)) {
+/* Finds the key of an image over a disk that is open. Nothing is started whose output goes into it. */
+static int find_key(struct keeping *it, const struct program *program, int disk) {
+    if (disk < 0 || key_of_loader(&it->key) || key_of_disk(disk, &it->key) ||
+        is_stream(&it->key.disk) || key_of_program(program, &it->key)) {
         say_more(it, "nothing is kept by what is told of the disk, the program or the loader");
         return -1;
     }
@@ -151,22 +171,29 @@ static int find_key(struct keeping *it, const struct program *program, const cha
     return 0;
 }
 
-int take_kept(struct keeping *it, struct program *program, const char *disk) {
+/* Takes the image of the key. */
+static int take_named(struct keeping *it, struct program *program, int disk) {
     uint64_t length;
+    give_name(it, program);
+    int kept = open_kept(it, it->name, &length);
+    if (kept < 0) {
+        kept == -ENOENT ? say_more(it, "no image is there") : say_error(it, -kept);
+        return 0;
+    }
+    int is_taken = take_file(it, program, disk, kept, length);
+    kernel_close(kept);
+    if (is_taken) say_more(it, "its image is taken");
+    return is_taken;
+}
+
+int take_kept(struct keeping *it, struct program *program, const char *path) {
     int error = open_folder(it);
     if (error) {
         say_error(it, -error);
         return 0;
     }
-    if (find_key(it, program, disk)) return 0;
-    give_name(it, program);
-    int fd = open_kept(it, it->name, &length);
-    if (fd < 0) {
-        fd == -ENOENT ? say_more(it, "no image is there") : say_error(it, -fd);
-        return 0;
-    }
-    int is_taken = take_file(it, program, fd, length);
-    kernel_close(fd);
-    if (is_taken) say_more(it, "its image is taken");
+    int disk = kernel_open(AT_FDCWD, path, O_RDONLY | O_CLOEXEC | O_NOCTTY | O_NONBLOCK);
+    int is_taken = !find_key(it, program, disk) && take_named(it, program, disk);
+    if (disk >= 0) kernel_close(disk);
     return is_taken;
 }

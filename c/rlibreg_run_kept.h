@@ -6,22 +6,28 @@
 
 #include <sys/types.h>
 
-/* ---- The key (rlibreg_run_key.c): where two are equal, so are the images that are bound */
+/* ---- The key (rlibreg_run_key.c): two images with equal keys differ only if what is compared at
+ * each start differs */
 
 enum { ROOTS = 1024, MOST_COMPARED = 2 << 20 };
 
-/* What tells an open file, or a device, from others, and the state of its bytes. */
-enum { OF_FILE = 1, OF_DEVICE, OF_BYTES /* which are compared: the length alone is told here */ };
+/* The identity of an open file, or of a device, and the state of its bytes. */
+enum {
+    OF_FILE = 1, /* its times say when it was changed */
+    OF_DEVICE,   /* nothing says so */
+    OF_BYTES,    /* of the program: the key has only the length, and its bytes are compared */
+    OF_MEMORY    /* a file on tmpfs: a write through a shared map leaves its times as they are */
+};
 struct state {
     uint64_t kind, device, number;
     uint64_t birth[2], modified[2], changed[2]; /* seconds, nanoseconds */
-    uint64_t length, sequence;
+    uint64_t length, sequence; /* a device's disk sequence, a file system's id */
 };
 
 /* How the base is chosen. */
 enum { AT_RANDOM_BASE = 1, AT_FIXED_BASE, AT_NAMED_BASE };
 
-/* How many bytes of a build's id are kept, with zeros behind it; it may have as few as these. */
+/* The number of bytes of a build's id that are kept, followed by zeros; and the fewest it may have. */
 enum { BUILD = 32, LEAST_BUILD = 8 };
 
 /* It has no byte that isn't a field's, so that keys are compared by their bytes. */
@@ -33,52 +39,60 @@ struct key {
     uint64_t choice, base, may_be_both;
 };
 
-/* Reads the state of what is open, and the parts of the key: of the loader, of the disk with the
- * boot, and of the program, its options among it. They give -1 where that says too little to keep an
- * image by it. */
+/* Read the state of what is open, and the parts of the key: of the loader, of the disk with the boot,
+ * and of the program with its options. They return -1 if an image can't be kept by what they find. */
 int state_of(int fd, struct state *it);
 int key_of_loader(struct key *key);
 int key_of_disk(int fd, struct key *key);
 int key_of_program(const struct program *program, struct key *key);
 int is_same_key(const struct key *one, const struct key *other);
 
-/* Whether what is changed from now on has another state: times have a tick's grain. */
+/* Whether a disk of this state may change while its state stays the same: then all that an image was
+ * bound from is compared at each start. */
+int is_compared(const struct state *disk);
+
+/* Whether the next change gives the file another state: times have a tick's grain. */
 int is_settled(const struct state *it);
 
 /* ---- The file of an image (rlibreg_run_kept_file.c) */
 
-enum { MOST_PIECES = 1 << 14, MOST_STRETCHES = 1 << 10, MOST_OBJECTS = 1 << 12 };
-enum { MOST_CALLS = 1 << 20, MOST_NAMES = 1 << 22 };
+enum { MOST_PIECES = 1 << 14, MOST_STRETCHES = 1 << 18, MOST_OBJECTS = 1 << 12 };
+enum { MOST_CALLS = 1 << 20, MOST_NAMES = 1 << 22, MOST_PROGRAM = 16 << 20 };
+#define MOST_OTHERS ((uint64_t)1 << 40)
 
-/* Pages in a row that lie in the file one behind the other, or are zeros and lie nowhere. */
+/* Pages in a row that lie one after the other in the file, or are zeros and lie nowhere. */
 struct piece {
     uint64_t address, length;
     uint64_t from; /* in the file, or 0 */
     uint64_t how;  /* PROT_READ and so on */
 };
 
-/* Bytes of the program's file in a row, which stand in the kept file at a place. */
+/* Bytes in a row that the image was bound from: of the program's file, or of the disk. The kept file
+ * has the same bytes, in the pages of a piece if it can. */
 struct stretch {
-    uint64_t length, from;
+    uint64_t at, length; /* there */
+    uint64_t address;    /* in a piece that may be read; or 0 */
+    uint64_t from;       /* else in the kept file, before its pages */
 };
 
 struct counts {
-    uint64_t pieces, stretches, objects, initializers, finalizers;
+    uint64_t pieces, of_program, of_disk /* stretches */, objects, initializers, finalizers;
     uint64_t names, program; /* bytes */
-    uint64_t others;         /* those of the program that stand in no page of the image */
+    uint64_t others;         /* bytes of stretches that are in no page of the image */
 };
 
 /* What the file of each image begins with. */
 extern const char kept_form[16];
 
-/* The file begins with this. A build of the loader reads the heads of others of this form, so whoever
- * changes it, or the key, changes the form too. Behind it are,
- * in this order, the pieces, the stretches of the program's file, if it is compared, the objects, the
- * addresses of the initializers and the finalizers, the objects' names, each with a byte 0 behind it,
- * and the stretches that aren't equal to pages of the image. Then, from the next page on, the pieces'
- * pages. */
+/* The file begins with this. A build of the loader reads the heads of others of this form, so if you
+ * change it, or the key, change the form too. It is followed by the pieces, the stretches of the
+ * program's file, if that is compared, and of the disk, if that is; the objects, the addresses of the
+ * initializers and the finalizers, and the objects' names, each followed by a byte 0. All this is the
+ * file's beginning. Then come the stretches that aren't equal to pages of the image and, from the next
+ * page on, the pieces' pages. */
 struct head {
     char form[16];
+    uint64_t check; /* of all other bytes of the beginning but the form */
     struct key key;
     uint64_t place; /* a number made of the paths and the options */
     uint64_t length;
@@ -89,23 +103,52 @@ struct head {
 struct kept_file {
     struct head *head;
     struct piece *pieces;
-    struct stretch *stretches;
+    struct stretch *stretches; /* of the program, then of the disk */
     rlibreg_object *objects;
     uint64_t *calls;
     char *names;
 };
 
-/* Where the program's other bytes begin in a kept file, and where the pages do. */
+/* Where in a kept file the beginning ends and the other stretches begin; and where the pages do. */
 uint64_t place_of_others(const struct counts *counts);
 uint64_t place_of_pages(const struct counts *counts);
 
-/* The parts of a file in whose beginning there are so many of each. */
+/* The parts of a beginning, whose head says how many there are of each. */
 struct kept_file parts_of(void *beginning);
 
-/* Whether a head is one of this form, of a file of this length; and whether all that is behind it
- * is as it has to be. Only then is anything else done with it. */
+/* The piece that has an address, or null: the last that begins there or below. */
+const struct piece *piece_with(const struct piece *first, size_t count, uint64_t address);
+
+/* The check of a beginning. It changes with each byte of it. */
+uint64_t check_of(const struct head *head);
+
+/* Whether a head is one of this form, of a file of this length; and whether the beginning is as it has
+ * to be. Only then is anything else done with it. */
 int is_head(const struct head *head, uint64_t length);
 int is_whole(const struct kept_file *it);
+
+/* ---- What an image was bound from (rlibreg_run_sources.c) */
+
+/* Bytes of a disk in a row: part of the file of the object of a number, from an offset on; or of no
+ * file, if that is 0. */
+struct extent {
+    uint64_t at, length, offset;
+    size_t object;
+};
+
+/* The bytes of a disk that a bind reads, but for the roots; and the disk, as long as it is, with these
+ * bytes and the roots alone. */
+struct sources {
+    uint8_t *copy; /* or null */
+    uint64_t length;
+    struct extent *at;
+    size_t count, room;
+};
+
+/* Copies what the program's image was bound from, of a disk that is locked and has this key. Returns
+ * -1 if it can't be had, or isn't all: then nothing is to be freed. */
+int take_sources(struct sources *it, const struct program *program, int disk, const struct key *key);
+void free_sources(struct sources *it);
 
 /* ---- The folder (rlibreg_run_folder.c) */
 
@@ -120,10 +163,11 @@ struct keeping {
     void (*say)(const struct keeping *it, const char *what, int error);
     uid_t user;       /* the effective one */
     int folder;       /* -1 where it isn't one in which images are kept */
-    mode_t others;    /* the rights that the folder, the disk and the program have in common */
+    int is_for_all;   /* whether every user may read the folder, the disk and the program */
     int may_keep;     /* whether an image that is bound now may be kept */
     int file;         /* of an image that is whole, and has no name yet; or 0 */
-    void *beginning;  /* of that file: all but pages and the program's bytes; or null */
+    void *beginning;  /* of that file; or null */
+    struct sources sources; /* if the disk is compared */
     struct key key;
     char name[NAME_ROOM]; /* of an image of such a key */
 };
@@ -160,8 +204,51 @@ int name_file(const struct keeping *it, int fd);
  * but one. */
 void drop_older(const struct keeping *it, const struct head *head);
 
+/* Whether every user may read the open file of a path, and reach it by its real path
+ * (rlibreg_run_rights.c). */
+int may_all_read(const char *path, int fd);
+
 /* A number for what tells images that replace each other by their paths. */
 uint64_t number_of_paths(const struct keeping *it, const struct program *program, const char *disk);
+
+/* ---- Making the file of an image (rlibreg_run_stretches.c) */
+
+/* The pieces of an image, while they are found, in the order of their addresses. */
+struct pieces {
+    struct piece *at;
+    size_t count;
+    int is_too_many;
+};
+
+/* The stretches, while they are found: of the program, and then those of the disk. */
+struct stretches {
+    struct stretch *at;
+    size_t count, room;
+    size_t first;    /* of the list that is being made */
+    uint64_t others; /* the bytes that are in no page of the image */
+    int has_failed;  /* memory was refused */
+};
+
+void find_stretches_of_program(struct stretches *it, const struct program *program,
+                               const struct pieces *pieces);
+void find_stretches_of_disk(struct stretches *it, const struct program *program,
+                            const struct sources *sources, const struct pieces *pieces);
+
+/* Gives the others their places in the file, from this one on. */
+void place_stretches(struct stretches *it, uint64_t others);
+
+/* ---- Comparing (rlibreg_run_compare.c)
+ *
+ * These return 0 if what is read is what was kept, IS_OTHER if it isn't, and an error, less than 0, if
+ * the kept file can't be read. */
+
+enum { IS_OTHER = 1 };
+
+/* Reads bytes of a file at a place, all of them. */
+int read_exactly(int fd, void *to, uint64_t length, uint64_t at);
+
+/* Compares all that an image was bound from, whose pieces are mapped. */
+int compare_image(const struct program *program, int disk, int kept, const struct kept_file *it);
 
 /* ---- Taking (rlibreg_run_kept.c) and keeping (rlibreg_run_keep.c) */
 
@@ -173,8 +260,10 @@ void say_error(const struct keeping *it, int error);
  * there was one that fits; else nothing is mapped. The folder stays open, where it is one. */
 int take_kept(struct keeping *it, struct program *program, const char *disk);
 
-/* Whether an image of the program over this disk, which is locked and isn't bound yet, may be kept. */
-void look_at_disk(struct keeping *it, const struct program *program, int disk);
+/* Decide whether an image of the program over a disk may be kept. The disk is open and locked: the
+ * first is called before the program is bound, the second after it. */
+void look_at_disk(struct keeping *it, const struct program *program, const char *path, int disk);
+void look_at_image(struct keeping *it, const struct program *program, int disk);
 
 /* Makes the file of the image, before its pages are protected and anything of it runs; and gives it
  * its name, once they are: what isn't started isn't kept. Then this process shares its pages too. An

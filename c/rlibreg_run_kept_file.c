@@ -6,11 +6,12 @@
 
 #include <sys/mman.h>
 
-const char kept_form[16] = "rlibreg kept 2\n";
+const char kept_form[16] = "rlibreg kept 3\n";
 
 uint64_t place_of_others(const struct counts *it) {
     return sizeof(struct head) + it->pieces * sizeof(struct piece) +
-           it->stretches * sizeof(struct stretch) + it->objects * sizeof(rlibreg_object) +
+           (it->of_program + it->of_disk) * sizeof(struct stretch) +
+           it->objects * sizeof(rlibreg_object) +
            (it->initializers + it->finalizers) * sizeof(uint64_t) + it->names;
 }
 
@@ -23,21 +24,41 @@ struct kept_file parts_of(void *beginning) {
     const struct counts *counts = &it.head->counts;
     it.pieces = (struct piece *)(it.head + 1);
     it.stretches = (struct stretch *)(it.pieces + counts->pieces);
-    it.objects = (rlibreg_object *)(it.stretches + counts->stretches);
+    it.objects = (rlibreg_object *)(it.stretches + counts->of_program + counts->of_disk);
     it.calls = (uint64_t *)(it.objects + counts->objects);
     it.names = (char *)(it.calls + counts->initializers + counts->finalizers);
     return it;
+}
+
+/* Eight bytes of any kind. */
+typedef uint64_t __attribute__((may_alias)) eight;
+
+/* Each step gives different numbers for different bytes and for different numbers before it. */
+static uint64_t with_eight(uint64_t number, uint64_t bytes) {
+    number = (number ^ bytes) * 0x9e3779b97f4a7c15;
+    return number ^ number >> 32;
+}
+
+uint64_t check_of(const struct head *head) {
+    const uint8_t *at = (const uint8_t *)&head->key;
+    const uint8_t *end = (const uint8_t *)head + place_of_others(&head->counts);
+    uint64_t number = 1;
+    for (; end - at >= (ptrdiff_t)sizeof(eight); at += sizeof(eight))
+        number = with_eight(number, *(const eight *)at);
+    for (; at < end; at++) number = with_eight(number, *at);
+    return number;
 }
 
 /* So none of the sums above wraps. */
 int is_head(const struct head *it, uint64_t length) {
     const struct counts *counts = &it->counts;
     return !memcmp(it->form, kept_form, sizeof it->form) && it->length == length &&
-           counts->pieces <= MOST_PIECES && counts->stretches <= MOST_STRETCHES &&
-           counts->objects && counts->objects <= MOST_OBJECTS &&
-           counts->initializers <= MOST_CALLS && counts->finalizers <= MOST_CALLS &&
-           counts->names <= MOST_NAMES && counts->program <= MOST_COMPARED &&
-           counts->others <= MOST_COMPARED && place_of_pages(counts) <= length;
+           counts->pieces <= MOST_PIECES && counts->of_program <= MOST_STRETCHES &&
+           counts->of_disk <= MOST_STRETCHES && counts->objects &&
+           counts->objects <= MOST_OBJECTS && counts->initializers <= MOST_CALLS &&
+           counts->finalizers <= MOST_CALLS && counts->names <= MOST_NAMES &&
+           counts->program <= MOST_PROGRAM && counts->others <= MOST_OTHERS &&
+           place_of_pages(counts) <= length;
 }
 
 /* Whether a piece lies behind the end of the one before, and its pages in the file. */
@@ -52,28 +73,62 @@ static int is_piece(const struct piece *it, uint64_t end, const struct head *hea
            it->length <= head->length - it->from;
 }
 
-/* Whether the stretches lie in the file, and are the whole program together. */
-static int are_whole(const struct kept_file *it) {
-    uint64_t left = it->head->counts.program, length = it->head->length;
-    for (uint64_t i = 0; i < it->head->counts.stretches; i++) {
-        const struct stretch *one = &it->stretches[i];
-        if (one->length > left || one->length > length || one->from > length - one->length) return 0;
-        left -= one->length;
-    }
-    return !left;
-}
-
-/* Whether an address is one of code: the last piece that begins there or below has it. */
-static int is_code_of(const struct kept_file *it, uint64_t address) {
-    const struct piece *first = it->pieces;
-    size_t count = it->head->counts.pieces;
+const struct piece *piece_with(const struct piece *first, size_t count, uint64_t address) {
     while (count > 1) {
         size_t half = count / 2;
         if (first[half].address <= address) first += half;
         count -= half;
     }
-    return count && address >= first->address && address - first->address < first->length &&
-           first->how & PROT_EXEC;
+    return count && address >= first->address && address - first->address < first->length ? first
+                                                                                           : NULL;
+}
+
+/* Whether the kept file has a stretch: in a piece that may be read, or between its beginning and its
+ * pages. */
+static int is_kept(const struct kept_file *it, const struct stretch *one) {
+    const struct counts *counts = &it->head->counts;
+    const struct piece *piece = piece_with(it->pieces, counts->pieces, one->address);
+    if (one->address)
+        return piece && piece->from && piece->how & PROT_READ &&
+               one->length <= piece->length - (one->address - piece->address);
+    const uint64_t begin = place_of_others(counts), end = place_of_pages(counts);
+    return one->from >= begin && one->from <= end && one->length <= end - one->from;
+}
+
+/* Whether stretches are kept, and lie in a file, or a disk, of this length, in the order of their
+ * places there. */
+static int are_in_order(const struct kept_file *file, const struct stretch *it, uint64_t count,
+                        uint64_t length) {
+    uint64_t end = 0;
+    for (const struct stretch *last = it + count; it < last; it++) {
+        if (!it->length || it->length > length || it->at > length - it->length || it->at < end ||
+            !is_kept(file, it))
+            return 0;
+        end = it->at + it->length;
+    }
+    return 1;
+}
+
+/* Whether the stretches of the program are the whole program, one after the other. */
+static int are_whole(const struct kept_file *it) {
+    uint64_t at = 0;
+    for (uint64_t i = 0; i < it->head->counts.of_program; at += it->stretches[i++].length)
+        if (it->stretches[i].at != at) return 0;
+    return at == it->head->counts.program;
+}
+
+/* A disk that isn't compared has no stretches. */
+static int are_stretches(const struct kept_file *it) {
+    const struct counts *counts = &it->head->counts;
+    const struct state *disk = &it->head->key.disk;
+    return are_in_order(it, it->stretches, counts->of_program, counts->program) &&
+           are_whole(it) && (is_compared(disk) || !counts->of_disk) &&
+           are_in_order(it, it->stretches + counts->of_program, counts->of_disk, disk->length);
+}
+
+static int is_code_of(const struct kept_file *it, uint64_t address) {
+    const struct piece *piece = piece_with(it->pieces, it->head->counts.pieces, address);
+    return piece && piece->how & PROT_EXEC;
 }
 
 int is_whole(const struct kept_file *it) {
@@ -83,7 +138,7 @@ int is_whole(const struct kept_file *it) {
         if (!is_piece(&it->pieces[i], end, it->head)) return 0;
         end = it->pieces[i].address + it->pieces[i].length;
     }
-    if (!are_whole(it)) return 0;
+    if (!are_stretches(it)) return 0;
     if (counts->names && it->names[counts->names - 1]) return 0;
     for (uint64_t i = 1; i < counts->objects; i++)
         if (it->objects[i].name >= counts->names) return 0;

@@ -42,6 +42,14 @@ int kernel_flags(int fd) {
     return (int)ASK(SYS_fcntl, NUMBER(fd), F_GETFL);
 }
 
+int kernel_set_flags(int fd, int flags) {
+    return (int)ASK(SYS_fcntl, NUMBER(fd), F_SETFL, NUMBER(flags));
+}
+
+int kernel_remove(int folder, const char *name) {
+    return (int)ASK(SYS_unlinkat, NUMBER(folder), PLACE(name), 0);
+}
+
 int kernel_fstat(int fd, struct stat *found) {
     return (int)ASK(SYS_fstat, NUMBER(fd), PLACE(found));
 }
@@ -86,6 +94,10 @@ int64_t kernel_map(uint64_t at, uint64_t length, int how, int kind, int fd, uint
 
 int kernel_unmap(uint64_t at, uint64_t length) {
     return (int)ASK(SYS_munmap, at, length);
+}
+
+int kernel_advise(uint64_t at, uint64_t length, int how) {
+    return (int)ASK(SYS_madvise, at, length, NUMBER(how));
 }
 
 /* ---- The process */

@@ -23,6 +23,8 @@ size_t strlen(const char *text) __asm__("rlibreg_kernel_length");
 int kernel_open(int folder, const char *path, int flags);
 int kernel_close(int fd);
 int kernel_flags(int fd);
+int kernel_set_flags(int fd, int flags);
+int kernel_remove(int folder, const char *name);
 int kernel_fstat(int fd, struct stat *found);
 int kernel_statx(int fd, unsigned wanted, struct statx *found);
 int kernel_fstatfs(int fd, struct statfs *found);
@@ -33,6 +35,7 @@ int64_t kernel_read(int fd, void *to, size_t length, uint64_t at);
 int64_t kernel_link(const char *path, char *to, size_t room); /* where a symbolic link leads */
 int64_t kernel_map(uint64_t at, uint64_t length, int how, int kind, int fd, uint64_t from);
 int kernel_unmap(uint64_t at, uint64_t length);
+int kernel_advise(uint64_t at, uint64_t length, int how);
 int kernel_clock(struct timespec *now);
 int64_t kernel_stack_limit(void); /* in bytes; the greatest number where there is none */
 void kernel_take_name(const char *name);

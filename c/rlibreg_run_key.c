@@ -22,17 +22,25 @@ enum { SETTLED = 2 };
 
 /* ---- States */
 
-/* Whether a file's numbers and times say that it was changed. They say little behind a network or
- * another process, on FAT, and where an image of a file system brings them. */
-static int has_telling_times(int fd) {
-    static const uint32_t kinds[] = { 0xef53, /* ext2 to ext4 */ 0x58465342, /* xfs */
-                                      0x9123683e, /* btrfs */ 0xf2f52010, /* f2fs */
-                                      0x01021994 /* tmpfs */ };
+enum { TMPFS = 0x01021994 };
+
+/* Sees what a file is on: the kind of its state, and an id that is most often another one after another
+ * file system has come in the place of this one. Returns -1 if the file's number and times say little of
+ * its bytes: behind a network or another process, and on FAT. */
+static int see_file_system(int fd, struct state *it) {
+    static const uint32_t with_times[] = { 0xef53, /* ext2 to ext4 */ 0x58465342, /* xfs */
+                                           0x9123683e, /* btrfs */ 0xf2f52010 /* f2fs */ };
     struct statfs found;
-    if (kernel_fstatfs(fd, &found)) return 0;
-    for (size_t i = 0; i < sizeof kinds / sizeof *kinds; i++)
-        if ((uint32_t)found.f_type == kinds[i]) return 1;
-    return 0;
+    if (kernel_fstatfs(fd, &found)) return -1;
+    memcpy(&it->sequence, &found.f_fsid, sizeof it->sequence);
+    if (found.f_type == TMPFS) it->kind = OF_MEMORY;
+    for (size_t i = 0; i < sizeof with_times / sizeof *with_times; i++)
+        if ((uint32_t)found.f_type == with_times[i]) it->kind = OF_FILE;
+    return it->kind ? 0 : -1;
+}
+
+int is_compared(const struct state *disk) {
+    return disk->kind == OF_DEVICE || disk->kind == OF_MEMORY;
 }
 
 static void put_time(uint64_t time[2], struct statx_timestamp it) {
@@ -41,9 +49,8 @@ static void put_time(uint64_t time[2], struct statx_timestamp it) {
 }
 
 static int state_of_file(int fd, const struct statx *found, struct state *it) {
-    if ((found->stx_mask & STATX_BASIC_STATS) != STATX_BASIC_STATS || !has_telling_times(fd))
+    if ((found->stx_mask & STATX_BASIC_STATS) != STATX_BASIC_STATS || see_file_system(fd, it))
         return -1;
-    it->kind = OF_FILE;
     it->device = makedev(found->stx_dev_major, found->stx_dev_minor);
     it->number = found->stx_ino;
     if (found->stx_mask & STATX_BTIME) put_time(it->birth, found->stx_btime);
@@ -130,9 +137,11 @@ int key_of_program(const struct program *program, struct key *key) {
     key->choice = has_fixed_bases() ? AT_FIXED_BASE : AT_RANDOM_BASE;
     if (program->has_base) key->choice = AT_NAMED_BASE;
     key->base = program->has_base ? program->base : 0;
-    if (program->found.st_size > MOST_COMPARED) return state_of(program->fd, &key->program);
+    if (program->found.st_size > MOST_COMPARED && !state_of(program->fd, &key->program) &&
+        key->program.kind == OF_FILE)
+        return 0;
     key->program = (struct state){ .kind = OF_BYTES, .length = (uint64_t)program->found.st_size };
-    return 0;
+    return program->found.st_size > MOST_PROGRAM ? -1 : 0;
 }
 
 int is_same_key(const struct key *one, const struct key *other) {
@@ -141,7 +150,7 @@ int is_same_key(const struct key *one, const struct key *other) {
 
 int is_settled(const struct state *it) {
     struct timespec now;
-    if (it->kind != OF_FILE) return 1;
+    if (it->kind != OF_FILE && it->kind != OF_MEMORY) return 1;
     if (kernel_clock(&now)) return 0;
     const int64_t since = (int64_t)it->changed[0], until = (int64_t)now.tv_sec - SETTLED;
     return since < until || (since == until && it->changed[1] <= (uint64_t)now.tv_nsec);

@@ -30,7 +30,7 @@ int make_file(const struct keeping *it) {
     errno = EACCES;
     if (place.f_flag & ST_NOEXEC) return -1;
     int fd = openat(it->folder, ".", O_TMPFILE | O_RDWR | O_CLOEXEC, S_IRUSR | S_IWUSR);
-    mode_t others = it->others & S_IROTH ? S_IRGRP | S_IROTH : 0;
+    mode_t others = it->is_for_all ? S_IRGRP | S_IROTH : 0;
     if (fd < 0 || !fchmod(fd, S_IRUSR | S_IWUSR | others)) return fd;
     close(fd);
     return -1;

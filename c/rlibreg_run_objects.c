@@ -42,15 +42,20 @@ const uint8_t *memory_at(const rlibreg_image *image, const rlibreg_object *objec
 
 /* ---- Program headers */
 
+int header_at(const rlibreg_image *image, const rlibreg_object *object, size_t number,
+              Elf64_Phdr *one) {
+    uint64_t length;
+    const uint8_t *bytes = object->headers ? memory_at(image, object, object->headers, &length) : 0;
+    if (!bytes || number >= object->header_count || number >= length / sizeof *one) return 0;
+    memcpy(one, bytes + number * sizeof *one, sizeof *one);
+    return 1;
+}
+
 /* The first program header of a type. */
 static int header_of(const rlibreg_image *image, const rlibreg_object *object, uint32_t type,
                      Elf64_Phdr *one) {
-    uint64_t length;
-    const uint8_t *bytes = object->headers ? memory_at(image, object, object->headers, &length) : 0;
-    for (size_t i = 0; bytes && i < object->header_count && i < length / sizeof *one; i++) {
-        memcpy(one, bytes + i * sizeof *one, sizeof *one);
+    for (size_t i = 0; header_at(image, object, i, one); i++)
         if (one->p_type == type) return 1;
-    }
     return 0;
 }
 

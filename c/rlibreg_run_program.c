@@ -48,7 +48,8 @@ static Elf64_Ehdr file_header(const struct program *it) {
     return header;
 }
 
-int header_at(const struct program *it, size_t number, Elf64_Phdr *one) {
+/* Reads the program header of a number. Returns whether the file has it. */
+static int read_header(const struct program *it, size_t number, Elf64_Phdr *one) {
     Elf64_Ehdr header = file_header(it);
     if (number >= header.e_phnum || header.e_phoff > it->length) return 0;
     if (number >= (it->length - header.e_phoff) / sizeof *one) return 0;
@@ -59,7 +60,7 @@ int header_at(const struct program *it, size_t number, Elf64_Phdr *one) {
 uint64_t unit_of(const struct program *it) {
     Elf64_Phdr one;
     uint64_t unit = PAGE;
-    for (size_t i = 0; header_at(it, i, &one); i++)
+    for (size_t i = 0; read_header(it, i, &one); i++)
         if (one.p_type == PT_LOAD && one.p_align > unit) unit = one.p_align;
     return unit;
 }

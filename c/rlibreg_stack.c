@@ -12,13 +12,13 @@
 /* For the handler of the signal, since there is no other stack. */
 enum { OTHER_STACK = 1 << 15 };
 
-static int status_then;
-static const char *message_then;
+static struct refused_stack then;
 
-static void cannot_grow(int signal) {
-    (void)signal;
-    if (write(STDERR_FILENO, message_then, strlen(message_then)) < 0) errno = 0; /* nobody to tell */
-    _exit(status_then);
+static void cannot_grow(int number) {
+    (void)number;
+    signal(SIGPIPE, SIG_IGN); /* a pipe without a reader changes no status */
+    if (write(then.stream, then.message, strlen(then.message)) < 0) errno = 0; /* nobody to tell */
+    _exit(then.status);
 }
 
 /* The system makes the stack as long as it has to be for this byte. */
@@ -26,12 +26,11 @@ __attribute__((noinline)) static void touch(size_t bytes) {
     *(volatile char *)alloca(bytes) = 0;
 }
 
-void rlibreg_grow_stack(size_t bytes, int status, const char *message) {
+void rlibreg_grow_stack(size_t bytes, struct refused_stack refused) {
     static char room[OTHER_STACK];
     stack_t other = { .ss_sp = room, .ss_size = sizeof room }, usual;
     struct sigaction ours = { .sa_handler = cannot_grow, .sa_flags = SA_ONSTACK }, before;
-    status_then = status;
-    message_then = message;
+    then = refused;
     sigaltstack(&other, &usual);
     sigaction(SIGSEGV, &ours, &before);
     touch(bytes);

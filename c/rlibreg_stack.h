@@ -4,12 +4,19 @@
 
 #include <stddef.h>
 
-/* Has the stack of the first thread grow by so many bytes, as it would later. Where it can't this
- * ends the process: the kernel would later kill it. The status and the message say so. */
-void rlibreg_grow_stack(size_t bytes, int status, const char *message);
+/* What a process that is refused a stack does: it prints a message to a standard stream, and exits
+ * with a status. */
+struct refused_stack {
+    int status, stream;
+    const char *message;
+};
 
-/* Whether standard error is a file that a word names, which may be the disk: that gets no message
- * (rlibreg_entry.c). */
-int rlibreg_names_errors(char **words);
+/* Makes the stack of the first thread larger by `bytes` bytes. If that is refused, ends the process
+ * as `refused` says: otherwise the kernel would kill it later, when it needs the stack. */
+void rlibreg_grow_stack(size_t bytes, struct refused_stack refused);
+
+/* Whether a standard stream is a file that one of the words names. That file may be the disk, so no
+ * message is printed to it (rlibreg_entry.c). */
+int rlibreg_names_stream(int stream, char **words);
 
 #endif

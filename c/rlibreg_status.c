@@ -44,7 +44,6 @@ const char *rlibreg_status_name(uint32_t status) {
         { RLIBREG_PRE_INITIALIZERS, "PreInitializers" },
         { RLIBREG_INITIALIZERS, "Initializers" },
         { RLIBREG_FINALIZERS, "Finalizers" },
-        { RLIBREG_OUT_OF_ORDER, "OutOfOrder" },
         { RLIBREG_TOO_MANY_HEADERS, "TooManyHeaders" },
         { RLIBREG_WRITABLE_CODE, "WritableCode" },
         { RLIBREG_NO_PAGES, "NoRoom" },

@@ -15,10 +15,12 @@ static int open_nothing(void) {
     return fd < 0 ? open("/", O_RDONLY | O_DIRECTORY) : fd;
 }
 
+/* Opens each stream that isn't open. Fails if the system doesn't say whether one is: a filter of
+ * system calls (seccomp) can refuse fcntl. */
 static int fill_streams(void) {
     for (int number = 0; number < STREAMS; number++)
         while (fcntl(number, F_GETFD) < 0) {
-            int fd = open_nothing();
+            int fd = errno == EBADF ? open_nothing() : -1;
             if (fd < 0) return -1;
             if (fd >= STREAMS) close(fd); /* another thread has filled it */
         }
@@ -39,19 +41,15 @@ int rlibreg_open_apart(int folder, const char *path, int flags) {
     return 0 <= fd && fd < STREAMS ? move_up(fd) : fd;
 }
 
-static int is_same(const struct stat *one, const struct stat *other) {
-    if (S_ISBLK(one->st_mode) && S_ISBLK(other->st_mode)) return one->st_rdev == other->st_rdev;
-    return one->st_dev == other->st_dev && one->st_ino == other->st_ino;
-}
-
 int rlibreg_stream_of_file(const struct stat *file) {
     struct stat found;
+    /* A stream of which the system doesn't say how it is open may be written. */
     for (int number = STREAMS - 1; number >= 0; number--) {
         int how = fcntl(number, F_GETFL);
         if (how < 0 ? errno == EBADF : (how & O_ACCMODE) == O_RDONLY) continue;
-        if (how < 0 || fstat(number, &found)) return number;
+        if (fstat(number, &found)) return number;
         errno = ETXTBSY;
-        if (is_same(&found, file)) return number;
+        if (rlibreg_is_same_file(&found, file)) return number;
     }
     return -1;
 }

@@ -1,8 +1,9 @@
 # Makes version scripts one that names no version: what any of them has global or local stays so, and
-# where both, global. A symbol of two versions ends it. `name` is the program's, for messages.
+# what is both is global. A line of the character FS follows each script. A script that is refused, such
+# as for a symbol with two versions, ends it with 1 and a line of the script's number and the reason.
 
 function fail(why) {
-    print name ": " FILENAME ": " why > "/dev/stderr"
+    print script " " why
     failed = 1
     exit 1
 }
@@ -40,9 +41,8 @@ function write(patterns, label, parts, key, first) {
         else print "  extern " parts[1] " { " parts[2] "; };"
     }
 }
-{ text = text $0 "\n" }
-END {
-    if (failed) exit 1
+function read_script() {
+    script++
     gsub(/\/\*([^*]|\*+[^*\/])*\*+\//, " ", text)
     gsub(/#[^\n]*/, "", text)
     while (text ~ /[^ \t\r\n]/) {
@@ -52,6 +52,12 @@ END {
         block("")
         while (take() != ";") continue
     }
+    text = ""
+}
+$0 == "\034" { read_script(); next }
+{ text = text $0 "\n" }
+END {
+    if (failed) exit 1
     for (key in globals) delete locals[key]
     print "{"
     write(globals, "global")

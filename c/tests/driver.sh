@@ -15,13 +15,15 @@ gcc=rlibreg-gcc
 exported() {
     nm -D --defined-only "$1" 2> told | sed 's/^[^ ]* . //; /^_/d' | sort | tr '\n' ' '
 }
-# refused WHAT MESSAGE WORD..: the driver ends with 1 and a last line, and leaves no output.
-refused() {
-    : > output
-    want "$1" "$2
-= 1" "$(ended "${@:3}" -o output | tail -n 2)"
-    want "$1: what is left" '' "$(ls output 2> /dev/null)"
+# ends WHAT LEFT MESSAGE WORD..: the driver ends with 1 and a last line, and an old output is then LEFT:
+# `gone` or `old`.
+ends() {
+    echo old > output
+    want "$1" "$3
+= 1" "$(ended "${@:4}" -o output | tail -n 2)"
+    want "$1: what is left" "$2" "$(cat output 2> /dev/null || echo gone)"
 }
+refused() { ends "$1" gone "${@:2}"; }
 
 # Version scripts, by each linker and in each spelling: what they export, and no version.
 cat > two.map << 'END'
@@ -60,7 +62,9 @@ int first(void) { return 1; }
 int second(void) { return 2; }
 __asm__(".symver first,it@TWO_1.0\n.symver second,it@@TWO_1.1");
 END
-    refused "$linker: symbols with versions" \
+    left=gone
+    [ $linker != lld ] || left=old # as it leaves it for gcc
+    ends "$linker: symbols with versions" $left \
         "$gcc: output: symbols with versions of their own (.symver): configure without them" \
         $gcc -fuse-ld=$linker -shared versions.c
 done
@@ -68,12 +72,12 @@ cat > both.map << 'END'
 A { global: one; local: *; };
 B { global: one; };
 END
-refused 'two versions of a symbol' "$gcc: both.map: one has two versions, A and B" \
+ends 'two versions of a symbol' old "$gcc: both.map: one has two versions, A and B" \
     $gcc -shared -DNUMBER=1 source.c -Wl,--version-script=both.map
 echo 'A { global: one;' > both.map
-refused 'half a script' "$gcc: both.map: it ends within a version" \
+ends 'half a script' old "$gcc: both.map: it ends within a version" \
     $gcc -shared -DNUMBER=1 source.c -Wl,-z,now,--version-script=both.map
-refused 'no script' "$gcc: none.map: there is no such file" \
+ends 'no script' old "$gcc: none.map: there is no such file" \
     $gcc -shared -DNUMBER=1 source.c -Wl,-z,now,--version-script=none.map
 
 # What the product refuses.
@@ -106,6 +110,8 @@ gcc -shared -fPIC -nostdlib -o libnameless.so data.c
 refused 'a path for a name' "$gcc: output: refused B3 Missing output ./libnameless.so: link a \
 library that has a SONAME" $gcc copy.c ./libnameless.so
 $gcc -pie -fPIE -no-pie -o copy copy.c libdata.so -lc -lm
+printf '*self_spec:\n+ %%{!fPIC:-fPIE}\n\n' > pie.specs # as Debian's pie-compile.specs
+$gcc -specs=pie.specs -o copy copy.c libdata.so
 $gcc -o /dev/null copy.c libdata.so
 [ -c /dev/null ]
 
@@ -118,6 +124,8 @@ for name in dlopen dlsym; do
 = 1" "$(ended $gcc --whole-libc -o conftest conftest.c -ldl | tail -n 2)"
 done
 echo 'int main(void) { return 3; }' > conftest.c
+want 'what gcc has for another C library' 'collect2: error: ld returned 1 exit status
+= 1' "$(ended $gcc -fsanitize=address -o conftest conftest.c | tail -n 2)"
 $gcc -o conftest -x c - -lm < conftest.c
 want 'a small program' '' "$(exported conftest)"
 if [ -x "$(readelf -lW conftest | sed -n 's/.*interpreter: \(.*\)\]/\1/p')" ]; then
@@ -182,6 +190,8 @@ chmod +x alone
 want 'as an executable' 'one 1 two 2
 = 0' "$(ended ./alone)"
 
+. "$here/driver_words.sh"
+
 # C++: two libraries with an object each, virtual destructors, statics of functions, new and delete.
 if command -v g++ > /dev/null; then
     rlibreg-g++ -shared -o libbase.so driver_base.cc
@@ -190,6 +200,12 @@ if command -v g++ > /dev/null; then
     for name in base derived; do "$built/rlibreg" install disk lib$name.so > /dev/null; done
     want 'C++' "$(cat "$programs/driver_shapes.txt")
 = 0" "$(ended "$built/rlibreg-run" disk ./shapes)"
+    rlibreg-g++ -Wall -Wextra -Werror -o new driver_new.cc
+    want 'new and delete' 'wrong: 0
+= 0' "$(ended "$built/rlibreg-run" disk ./new)"
+    for block in 0 1 2 3 4 5 6 7 8 9; do
+        want "an impossible block, $block" '= 134' "$(ended "$built/rlibreg-run" disk ./new $block)"
+    done
 else
     echo 'skipped: rlibreg-g++, for want of g++'
 fi

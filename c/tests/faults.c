@@ -262,6 +262,8 @@ static int is_right(const struct change *change, const struct outcome *it) {
                                (it->why == EIO || it->why == EAGAIN));
     if (has_failed("stat")) /* the path is opened again, or isn't known to name the file */
         return !it->status || (it->why == EIO && it->status == RLIBREG_DEVICE && !it->opened);
+    if (has_failed("fstat") && it->status == RLIBREG_DEVICE) /* of the disk, beside its path */
+        return it->why == EIO && !it->opened;
     if (has_failed("fstat") || has_failed("flags")) /* of the disk, or of a stream */
         return it->why == EIO && it->status == RLIBREG_SYSTEM;
     return it->why == EIO && it->status == (it->opened ? RLIBREG_SYSTEM : RLIBREG_DEVICE);

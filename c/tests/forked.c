@@ -3,8 +3,11 @@
 #define _GNU_SOURCE
 #include "watched.h"
 
+#include <sched.h>
 #include <signal.h>
+#include <sys/syscall.h>
 #include <sys/wait.h>
+#include <time.h>
 #include <unistd.h>
 
 static char library[1 << 20], program[1 << 20];
@@ -94,12 +97,141 @@ static void only_has_it(rlibreg *it) {
     (void)it;
 }
 
+/* ---- Children of children, also with their parent's process number */
+
+enum { GENERATIONS = 4 };
+
+/* How children are made: by fork, whose handlers run, or by the system call, which runs none; with
+ * CLONE_NEWPID each child is process 1 of a new process namespace. */
+struct way {
+    int is_call, flags;
+};
+
+/* Makes a child. Returns -1 if that isn't permitted. */
+static pid_t child_of(struct way way) {
+    fflush(stdout);
+    if (way.is_call) return (pid_t)syscall(SYS_clone, (long)way.flags | SIGCHLD);
+    return unshare(way.flags) ? -1 : fork();
+}
+
+static void want_success(pid_t child) {
+    int status;
+    WANT(child > 0 && waitpid(child, &status, 0) == child);
+    WANT(WIFEXITED(status) && !WEXITSTATUS(status));
+}
+
+static void disk_of(int generation, char *path) {
+    snprintf(path, 16, "disk-%u", (unsigned)generation % 10);
+}
+
+/* A wait for a disk that its parent holds ends by its limit, and not at once. */
+static void wait_for_parent(const char *path) {
+    struct timespec begun, ended;
+    rlibreg *it = rlibreg_create();
+    rlibreg_wait_limit(it, 50);
+    WANT(!clock_gettime(CLOCK_MONOTONIC, &begun));
+    WANT(rlibreg_open(it, path, RLIBREG_CHANGES | RLIBREG_WAIT) == RLIBREG_HELD);
+    WANT(!clock_gettime(CLOCK_MONOTONIC, &ended));
+    WANT((ended.tv_sec - begun.tv_sec) * 1000 + (ended.tv_nsec - begun.tv_nsec) / 1000000 >= 49);
+    rlibreg_close(it);
+}
+
+static void try_generations(struct way way, rlibreg **opened, int generation);
+
+/* Opens a disk, which the next generation finds open. */
+static void open_own(struct way way, rlibreg **opened, int generation) {
+    char path[16];
+    disk_of(generation, path);
+    opened[generation] = rlibreg_create();
+    WANT(!rlibreg_format(opened[generation], path, 64, 0));
+    pid_t child = child_of(way);
+    if (!child) {
+        try_generations(way, opened, generation + 1);
+        _exit(0);
+    }
+    want_success(child);
+    WANT(is_held_alone(path) && !rlibreg_install(opened[generation], library, library_length));
+    rlibreg_close(opened[generation]);
+    WANT(!is_held(path) && !unlink(path));
+}
+
+/* Process 1 ends by no signal for which it has no handler. */
+static void end_late(int number) {
+    (void)number;
+    _exit(1);
+}
+
+/* Each generation may only close what those before it opened, and that takes no lock away. */
+static void try_generations(struct way way, rlibreg **opened, int generation) {
+    char path[16];
+    WANT(!way.flags || getpid() == 1);
+    WANT(signal(SIGALRM, end_late) != SIG_ERR);
+    alarm(60);
+    for (int i = 0; i < generation; i++) call_all(opened[i]);
+    if (generation) disk_of(generation - 1, path), wait_for_parent(path);
+    if (generation < GENERATIONS) open_own(way, opened, generation);
+    for (int i = 0; i < generation; i++) {
+        rlibreg_close(opened[i]);
+        disk_of(i, path);
+        WANT(is_held_alone(path));
+    }
+}
+
+/* Tries generations of children in a process that has opened no disk before. Returns 0 if there can't
+ * be such children. */
+static int in_generations(struct way way, int wipes_nothing) {
+    rlibreg *opened[GENERATIONS];
+    pid_t child = child_of((struct way){ 1, way.flags });
+    if (child < 0) child = child_of((struct way){ 1, way.flags | CLONE_NEWUSER });
+    if (child < 0) return 0;
+    if (!child) {
+        watch();
+        watched.wipes_nothing = wipes_nothing;
+        try_generations(way, opened, 0);
+        _exit(0);
+    }
+    want_success(child);
+    return 1;
+}
+
+/* A handler and the kernel see each fork, the kernel sees each call of clone, and the process number
+ * tells most children. */
+static void try_all_generations(void) {
+    const struct way by_fork = { 0, CLONE_NEWPID }, by_call = { 1, CLONE_NEWPID };
+    WANT(in_generations((struct way){ 1, 0 }, 1) && in_generations((struct way){ 0, 0 }, 0));
+    if (in_generations(by_fork, 0))
+        WANT(in_generations(by_fork, 1) && in_generations(by_call, 0));
+    else
+        printf("skipped: children with their parent's process number (%s)\n", strerror(errno));
+}
+
+/* If forks can't be watched for want of memory, no disk is opened; later it is. */
+static void try_unwatched(void) {
+    fflush(stdout);
+    pid_t child = fork();
+    if (!child) {
+        rlibreg *it = rlibreg_create();
+        watch();
+        watched.watches_no_forks = 1;
+        WANT(rlibreg_format(it, "new", 64, 0) == RLIBREG_SYSTEM && rlibreg_errno(it) == ENOMEM);
+        WANT(!*names_here());
+        unwatch();
+        WANT(!rlibreg_format(it, "new", 64, 0) && is_held_alone("new"));
+        rlibreg_close(it);
+        WANT(!unlink("new"));
+        _exit(0);
+    }
+    want_success(child);
+}
+
 int main(int argc, char **argv) {
     WANT(argc == 4);
     library_length = read_file(library, sizeof library, argv[1]);
     program_length = read_file(program, sizeof program, argv[2]);
     name = argv[3];
     alarm(60);
+    try_unwatched();
+    try_all_generations();
     rlibreg *it = rlibreg_create();
     WANT(!rlibreg_format(it, "disk", 64, 0));
     end(child_that(call_all, it));

@@ -1,11 +1,14 @@
 /* The system's calls by which an image is kept, with a clock that is ten seconds on, so that no file
  * was changed just now: linked into the loader with --wrap. Of these calls the one of the number DIE
- * ends the process as a kill does, before it is made; and that of the number FAIL fails. */
+ * ends the process as a kill does, before it is made; and that of the number FAIL fails. Of the reads by
+ * which an image is looked for the one of the number READ fails; OLD is a kernel that can't be asked for
+ * pages, and UNREAD one that can't read them. */
 #define _GNU_SOURCE
 #include <errno.h>
 #include <fcntl.h>
 #include <signal.h>
 #include <stdarg.h>
+#include <stdint.h>
 #include <stdio.h>
 #include <stdlib.h>
 #include <sys/stat.h>
@@ -33,6 +36,16 @@ WRAPPED(int, kernel_clock, struct timespec *now) {
     int failed = __real_kernel_clock(now);
     if (!failed) now->tv_sec += 10;
     return failed;
+}
+
+WRAPPED(int64_t, kernel_read, int fd, void *to, size_t length, uint64_t at) {
+    static long reads;
+    return is_number("READ", ++reads) ? -EIO : __real_kernel_read(fd, to, length, at);
+}
+
+WRAPPED(int, kernel_advise, uint64_t at, uint64_t length, int how) {
+    if (getenv("OLD")) return -EINVAL;
+    return getenv("UNREAD") ? -EFAULT : __real_kernel_advise(at, length, how);
 }
 
 int __real_openat(int folder, const char *path, int flags, ...);

@@ -81,7 +81,8 @@ static void try_disk(const char *path) {
     WANT(!memcmp(key.roots, bytes, ROOTS));
     WANT(strlen(key.boot) == 36);
     WANT(!stat(path, &found));
-    WANT(key.disk.kind == OF_FILE && key.disk.device == found.st_dev);
+    WANT(key.disk.kind == OF_FILE || key.disk.kind == OF_MEMORY);
+    WANT(is_compared(&key.disk) == (key.disk.kind == OF_MEMORY) && key.disk.device == found.st_dev);
     WANT(key.disk.number == found.st_ino && key.disk.length == sizeof bytes);
     WANT((int64_t)key.disk.modified[0] == found.st_mtim.tv_sec);
     WANT((int64_t)key.disk.changed[1] == found.st_ctim.tv_nsec);
@@ -129,7 +130,11 @@ static void try_program(const char *path) {
     WANT(!key_of_program(&program, &other) && other.choice == AT_FIXED_BASE && !other.base);
     is_fixed = 0;
     program.found.st_size = MOST_COMPARED + 1;
-    WANT(!key_of_program(&program, &key) && key.program.kind == OF_FILE && key.program.number);
+    struct state state;
+    WANT(!state_of(program.fd, &state) && !key_of_program(&program, &key));
+    WANT(key.program.kind == (state.kind == OF_FILE ? OF_FILE : OF_BYTES));
+    program.found.st_size = MOST_PROGRAM + 1;
+    WANT(!!key_of_program(&program, &key) == (state.kind != OF_FILE));
     close(program.fd);
 }
 
@@ -177,13 +182,14 @@ static void try_bytes(void) {
 
 /* ---- The file */
 
-enum { PIECES = 3, STRETCHES = 2, OBJECTS = 2, CALLS = 3, NAMES = 6, OTHERS = 5000, PAGES = 2 };
+enum { PIECES = 3, OF_PROGRAM = 2, OF_DISK = 2, OBJECTS = 2, CALLS = 3, NAMES = 6, PAGES = 2 };
+enum { OTHERS = 5000, ENTRY = 512, DISK = 8 * PAGE };
 
 static uint64_t sound_file(uint8_t *bytes, size_t room) {
-    struct counts counts = {
-        PIECES, STRETCHES, OBJECTS, 1, CALLS - 1, NAMES, PAGE + OTHERS, OTHERS
-    };
+    struct counts counts = { PIECES, OF_PROGRAM, OF_DISK,       OBJECTS,       1, CALLS - 1,
+                             NAMES,  PAGE + OTHERS, OTHERS + ENTRY };
     struct head head = { .counts = counts };
+    head.key.disk = (struct state){ .kind = OF_DEVICE, .length = DISK };
     memcpy(head.form, kept_form, sizeof head.form);
     uint64_t pages = place_of_pages(&counts);
     head.length = pages + PAGES * PAGE;
@@ -193,8 +199,11 @@ static uint64_t sound_file(uint8_t *bytes, size_t room) {
     file.pieces[0] = (struct piece){ 0x10000, PAGE, pages, PROT_READ | PROT_EXEC };
     file.pieces[1] = (struct piece){ 0x11000, PAGE, pages + PAGE, PROT_READ | PROT_WRITE };
     file.pieces[2] = (struct piece){ 0x12000, 4 * PAGE, 0, PROT_READ };
-    file.stretches[0] = (struct stretch){ PAGE, pages };
-    file.stretches[1] = (struct stretch){ OTHERS, place_of_others(&counts) };
+    uint64_t others = place_of_others(&counts);
+    file.stretches[0] = (struct stretch){ 0, PAGE, 0x10000, 0 };
+    file.stretches[1] = (struct stretch){ PAGE, OTHERS, 0, others };
+    file.stretches[2] = (struct stretch){ PAGE, ENTRY, 0, others + OTHERS };
+    file.stretches[3] = (struct stretch){ DISK - PAGE, PAGE, 0x11000, 0 };
     file.objects[0] = (rlibreg_object){ .base = 0x10000, .entry = 0x10010 };
     file.objects[1] = (rlibreg_object){ .base = 0x11000, .name = 2, .name_length = 3 };
     for (int i = 0; i < CALLS; i++) file.calls[i] = 0x10000 + (uint64_t)i * (PAGE - 1) / 2;
@@ -221,10 +230,18 @@ static int is_used(const uint8_t *bytes, uint64_t length) {
         WANT(it->address >= PAGE && it->length && it->address + it->length <= (uint64_t)1 << 47);
         WANT(!it->from || it->from + it->length <= length);
     }
-    uint64_t compared = 0;
-    for (uint64_t i = 0; is && i < head.counts.stretches; i++) {
-        WANT(file.stretches[i].from + file.stretches[i].length <= length);
-        compared += file.stretches[i].length;
+    uint64_t compared = 0, all = head.counts.of_program + head.counts.of_disk;
+    for (uint64_t i = 0; is && i < all; i++) {
+        const struct stretch *it = &file.stretches[i];
+        const struct piece *piece = piece_with(file.pieces, head.counts.pieces, it->address);
+        WANT(it->address ? piece && it->address + it->length <= piece->address + piece->length
+                         : it->from + it->length <= length);
+        if (i >= head.counts.of_program) {
+            WANT(it->at + it->length <= head.key.disk.length);
+            continue;
+        }
+        WANT(it->at == compared);
+        compared += it->length;
     }
     WANT(!is || compared == head.counts.program);
     free(beginning);
@@ -245,6 +262,7 @@ static void try_changes(const uint8_t *sound, uint64_t length) {
     struct kept_file file = parts_of(bytes);
 #define AT(place) (size_t)((uint8_t *)&(place)-bytes)
     const uint64_t far = (uint64_t)1 << 47, all = ~(uint64_t)0, pages = file.pieces[0].from;
+    const uint64_t others = place_of_others(&head->counts);
     const struct change changes[] = {
         { 0, 0 }, { 8, 0 }, { AT(head->length), length + 1 }, { AT(head->length), length - 1 },
         { AT(head->counts.pieces), MOST_PIECES + 1 }, { AT(head->counts.pieces), all },
@@ -253,10 +271,19 @@ static void try_changes(const uint8_t *sound, uint64_t length) {
         { AT(head->counts.finalizers), all / 8 + 1 }, { AT(head->counts.names), all },
         { AT(head->counts.program), all }, { AT(head->counts.program), MOST_COMPARED },
         { AT(head->counts.program), PAGE }, { AT(head->counts.others), all },
-        { AT(head->counts.others), MOST_COMPARED }, { AT(head->counts.stretches), all / 16 },
-        { AT(head->counts.stretches), STRETCHES - 1 }, { AT(file.stretches[0].length), all },
-        { AT(file.stretches[0].length), PAGE - 1 }, { AT(file.stretches[1].length), OTHERS + 1 },
-        { AT(file.stretches[0].from), all }, { AT(file.stretches[0].from), length - PAGE + 1 },
+        { AT(head->counts.others), MOST_OTHERS }, { AT(head->counts.of_program), all / 24 },
+        { AT(head->counts.of_disk), all / 24 }, { AT(head->counts.of_program), OF_PROGRAM - 1 },
+        { AT(head->key.disk.kind), OF_FILE }, { AT(head->key.disk.length), DISK - 1 },
+        { AT(file.stretches[0].length), all }, { AT(file.stretches[0].length), PAGE - 1 },
+        { AT(file.stretches[1].length), OTHERS + 1 }, { AT(file.stretches[1].at), PAGE - 1 },
+        { AT(file.stretches[0].at), 1 }, { AT(file.stretches[3].at), DISK - PAGE + 1 },
+        { AT(file.stretches[3].at), all }, { AT(file.stretches[3].length), PAGE + 1 },
+        { AT(file.stretches[3].address), 0x11001 }, { AT(file.stretches[3].address), 0x12000 },
+        { AT(file.stretches[3].address), 0x13000 }, { AT(file.stretches[0].address), 0 },
+        { AT(file.stretches[0].address), 0xffff }, { AT(file.stretches[0].address), all },
+        { AT(file.stretches[2].from), all }, { AT(file.stretches[2].from), pages - ENTRY + 1 },
+        { AT(file.stretches[1].from), others - 1 }, { AT(file.stretches[1].from), pages },
+        { AT(file.pieces[1].how), PROT_WRITE }, { AT(file.stretches[3].at), PAGE + ENTRY - 1 },
         { AT(file.pieces[0].address), 0 }, { AT(file.pieces[0].address), 0x10008 },
         { AT(file.pieces[0].address), 0x11000 }, { AT(file.pieces[1].address), 0x10000 },
         { AT(file.pieces[1].address), far }, { AT(file.pieces[2].address), all - PAGE + 1 },
@@ -284,6 +311,24 @@ static void try_changes(const uint8_t *sound, uint64_t length) {
     head->key.may_be_both = 1;
     file.pieces[0].how |= PROT_WRITE;
     WANT(is_used(bytes, length));
+    free(bytes);
+}
+
+/* Each changed byte of a beginning changes its check, or is one of the form or of the check. */
+static void try_check(const uint8_t *sound, uint64_t length) {
+    uint8_t *bytes = malloc(length);
+    WANT(bytes);
+    memcpy(bytes, sound, length);
+    struct head *head = (struct head *)bytes;
+    uint64_t check = check_of(head), end = place_of_others(&head->counts);
+    for (uint64_t at = offsetof(struct head, key); at < end; at++)
+        for (int bit = 0; bit < 8; bit++) {
+            bytes[at] ^= (uint8_t)(1 << bit);
+            WANT(!is_head(head, length) || place_of_others(&head->counts) > length ||
+                 check_of(head) != check);
+            bytes[at] ^= (uint8_t)(1 << bit);
+        }
+    WANT(check_of(head) == check);
     free(bytes);
 }
 
@@ -321,6 +366,7 @@ int main(int argc, char **argv) {
     uint64_t length = sound_file(bytes, sizeof bytes);
     WANT(is_used(bytes, length));
     try_changes(bytes, length);
+    try_check(bytes, length);
     try_damage(bytes, length);
     puts("kept: the key, and what is refused of a file: as wanted");
 }

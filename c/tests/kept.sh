@@ -97,11 +97,33 @@ cat before > chain
 start 'the program from before' "$other$keeps" "$changed" disk ./chain
 want 'images of one program' 1 "$(ls -A kept | wc -l)"
 
+# On tmpfs a write through a map changes no time.
+if [ "$(stat -f -c %T .)" = tmpfs ]; then
+    gcc $flags -o mapped "$here/mapped.c"
+    held_by ./mapped disk before.disk
+    start 'a disk that is mapped' "$taken" "$changed" disk ./chain
+    let_go
+    start 'other bytes through a map' "$other$keeps" "$said" disk ./chain
+    cat other.disk > disk
+    start 'the bytes from before the map' "$other$keeps" "$changed" disk ./chain
+fi
+
 # A block device, in which another disk of equal roots and length comes in the place of one.
 if [ "$(id -u)" = 0 ] && cp before.disk first.disk && device=$(losetup -f --show first.disk 2> lost); then
     trap 'losetup -d "$device"' EXIT
     start 'a block device' "$none$keeps" "$said" "$device" ./chain
     start 'the device again' "$taken" "$said" "$device" ./chain
+    dd if=other.disk of="$device" conv=notrunc,fsync 2> lost
+    start 'another disk that is written onto the device' "$other$keeps" "$changed" "$device" ./chain
+    dd if=before.disk of="$device" conv=notrunc,fsync 2> lost
+    start 'the first one, written onto it' "$other$keeps" "$said" "$device" ./chain
+    # Another name in an entry, whose library's bytes stay.
+    entry=$(LC_ALL=C grep -aboP 'LIBE[\s\S]{12}libone' before.disk | sed -n '1s/:.*//p')
+    printf libuno | dd of="$device" bs=1 seek=$((entry + 16)) conv=notrunc,fsync 2> lost
+    start 'another name in an entry' "$other" 'refused B3 Missing /program libone.so
+= 125' "$device" ./chain
+    printf libone | dd of="$device" bs=1 seek=$((entry + 16)) conv=notrunc,fsync 2> lost
+    start 'the name from before' "$taken" "$said" "$device" ./chain
     losetup -d "$device"
     trap - EXIT
     if losetup "$device" other.disk; then
@@ -181,26 +203,94 @@ mv kept moved
 nothing 'no folder' 'No such file or directory'
 ln -s moved kept
 nothing 'a link to a folder' 'Not a directory'
+# used FOLDER COMMAND..: runs a start by COMMAND. Prints 1 if it takes an image from FOLDER or keeps one there, else 0.
+used() {
+    "${@:2}" ./run-kept -v -c "$1" disk ./chain 2>&1 | grep -c 'is taken$\|is kept$' || true
+}
+for name in kept/ kept// kept/. kept/./; do
+    want "a link to a folder, as $name" 0 "$(used $name)"
+done
+for name in moved/ moved/. ./moved//; do
+    want "a folder, as $name" 1 "$(used $name)"
+done
 rm kept
 : > kept
 nothing 'a file for a folder' 'Not a directory'
 rm kept
 mv moved kept
+
+# Who may read an image: all, if all may read the disk and the program, and reach both.
 chmod 755 kept
 chmod a+r disk chain
-rm "$image"
-start 'an image for all' "$none$keeps" "$changed" disk ./chain
-want 'its mode' 644 "$(stat -c %a "$image")"
-for file in disk chain; do
-    rm "$image"
-    chmod o-r $file
-    start "an image of what others may not read: $file" "$none$keeps" "$changed" disk ./chain
-    want 'its mode' 600 "$(stat -c %a "$image")"
-    chmod o+r $file
-done
+mkdir -m 755 within_reach
+# of_mode WANTED WHAT [DISK]
+of_mode() {
+    rm -f kept/*
+    start "an image of mode $1: $2" "$none$keeps" "$changed" "${3:-within_reach/disk}" ./chain
+    want "an image's mode: $2" $1 "$(stat -c %a kept/*)"
+}
+cp disk within_reach/
+ln -s within_reach/disk linked
+rights=$(stat -c %a .)
+chmod a+x .
+above=$PWD
+while [ "$above" != / ] && [ $((0$(stat -c %a "$above") & 011)) = 9 ]; do above=$(dirname "$above"); done
+if [ "$above" = / ]; then
+    of_mode 644 'all may read all'
+    for file in within_reach/disk chain; do
+        for who in o g; do
+            chmod $who-r $file
+            of_mode 600 "$who may not read $file"
+            chmod $who+r $file
+        done
+    done
+    for who in o g; do
+        for folder in . within_reach; do
+            chmod $who-x $folder
+            for disk in within_reach/disk linked; do
+                of_mode 600 "$who may not search $folder" $disk
+            done
+            chmod $who+x $folder
+        done
+    done
+    chmod o-r kept
+    of_mode 600 'others may not read the folder'
+    chmod o+r kept
+    if setfacl -m u:12345:- chain 2> lost; then
+        of_mode 600 'a list of rights'
+        setfacl -b chain
+    else
+        echo "skipped: images of what has a list of rights ($(head -n 1 lost))"
+    fi
+else
+    echo 'skipped: images for all, since others may not reach this folder'
+fi
+chmod "$rights" .
+rm -r within_reach linked kept/*
+start 'an image once more' "$none$keeps" "$changed" disk ./chain
 chmod go-r disk
 start 'a disk of other rights' "$other$keeps" "$changed" disk ./chain
 chmod 700 kept
+
+# In a user namespace where owners have no numbers all of them are shown as one user.
+if [ "$(id -u)" = 0 ] && unshare -U true 2> lost; then
+    unmapped=(ended unshare -U ./run-kept -v -c kept disk ./chain)
+    "${unmapped[@]}" > lost
+    want 'the folder of a user without a number' "rlibreg-run: kept: $taken
+$changed" "$("${unmapped[@]}")"
+    chown -R 12345 kept
+    chmod 755 kept
+    chmod 644 kept/*
+    want "another's" "rlibreg-run: kept: $unfit
+$changed" "$("${unmapped[@]}")"
+    chown -R 0 kept
+    chmod 700 kept
+else
+    echo "skipped: folders of users without numbers ($(cat lost))"
+fi
+rm kept/*
+start 'an image behind these' "$none$keeps" "$changed" disk ./chain
+image=kept/$(ls -A kept)
 
 # Files that are cut, of zeros, of another form, boot or disk.
 for length in 0 100 1400 4096 8192 $(($(stat -c %s "$image") - 1)); do
@@ -215,9 +305,15 @@ another_byte() {
     local byte=$(od -An -tu1 -j "$2" -N 1 "$1")
     printf "\\$(printf %o $((byte ^ 7)))" | dd of="$1" bs=1 seek="$2" conv=notrunc 2> lost
 }
-for at in 13 16 47 48 83 88 600 1111 1112; do
+for at in 13 16 24 55 56 91 96 608 1119 1120; do
     another_byte "$image" $at
     replaced "another byte $at" "$other"
+done
+
+# A changed byte of the first page is noticed. Every 61st byte is tried.
+for ((at = 5; at < 4096; at += 61)); do
+    another_byte "$image" $at
+    start "another byte $at" "$other$keeps" "$changed" disk ./chain
 done
 
 # Another build of the loader, which may bind otherwise, beside the first; a third; and one that
@@ -228,7 +324,7 @@ for _ in 1 2; do
     by=./run-kept-other start 'that of the other build' "$taken" "$changed" disk ./chain
 done
 cp "$image" kept/0123456789abcdef
-another_byte kept/0123456789abcdef 16
+another_byte kept/0123456789abcdef 24
 touch -d '1 hour ago' kept/0123456789abcdef
 ./run-kept -c kept disk ./place > lost
 want 'images behind those of three builds' '3 missing' \
@@ -301,7 +397,7 @@ mv disk.new disk
 for program in ./chain ./place; do ./run-kept -c kept disk $program > lost || true; done
 images 'a disk in the place of another' 2
 for name in kept/*; do
-    printf 'x' | dd of="$name" bs=1 seek=48 conv=notrunc 2> lost # of another boot
+    printf 'x' | dd of="$name" bs=1 seek=56 conv=notrunc 2> lost # of another boot
 done
 echo user > kept/0123456789abcdef
 ./run-kept -c kept disk ./words > lost || true
@@ -319,19 +415,31 @@ just='was changed just now'
 want 'a disk that was changed just now' "$none
 nothing is kept: the disk $just, or tells too little" "$(now place)"
 sleep 2.1
-touch long
-want 'a program that was changed just now' "nothing is kept: the program $just
+# other_bytes: puts others into the long program in place, and leaves its length and time.
+other_bytes() {
+    cp -p long before
+    printf 'less' |
+        dd of=long bs=1 conv=notrunc seek="$(grep -abo 'more' long | sed -n '$s/:.*//p')" 2> lost
+    touch -r before long
+}
+if [ "$(stat -f -c %T long)" = tmpfs ]; then # its bytes are compared
+    want 'a disk that was changed before' "$none$keeps" "$(now place)"
+    for said_of_it in "$none$keeps" "$taken"; do want 'a long program' "$said_of_it" "$(now long)"; done
+    other_bytes
+    want 'that program with other bytes' "$other$keeps" "$(now long)"
+else
+    touch long
+    want 'a program that was changed just now' "nothing is kept: the program $just
 $none" "$(now long)"
-images 'changes just now' 0
-want 'a disk that was changed before' "$none$keeps" "$(now place)"
-sleep 2
-want 'a program that was changed before' "$none$keeps" "$(now long)"
-want 'that program again' "$taken" "$(now long)"
-cp -p long before
-printf 'less' | dd of=long bs=1 conv=notrunc seek="$(grep -abo 'more' long | sed -n '$s/:.*//p')" 2> lost
-touch -r before long
-want 'that program with other bytes' "nothing is kept: the program $just
+    images 'changes just now' 0
+    want 'a disk that was changed before' "$none$keeps" "$(now place)"
+    sleep 2
+    want 'a program that was changed before' "$none$keeps" "$(now long)"
+    want 'that program again' "$taken" "$(now long)"
+    other_bytes
+    want 'that program with other bytes' "nothing is kept: the program $just
 $other" "$(now long)"
+fi
 
 # The loader as it is built: what is usual it takes before its C library is set up, which would have
 # a heap; and all the rest, once that is.
@@ -371,7 +479,7 @@ for how in DIE FAIL; do
 done
 # age: has the image be of another boot.
 age() {
-    printf x | dd of="$(echo kept/*)" bs=1 seek=48 conv=notrunc 2> lost
+    printf x | dd of="$(echo kept/*)" bs=1 seek=56 conv=notrunc 2> lost
 }
 age
 for call in {1..40}; do
@@ -381,6 +489,27 @@ for call in {1..40}; do
         "$changed" disk ./chain
     age
 done
+
+# Reads that fail: the program is bound, and an image that can't be read goes.
+$compile -pie -Wl,-e,_start -o wide "$programs/chain.c" -x c - -x none libtwo.so libone.so \
+    <<< 'const char more[1 << 14] = "more"; void *relocated[1 << 11] = { [0 ... 2047] = &relocated };'
+rm -f kept/*
+start 'an image to be read' "$none$keeps" "$changed" disk ./wide
+OLD=1 start 'an older kernel' "$taken" "$changed" disk ./wide
+UNREAD=1 start 'pages that can not be read' "$(error_text 14)$keeps" "$changed" disk ./wide
+start 'the image behind them' "$taken" "$changed" disk ./wide
+unread=$( (ulimit -f 8 && UNREAD=1 ended ./run-kept -v -c kept disk ./wide) | cat)
+want 'such pages, where no image can be kept' "rlibreg-run: kept: $(error_text 14)
+rlibreg-run: kept: File too large
+$changed" "$unread"
+images 'pages that can not be read' 0
+start 'an image to be read again' "$none$keeps" "$changed" disk ./wide
+for read in {1..99}; do
+    found=$(ended env READ=$read ./run-kept -v -c kept disk ./wide)
+    [ "${found%"$changed"}" != "$found" ] || want "READ=$read" "$changed" "$found"
+    [[ $found != *"$taken"* ]] || break
+done
+[ "$read" -gt 7 ] && [ "$read" -lt 99 ] || { echo "$read reads" >&2; exit 1; }
 
 # Rights, streams and words.
 ./run-kept -c kept disk ./place > lost

@@ -63,7 +63,7 @@ statuses() {
 }
 statuses rlibreg_bind 1 101 102 103 104 105 303 305 306 311 312
 statuses rlibreg_bindings 1 101 102 103 104 105 303 305 306 311 312
-statuses rlibreg_executable 1 101 102 103 104 105 303 305 306 311 312 401 402 403 404 405 406 407 408 409
+statuses rlibreg_executable 1 101 102 103 104 105 303 305 306 311 312 401 402 403 404 405 407 408 409
 statuses rlibreg_plan_format 1 304 306 311
 statuses rlibreg_plan_update 1 2 201 202 203 204 205 206 303 305 306 307 308 309 310 311 312
 statuses rlibreg_open 2 3 4
@@ -73,7 +73,7 @@ statuses rlibreg_update 2 3 5 201 202 203 204 205 206 301 302 303 305 306 307 30
 statuses rlibreg_update_image_of 2 101 102 103 104 105 201 202 203 204 205 206 301 302 303 305 306 307 308 309 310 311 312
 statuses rlibreg_image_of 2 101 102 103 104 105 301 302 303 305 306 311 312
 statuses rlibreg_bindings_of 2 101 102 103 104 105 301 302 303 305 306 311 312
-statuses rlibreg_executable_of 2 101 102 103 104 105 301 302 303 305 306 311 312 401 402 403 404 405 406 407 408 409
+statuses rlibreg_executable_of 2 101 102 103 104 105 301 302 303 305 306 311 312 401 402 403 404 405 407 408 409
 statuses rlibreg_text
 [ $count = 0 ] || echo "manual: $count refusals, each on one line of 80 columns"
 echo "manual: $calls calls, each with its declaration and its statuses"

@@ -50,12 +50,12 @@ compiled() {
     mkdir -p "$objects/$1"
     (cd "$objects/$1" && gcc $2 -c "${@:3}")
 }
-library=$(printf "$here/../rlibreg_%s.c " file disk_file streams place new_disk names turn front status)
+library=$(printf "$here/../rlibreg_%s.c " file disk_file process streams place new_disk names turn front status)
 compiled library "$checked" $library
 beside="$objects/library/*.o $built/librlibreg.a"
 watched=$(printf ',--wrap=%s' open openat fstat stat fstatat fstatfs lseek nanosleep clock_gettime \
     flock sync_file_range fsync fcntl pread ioctl posix_fadvise mincore mmap ftruncate pwrite \
-    linkat syscall renameat unlink unlinkat fstatvfs fremovexattr)
+    linkat syscall renameat unlink unlinkat fstatvfs fremovexattr madvise pthread_atfork)
 watched="-Wl$watched $objects/tests/watched.o"
 plain='tool calls together cuts turns'
 over_watched='opening streams place front making forked contents findings updates'
@@ -77,7 +77,7 @@ gcc $flags -o "$room/within" "$here/within.c"
 # The loader as it keeps images, and it in each start of the tests of the loader.
 # The first says that it is the built one, the others are the same but for that: an id of another
 # build, and none.
-keeping=$taking$(printf ',--wrap=%s' kernel_clock openat fchmod pwrite ftruncate fdatasync \
+keeping=$taking$(printf ',--wrap=%s' kernel_clock kernel_read kernel_advise openat fchmod pwrite ftruncate fdatasync \
     linkat unlinkat)
 build_id=0x$(readelf -nW "$built/rlibreg-run" | sed -n 's/.*Build ID: //p')
 for build in run-kept:$build_id run-kept-other:0x0123456789abcdef run-kept-none:none; do
@@ -149,3 +149,5 @@ esac
 for part in shared installed manual python driver; do
     (. "$here/$part.sh")
 done
+# The switch of two disks; once, since no compiler makes it.
+if mkdir "$objects/switch" 2> lost; then (. "$here/switch.sh"); fi

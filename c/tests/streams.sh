@@ -83,4 +83,27 @@ want 'a loader whose output is the disk' 'rlibreg-run: disk: Text file busy
 want 'it reads the disk' 'greeting
 = 7' "$(ended ./rlibreg-run disk ./greet < disk | sed -n '1p; $p')"
 cmp disk before.disk
-echo "streams: $count runs of programs whose streams are closed or the disk: it is as a change leaves it"
+
+# A filter of system calls that refuses fcntl: nobody can tell whether a stream is open, so each opening
+# of the disk fails, and none waits.
+gcc $flags -o filtered "$here/filtered.c"
+refused=0
+if ./filtered 1 true 2> told; then
+    for why in 1 38; do
+        for loader in ./rlibreg-run "$built/rlibreg-run"; do
+            want "a loader whose fcntl fails with $why" "rlibreg-run: disk: $(error_text $why)
+= 126" "$(ended timeout 20 ./filtered $why "$loader" disk ./greet)"
+        done
+        for use in './updater disk libone.so' './host disk plugin 1' "$rlibreg list disk" "$rlibreg remove disk none"; do
+            status=0
+            timeout 20 ./filtered $why $use > said 2>&1 || status=$?
+            [[ $status != 0 && $status -lt 124 ]] ||
+                { echo "$use ended with $status when fcntl failed with $why" >&2; exit 1; }
+            refused=$((refused + 1))
+        done
+        cmp disk before.disk
+    done
+else
+    echo "skipped: fcntl that is refused ($(cat told))"
+fi
+echo "streams: $count runs of programs whose streams are closed or the disk, $refused without fcntl: it is as a change leaves it"

@@ -363,6 +363,36 @@ static void try_circle(void) {
     WANT(!pthread_join(thread, NULL));
 }
 
+/* ---- A thread that another one cancels */
+
+static int calls_ended;
+
+static void *call_while_cancelled(void *unused) {
+    (void)unused;
+    rlibreg *it = rlibreg_create();
+    WANT(it && !pthread_cancel(pthread_self()));
+    WANT(!rlibreg_format(it, "new", 64, 0) && !rlibreg_preload(it, NULL, 0));
+    rlibreg_close(it);
+    it = opens("disk", CHANGES, NO_LIMIT, RLIBREG_DONE);
+    WANT(!rlibreg_preload(it, NULL, 0));
+    rlibreg_close(it);
+    calls_ended = 1;
+    pthread_testcancel();
+    return NULL;
+}
+
+/* It ends its calls before it ends. */
+static void try_cancel(void) {
+    pthread_t thread;
+    void *ended;
+    WANT(!pthread_create(&thread, NULL, call_while_cancelled, NULL));
+    WANT(!pthread_join(thread, &ended));
+    WANT(ended == PTHREAD_CANCELED && calls_ended);
+    rlibreg_close(opens("new", CHANGES, NO_LIMIT, RLIBREG_DONE));
+    rlibreg_close(opens("disk", CHANGES, NO_LIMIT, RLIBREG_DONE));
+    WANT(!unlink("new"));
+}
+
 int main(int argc, char **argv) {
     int only_threads = argc == 2 && !strcmp(argv[1], "threads");
     WANT(argc == 1 || only_threads);
@@ -377,6 +407,7 @@ int main(int argc, char **argv) {
         try_kills();
         try_limits();
         try_malice();
+        try_cancel();
     }
     alarm(100);
     try_threads(only_threads ? 32 : 8);

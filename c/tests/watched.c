@@ -185,6 +185,17 @@ WRAPPED(int, fremovexattr, int fd, const char *attribute) {
     return -1;
 }
 
+WRAPPED(int, madvise, void *from, size_t length, int advice) {
+    int is_refused = watched.is_on && watched.wipes_nothing && advice == MADV_WIPEONFORK;
+    if (is_refused) errno = EINVAL;
+    return is_refused ? -1 : __real_madvise(from, length, advice);
+}
+
+WRAPPED(int, pthread_atfork, void (*before)(void), void (*parent)(void), void (*child)(void)) {
+    int is_refused = watched.is_on && watched.watches_no_forks;
+    return is_refused ? ENOMEM : __real_pthread_atfork(before, parent, child);
+}
+
 /* ---- What the system keeps of a file's front, and what the medium has of it */
 
 static int is_of_marks(int what) {
@@ -324,12 +335,14 @@ static long rename_new(va_list more) {
     return fails("rename-new", 0) ? -1 : __real_syscall(SYS_renameat2, from, old, to, new, flags);
 }
 
-/* Two calls are made so, which musl hasn't got. */
+/* The library makes two calls so, which musl hasn't got, and a test makes one, without its handlers. */
 WRAPPED(long, syscall, long number, ...) {
     va_list more;
-    WANT(number == SYS_statx || number == SYS_renameat2);
+    WANT(number == SYS_statx || number == SYS_renameat2 || number == SYS_clone);
     va_start(more, number);
-    long answer = number == SYS_statx ? attributes_of(more) : rename_new(more);
+    long answer = number == SYS_statx   ? attributes_of(more)
+                  : number == SYS_clone ? __real_syscall(number, va_arg(more, long), 0L, 0L, 0L, 0L)
+                                        : rename_new(more);
     va_end(more);
     return answer;
 }

@@ -51,6 +51,8 @@ struct watched {
     int64_t slept;            /* how many nanoseconds were to pass */
     int is_short;             /* whether each write does less than it is asked */
     int is_dirty;             /* whether a file was written or cut since the last sync */
+    int wipes_nothing;        /* whether the kernel refuses MADV_WIPEONFORK */
+    int watches_no_forks;     /* whether a handler of forks is refused for want of memory */
 
     /* Is called before each call; or null. */
     void (*before)(const char *word);

@@ -76,7 +76,7 @@ class Status(enum.IntEnum):
     PRE_INITIALIZERS = 403
     INITIALIZERS = 404
     FINALIZERS = 405
-    OUT_OF_ORDER = 406
+    # 406 isn't used again.
     TOO_MANY_HEADERS = 407
     WRITABLE_CODE = 408
     NO_PAGES = 409
@@ -314,6 +314,23 @@ _PIECE = 0.1  # seconds that the library waits at a stretch, where a limit keeps
 _Given = TypeVar('_Given')
 
 
+_forks = 0  # of which this process, or one that it is a child of, was the child
+
+
+def _count_fork() -> None:
+    global _forks
+    _forks += 1
+
+
+os.register_at_fork(after_in_child=_count_fork)
+
+
+def _process() -> tuple[int, int]:
+    """Which process this is. A child can have its parent's process number, if it is process 1 of
+    another process namespace, so forks are counted, too."""
+    return os.getpid(), _forks
+
+
 class _Turn(threading.local):
     """Whether this thread is within a call."""
 
@@ -330,7 +347,7 @@ class _Handle:
 
     def __init__(self, path: PathName) -> None:
         self.path = path
-        self.process = os.getpid()
+        self.process = _process()
         self.lock = threading.Lock()
         self.turn = _Turn()
         self.is_closed = False
@@ -346,7 +363,7 @@ class _Handle:
             return
         self.turn.is_taken = True
         try:
-            if os.getpid() != self.process:
+            if _process() != self.process:
                 self.give_back()
             else:
                 with self.lock:
@@ -360,7 +377,7 @@ class _Handle:
 
     def refusal(self) -> Error | None:
         """Why no call can be made."""
-        if os.getpid() != self.process:
+        if _process() != self.process:
             return _error(Error, Status.BAD_ARGUMENT, 'the registry was opened by another process')
         if self.is_closed:
             return _error(Closed, Status.BAD_ARGUMENT, 'the registry is closed')

@@ -33,6 +33,12 @@ LIBRARY, PROGRAM = DATA / 'strong.so', DATA / 'program-1.so'  # `b`, and a progr
 SECTORS = 512
 
 
+def leave_namespace():
+    """Children will be in a new process namespace. 1 if that isn't permitted."""
+    unshare, user, process = ctypes.CDLL(None).unshare, 0x10000000, 0x20000000
+    return int(bool(unshare(process) and unshare(user | process)))
+
+
 def spelt(name):
     """A name, as the program prints it."""
     data = name.encode('utf-8', 'surrogateescape')
@@ -502,6 +508,38 @@ class Processes(OnDisk):
         self.refused(Status.HELD, Registry, self.disk)
         registry.close()
 
+    def test_children_with_their_parents_number(self):
+        """Process 1 of a process namespace makes another one, and forks its process 1; and so on."""
+        def child():
+            assert not leave_namespace()
+            self.in_a_child(lambda: self.in_generations([]))
+
+        probe = os.fork()
+        if not probe:
+            os._exit(leave_namespace())
+        if os.waitpid(probe, 0)[1]:
+            self.skipTest('no new process namespaces')
+        self.in_a_child(child)
+
+    def in_generations(self, before):
+        assert os.getpid() == 1
+        signal.signal(signal.SIGALRM, lambda *_: os._exit(1))  # process 1 ends by no other signal
+        signal.alarm(20)  # it waits for a lock that no thread has
+        for registry in before:
+            error = self.refused(Status.BAD_ARGUMENT, registry.list)
+            assert 'another process' in str(error)
+        if len(before) < 3:
+            disk = self.disk.with_name(f'disk-{len(before)}')
+            rlibreg.format(disk, SECTORS)
+            own = Registry(disk, changes=True)
+            assert not leave_namespace()
+            with own._handle.lock:  # in the child no thread has it
+                self.in_a_child(lambda: self.in_generations([*before, own]))
+            self.refused(Status.HELD, Registry, disk)
+            own.install(LIBRARY)
+        for registry in before:
+            registry.close()
+
     def test_a_child_while_another_thread_waits(self):
         registry = Registry(self.disk, changes=True)
         with registry._handle.lock:
@@ -799,6 +837,20 @@ class Objects(OnDisk):
 
 
 class Memory(OnDisk):
+    def test_a_library_of_nine_mib(self):
+        """It is installed, replaced in an update, read and bound like any other."""
+        large = self.disk.with_name('large')
+        rlibreg.format(large, 1 << 16)
+        first, second = (LIBRARY.read_bytes().ljust(9 << 20, end) for end in (b'+', b'-'))
+        with Registry(large, changes=True) as registry:
+            registry.install(first)
+            self.assertEqual(registry.file('b'), first)
+            with registry.update() as update:
+                update.replace(second)
+            self.assertEqual(registry.file('b'), second)
+            self.assertEqual([finding.text for _, finding in registry.check()], ['ok'])
+            self.assertEqual([it.name for it in registry.bind(PROGRAM, 0x10000).objects], ['/program', 'b'])
+
     def test_buffers_grow(self):
         self.disk.write_bytes(file('made=many.changes'))
         with Registry(self.disk) as registry:

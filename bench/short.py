@@ -1,0 +1,156 @@
+"""Runs commands of the programs `rlibreg` and `rlibreg-tool` while a read or a write of the disk moves fewer bytes than the
+program asks for; `faults.py` calls it.
+
+There are three ways to make a call short:
+
+- strace has a call answer that it moved a part of a sector, and move nothing.
+- A limit of the file's size (RLIMIT_FSIZE) stops a write within a sector or at the end of one. The next write moves less than a
+  sector, fails, or ends the program by SIGXFSZ.
+- `short.c` has each call, or one of them, move a part of what was asked. Only a program that isn't static takes its calls.
+
+A run has to end, and leave the disk, as if no call were short. Or it is answered S1, or ended by the signal, and the disk holds
+what it held before the command or after it. If each call moves a sector or more, the run has to go on to its end.
+"""
+
+import collections
+import re
+import shutil
+import subprocess
+from pathlib import Path
+
+from checks import shortened
+
+SECTOR, ROOTS = 512, 1024
+PARTS_OF_A_SECTOR = {'pwrite64': (100, 511), 'pread64': (511,)}
+# How many bytes a call moves at most: a part of a sector, one sector, one and a part, nearly two. No write moves a part of a
+# sector alone, since that would tear a root: no registry is claimed to survive a sector that isn't written whole.
+MOST_BYTES = {'pwrite': (512, 612, 1023), 'pread': (100, 512, 612, 1023)}
+OF_ONE_CALL = 612
+FAILED, S1, XFSZ = 3, b'refused S1 Device\n', -25
+READS = (['list', 'disk'], ['bind', 'disk', 'program', '0x100000'])
+
+Plain = collections.namedtuple('Plain', 'start ended content states')
+
+
+def is_unanswered(words, ended, plain):
+    """Whether a run that failed said S1 where a run that is whole says `ok` or its text. An `update` says it on standard error
+    before the first line, and after its answers to lines that were planned. What a signal ends says nothing more."""
+    status, output = ended
+    said = output.removesuffix(S1)
+    if words[0] == 'update':
+        return not said.endswith(b'ok\n') and plain.ended[1].startswith(said)
+    return not said and (output == S1 or status == XFSZ)
+
+
+class Short:
+    """The programs of a Bench of `faults.py`, whose calls are made short by one of the ways."""
+
+    def __init__(self, bench):
+        self.bench = bench
+        self.known, self.ends = {}, collections.defaultdict(collections.Counter)
+        self.wrong = 0
+
+    def found(self):
+        """The disk's bytes, and what they hold."""
+        content = self.bench.disk.read_bytes() if self.bench.disk.exists() else None
+        if content not in self.known:
+            self.known[content] = self.bench.seen()
+        return content, self.known[content]
+
+    def plain(self, words, start):
+        """How the command ends if no call is short, and what the disk holds before and after it."""
+        self.bench.put(start)
+        before = self.found()[1]
+        self.bench.put(start)
+        ended = self.bench.run(words)
+        content, after = self.found()
+        return Plain(start, ended, content, (before, after))
+
+    def judge(self, kind, words, plain, wrapped, may_end=FAILED):
+        """One run with short calls, which may end so if it doesn't end as the plain run."""
+        self.bench.put(plain.start)
+        ended = self.bench.run(words, wrapped)
+        left = self.bench.other.exists()
+        content, holds = self.found()
+        done = ended == plain.ended and content == plain.content
+        failed = ended[0] == may_end and is_unanswered(words, ended, plain) and holds in plain.states
+        if left or not done and not failed:
+            self.wrong += 1
+            print(f'WRONG: {kind}: {words} {wrapped}: {shortened(ended)}, and the disk holds', shortened(holds[0]),
+                  'and has the other name' if left else '')
+        self.ends[kind]['as if none were short' if done else f'status {ended[0]}'] += 1
+
+    def calls(self, words, plain):
+        """Each read and each write: its name, how many bytes it asks for, and from where."""
+        log = self.bench.folder / 'calls'
+        self.bench.put(plain.start)
+        self.bench.run(words, ['strace', '-qq', '-o', str(log), '-e', 'trace=pread64,pwrite64'])
+        return [(name, int(asked), int(at)) for name, asked, at in
+                re.findall(r'^(\w+)\(.*, (\d+), (\d+)\) = \d+$', log.read_text(), re.M)]
+
+    def by_strace(self, words, plain, calls):
+        counts = collections.Counter(name for name, _, _ in calls)
+        for name, parts in PARTS_OF_A_SECTOR.items():
+            for part in parts:
+                for number in range(1, counts[name] + 1):
+                    fault = f'inject={name}:retval={part}:when={number}'
+                    self.judge(f'{name} that answers {part}', words, plain, ['strace', '-qq', '-o', '/dev/null', '-e', fault])
+
+    def by_limit(self, words, plain, calls):
+        """Limits within each write and at the end of its first sector. One within the roots would tear a root."""
+        for name, asked, at in calls:
+            if name != 'pwrite64' or at < ROOTS:
+                continue
+            for part in {100, SECTOR - 1, SECTOR, SECTOR + 100, asked - 1}:
+                if part < asked:
+                    limit = ['prlimit', f'--fsize={at + part}', '--']
+                    self.judge('a limit of the size', words, plain, ['env', '--ignore-signal=XFSZ', *limit])
+                    if part == SECTOR:
+                        self.judge('a limit of the size, by a signal', words, plain, limit, XFSZ)
+
+    def by_library(self, library, words, plain, calls):
+        """Calls that do move a part."""
+        for name, sizes in MOST_BYTES.items():
+            wrapped = ['env', f'LD_PRELOAD={library}', f'SHORT_CALL={name}']
+            for size in sizes:
+                self.judge(f'{name} of {size} bytes at most', words, plain, [*wrapped, f'SHORT_BYTES={size}'], FAILED if size < SECTOR else None)
+            for number in range(1, 1 + sum(it == f'{name}64' for it, _, _ in calls)):
+                self.judge(f'one {name} of {OF_ONE_CALL} bytes', words, plain, [*wrapped, f'SHORT_BYTES={OF_ONE_CALL}', f'SHORT_NUMBER={number}'])
+
+    def tell(self):
+        for kind, ends in self.ends.items():
+            print(f'{kind}: {sum(ends.values())} runs: ' + ', '.join(f'{count} {end}' for end, count in sorted(ends.items())))
+        runs = sum(sum(ends.values()) for ends in self.ends.values())
+        print(f'short calls: {runs} runs, {self.wrong} wrong', flush=True)
+        return not self.wrong
+
+
+def library_in(folder):
+    """The stand-in for calls, compiled."""
+    library = folder / 'short.so'
+    source = Path(__file__).resolve().parent / 'short.c'
+    subprocess.run(['gcc', '-std=c11', '-O1', '-Wall', '-Wextra', '-shared', '-fPIC', '-o', str(library), str(source)], check=True)
+    return library
+
+
+def try_short_calls(bench, dynamic, changes, disk):
+    """The changes, each with the disk that it starts from, and what only reads a disk. `dynamic` is a Bench of programs that
+    aren't static, or None."""
+    commands = [*changes, *((words, disk) for words in READS)]
+    has_limits = shutil.which('prlimit')
+    if not has_limits:
+        print('skipped: writes that a limit of the size makes short: there is no prlimit')
+    if not dynamic:
+        print('skipped: calls that move a part of what is asked, for which DYNAMIC is needed')
+    short, moving = Short(bench), dynamic and Short(dynamic)
+    library = dynamic and library_in(dynamic.folder)
+    for words, start in commands:
+        plain = short.plain(words, start)
+        calls = short.calls(words, plain)
+        short.by_strace(words, plain, calls)
+        if has_limits:
+            short.by_limit(words, plain, calls)
+        if dynamic:
+            moving.by_library(library, words, moving.plain(words, start), calls)
+    held = short.tell()
+    return moving.tell() and held if dynamic else held

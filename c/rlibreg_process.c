@@ -1,0 +1,56 @@
+/* Which process this is.
+ *
+ * The process number alone doesn't tell: process 1 of a container that makes another process
+ * namespace and forks has a child that is process 1, too. So each process also draws a number, when
+ * it is first asked for one, and a child has to draw another. Three things see to that, because each
+ * of them misses some children:
+ *
+ * - The kernel fills the page of the drawn number with zeros in a child (MADV_WIPEONFORK). It does so
+ *   for clone(2) as well, which runs no handlers, but not before Linux 4.14, and an emulator may only
+ *   say that it does.
+ * - The handler of fork calls rlibreg_process_end in the child (rlibreg_disk_file.c).
+ * - The process number is compared, too.
+ *
+ * Only a child that shares its parent's memory (vfork, CLONE_VM) and its process number is missed. */
+#define _GNU_SOURCE
+#include "rlibreg_process.h"
+
+#include <stdalign.h>
+#include <stdatomic.h>
+#include <sys/mman.h>
+#include <unistd.h>
+
+#define PAGE 4096
+
+/* The number that this process drew, or 0. It has a page of its own, which the program's file has no
+ * bytes for: only such a page is filled with zeros. */
+static union {
+    alignas(PAGE) _Atomic uint64_t number;
+    uint8_t page[PAGE];
+} drawn;
+
+/* Draws a number that no process from which this one descends has drawn. If two threads draw at
+ * once, both return the first one's number. */
+static uint64_t draw(void) {
+    static _Atomic uint64_t last;
+    uint64_t number = atomic_load(&drawn.number);
+    if (number) return number;
+    uint64_t next = atomic_fetch_add(&last, 1) + 1;
+    return atomic_compare_exchange_strong(&drawn.number, &number, next) ? next : number;
+}
+
+void rlibreg_process_begin(void) {
+    madvise(&drawn, sizeof drawn, MADV_WIPEONFORK); /* the others see most children without it */
+}
+
+void rlibreg_process_end(void) {
+    atomic_store(&drawn.number, 0);
+}
+
+struct process rlibreg_this_process(void) {
+    return (struct process){ getpid(), draw() };
+}
+
+int rlibreg_is_this_process(const struct process *it) {
+    return it->number == getpid() && it->drawn == draw();
+}

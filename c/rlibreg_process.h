@@ -1,0 +1,23 @@
+/* Which process opened a disk, and whether it is this one. Nothing here is for users. */
+#ifndef RLIBREG_PROCESS_H
+#define RLIBREG_PROCESS_H
+
+#include <stdint.h>
+#include <sys/types.h>
+
+/* A process. Its number is 0 if it is none. */
+struct process {
+    pid_t number;
+    uint64_t drawn; /* differs from that of each process from which this one descends */
+};
+
+/* Asks the kernel to see children. Called before the first of the calls below. */
+void rlibreg_process_begin(void);
+
+/* Called in a child of fork: the child isn't the process that its parent is. */
+void rlibreg_process_end(void);
+
+struct process rlibreg_this_process(void);
+int rlibreg_is_this_process(const struct process *it);
+
+#endif

@@ -1,0 +1,113 @@
+#!/usr/bin/env bash
+# run.sh FOLDER RLIBREG [OBJECTS] tries the C library that build.sh has put into FOLDER, beside the
+# program RLIBREG. The C side is compiled anew for that, with the sanitizers of addresses and of
+# undefined behaviour, which see the C code alone. A later run with the same folder OBJECTS, over what
+# another compiler has made of the proved calls, takes that C. CC is as for build.sh: with musl-gcc there
+# is no sanitizer, what is undefined ends a test, and Python and gdb are left out.
+set -eu
+here=$(cd "$(dirname "$0")" && pwd)
+built=$(cd "$1" && pwd)
+rlibreg=$(cd "$(dirname "$2")" && pwd)/$(basename "$2")
+data=$here/../../crates/cases/data
+# Where there is a disk in memory, from which programs can be run: there a sync costs nothing.
+for place in /dev/shm "${TMPDIR:-/tmp}"; do
+    room=$(mktemp -d -p "$place" 2> /dev/null) || continue
+    cp "$(type -P true)" "$room/"
+    "$room/true" 2> /dev/null && break
+    rm -rf "$room"
+done
+trap 'rm -rf "$room"' EXIT
+
+if [ -n "${CC:-}" ]; then
+    behind="-idirafter /usr/include -idirafter /usr/include/$(gcc -print-multiarch)"
+    gcc() { command $CC "$@" $behind; }
+fi
+musl=
+gcc -E -dM -include stdio.h -x c /dev/null | grep -q __GLIBC__ || musl=yes
+flags="-std=c11 -g -Wall -Wextra -Wpedantic -Werror -I$built"
+sanitizers='-fno-sanitize-recover=all -fsanitize=undefined'
+# has_sanitizer NAME: whether a program runs that is compiled with it; else it says why not.
+has_sanitizer() {
+    gcc -fsanitize="$1" -x c -o "$room/probe" - <<< 'int main(void) { return 0; }' && "$room/probe"
+}
+if has_sanitizer address 2> "$room/lost"; then
+    checked="$flags -O1 $sanitizers,address"
+else
+    sanitizers="$sanitizers -fsanitize-undefined-trap-on-error"
+    checked="$flags -O1 $sanitizers"
+fi
+# error_text NUMBER: as the C library has it.
+error_text() {
+    printf '#include <stdio.h>\n#include <string.h>\nint main(void) { return puts(strerror(%d)) < 0; }\n' "$1" |
+        gcc -x c -o "$room/probe" -
+    "$room/probe"
+}
+wraps=-Wl,--wrap=malloc,--wrap=calloc,--wrap=realloc
+objects=$(realpath -m "${3:-$room/objects}")
+# compiled NAME FLAGS FILE..: objects of C files, in a folder of the name.
+compiled() {
+    [ ! -d "$objects/$1" ] || return 0
+    mkdir -p "$objects/$1"
+    (cd "$objects/$1" && gcc $2 -c "${@:3}")
+}
+library=$(printf "$here/../rlibreg_%s.c " file disk_file process streams place new_disk names turn front status)
+compiled library "$checked" $library
+beside="$objects/library/*.o $built/librlibreg.a"
+watched=$(printf ',--wrap=%s' open openat fstat stat fstatat fstatfs lseek nanosleep clock_gettime \
+    flock sync_file_range fsync fcntl pread ioctl posix_fadvise mincore mmap ftruncate pwrite \
+    linkat syscall renameat unlink unlinkat fstatvfs fremovexattr madvise pthread_atfork)
+watched="-Wl$watched $objects/tests/watched.o"
+plain='tool calls together cuts turns'
+over_watched='opening streams place front making forked contents findings updates'
+compiled tests "$checked" $(printf "$here/%s.c " watched faults $plain $over_watched)
+gcc $checked -o "$room/tool" "$objects/tests/tool.o" $beside
+for name in; do
+    wrapped=
+    if [ $name = faults ]; then wrapped=$wraps; fi
+    gcc $checked $wrapped -o "$room/$name" "$objects/tests/$name.o" $watched $beside
+done
+# With the sanitizer of addresses a program can't be mapped at each address, so the loader has one.
+loader="$flags -O1 $sanitizers"
+compiled loader "$loader" "$here"/../rlibreg_run*.c "$here/../rlibreg_stack.c" $library
+gcc $loader -o "$room/rlibreg-run" "$objects"/loader/*.o "$built/librlibreg.a"
+taking=-Wl,--wrap=mmap,--wrap=kernel_map,--wrap=rlibreg_bind
+gcc $loader -o "$room/run-taken" $taking "$here/taken.c" "$objects"/loader/*.o \
+    "$built/librlibreg.a"
+gcc $flags -o "$room/within" "$here/within.c"
+# The loader as it keeps images, and it in each start of the tests of the loader.
+# The first says that it is the built one, the others are the same but for that: an id of another
+# build, and none.
+keeping=$taking$(printf ',--wrap=%s' kernel_clock kernel_read kernel_advise openat fchmod pwrite ftruncate fdatasync \
+    linkat unlinkat)
+build_id=0x$(readelf -nW "$built/rlibreg-run" | sed -n 's/.*Build ID: //p')
+for build in run-kept:$build_id run-kept-other:0x0123456789abcdef run-kept-none:none; do
+    gcc $loader -o "$room/${build%:*}" $keeping -Wl,--build-id=${build#*:} "$here/keeping.c" \
+        "$here/taken.c" "$objects"/loader/*.o "$built/librlibreg.a"
+done
+compiled kept "$checked" "$here/kept.c" "$here"/../rlibreg_run_{kernel,key,kept_file}.c
+gcc $checked -o "$room/kept-files" -Wl,--wrap=has_fixed_bases,--build-id=0x0102030405060708090a \
+    "$objects"/kept/*.o
+
+cd "$room"
+. "$here/want.sh"
+want 'other names that the archive defines' '' \
+    "$(nm -g --defined-only "$built/librlibreg.a" | awk 'NF == 3 && $3 !~ /^(rlibreg|rattle)_/')"
+given=("$data/strong.so" "$data/protected.so" "$data/program-1.so" b)
+given+=("$(sha256sum < "$data/strong.so" | cut -d ' ' -f 1)")
+mkdir kf && (cd kf && ../kept-files file)
+plain=./rlibreg-run bases=8
+for part in held kept; do
+    (. "$here/$part.sh")
+done
+# Images in a folder on a disk, where OBJECTS is; once, since they are those of the C side.
+case $(stat -f -c %T "$objects") in
+    ext2/ext3 | xfs | btrfs | f2fs)
+        if mkdir "$objects/disk" 2> lost; then
+            cp tool within rlibreg-run run-* "$objects/disk/"
+            (cd "$objects/disk" && . "$here/kept.sh")
+        fi
+        ;;
+    *) echo 'skipped: images in a folder on a disk' ;;
+esac
+
+# What build.sh has made, as it stands: no C of the library is compiled anew for these.
