@@ -12,6 +12,7 @@ import time
 
 SHOWN = 3
 WAIT = 60
+ATTEMPTS = 5
 NOBODY = ['setpriv', '--reuid=65534', '--regid=65534', '--clear-groups']
 
 Ended = collections.namedtuple('Ended', 'status output errors seconds')
@@ -107,6 +108,19 @@ class Checks:
 def shortened(it):
     text = it if isinstance(it, str) else repr(it)
     return text if len(text) < 400 else text[:400] + '..'
+
+
+def soon(run, most):
+    """Runs a command that changes nothing, again if it took `most` seconds or more, since a busy machine may stop any process for
+    seconds. Returns how the last run ended, or the first that ended otherwise than the one before."""
+    ended = run()
+    for _ in range(ATTEMPTS - 1):
+        if ended.seconds < most:
+            break
+        before, ended = ended, run()
+        if ended[:3] != before[:3]:
+            break
+    return ended
 
 
 @contextlib.contextmanager

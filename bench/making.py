@@ -24,7 +24,7 @@ import subprocess
 import sys
 from pathlib import Path
 
-from checks import NOBODY, Checks, CLibrary, Program, emptied, for_others, has, held_file, looks
+from checks import NOBODY, Checks, CLibrary, Program, emptied, for_others, has, held_file, looks, soon
 from libraries import Made
 
 SECTORS = '64'
@@ -201,7 +201,7 @@ class Making:
 
     def refused(self, kind, wrapped=()):
         before = {name: looks(self.place / name) for name in self.names()}
-        ended = self.by.run(FORMAT, wrapped=wrapped, wait=WAIT)
+        ended = soon(lambda: self.by.run(FORMAT, wrapped=wrapped, wait=WAIT), AT_ONCE)
         after = {name: looks(self.place / name) for name in self.names()}
         self.want(kind, self.is_unread(ended), ended)
         self.want(kind, ended.seconds < AT_ONCE, 'took', ended.seconds)
@@ -404,7 +404,8 @@ class Making:
     def refused_disk(self, kind, words):
         before = {name: looks(self.place / name) for name in self.names()}
         log = self.folder / 'calls'
-        ended = self.by.run(words, wrapped=['strace', '-qq', '-o', str(log), '-e', 'trace=open,openat,openat2'], wait=WAIT)
+        traced = ['strace', '-qq', '-o', str(log), '-e', 'trace=open,openat,openat2']
+        ended = soon(lambda: self.by.run(words, wrapped=traced, wait=WAIT), AT_ONCE)
         opened = any('"disk"' in line and '= -1' not in line for line in log.read_text().splitlines())
         after = {name: looks(self.place / name) for name in self.names()}
         self.want(kind, self.is_unread(ended), words, ended)

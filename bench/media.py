@@ -25,7 +25,7 @@ import threading
 import time
 from pathlib import Path
 
-from checks import NOBODY, Checks, CLibrary, Program, emptied, for_others, has, held_file
+from checks import NOBODY, Checks, CLibrary, Program, emptied, for_others, has, held_file, soon
 from libraries import Made
 
 SECTOR, PAGE = 512, 4096
@@ -314,7 +314,7 @@ class Media:
         listed = self.by.run(['list', str(device)])
         self.want(kind, listed[:3] == (0, b'end\n', b''), listed)
         for words, given in self.changes(str(device)) + self.makings(str(device), sectors):
-            ended = self.by.run(words, given)
+            ended = soon(lambda: self.by.run(words, given), TRIES[1])
             self.want(kind, self.by.unread(ended, device), words, ended)
             self.want(kind, ended.seconds < TRIES[1], words, 'took', ended.seconds)
         self.want(kind, self.image.read_bytes() == before, 'it was written')
@@ -453,10 +453,10 @@ class Media:
             self.by.done('remove', str(device), 'b')
             for how, kind in ((fcntl.LOCK_SH, 'a device that a reader holds'), (fcntl.LOCK_EX, 'a device that a writer holds')):
                 with held_file(device, how):
-                    ended = self.by.run(['install', str(device), 'b.so'])
+                    ended = soon(lambda: self.by.run(['install', str(device), 'b.so']), TRIES[1])
                     self.want(kind, self.by.held(ended, device), ended)
                     self.want(kind, TRIES[0] < ended.seconds < TRIES[1], 'a change took', ended.seconds)
-                    ended = self.by.run(['list', str(device)])
+                    ended = soon(lambda: self.by.run(['list', str(device)]), AT_ONCE)
                     self.want(kind, self.by.held(ended, device) if how == fcntl.LOCK_EX else ended[:3] == plain, ended)
                     self.want(kind, ended.seconds < AT_ONCE, 'a list took', ended.seconds)
 

@@ -22,7 +22,7 @@ import threading
 import time
 from pathlib import Path
 
-from checks import Checks, CLibrary, Program, emptied, has, held_file, looks
+from checks import Checks, CLibrary, Program, emptied, has, held_file, looks, soon
 from libraries import Made, name, symbol
 
 COUNT, SECTORS = 12, '512'
@@ -356,8 +356,8 @@ class Rounds:
                 allowed = plain if how == fcntl.LOCK_SH else {}
                 with held_file(self.disk, how):
                     for words, given in [it for it in asked if it not in tries]:
-                        least = min((by.run(words, given) for _ in range(2)), key=lambda it: it.seconds)
-                        self.held_command(kind, by, words, least, allowed)
+                        ended = soon(lambda: by.run(words, given), AT_ONCE)
+                        self.held_command(kind, by, words, ended, allowed)
                     ended = side_by_side([lambda it=it: by.run(*it) for it in tries])
                     for (words, _), one in zip(tries, ended):
                         self.held_command(kind, by, words, one, allowed, TRIES)
