@@ -432,10 +432,10 @@ class Locks(OnDisk):
         return child
 
     def test_wait(self):
-        self.held_by_a_child(0.2)
         start = time.monotonic()
+        self.held_by_a_child(0.2)
         Registry(self.disk, wait=True).close()
-        self.assertGreater(time.monotonic() - start, 0.1)
+        self.assertGreaterEqual(time.monotonic() - start, 0.2)
 
     def test_a_wait_of_seconds(self):
         with Registry(self.disk):
@@ -475,9 +475,14 @@ class Locks(OnDisk):
 
     def test_a_signal_while_it_waits(self):
         heard = []
-        before = signal.signal(signal.SIGALRM, lambda *_: heard.append(1))
+        child = self.held_by_a_child(60)
+
+        def hear(*_):
+            heard.append(1)
+            os.kill(child, signal.SIGKILL)
+
+        before = signal.signal(signal.SIGALRM, hear)
         self.addCleanup(signal.signal, signal.SIGALRM, before)
-        self.held_by_a_child(0.3)
         signal.setitimer(signal.ITIMER_REAL, 0.05)
         Registry(self.disk, wait=True).close()
         self.assertEqual(heard, [1])
