@@ -99,7 +99,7 @@ alone='-fPIE -ffreestanding -fno-stack-protector -fno-tree-loop-distribute-patte
 )
 linked 126 2 'rlibreg-run: memory: Cannot allocate memory' rlibreg-run -DSTARTS_EARLY -Wl,--build-id=sha1 \
     -Wl,-z,noseparate-code -T "$folder/filled.ld" \
-    c/rlibreg_run.c c/rlibreg_run_{base,calls,image,keep,named,objects,order,program,rights,sources,stretches}.c \
+    c/rlibreg_run.c c/rlibreg_run_{base,calls,image,keep,named,objects,order,program,rights,sources,stretches,write}.c \
     "$folder/early.o" "$folder/librlibreg.a"
 rm "$folder/early.o" "$folder/filled.ld"
 

@@ -141,43 +141,6 @@ static void *make_beginning(const struct keeping *it, const struct program *prog
 
 /* ---- The file */
 
-static int write_all(int fd, const void *bytes, uint64_t length, uint64_t at) {
-    while (length) {
-        ssize_t count = pwrite(fd, bytes, length, (off_t)at);
-        if (count < 0 && errno == EINTR) continue;
-        if (count <= 0) return -1;
-        bytes = (const char *)bytes + count;
-        length -= (uint64_t)count;
-        at += (uint64_t)count;
-    }
-    return 0;
-}
-
-/* Writes the stretches that are in no page of the image, out of the bytes that they are of. */
-static int write_others(int fd, const struct stretch *it, uint64_t count, const uint8_t *bytes) {
-    for (const struct stretch *end = it + count; it < end; it++)
-        if (!it->address && write_all(fd, bytes + it->at, it->length, it->from)) return -1;
-    return 0;
-}
-
-/* It is on the medium before anyone maps it: else a process may find other bytes in a page that the
- * system couldn't write and had to drop. */
-static int write_file(int fd, const struct keeping *it, const struct program *program,
-                      const struct kept_file *file) {
-    const struct counts *counts = &file->head->counts;
-    const struct stretch *of_disk = file->stretches + counts->of_program;
-    if (write_all(fd, file->head, place_of_others(counts), 0) ||
-        write_others(fd, file->stretches, counts->of_program, program->bytes) ||
-        write_others(fd, of_disk, counts->of_disk, it->sources.copy))
-        return -1;
-    for (uint64_t i = 0; i < counts->pieces; i++) {
-        const struct piece *one = &file->pieces[i];
-        if (one->from && write_all(fd, (const void *)one->address, one->length, one->from))
-            return -1;
-    }
-    return ftruncate(fd, (off_t)file->head->length) || fdatasync(fd) ? -1 : 0;
-}
-
 /* A process that writes a longer file than it may is ended by a signal. */
 static int may_be_so_long(uint64_t length) {
     struct rlimit limit;
@@ -190,7 +153,7 @@ static void keep_file(struct keeping *it, const struct program *program, void *b
     if (!may_be_so_long(file.head->length)) return;
     drop_older(it, file.head);
     int fd = make_file(it);
-    if (fd >= 0 && !write_file(fd, it, program, &file)) {
+    if (fd >= 0 && !write_kept(fd, it, program, &file)) {
         it->file = fd;
     } else if (fd >= 0) {
         int why = errno;

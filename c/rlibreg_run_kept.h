@@ -237,6 +237,11 @@ void find_stretches_of_disk(struct stretches *it, const struct program *program,
 /* Gives the others their places in the file, from this one on. */
 void place_stretches(struct stretches *it, uint64_t others);
 
+/* Writes the file of an image, whose beginning is made, to an empty file, and syncs it
+ * (rlibreg_run_write.c). Returns -1 if that failed. */
+int write_kept(int fd, const struct keeping *it, const struct program *program,
+               const struct kept_file *file);
+
 /* ---- Comparing (rlibreg_run_compare.c)
  *
  * These return 0 if what is read is what was kept, IS_OTHER if it isn't, and an error, less than 0, if

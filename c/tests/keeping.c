@@ -12,6 +12,7 @@
 #include <stdio.h>
 #include <stdlib.h>
 #include <sys/stat.h>
+#include <sys/uio.h>
 #include <time.h>
 #include <unistd.h>
 
@@ -65,14 +66,20 @@ WRAPPED(int, fchmod, int fd, mode_t mode) {
 
 static int is_synced; /* since it was written last */
 
-WRAPPED(ssize_t, pwrite, int fd, const void *bytes, size_t length, off_t at) {
-    is_synced = 0;
-    return fails() ? -1 : __real_pwrite(fd, bytes, length, at);
+/* Writes less than it is asked to, if SHORT is how much it writes; every second time it is interrupted
+ * instead. */
+static ssize_t write_some(int fd, const struct iovec *parts, size_t most) {
+    static int calls;
+    errno = EINTR;
+    if (calls++ % 2) return -1;
+    return write(fd, parts->iov_base, parts->iov_len < most ? parts->iov_len : most);
 }
 
-WRAPPED(int, ftruncate, int fd, off_t length) {
+WRAPPED(ssize_t, writev, int fd, const struct iovec *parts, int count) {
+    const char *most = getenv("SHORT");
     is_synced = 0;
-    return fails() ? -1 : __real_ftruncate(fd, length);
+    if (fails()) return -1;
+    return most && *most ? write_some(fd, parts, strtoul(most, NULL, 10)) : __real_writev(fd, parts, count);
 }
 
 WRAPPED(int, fdatasync, int fd) {

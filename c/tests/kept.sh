@@ -474,7 +474,7 @@ for how in DIE FAIL; do
         if [[ $found = *"the image is kept"* ]]; then break; fi
         images "$how=$call" 0
     done
-    [ "$call" -gt 6 ] && [ "$call" -lt 40 ] || { echo "$how: $call calls" >&2; exit 1; }
+    [ "$call" -gt 4 ] && [ "$call" -lt 40 ] || { echo "$how: $call calls" >&2; exit 1; }
     images "$how" 1
 done
 # age: has the image be of another boot.
@@ -490,9 +490,20 @@ for call in {1..40}; do
     age
 done
 
+# with_pages FILE TEXT: makes a program that has more pages.
+with_pages() {
+    $compile -pie -Wl,-e,_start -o "$1" "$programs/chain.c" -x c - -x none libtwo.so libone.so <<< "$2"
+}
+# Writes that end early, and the many parts of a program whose every second page is relocated.
+with_pages striped 'struct { void *at; char rest[8184]; } pages[100] = { [0 ... 99] = { &pages } };'
+for length in '' 999; do
+    rm -f kept/*
+    SHORT=$length start "an image that is written in parts of $length bytes" "$none$keeps" "$changed" disk ./striped
+    start "the image that was written in parts of $length bytes" "$taken" "$changed" disk ./striped
+done
+
 # Reads that fail: the program is bound, and an image that can't be read goes.
-$compile -pie -Wl,-e,_start -o wide "$programs/chain.c" -x c - -x none libtwo.so libone.so \
-    <<< 'const char more[1 << 14] = "more"; void *relocated[1 << 11] = { [0 ... 2047] = &relocated };'
+with_pages wide 'const char more[1 << 14] = "more"; void *relocated[1 << 11] = { [0 ... 2047] = &relocated };'
 rm -f kept/*
 start 'an image to be read' "$none$keeps" "$changed" disk ./wide
 OLD=1 start 'an older kernel' "$taken" "$changed" disk ./wide

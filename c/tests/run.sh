@@ -77,7 +77,7 @@ gcc $flags -o "$room/within" "$here/within.c"
 # The loader as it keeps images, and it in each start of the tests of the loader.
 # The first says that it is the built one, the others are the same but for that: an id of another
 # build, and none.
-keeping=$taking$(printf ',--wrap=%s' kernel_clock kernel_read kernel_advise openat fchmod pwrite ftruncate fdatasync \
+keeping=$taking$(printf ',--wrap=%s' kernel_clock kernel_read kernel_advise openat fchmod writev fdatasync \
     linkat unlinkat)
 build_id=0x$(readelf -nW "$built/rlibreg-run" | sed -n 's/.*Build ID: //p')
 for build in run-kept:$build_id run-kept-other:0x0123456789abcdef run-kept-none:none; do
