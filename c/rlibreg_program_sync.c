@@ -8,6 +8,7 @@
 #include <fcntl.h>
 #include <stdarg.h>
 #include <string.h>
+#include <unistd.h>
 
 int __real_open(const char *path, int flags, ...);
 int __wrap_open(const char *path, int flags, ...);
@@ -21,14 +22,18 @@ enum { NUMBERS = 64 };
  * here: it gets its name only after its last sync. */
 static struct {
     int fd;
+    struct stat file;
     char path[PATH_MAX];
 } changed = { .fd = -1 };
 
-static void keep_path(int fd, const char *path, int flags) {
+/* Keeps a disk that was opened for changes. Returns -1 if the system doesn't report which file it is. */
+static int keep_path(int fd, const char *path, int flags) {
     if (fd == changed.fd) changed.fd = -1; /* the number is another file's now */
-    if ((flags & O_ACCMODE) == O_RDONLY || flags & O_CREAT) return;
+    if ((flags & O_ACCMODE) == O_RDONLY || flags & O_CREAT) return 0;
+    if (fstat(fd, &changed.file)) return -1;
     changed.fd = fd;
     strcpy(changed.path, path); /* the system opens no longer path */
+    return 0;
 }
 
 int __wrap_open(const char *path, int flags, ...) {
@@ -37,14 +42,11 @@ int __wrap_open(const char *path, int flags, ...) {
     mode_t mode = flags & O_CREAT ? va_arg(more, mode_t) : 0;
     va_end(more);
     int fd = __real_open(path, flags, mode);
-    if (fd >= 0) keep_path(fd, path, flags);
-    return fd;
-}
-
-/* Whether the path of the disk that is open for changes still names it. If it doesn't, nobody will
- * see what was written, and the sync fails. */
-static int is_in_place(int fd, const struct stat *found) {
-    return fd != changed.fd || rlibreg_path_names(AT_FDCWD, changed.path, found);
+    if (fd < 0 || !keep_path(fd, path, flags)) return fd;
+    int why = errno;
+    close(fd);
+    errno = why;
+    return -1;
 }
 
 /* After the first successful sync of a file, the medium has to have the roots that the system shows.
@@ -58,6 +60,13 @@ static int meet_front_once(int fd) {
     return 0;
 }
 
+/* After a sync of the disk that is open for changes its path has to name it still. If it doesn't, nobody
+ * will see what was written, and the sync fails. */
+static int sync_changed(void) {
+    if (meet_front_once(changed.fd)) return -1;
+    return rlibreg_path_names(AT_FDCWD, changed.path, &changed.file) ? 0 : -1;
+}
+
 int __wrap_fsync(int fd) {
     struct stat found;
     int early_fault = rlibreg_take_early_fault();
@@ -66,7 +75,7 @@ int __wrap_fsync(int fd) {
         errno = early_fault;
         return -1;
     }
+    if (fd == changed.fd) return sync_changed();
     if (fstat(fd, &found)) return -1;
-    if (S_ISDIR(found.st_mode)) return rlibreg_names_last(fd);
-    return meet_front_once(fd) || !is_in_place(fd, &found) ? -1 : 0;
+    return S_ISDIR(found.st_mode) ? rlibreg_names_last(fd) : meet_front_once(fd);
 }
