@@ -106,6 +106,13 @@ if [ "$(stat -f -c %T .)" = tmpfs ]; then
     start 'other bytes through a map' "$other$keeps" "$said" disk ./chain
     cat other.disk > disk
     start 'the bytes from before the map' "$other$keeps" "$changed" disk ./chain
+    # Another writer comes between a bind and the copy of what the bind read.
+    cat before.disk > disk
+    rm kept/*
+    RAW=other.disk start 'other bytes behind the bind' "$none
+nothing is kept: what was bound can't be read again" "$said" disk ./chain
+    want 'images of other bytes' 0 "$(ls -A kept | wc -l)"
+    start 'these bytes' "$none$keeps" "$changed" disk ./chain
 fi
 
 # A block device, in which another disk of equal roots and length comes in the place of one.

@@ -2,7 +2,8 @@
  * linked into the loader with --wrap=mmap, --wrap=kernel_map and --wrap=rlibreg_bind. Of the maps
  * that ask for a place, the first FREE have it, the next TAKEN find it taken, and the others have it
  * again. Where ELSEWHERE is set those get another one, as from a kernel before 4.17. The file CUT is
- * cut behind each map of a file, and CUT_LATE before a bind. */
+ * cut behind each map of a file, and CUT_LATE before a bind. After each bind the bytes of the file RAW
+ * are written over the file `disk`, as by a process that takes no lock. */
 #define _GNU_SOURCE
 #include "../rlibreg.h"
 #include "../rlibreg_run_kernel.h"
@@ -18,6 +19,16 @@ void *__wrap_mmap(void *at, size_t length, int how, int kind, int fd, off_t from
 
 static void cut(const char *variable) {
     if (getenv(variable) && truncate(getenv(variable), 0)) abort();
+}
+
+/* Writes the bytes of the file RAW over `disk`. */
+static void write_raw(void) {
+    static uint8_t bytes[1 << 20];
+    if (!getenv("RAW")) return;
+    FILE *from = fopen(getenv("RAW"), "r"), *to = fopen("disk", "r+");
+    if (!from || !to) abort();
+    size_t length = fread(bytes, 1, sizeof bytes, from);
+    if (fwrite(bytes, 1, length, to) != length || fclose(to) || fclose(from)) abort();
 }
 
 static long number_of(const char *variable) {
@@ -64,7 +75,9 @@ uint32_t __wrap_rlibreg_bind(const uint8_t *disk, size_t disk_length, const uint
                              rlibreg_answer *answer) {
     cut("CUT_LATE");
     if (getenv("BINDS")) fputs("bind\n", stderr);
-    return __real_rlibreg_bind(disk, disk_length, program, program_length, base, objects,
-                               objects_room, segments, segments_room, bytes, bytes_room, text,
-                               text_room, answer);
+    uint32_t status =
+        __real_rlibreg_bind(disk, disk_length, program, program_length, base, objects, objects_room,
+                            segments, segments_room, bytes, bytes_room, text, text_room, answer);
+    write_raw();
+    return status;
 }
