@@ -1,4 +1,4 @@
-"""What stands beside a start that is timed: a folder for images that are kept, and a writer of the file system."""
+"""What runs beside a start that is timed: a folder for kept images, and a process that writes to the file system."""
 
 import contextlib
 import os

@@ -1,14 +1,15 @@
 #!/usr/bin/env python3
-"""Tries `rlibreg-tool bindings` beside the system's loader.
+"""Compares `rlibreg-tool bindings` with the system's loader.
 
     python3 bench/bindings.py RLIBREG RLIBREG_TOOL FOLDER [--count 200] [--first FIRST]
 
-Random programs, COUNT from number FIRST on, with up to 8 libraries by gcc: functions and data of few
-names, so that most are defined often; weak definitions and references, protected ones, symbolic objects,
-references that nothing defines, and up to 3 preloads. The load order, what each symbol is bound to, and
-what is undefined are those of ld.so (LD_TRACE_LOADED_OBJECTS, LD_DEBUG=bindings, LD_WARN), a value that
-of `readelf`. Then up to 3 libraries are removed: what each object needs, and what is missing, as a walk
-by levels over what `readelf` tells. What differs is told, and ends it with 1.
+The script makes COUNT random programs, from number FIRST on, each with up to 8 libraries made by gcc. Their functions
+and data have few names, so most names are defined several times. There are weak definitions and references, protected
+ones, symbolic objects, references that nothing defines, and up to 3 preloads. The load order, what each symbol is bound
+to, and what is undefined have to be those of ld.so (LD_TRACE_LOADED_OBJECTS, LD_DEBUG=bindings, LD_WARN). A value has
+to be that of `readelf`. Then up to 3 libraries are removed: what each object needs, and what is missing, has to be the
+result of a walk by levels over what `readelf` prints. The script prints each difference, and exits with status 1 if
+there is one.
 """
 
 import argparse

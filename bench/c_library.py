@@ -3,11 +3,10 @@
 
     python3 bench/c_library.py FOLDER [NUMBER LENGTH]..
 
-FOLDER has librlibreg.so and rlibreg (c/build.sh). For each NUMBER and LENGTH a disk is made with so
-many libraries of about LENGTH bytes, and then looked at: the least of five times each. The program
-that is bound needs all libraries; it is left out where these have over 64 MiB. What one further
-installation takes is timed as a plan, and once as it is carried out with its syncs; beside 2,048
-libraries there is no further one.
+FOLDER has librlibreg.so and rlibreg (c/build.sh). For each NUMBER and LENGTH the script makes a disk with NUMBER
+libraries of about LENGTH bytes, and then times the calls that read it: the least of five times each. The program that
+is bound needs all libraries; it is left out if these have more than 64 MiB together. One further installation is timed
+as a plan, and once as the plan is carried out with its syncs. With 2,048 libraries there can be no further one.
 """
 
 import ctypes

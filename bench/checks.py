@@ -1,5 +1,5 @@
 """What the scripts about processes, making and media share: the program and the C library's test program in a folder, and
-the count of what was looked at and of what was wrong."""
+the number of things that were checked and of things that were wrong."""
 
 import collections
 import contextlib

@@ -1,9 +1,9 @@
 """The public calls of each crate with their clauses, as docs/CLAUSES.md has them, from the text of `src/`.
 
-A call leads to its file, and is told by the first sentence of its comment. Behind it are its clauses, each group of them
-behind the `//` lines above it: a clause of up to MOST characters, or without a label, as it stands, and of a longer one the
-label. Of a clause that cites one record the parts follow in square brackets: the record's fields, each group of them with
-the comment above it. What the words of a clause mean stands in docs/PROOFS.md and docs/DEFINITIONS.md.
+A call links to its file, and is described by the first sentence of its comment. After it come its clauses. Each group of
+clauses comes after the `//` lines above it. A clause of up to MOST characters, or without a label, is copied as it is; of
+a longer clause only the label is copied. If a clause cites one record, its parts follow in square brackets: the record's
+fields, each group of them with the comment above it. docs/PROOFS.md and docs/DEFINITIONS.md explain the words of a clause.
 """
 
 import re

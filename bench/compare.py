@@ -3,9 +3,9 @@
 
     python3 bench/compare.py FOLDER PROGRAM ..
 
-A PROGRAM takes `FILE BASE`, or `image FILE BASE` where its name begins with rlibreg; the first is what the others are
-compared with. Each line has the real time, and user + system, in seconds, and both as multiples of the first's. The
-texts of all have to be the same.
+A PROGRAM is called with `FILE BASE`, or with `image FILE BASE` if its name begins with rlibreg. The first PROGRAM is the
+one that the others are compared with. Each line has the real time, and user + system, in seconds, and both as multiples
+of the first program's. All programs have to print the same text.
 """
 
 import hashlib

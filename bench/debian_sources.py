@@ -1,4 +1,4 @@
-"""Archives of Debian's sources, for the scripts beside this one."""
+"""Archives of Debian's sources, for the other scripts here."""
 
 import os
 import shutil

@@ -1,11 +1,11 @@
-"""The definitions of `specs/`, as docs/PROOFS.md and docs/DEFINITIONS.md have them, each told by the comment before it.
+"""The definitions of `specs/`, as docs/PROOFS.md and docs/DEFINITIONS.md have them, each described by the comment before it.
 
-READING has the main ones, in the order of a reading. The others are told by crate: first those that the CLAUSES of the
-tables of docs/PROOFS.md cite, directly or through others, which are found by following the names in the clauses and in the
-definitions, down to the toolchain's own; then those that only contracts of single crates cite. PLAIN has a plain sentence
-in place of a comment that leaves something to its context. It ends with what is wrong where a clause or a definition of
-READING or PLAIN isn't there any more, where no clause rests on a definition of READING, or where CRATES doesn't name each
-crate that has definitions once.
+READING has the main ones, in the order in which they should be read. The others are listed by crate: first those that the
+CLAUSES of the tables of docs/PROOFS.md cite, directly or through others, and then those that only contracts of single
+crates cite. The script finds the former by following the names in the clauses and in the definitions, down to the
+toolchain's own. PLAIN has a plain sentence in place of a comment that can't be understood without its context. The script
+ends with what is wrong if a clause or a definition of READING or PLAIN no longer exists, if no clause uses a definition of
+READING, or if CRATES doesn't name each crate that has definitions once.
 
 The first definition of a file may have the file's own comment. Constants share the comment of the first of them; any
 other definition without one is reported.

@@ -1,10 +1,10 @@
 #!/usr/bin/env python3
-"""Times the program `rlibreg` on a disk in a file, beside `cp` and `sync` of the same bytes.
+"""Times the program `rlibreg` on a disk in a file, compared with `cp` and `sync` of the same bytes.
 
     python3 bench/disks.py PROGRAM FOLDER
 
-The least real time of some runs, and the least of user + system, in seconds; the most memory in MiB; and how many system
-calls the program makes (by strace). FOLDER should lie on the file system that is meant.
+It prints the least real time of some runs, and the least of user + system, in seconds; the maximum memory in MiB; and the
+number of system calls that the program makes (by strace). FOLDER should lie on the file system that is to be measured.
 """
 
 import resource

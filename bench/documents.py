@@ -1,13 +1,14 @@
 #!/usr/bin/env python3
-"""Makes what is generated of the documents, and looks up the names in all of them.
+"""Makes the generated parts of the documents, and checks that the names in all documents exist.
 
-    python3 bench/documents.py            writes the pages anew
-    python3 bench/documents.py --check    writes nothing, and fails where a page would change
+    python3 bench/documents.py            writes the generated pages again
+    python3 bench/documents.py --check    writes nothing, and fails if a page would change
 
 It fails if a name between backquotes isn't in the tree, if the list of bench/README.md doesn't name each file of bench/
-once, or if a crate doesn't export a name of docs/PROMISED_CALLS.txt. A name is a path, or a word of the code: one with
-`_`, `::` or a capital letter within it. A crate's page means files of its own crate by `src/`, `specs/`, `proofs/`,
-`data/` and `must-fail/`; any other page means files of some crate. All other paths begin at the root of the repository.
+once, or if a crate doesn't export a name of docs/PROMISED_CALLS.txt. A name is a path, or a word of the code: a word with
+`_`, `::` or a capital letter within it. In a crate's page, a path that begins with `src/`, `specs/`, `proofs/`, `data/` or
+`must-fail/` is a path of that crate; in any other page it is a path of some crate. All other paths begin at the root of
+the repository.
 """
 
 import re

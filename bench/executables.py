@@ -3,12 +3,12 @@
 
     python3 bench/executables.py RLIBREG RLIBREG_TOOL FOLDER [--count 500] [--kernel VMLINUZ] [--accel tcg]
 
-Each is a program with up to 20 libraries by linkers, flags and bases at random; it ends with the sum
-of what its libraries and their data give. In some, segments share pages: each page of the program has
-to permit what its segments there do, no PT_LOAD may do for two, and an object is refused where a page
-of it may be written and executed, as read from the files. Others have 71, 75, 1,167 and 1,171 program
-headers: the last is refused. All of them are started here, and with --kernel in a guest of qemu; a
-kernel before 6.17 takes at most 73 headers.
+Each is a program with up to 20 libraries, made by random linkers with random flags at random bases. It ends with the sum
+of the values that its libraries and their data return. In some programs, segments share pages: each page of the program
+has to permit what its segments there permit, and there may be no two PT_LOADs if one would be enough. An object is
+refused if one of its pages may be both written and executed, as read from the files. Other programs have 71, 75, 1,167
+and 1,171 program headers, and the last is refused. All of them are started here, and with --kernel also in a guest of
+qemu; a kernel before 6.17 accepts at most 73 headers.
 """
 
 import argparse

@@ -1,16 +1,18 @@
 #!/usr/bin/env python3
-"""Runs each changing command of the program `rlibreg`, and `update` of `rlibreg-tool`, on a disk in a file, and has one system
-call after the other fail, or kills the program at it. Wants strace.
+"""Runs each changing command of the program `rlibreg`, and `update` of `rlibreg-tool`, on a disk in a file. In each run one
+system call fails, or the program is killed at it. Needs strace.
 
     python3 bench/faults.py PROGRAM FOLDER [--tool RLIBREG_TOOL] [--dynamic DYNAMIC]
 
-After each run the disk, as a whole machine still has it, is listed, and a program is bound from it: both have to be as
-before the command or as after it, and as after it where the command answered `ok`. So `format` of a disk that isn't there
-leaves none, or a whole registry; the other name under which it is made is left by a kill alone, or where it can't be taken
-away (`making.py` has more of this). At last every two syncs of a command fail. It prints, for each command and each kind
-of fault, how many runs ended how. Before that come the standard streams that are closed or fail (`streams.py`), of
-RLIBREG_TOOL too. After it, reads and writes move fewer bytes than was asked for (`short.py`); some of these runs need
-DYNAMIC, a folder that `DYNAMIC=yes c/build.sh` has made.
+After each run the script lists the disk, as a machine that still runs has it, and binds a program from it. Both have to
+be as before the command or as after it, and as after it if the command answered `ok`. So a `format` of a disk that doesn't
+exist leaves none, or a whole registry. The other name under which the disk is made may stay only after a kill, or if it
+can't be removed (`making.py` tries more of this). Finally, every two syncs of a command fail. For each command and each
+kind of fault the script prints how many runs ended in which way.
+
+Before that, standard streams are closed or fail (`streams.py`), also those of RLIBREG_TOOL. After it, reads and writes
+transfer fewer bytes than the program asked for (`short.py`). Some of these runs need DYNAMIC, a folder that
+`DYNAMIC=yes c/build.sh` has made.
 """
 
 import argparse

@@ -1,17 +1,17 @@
 #!/usr/bin/env bash
 # fleet.sh BUILT [RELEASE [CUTS]] tries the section "Fleets" of docs/DEVICES.md with what c/build.sh has
 # put into BUILT: in a Debian (RELEASE is bookworm) in a guest of qemu, with its casync, OSTree and RAUC,
-# and the commands as they stand there. A server on this machine has four versions of a registry, in
-# each of which one library of 34 KB is new, and counts what it gives.
+# and with the commands exactly as the page has them. A server on this machine has four versions of a
+# registry, in each of which one library of 34 KB is new, and counts the bytes that it sends.
 #
 # - Each way brings a device to version 4 from version 3, and from version 1.
-# - A transfer that breaks, one with another bit, what another key has signed, and a list after which a
-#   program can't be bound change nothing, and the way goes on afterwards.
-# - The power goes CUTS times (3) in each way, over and over: the device then has the version that it had
-#   reached, or the next. That comes once more, but by a list, and the way goes on.
+# - Nothing changes after a transfer that breaks, a transfer with a changed bit, one that another key has
+#   signed, and a list after which a program can't be bound. The way goes on afterwards.
+# - The power fails CUTS times (3) in each way, over and over: afterwards the device has the version that
+#   it had reached, or the next. The same is tried once more by a list, and the way goes on.
 #
-# It is for root, needs debootstrap, qemu-system-x86, fdisk, e2fsprogs, gcc and python3 (3.9 or later),
-# and has some 300 MB from a mirror of Debian. ACCEL is qemu's -accel.
+# It needs root, debootstrap, qemu-system-x86, fdisk, e2fsprogs, gcc and python3 (3.9 or later), and loads
+# some 300 MB from a mirror of Debian. ACCEL is qemu's -accel.
 set -eu
 built=$(cd "$1" && pwd)
 release=${2:-bookworm} cuts=${3:-3}

@@ -1,7 +1,7 @@
 #!/bin/bash
-# fleet_device.sh is the first process of fleet.sh's guest: where the kernel's command line has
-# `fleet.way=day` it goes all ways and ends, and of one way it goes from version to version until the
-# power goes. /try has a script for each way, the sums of the versions, and two images.
+# fleet_device.sh is the first process of fleet.sh's guest. If the kernel's command line has
+# `fleet.way=day`, it goes all ways and ends. If it has one way, it goes that way from version to version
+# until the power fails. /try has a script for each way, the sums of the versions, and two images.
 set -u
 exec 2>&1
 export PATH=/usr/sbin:/usr/bin:/sbin:/bin LC_ALL=C HOME=/var/fleet

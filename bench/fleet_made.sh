@@ -1,7 +1,7 @@
 #!/usr/bin/env bash
-# fleet_made.sh makes what fleet.sh serves, within its Debian and in the folder /www, in which lie the
-# libraries: four versions of a registry, for each way, signed; below `other` the last one, signed by
-# another key. /try/sign has the commands that make and sign the sum of `image`.
+# fleet_made.sh makes what fleet.sh serves, inside its Debian and in the folder /www, which has the
+# libraries: four versions of a registry, for each way, signed; and below `other` the last version, signed
+# by another key. /try/sign has the commands that make and sign the sum of `image`.
 set -eu
 cd /www
 sectors=8192

@@ -1,13 +1,12 @@
 #!/usr/bin/env python3
-"""Compares the order of initializers and finalizers under rlibreg-run with that under the system's own loader.
+"""Compares the order of initializers and finalizers under rlibreg-run with their order under the system's own loader.
 
     python3 bench/initializers.py FOLDER [GRAPHS [START]]
 
-FOLDER has rlibreg and rlibreg-run (c/build.sh). Each graph is one of libraries that need each other at random, in
-circles too, with or without DT_INIT, DT_FINI, arrays, DF_1_INITFIRST and preloads; a program needs some of them. Each
-function writes its name, so what is compared is all that is called, in its order. gcc makes the functions, and ld links
-them. For the system's loader the program needs its C library too, behind all others: without one that loader doesn't
-finalize.
+FOLDER has rlibreg and rlibreg-run (c/build.sh). Each graph has libraries that need each other at random, also in circles,
+with or without DT_INIT, DT_FINI, arrays, DF_1_INITFIRST and preloads. A program needs some of them. Each function writes
+its name, so everything that is called is compared, in its order. gcc makes the functions, and ld links them. For the
+system's loader the program also needs its C library, after all others: without a C library that loader doesn't finalize.
 """
 
 import os

@@ -1,10 +1,10 @@
 #!/usr/bin/env bash
-# installed.sh FOLDER [RELEASE] installs what c/build.sh has put into FOLDER in a Debian that has
-# nothing else (RELEASE is bookworm), as a new user would: by c/install.sh, with pkg-config, and by
-# the words of the documents, whose commands are run as they stand there. It ends with what is left
-# after the removal: nothing.
+# installed.sh FOLDER [RELEASE] installs what c/build.sh has put into FOLDER in a Debian that has nothing
+# else (RELEASE is bookworm), as a new user would: by c/install.sh, with pkg-config, and as the documents
+# say. It runs their commands exactly as the documents have them. Finally it checks that nothing is left
+# after the removal.
 #
-# It is for root, needs debootstrap, and has some 150 MB from a mirror of Debian.
+# It needs root and debootstrap, and loads some 150 MB from a mirror of Debian.
 set -eu
 built=$(cd "$1" && pwd)
 release=${2:-bookworm}

@@ -1,15 +1,18 @@
 #!/usr/bin/env python3
-"""Starts a program from images that are kept, beside changes of its disk and kills of both.
+"""Starts a program from kept images, while its disk changes and both are killed.
 
     python3 bench/kept.py PROGRAMS [SECONDS [FOLDER [loop]]]
 
 PROGRAMS has rlibreg and rlibreg-run (c/build.sh). Disk and images lie in FOLDER, or in memory. With the word `loop`, which
-wants root, the disk is a loop device over a file there, whose images need no moment without changes. Twenty loops start a
-program that prints which version of a library it has, each start with `rlibreg-run -c`, every other one with -v too,
-which tells what it did, but has the loader's C library set up first; one loop puts further versions in the place of
-the library, at times so slowly that images are kept between, and empties the folder of images. Some starts and some
-changes are killed. What is printed has to be a version that the disk had while the start went on: none that is older
-than the last that was acknowledged before it, and none that wasn't begun. It ends with 1 where one isn't.
+needs root, the disk is a loop device over a file there; images of a device are kept without waiting for a time without
+changes.
+
+Twenty loops start a program that prints the version of its library, each time with `rlibreg-run -c`. Every other start also
+has -v, which reports what the loader did, but makes it set up its C library first. One loop puts further versions in the
+place of the library, at times so slowly that images are kept in between, and empties the folder of images. Some starts
+and some changes are killed. The printed version has to be one that the disk had while the start went on: none that is
+older than the last version acknowledged before the start, and none whose change hadn't begun. The script exits with status
+1 if one is different.
 """
 
 import collections

@@ -1,15 +1,15 @@
 #!/usr/bin/env python3
-"""Makes random changes of registries, devices, programs and folders of images. After each change, starts with `-c` have to print and
-end as the start without it.
+"""Makes random changes of registries, devices, programs and folders of images. After each change, a start with `-c` has to
+print and end as the start without it.
 
     python3 bench/kept_changes.py BUILT FOLDER [--changes N] [--each N] [--first NUMBER] [--loader RLIBREG_RUN] [--kinds KIND..]
 
-BUILT has what c/build.sh makes. RLIBREG_RUN is another loader to try. There are N disks of each kind (--each): files in FOLDER; and for
-root, if the kernel has them, files on tmpfs, loop devices, partitions, zram, and devices of device mapper. Most registries are made by
-the same commands with files of equal lengths, so their roots are equal. Nothing is kept over a file that was changed in the last two
-seconds, so the script changes all disks, waits at most times, and starts a program over each. With a difference it prints the disk's
-last changes. The same NUMBER makes the same choices. The script ends with 1 if something is wrong, or if no image of some kind of disk
-was taken.
+BUILT has what c/build.sh makes. RLIBREG_RUN is another loader to try. There are N disks of each kind (--each): files in
+FOLDER; and for root, if the kernel has them, files on tmpfs, loop devices, partitions, zram, and devices of device mapper.
+Most registries are made by the same commands with files of equal lengths, so their roots are equal. No image is kept over a
+file that was changed in the last two seconds, so the script changes all disks, waits most of the time, and starts a program
+over each. If there is a difference, it prints the disk's last changes. The same NUMBER makes the same choices. The script
+exits with status 1 if something is wrong, or if no image of some kind of disk was used.
 """
 
 import argparse

@@ -3,11 +3,12 @@
 
     python3 bench/kept_damage.py BUILT FOLDER [--loader RLIBREG_RUN] [--step N] [--only PART..]
 
-BUILT has what c/build.sh makes. RLIBREG_RUN is another loader to try. The script changes each byte of an image's first page (or every
-Nth), in three ways: the start has to notice it. Then it changes some of the other bytes, and prints how many are noticed. For root it
-makes each page of an image unreadable: on ext4 over device mapper, and on btrfs, whose checksums refuse a changed block. A start has to
-notice a page that isn't mapped into the program, and the image has to go; a page that is mapped may end the program with SIGBUS. The
-parts are numbers and words (changed bytes in the images of two programs), ext4 and btrfs. The script ends with 1 if something is wrong.
+BUILT has what c/build.sh makes. RLIBREG_RUN is another loader to try. The script changes each byte of an image's first
+page (or every Nth), in three ways: the start has to notice it. Then it changes some of the other bytes, and prints how many
+are noticed. As root, it makes each page of an image unreadable: on ext4 over device mapper, and on btrfs, whose checksums
+refuse a changed block. A start has to notice a page that isn't mapped into the program, and the image has to be removed; a
+page that is mapped may end the program with SIGBUS. The parts are `numbers` and `words` (changed bytes in the images of two
+programs), `ext4` and `btrfs`. The script exits with status 1 if something is wrong.
 """
 
 import argparse

@@ -1,13 +1,14 @@
 #!/usr/bin/env python3
-"""Changes block devices whose images `rlibreg-run -c` keeps. Each later start with `-c` has to print and end as the start without it.
-The script wants root and gcc, and makes the devices itself: loop devices, partitions of them, zram, and devices of device mapper. It
-leaves out what the kernel lacks, with a line that says so.
+"""Changes block devices whose images `rlibreg-run -c` keeps. Each later start with `-c` has to print and end as the start
+without it. The script needs root and gcc, and makes the devices itself: loop devices, partitions of them, zram, and devices
+of device mapper. What the kernel lacks is left out, with a line that says so.
 
     python3 bench/kept_devices.py BUILT FOLDER [--loader RLIBREG_RUN] [--only PART..]
 
-BUILT has what c/build.sh makes. FOLDER lies on a file system with direct I/O, for example ext4. RLIBREG_RUN is another loader to try.
-Most parts have two registries that the same commands made with files of equal lengths, so their roots are equal. Each part first shows
-that an image is kept and taken, and that the change has an effect. The script ends with 1 if something is wrong.
+BUILT has what c/build.sh makes. FOLDER lies on a file system with direct I/O, for example ext4. RLIBREG_RUN is another
+loader to try. Most parts have two registries that the same commands made with files of equal lengths, so their roots are
+equal. Each part first shows that an image is kept and used, and that the change has an effect. The script exits with
+status 1 if something is wrong.
 """
 
 import argparse

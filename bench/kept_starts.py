@@ -1,5 +1,6 @@
-"""What the scripts about kept images share. It makes libraries, each in versions of equal length, programs that print what they get
-from these, and registries. It compares starts with `-c` with the start without it: they have to print the same and end so."""
+"""What the scripts about kept images share. It makes libraries, each in versions of equal length, programs that print what
+they get from these, and registries. It compares starts with `-c` with the start without it: both have to print the same
+and end in the same way."""
 
 import collections
 import os

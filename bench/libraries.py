@@ -1,12 +1,12 @@
 #!/usr/bin/env python3
-"""Makes the programs with libraries that docs/PERFORMANCE.md measures, in the folder that is named, and times them.
+"""Makes the programs with libraries that docs/PERFORMANCE.md measures, in the named folder, and times them.
 
     python3 bench/libraries.py FOLDER            makes the files, and a list of two cases for each
-    python3 bench/libraries.py FOLDER CASES      runs each list by the program CASES, five times, least time
+    python3 bench/libraries.py FOLDER CASES      runs each list by the program CASES, five times, and prints the least time
 
-A list `NAME.txt` has one case, which binds the program and reads one word; `NAME-unbound.txt` has the same at a base
-that is refused once all files are read and admitted, so that the difference is load order, placement and relocation.
-Beside them stands the time of `cp` of a file as long as the image's bytes.
+A list `NAME.txt` has one case, which binds the program and reads one word. `NAME-unbound.txt` has the same at a base that
+is refused once all files are read and admitted, so the difference is load order, placement and relocation. The time of
+`cp` of a file as long as the image's bytes is printed beside them.
 """
 
 import random

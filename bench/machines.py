@@ -1,5 +1,5 @@
-"""Machines that run the program `rlibreg` over the stand-in for a kernel in `medium.c`: what they hold before and after a
-run, the log of the calls that were made, and what is found after a power cut. For the scripts beside this one; wants gcc."""
+"""Machines that run the program `rlibreg` over the stand-in for a kernel in `medium.c`: what they have before and after a
+run, the log of the calls that were made, and what is found after a power cut. For the other scripts here; needs gcc."""
 
 import collections
 import itertools

@@ -1,15 +1,16 @@
 #!/usr/bin/env python3
-"""Has the program `rlibreg` make a disk that isn't there, kills it on entry to each of its system calls, and has one of
-them after the other fail. Wants strace; some parts want root, and say so where they are left out.
+"""Has the program `rlibreg` make a disk that doesn't exist, kills it on entry to each of its system calls, and makes each of
+them fail in turn. Needs strace; some parts need root, and say so if they are left out.
 
     python3 bench/making.py PROGRAM FOLDER [--clib TOOL]
 
-Afterwards DISK is absent or a whole empty registry, and `format` asked again makes it or says S4. A fault before DISK has
-its name leaves no file, one at the sync of the folder, or where that is asked whether it takes changes, leaves the whole
-registry with S1. Then come all kinds of things that stand under the name of the file in which a disk is made
-(`.NAME.rlibreg-new`), a kill that leaves a finished registry under that name too, long names, folders that may not be
-written or are full, file systems without hard links, and a DISK that is no file. TOOL is the program of c/tests/tool.c,
-which has to do the same.
+Afterwards DISK is absent or a whole empty registry, and `format`, run again, makes it or answers S4 (AlreadyFormatted). A
+fault before DISK has its name leaves no file. A fault at the sync of the folder, or when the folder is asked whether it
+accepts changes, leaves the whole registry with S1 (Device).
+
+Then come all kinds of things under the name of the file in which a disk is made (`.NAME.rlibreg-new`), also a kill that
+leaves a finished registry under that name; long names; folders that may not be written or are full; file systems without
+hard links; and a DISK that is no file. TOOL is the program of c/tests/tool.c, which has to do the same.
 """
 
 import argparse

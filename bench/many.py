@@ -1,10 +1,10 @@
 #!/usr/bin/env python3
-"""Times the program `rlibreg` over many libraries, an update by `rlibreg-tool`, which TOOL is, and the upgrade of a disk of
-version 1, beside `cp` and `sync` of as many bytes.
+"""Times the program `rlibreg` over many libraries, an update by `rlibreg-tool` (TOOL), and the upgrade of a disk of version 1,
+compared with `cp` and `sync` of as many bytes.
 
     python3 bench/many.py PROGRAM TOOL FOLDER
 
-The columns are those of `disks.py`. FOLDER should lie on the file system that is meant, with some 500 MiB free.
+The columns are those of `disks.py`. FOLDER should lie on the file system that is to be measured, with some 500 MiB free.
 """
 
 import shutil

@@ -1,14 +1,16 @@
 #!/usr/bin/env python3
 """Tries the program `rlibreg` on disks that lie on read-only media, and on disks that are block devices: loop devices and
-partitions of them. Wants root and what makes such media; what the machine hasn't is left out, with a line that says so.
+partitions of them. Needs root and the programs that make such media; what the machine lacks is left out, with a line that
+says so.
 
     python3 bench/media.py PROGRAM FOLDER [--run RLIBREG_RUN] [--clib TOOL]
 
-The images are made by mksquashfs, mkfs.erofs, genisoimage and mkfs.ext4, and mounted read-only: what only reads works as
-on an ordinary file, a change is answered S1 or that the disk can't be read. On ext4, xfs and btrfs the roots of a file are
-exchanged under what the system keeps of it, also where somebody has that mapped. On a device each command does what it does on
-a file of as many bytes; one that is mounted, swapped to or under device mapper, or whose disk or partition is, is read and
-not changed. RLIBREG_RUN is the loader, which starts a program from each medium; TOOL is the program of c/tests/tool.c.
+The images are made by mksquashfs, mkfs.erofs, genisoimage and mkfs.ext4, and mounted read-only. Commands that only read
+work as on an ordinary file; a change is answered with S1 (Device), or with the message that the disk can't be read. On
+ext4, xfs and btrfs the roots of a file are changed underneath the page cache, also while somebody has that page mapped. On
+a device each command does what it does on a file of as many bytes. A device that is mounted, swapped to or under device
+mapper, or whose disk or partition is, is read and not changed. RLIBREG_RUN is the loader, which starts a program from each
+medium; TOOL is the program of c/tests/tool.c.
 """
 
 import argparse

@@ -1,16 +1,20 @@
 #!/usr/bin/env python3
-"""Measures what ten idle SQLite shells take of the system's memory: linked statically, by rlibreg-run, and by it
-from an image that is kept.
+"""Measures how much of the system's memory ten idle SQLite shells take: linked statically, started by rlibreg-run, and started
+by rlibreg-run from a kept image.
 
     python3 bench/memory.py PROGRAMS FOLDER [--sources SOURCES]
 
-The words are those of real_programs.py, by which SQLite is built. The fall of MemAvailable is printed, the median of
-several rounds, which says something on an idle machine alone; behind it what the system counts of a group of these
-processes (cgroups, as root), and what of that it can't give to others, by which MemAvailable falls: what the processes
-have written, what is on tmpfs, and what the kernel has for them; of this the least too. Then the sum of what the
-processes have of their own and their part of what they share (Pss of /proc/PID/smaps_rollup); and the pages that they
-have written, and the tables of pages. The images are kept in a folder of tmpfs, and in one of the file system of FOLDER.
-Both are emptied before each round, so their pages are in the fall and in the group.
+The arguments are those of real_programs.py, which builds SQLite. For each way the script prints, in this order:
+
+- the fall of MemAvailable, as the median of several rounds, which is meaningful only on an idle machine;
+- what the system counts for a group of these processes (cgroups, as root);
+- the part of that which the system can't give to others, and by which MemAvailable falls: what the processes have written,
+  what is on tmpfs, and what the kernel has for them; also the least of it;
+- the sum of the processes' own memory and of their part of the shared memory (Pss of /proc/PID/smaps_rollup);
+- the pages that they have written, and the tables of pages.
+
+The images are kept in a folder of tmpfs, and in one of the file system of FOLDER. Both folders are emptied before each round,
+so the pages of the images are in the fall and in the group.
 """
 
 import statistics

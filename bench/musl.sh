@@ -1,10 +1,10 @@
 #!/usr/bin/env bash
-# musl.sh BUILT builds everything with musl-gcc, and tries it where there is no other C library: each form
-# of the programs beside those that c/build.sh has put into BUILT, the updater of docs/C.md with both
+# musl.sh BUILT builds everything with musl-gcc, and tries it in a system without another C library: each
+# form of the programs beside those that c/build.sh has put into BUILT, the updater of docs/C.md with both
 # libraries, and a program under rlibreg-run. Then come the tests of the C library over what was built.
 #
-# For root, with Debian's musl-tools. It takes two minutes beside what c/build.sh proves, which its
-# variables spare (RLIBREG_C, RLIBREG_O, RLIBREG_TOOL_O).
+# It needs root, and Debian's musl-tools. It takes two minutes in addition to what c/build.sh proves; the
+# variables RLIBREG_C, RLIBREG_O and RLIBREG_TOOL_O spare these proofs.
 set -euo pipefail
 built=$(cd "$1" && pwd)
 cd "$(dirname "$0")/.."

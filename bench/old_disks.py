@@ -1,4 +1,4 @@
-"""Disks of version 1 as docs/FORMATS.md has them, which no command writes any more, for the scripts beside this one."""
+"""Disks of version 1 as docs/FORMATS.md describes them, which no command writes any more, for the other scripts here."""
 
 import struct
 

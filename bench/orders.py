@@ -1,7 +1,11 @@
-"""The order of the calls that the program `rlibreg` makes, as `medium.c` logs them, for `syncs.py`: lock, sync, the roots
-compared with the medium's; where they differ, more and more of the front let go until that is gone, and compared again, or
-written; the first read once they agree; all writes before the sync, and that before the reply and before a name is given; the
-lock until the last sync."""
+"""The order of the calls that the program `rlibreg` makes, as `medium.c` logs them, for `syncs.py`:
+
+- lock, sync, the roots compared with the medium's;
+- if they differ, more and more of the front of the file dropped from memory until it is gone, and the roots compared again,
+  or written;
+- the first read, once they agree;
+- all writes before the sync, and the sync before the reply and before a name is given;
+- the lock until the last sync."""
 
 from machines import PAGE, ROOTS, has_failed
 

@@ -1,4 +1,4 @@
-# page.sh, read by scripts: the commands of a document.
+# page.sh is read by scripts: it finds the commands of a document.
 
 # commands PAGE [SECTION FIRST]: all of them; or those of the section, by the words that the first has,
 # up to the next line that is none.

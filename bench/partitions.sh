@@ -1,13 +1,13 @@
 #!/usr/bin/env bash
 # partitions.sh BUILT [RELEASE [CUTS]] tries the section "Partitions" of docs/DEVICES.md with what
-# c/build.sh has put into BUILT: the commands as they stand there, in a Debian (RELEASE is bookworm)
-# that systemd and udev run in a guest of qemu, with a disk of partitions, and over a loop device of
-# this machine.
+# c/build.sh has put into BUILT, with the commands exactly as the page has them. It does so in a Debian
+# (RELEASE is bookworm) that systemd and udev run in a guest of qemu, with a disk of partitions, and over a
+# loop device of this machine.
 #
-# - Units and rule by systemd's own checkers, as far as RELEASE has them.
+# - Units and rule are checked by systemd's own checkers, as far as RELEASE has them.
 # - A loop device with direct I/O: what is made on it is, byte for byte, what is made in a file.
-# - Two of these: rlibreg-switch is killed with all that it has started, at 40 random moments, to and fro.
-#   The link then leads to the old state or to the new one, and the same switch succeeds.
+# - Two of these: rlibreg-switch is killed with everything that it has started, at 40 random moments, to
+#   and fro. The link then leads to the old state or to the new one, and the same switch succeeds.
 # - The node's group and mode; the service that waits, the one that starts, its kept image; the switch;
 #   growing, also after a switch was cut; and the way back to the shorter partition.
 # - A program that the initramfs starts, and a first process, from a registry on a partition.
@@ -15,8 +15,8 @@
 # - The power fails CUTS times (5) while rlibreg-switch goes to and fro: the link leads to one of the two
 #   partitions, whose registry is whole, and the next switch succeeds.
 #
-# It is for root, needs debootstrap, qemu-system-x86, fdisk, e2fsprogs and gcc, and has some 250 MB
-# from a mirror of Debian. ACCEL is qemu's -accel.
+# It needs root, debootstrap, qemu-system-x86, fdisk, e2fsprogs and gcc, and loads some 250 MB from a
+# mirror of Debian. ACCEL is qemu's -accel.
 set -eu
 built=$(cd "$1" && pwd)
 PATH=$built:$PATH

@@ -1,5 +1,5 @@
 #!/usr/bin/env python3
-"""Makes the large and hostile programs that docs/PERFORMANCE.md measures, in the folder that is named."""
+"""Makes the large and hostile programs that docs/PERFORMANCE.md measures, in the named folder."""
 import random
 import struct
 import sys

@@ -1,4 +1,4 @@
-"""The names of docs/PROMISED_CALLS.txt, looked up in the crates' sources.
+"""Checks that the crates' sources have the names of docs/PROMISED_CALLS.txt.
 
 A crate exports a name if its lib.rt has it in a `pub use`. Of a type it exports the `pub fn`s of its `impl` blocks, the
 functions of a trait, the variants of an enum, and the `pub` fields of a struct.

@@ -1,5 +1,5 @@
-"""Real programs of Debian's sources, each as a program with libraries for a registry, and as a
-static one. They are made by rlibreg-gcc; how Lua gets a module in C, docs/LINKING.md has."""
+"""Real programs of Debian's sources, each as a program with libraries for a registry, and as a static program. rlibreg-gcc
+makes them; docs/LINKING.md says how Lua gets a module in C."""
 
 import os
 import re

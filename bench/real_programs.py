@@ -1,15 +1,14 @@
 #!/usr/bin/env python3
-"""Runs real programs of Debian's sources from a registry: some that are built by hand, and projects
-that are built by their own commands.
+"""Runs real programs of Debian's sources from a registry: some that are built by hand, and projects that are built by their
+own commands.
 
     python3 bench/real_programs.py PROGRAMS FOLDER [--sources SOURCES] [--only NAME..]
 
-PROGRAMS has rlibreg, rlibreg-run, rlibreg-tool and rlibreg-gcc (c/build.sh). Each program has musl
-inside, and its own code in libraries of a registry, as docs/LINKING.md says. What it writes, what it
-ends with and the files that it leaves are compared with what the same sources do where they are
-linked statically; so is what the executable of its image does, where rlibreg-tool makes one. Root
-has all of it done once more by a user without privileges. SOURCES keeps the archives; `apt-get
-source` gets those that aren't there. What this machine hasn't is left out, with a line that says so.
+PROGRAMS has rlibreg, rlibreg-run, rlibreg-tool and rlibreg-gcc (c/build.sh). Each program has musl inside, and its own code
+in libraries of a registry, as docs/LINKING.md says. Its output, its status and the files that it leaves are compared with
+those of the same sources linked statically. The executable of its image is compared too, if rlibreg-tool makes one. If the
+script runs as root, a user without privileges does all of it once more. SOURCES keeps the archives; `apt-get source` gets
+those that aren't there. What this machine lacks is left out, with a line that says so.
 """
 
 import argparse

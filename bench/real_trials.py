@@ -1,4 +1,4 @@
-"""What is tried of real programs: their files, their starts, and what they have to do."""
+"""How real programs are tried: their files, their starts, and what they have to do."""
 
 import bz2
 import collections

@@ -1,16 +1,17 @@
 #!/usr/bin/env python3
 """Puts another file in the place of a disk while the program `rlibreg`, or `update`, `replace` or `remove` of `rlibreg-tool`,
-changes it, as somebody does who takes no lock: a change that nobody would see is never answered `ok`. Some parts want strace,
-root or loop devices, and say so where they are left out.
+changes it, as a process could that takes no lock: a change that nobody would see is never answered `ok`. Some parts need
+strace, root or loop devices, and say so if they are left out.
 
     python3 bench/replaced.py PROGRAM FOLDER [--tool RLIBREG_TOOL]
 
-In a `script`, and in an `update`, the disk is replaced, moved or removed between two lines: the next change is S1, and the one
-after it S2. Of each changing command, the program stops behind each of its syncs while that is done: the answer is S1, or that
-the disk can't be read, and the file that was put there keeps its bytes. The old file holds the registry from before the change
-or from after it. A change is `ok` if the path names the same file again, if it is that of an open file (/dev/fd/N), or if
-`format` makes the disk; `list` and `bind` take no notice. DISK is given as a path from the folder or from the root, as a link,
-and as the node of a device, in whose place another node of the same device may be put.
+In a `script`, and in an `update`, the disk is replaced, moved or removed between two lines: the next change answers S1
+(Device), and the one after it S2 (Reopen). For each changing command, the program stops after each of its syncs while that
+is done: the answer is S1, or that the disk can't be read, and the file that was put there keeps its bytes. The old file
+holds the registry from before the change or from after it. A change is `ok` if the path names the same file again, if the
+path is that of an open file (/dev/fd/N), or if `format` makes the disk; `list` and `bind` don't notice the replacement.
+DISK is given as a path from the folder or from the root, as a link, and as the node of a device, in whose place another
+node of the same device may be put.
 """
 
 import argparse

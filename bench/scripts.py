@@ -1,10 +1,10 @@
 #!/usr/bin/env python3
-"""Makes the scripts that docs/PERFORMANCE.md measures, in the folder that is named, and times them.
+"""Makes the scripts that docs/PERFORMANCE.md measures, in the named folder, and times them.
 
     python3 bench/scripts.py FOLDER            makes the scripts
     python3 bench/scripts.py FOLDER PROGRAM    gives each to the program `rlibreg`, five times, its output to /dev/null
 
-The disk is a new one each time, in the folder for temporary files (TMPDIR says which).
+The disk is a new one each time, in the folder for temporary files (which TMPDIR names).
 """
 
 import subprocess

@@ -1,10 +1,10 @@
-"""Serves a folder over HTTP for fleet.sh, and counts what it gives.
+"""Serves a folder over HTTP for fleet.sh, and counts the bytes that it sends.
 
     python3 bench/served.py FOLDER LOG
 
-It prints its port. LOG gets a line for each answer, with the path and how many bytes of a file were given.
-A path below /cut is that of the folder, but of a file of more than 8 KB half is given, and then the
-connection ends; below /bad a bit of such a file is another one.
+It prints its port. LOG gets a line for each answer, with the path and how many bytes of a file were sent. A path below
+/cut is that of the folder, but of a file of more than 8 KB only half is sent, and then the connection ends. Below /bad, one
+bit of such a file is changed.
 """
 
 import sys

@@ -1,15 +1,17 @@
-"""Runs commands of the programs `rlibreg` and `rlibreg-tool` while a read or a write of the disk moves fewer bytes than the
-program asks for; `faults.py` calls it.
+"""Runs commands of the programs `rlibreg` and `rlibreg-tool` while a read or a write of the disk transfers fewer bytes than
+the program asks for; `faults.py` calls it.
 
 There are three ways to make a call short:
 
-- strace has a call answer that it moved a part of a sector, and move nothing.
-- A limit of the file's size (RLIMIT_FSIZE) stops a write within a sector or at the end of one. The next write moves less than a
-  sector, fails, or ends the program by SIGXFSZ.
-- `short.c` has each call, or one of them, move a part of what was asked. Only a program that isn't static takes its calls.
+- strace makes a call return that it transferred a part of a sector, and transfer nothing.
+- A limit of the file's size (RLIMIT_FSIZE) stops a write within a sector or at the end of one. The next write transfers
+  less than a sector, fails, or ends the program by SIGXFSZ.
+- `short.c` makes each call, or one of them, transfer a part of what was asked for. It can do so only in a program that
+  isn't static.
 
-A run has to end, and leave the disk, as if no call were short. Or it is answered S1, or ended by the signal, and the disk holds
-what it held before the command or after it. If each call moves a sector or more, the run has to go on to its end.
+A run has to end, and leave the disk, as if no call were short. Or it is answered S1 (Device), or ended by the signal, and
+the disk holds what it held before the command or after it. If each call transfers a sector or more, the run has to go on
+to its end.
 """
 
 import collections

@@ -1,5 +1,5 @@
 #!/usr/bin/env python3
-"""Prints how large each crate of crates.txt is: `python3 bench/sizes.py`."""
+"""Prints the size of each crate of crates.txt: `python3 bench/sizes.py`."""
 
 import re
 from pathlib import Path

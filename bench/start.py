@@ -1,14 +1,15 @@
 #!/usr/bin/env python3
-"""Times how Lua starts: linked statically, as the executable of its image where rlibreg-tool makes
-one, by the system's loader where lua5.4 is installed, from a registry of its own libraries, from an image of
-it that is kept, and from registries that have 330 MB of others beside them, few or many.
+"""Times how Lua starts: linked statically; as the executable of its image, if rlibreg-tool makes one; by the system's loader,
+if lua5.4 is installed; from a registry of its own libraries; from a kept image of it; and from registries that have 330 MB
+of other libraries, few or many.
 
     python3 bench/start.py PROGRAMS FOLDER [--sources SOURCES]
 
-The words are those of real_programs.py, by which Lua is built. Each start runs an empty script. The least and the
-median of some hundred starts in turn are printed, in milliseconds, and the least of the processor behind them; once with
-nothing beside, and once beside a process that writes and syncs a file of the same file system. Images are kept in a folder
-of that file system, and in one of tmpfs. The loop device is held open, so that the system keeps all of it in memory.
+The arguments are those of real_programs.py, which builds Lua. Each start runs an empty script. The script prints the least
+and the median of some hundred starts in turn, in milliseconds, and after them the least time of the processor. It does so
+once with nothing else running, and once beside a process that writes and syncs a file of the same file system. Images are
+kept in a folder of that file system, and in one of tmpfs. The loop device is held open, so that the system keeps all of it
+in memory.
 """
 
 import contextlib

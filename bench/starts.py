@@ -1,14 +1,14 @@
 #!/usr/bin/env python3
-"""Times how a program of many libraries starts: by the system's own loader, which binds all at once, by rlibreg-run, and
-by it from an image that is kept.
+"""Times how a program of many libraries starts: by the system's own loader, which binds all at once, by rlibreg-run, and by
+rlibreg-run from a kept image.
 
     python3 bench/starts.py FOLDER [LIBRARIES [RELOCATIONS]]
 
-FOLDER has rlibreg and rlibreg-run (c/build.sh). Each of 100 libraries exports ten functions, and has the addresses of
-200 of the others' in its data; the program needs all of them, and ends at once. gcc makes them, and ld links them; both
-loaders start the same objects. The least and the median of some hundred starts in turn are printed, in milliseconds,
-and the least of the processor behind them; once with nothing beside, and once beside a process that writes and syncs a
-file of the same file system, which is that of FOLDER. Images are kept there, and in memory.
+FOLDER has rlibreg and rlibreg-run (c/build.sh). Each of 100 libraries exports ten functions, and has the addresses of 200
+functions of the others in its data; the program needs all of them, and ends at once. gcc makes them, and ld links them;
+both loaders start the same objects. The script prints the least and the median of some hundred starts in turn, in
+milliseconds, and after them the least time of the processor. It does so once with nothing else running, and once beside a
+process that writes and syncs a file of the same file system, which is that of FOLDER. Images are kept there, and in memory.
 """
 
 import os

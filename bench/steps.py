@@ -1,12 +1,12 @@
 #!/usr/bin/env python3
-"""Times a bind by steps beside a bind at once, by scripts of the program `rlibreg` over the same disk.
+"""Times a bind in steps, compared with a bind at once, by scripts of the program `rlibreg` over the same disk.
 
     python3 bench/steps.py PROGRAM FOLDER
 
-Of each registry a program is bound that needs its last library: with its image's text, and with a symbol that nobody
-defines, so that the answer is one line (B5). A row has the least user + system time and the least real time of some runs,
-in seconds, of so many binds by `bind`, and of as many by `begin` and `advance`; and the ratio of each. The runs of the two
-scripts take turns.
+In each registry the script binds a program that needs the registry's last library: once with its image's text, and once
+with a symbol that nobody defines, so that the answer is one line (B5, Undefined). A row has the least user + system time
+and the least real time of some runs, in seconds, for a number of binds by `bind`, and for as many by `begin` and `advance`;
+and the ratio of each. The runs of the two scripts take turns.
 """
 
 import hashlib

@@ -1,21 +1,25 @@
 #!/usr/bin/env python3
 """Runs the commands of the program `rlibreg` over a stand-in for a kernel (`medium.c`) in which syncs fail, processes end and
-the machine loses its power, and asks whether what was answered stays true. Wants gcc, and a PROGRAM that isn't static
+the machine loses its power, and checks that what was answered stays true. Needs gcc, and a PROGRAM that isn't static
 (`DYNAMIC=yes c/build.sh`).
 
     python3 bench/syncs.py PROGRAM FOLDER [--all] [--body NAME]
 
-Each sync of each changing command fails in turn, also two in a row, and brings none, all or a part of what was written to the
-medium; or the process ends before one of its steps. Then come a `list`, and each further change, with a failing sync or a cut at
-each of its steps too; and after each of all these a power cut, after which the medium has each dirty page, or each sector of them,
-or not. Where the medium is left with other roots than are shown, somebody has them mapped, or no read gets past memory, too.
-Demanded is: the failing command is answered S1 or status 3; the disk holds what was acknowledged, or that with
-the one command that wasn't, is never damaged, and is from an opening on what that has shown. What the states are is
-kept by this script (`registries.py`), which reads the medium by itself. The calls in between have their order: lock, sync, the
-roots compared with the medium's, the first read; all writes before the sync, and that before the reply; the lock until the last sync.
+Each sync of each changing command fails in turn, also two in a row, and brings none, all or a part of what was written to
+the medium; or the process ends before one of its steps. Then come a `list`, and each further change, also with a failing
+sync or a cut at each of its steps. After all of these comes a power cut, after which the medium has each dirty page, or
+each sector of these pages, or doesn't have it. If the medium is left with other roots than those that are shown, the script
+also tries that somebody has them mapped, or that no read gets past memory.
 
-It prints a line for each command, and ends with 1 where something is wrong. --all tries more mixtures, parts and chains of faults.
---body NAME has the body NAME of `bodies.c` make other calls than PROGRAM does: then something has to be wrong, but of `right`.
+The failing command has to be answered S1 (Device) or status 3. The disk has to hold what was acknowledged, or that with the
+one command that wasn't. It must never be damaged, and from an opening on it has to hold what that opening has shown. The
+script has its own record of the states (`registries.py`), and reads the medium by itself. The calls in between have an
+order: lock, sync, the roots compared with the medium's, the first read; all writes before the sync, and the sync before the
+reply; the lock until the last sync.
+
+It prints a line for each command, and exits with status 1 if something is wrong. --all tries more mixtures, parts and
+chains of faults. --body NAME makes the body NAME of `bodies.c` make other calls than PROGRAM does: then something has to be
+wrong, except with the body `right`.
 """
 
 import argparse

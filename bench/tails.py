@@ -3,8 +3,8 @@
 
     python3 bench/tails.py FOLDER PROGRAM ..
 
-It makes the files in the folder. Each program installs the libraries on a disk of its own and binds, the programs in turn;
-the least user + system of five binds of each is printed, in milliseconds. All images are the same.
+It makes the files in the folder. Each program installs the libraries on a disk of its own and binds, the programs in turn.
+The script prints the least user + system of five binds of each, in milliseconds. All images are the same.
 """
 
 import random

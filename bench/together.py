@@ -1,14 +1,17 @@
 #!/usr/bin/env python3
-"""Runs twelve processes at once on one disk, round after round: the program `rlibreg` alone, and beside the C library.
+"""Runs twelve processes at once on one disk, round after round: the program `rlibreg` by itself, and together with the C
+library.
 
     python3 bench/together.py PROGRAM FOLDER [--clib TOOL] [--rounds N]
 
-TOOL is the program of c/tests/tool.c, built as c/tests/run.sh builds it. What was answered `ok` has to be there at the
-end; everything else has to be answered as a disk that is held is, a change of PROGRAM after two seconds and all else at
-once; and a `list` shows a state between those before and after it. The rounds are: installs; the same, each asked again until it is done; all commands; both programs; lists
-beside one writer; a file that is put in another's place (mv); and two and twelve `format`s of one name. Before them come a
-disk that another process holds, shared or alone, and, where strace is there, a file system that can't lock and a file that
-is put in another's place between opening and locking. 10 rounds are made of each; 200 take some minutes.
+TOOL is the program of c/tests/tool.c, built as c/tests/run.sh builds it. Every change that was answered `ok` has to be there
+at the end. Everything else has to be answered as for a locked disk: a change of PROGRAM after two seconds, and all else at
+once. A `list` has to show a state between those before and after it.
+
+The rounds are: installs; the same, each repeated until it is done; all commands; both programs; lists beside one writer; a
+file that is put in another's place (mv); and two and twelve `format`s of one name. Before them come a disk that another
+process has locked, shared or exclusively, and, if strace is there, a file system that can't lock and a file that is put in
+another's place between opening and locking. The script makes 10 rounds of each; 200 take some minutes.
 """
 
 import argparse

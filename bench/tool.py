@@ -1,15 +1,14 @@
 #!/usr/bin/env python3
-"""Looks at what rlibreg-tool reads of a disk, at its memory, and at what the programs answer where
-a library is damaged or can't be read. Wants strace, and root for what can't be read.
+"""Checks what rlibreg-tool reads of a disk, its memory, and the answers of the programs if a library is damaged or can't be
+read. Needs strace, and root for sectors that can't be read.
 
     python3 bench/tool.py PROGRAMS FOLDER
 
-PROGRAMS has rlibreg, rlibreg-run and rlibreg-tool (c/build.sh). A sector that tells of the registry
-is asked for once, and so is each of a file that a form needs; of no other file is anything asked
-for. The system is asked for more, since reads go ahead: how much is printed. The memory of a dump, or
-of digests, grows by less than 1 KiB for each library, whatever its length. Beside a library with a wrong byte,
-or with sectors that can't be read (a loop device whose image has lost its end), the others are told
-as before; what each program answers is printed.
+PROGRAMS has rlibreg, rlibreg-run and rlibreg-tool (c/build.sh). Each sector that describes the registry is requested once,
+and so is each sector of a file that a form needs; nothing is requested of any other file. The system reads more than that,
+since it reads ahead: the script prints how much. The memory of a dump, or of digests, grows by less than 1 KiB for each
+library, whatever its length. If a library has a wrong byte, or sectors that can't be read (a loop device whose image has
+lost its end), the other libraries are reported as before; the script prints the answer of each program.
 """
 
 import collections

@@ -1,13 +1,14 @@
 #!/usr/bin/env python3
-"""Has changes take turns with loops that start programs and list, and tells how long they take and how many succeed.
+"""Has changes take turns with loops that start programs and list, and prints how long they take and how many succeed.
 
     python3 bench/turns.py PROGRAM FOLDER [--loops N..] [--changes N] [--wide]
 
-Beside PROGRAM lie what c/build.sh has built with it. Beside so many loops of `rlibreg-run`, and of `list`, the updater of
-docs/C.md makes one change after the other, which waits, and then `rlibreg replace`, which tries for two seconds. Wanted:
-each updater succeeds, and of 20 replacements 19; half of the updaters take no more than 100 ms, or five times what they
-take alone; every start succeeds, and a list is answered, or that the disk is held; and both go on meanwhile. With --wide the
-figures of 1, 2, 4, 8 and 16 loops and 100 changes are told; else 8 loops and 20 changes are tried.
+The folder of PROGRAM has what c/build.sh has built with it. Beside N loops of `rlibreg-run`, and of `list`, the updater of
+docs/C.md makes one change after the other, which waits, and then `rlibreg replace`, which tries for two seconds. It has to
+hold that each updater succeeds, and 19 of 20 replacements; that half of the updaters take no more than 100 ms, or five
+times what they take without the loops; that every start succeeds, and that a list is answered, or reports that the disk is
+locked; and that both kinds of loops go on meanwhile. With --wide the script prints the figures of 1, 2, 4, 8 and 16 loops
+and 100 changes; otherwise it tries 8 loops and 20 changes.
 """
 
 import argparse

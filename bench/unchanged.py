@@ -1,5 +1,5 @@
-"""Projects of Debian's sources as they are, each built by its own commands: with CC=rlibreg-gcc, and
-once more as static programs by musl-gcc. docs/LINKING.md has a table of them."""
+"""Projects of Debian's sources without changes, each built by its own commands: with CC=rlibreg-gcc, and once more as static
+programs by musl-gcc. docs/LINKING.md has a table of them."""
 
 import collections
 import shutil

@@ -1,15 +1,16 @@
 #!/bin/sh
-# Tries what GUIDE says of a `format` that is answered S1 on file systems without a journal: they are
-# mounted anew, it is asked again, and what is answered `ok` from then on stays through a power cut.
+# Tries what GUIDE says of a `format` that is answered S1 (Device) on file systems without a journal: they
+# are mounted again, the `format` is run again, and everything that is answered `ok` from then on stays
+# through a power cut.
 #
 #     bench/unjournaled.sh PROGRAM FOLDER [LIBRARY [FS..]]
 #
-# FS is vfat, exfat and ext2. Each sync of the `format` fails in turn, with all writes of the device,
-# which then heals. A cut is a copy of what the device was given. What happens without mounting anew
-# is told beside it, and not judged. Wants root, dmsetup, strace, mkfs of each FS, and a kernel with
-# loop devices, dm-flakey and FS; what is missing is left out, with a line that says so. The shell may
-# be busybox's: where the kernel has none of these it runs in a guest, with DELAY as many microseconds
-# as a slow one takes to exchange a table.
+# FS is vfat, exfat and ext2. Each sync of the `format` fails in turn, with all writes of the device, which
+# then heals. A cut is a copy of what was written to the device. The script also prints what happens
+# without mounting again, and doesn't judge it. It needs root, dmsetup, strace, mkfs of each FS, and a
+# kernel with loop devices, dm-flakey and FS; what is missing is left out, with a line that says so. The
+# shell may be busybox's. If the kernel has none of these, the script can run in a guest; DELAY is then the
+# number of microseconds that a slow guest takes to exchange a table.
 set -u
 program=$(realpath "$1")
 library=$(realpath "${3:-$(dirname "$0")/../crates/cases/data/strong.so}")

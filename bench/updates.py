@@ -1,13 +1,14 @@
 #!/usr/bin/env python3
-"""Runs random updates of `rlibreg-tool` on small disks, and compares each answer, and what the disk holds then, with what this
-script makes of the lines by itself (`registries.py`). Then updates of 20 libraries are killed at random.
+"""Runs random updates of `rlibreg-tool` on small disks, and compares each answer, and what the disk holds afterwards, with what
+this script computes from the lines by itself (`registries.py`). Then updates of 20 libraries are killed at random.
 
     python3 bench/updates.py RLIBREG_TOOL FOLDER [--updates N] [--cuts N] [--kills N] [--first NUMBER]
 
-Where strace is there, a power cut comes behind each call of so many of the updates (--cuts): the disk has each sector that was
-written since the last sync or not (all such disks where 6 are unsynced at most, else some), and has to hold what stood; from the
-root's write on perhaps what the update makes of it, and behind the last sync that alone. Behind a kill the disk has to hold the
-old 20 libraries or the new ones, and the new ones where `ok` was answered. It ends with 1 where something is wrong.
+If strace is there, a power cut comes after each call of N of the updates (--cuts): the disk has each sector that was
+written since the last sync, or doesn't have it (all such disks if at most 6 sectors are unsynced, else some). It has to
+hold the old registry; from the root's write on perhaps the updated one, and after the last sync only the updated one. After
+a kill the disk has to hold the old 20 libraries or the new ones, and the new ones if `ok` was answered. The script exits
+with status 1 if something is wrong.
 """
 
 import argparse

@@ -1,7 +1,7 @@
 #!/usr/bin/env bash
-# example.sh [FOLDER] makes a library and a program with gcc, installs the library in a new registry
-# by the updater of docs/C.md, and runs the program by rlibreg-run. It shows what it does. build.sh
-# comes first, which has put the C library into FOLDER, or into c/out.
+# example.sh [FOLDER] makes a library and a program with gcc, installs the library in a new registry by
+# the updater of docs/C.md, and runs the program by rlibreg-run. It shows what it does. Run build.sh
+# first, which puts the C library into FOLDER, or into c/out.
 set -eu
 cd "$(dirname "$0")/.."
 out=${1:-c/out}

@@ -2,7 +2,7 @@
 # manual.sh FOLDER DOCUMENTS makes the manual pages rlibreg.1, rlibreg-tool.1, rlibreg-run.1,
 # rlibreg-gcc.1, rlibreg-switch.1 and rlibreg.3 from docs/COMMANDS.md, docs/TOOL.md, docs/LINKING.md,
 # docs/DEVICES.md and docs/C.md, by pandoc, and the pages of the calls from rlibreg.h, by python3. It
-# prints what it leaves out. The pages say that the documents are in the folder DOCUMENTS.
+# prints the pages that it leaves out. The pages say that the documents are in the folder DOCUMENTS.
 set -eu
 cd "$(dirname "$0")/../docs"
 folder=$1

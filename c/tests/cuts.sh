@@ -1,4 +1,4 @@
-# Each change on small disks, cut at each step (cuts.c).
+# Cuts each change on small disks at each step (cuts.c).
 
 # cut_change CHANGE [WORD]..: of the disk `disk`, which then gets the change.
 cut_change() {

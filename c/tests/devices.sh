@@ -1,4 +1,4 @@
-# Block devices: a loop device, and a partition of it.
+# Tests on block devices: a loop device, and a partition of it.
 
 skipped() {
     echo "devices: $1: no block device is tried"

@@ -1,4 +1,4 @@
-# docs/C.md: its two programs are compiled, and its commands give what stands below them.
+# Tests docs/C.md: its two programs compile, and its commands print the lines below them.
 
 page=$here/../../docs/C.md
 mkdir c

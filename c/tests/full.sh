@@ -1,4 +1,4 @@
-# A file of holes on a full file system in memory, where a hole that is read through a map ends a
+# Tests a file with holes on a full file system in memory, where reading a hole through a map ends a
 # process: the library answers as the program does, and the file stays as it was.
 
 skipped() {

@@ -1,4 +1,4 @@
-# A file that is held.
+# Tests a file that is locked.
 
 rm -f disk
 ./tool format disk 64 > /dev/null

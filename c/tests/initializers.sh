@@ -1,5 +1,6 @@
-# What rlibreg-run calls before a program, and has it call at its end. The orders are written by
-# hand from what needs what; bench/initializers.py compares many with those of the system's loader.
+# Tests what rlibreg-run calls before a program, and what it has called at the program's end. The expected
+# orders are written by hand from what needs what; bench/initializers.py compares many with those of the
+# system's loader.
 
 programs=$here/programs
 compile='command gcc -O1 -fPIC -nostdlib -fno-stack-protector -fno-asynchronous-unwind-tables'

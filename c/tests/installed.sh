@@ -1,5 +1,5 @@
-# install.sh: into an empty folder, and away again; between the two a program that is built by
-# pkg-config alone, and what else was installed.
+# Tests install.sh, into an empty folder and away again. In between it tests a program that is built with
+# pkg-config only, and the other installed files.
 
 install=$here/../install.sh
 target=$PWD/target

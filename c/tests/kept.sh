@@ -1,6 +1,6 @@
-# Starts from images that are kept (-c): when one is taken, and when it isn't. The programs are those
-# of gcc's usual linker. ./run-kept is the loader with a clock that is ten seconds on, so that no file
-# was changed just now.
+# Tests starts from kept images (-c): when an image is used, and when it isn't. The programs are those of
+# gcc's usual linker. ./run-kept is the loader with a clock that is ten seconds ahead, so that to it no
+# file was changed just now.
 
 programs=$here/programs
 compile='gcc -O1 -fPIC -nostdlib -fno-stack-protector -fno-asynchronous-unwind-tables'

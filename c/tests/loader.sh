@@ -1,4 +1,4 @@
-# Programs and libraries of several linkers under rlibreg-run. What they print, and their statuses,
+# Tests programs and libraries of several linkers under rlibreg-run. Their expected output and statuses
 # are written by hand from their sources (programs/).
 
 programs=$here/programs

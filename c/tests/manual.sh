@@ -1,6 +1,5 @@
-# The manual pages on a terminal of 80 columns: each refusal stands there on one line with its number and
-# its name, each call has a page with its declaration and its statuses, and no page is named that isn't
-# made.
+# Tests the manual pages on a terminal of 80 columns: each refusal is on one line with its number and its
+# name, each call has a page with its declaration and its statuses, and every page that is named is made.
 
 for tool in python3 man; do
     if ! command -v $tool > /dev/null; then

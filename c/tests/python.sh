@@ -1,6 +1,6 @@
-# The Python module: its types, the stored cases that it has calls for, what these can't say, the page
-# docs/PYTHON.md, whose commands and lines of Python give what stands below them, its wheel, and what it
-# says where its library isn't there.
+# Tests the Python module: its types, the stored cases that it has calls for, what these can't say, and
+# the page docs/PYTHON.md, whose commands and lines of Python have to print the lines below them. It also
+# tests the module's wheel, and the module's message if its library isn't there.
 
 if [ -n "$musl" ] || ! command -v python3 > /dev/null; then
     echo 'skipped: the Python module, which needs python3, and a library with its C library'

@@ -1,9 +1,9 @@
 #!/usr/bin/env bash
 # run.sh FOLDER RLIBREG [OBJECTS] tries the C library that build.sh has put into FOLDER, beside the
-# program RLIBREG. The C side is compiled anew for that, with the sanitizers of addresses and of
-# undefined behaviour, which see the C code alone. A later run with the same folder OBJECTS, over what
-# another compiler has made of the proved calls, takes that C. CC is as for build.sh: with musl-gcc there
-# is no sanitizer, what is undefined ends a test, and Python and gdb are left out.
+# program RLIBREG. It compiles the C side again for that, with the sanitizers of addresses and of
+# undefined behaviour, which check only the C code. A later run with the same folder OBJECTS, with the
+# proved calls as another compiler has made them, uses that C again. CC is as for build.sh: with musl-gcc
+# there is no sanitizer, undefined behaviour ends a test, and Python and gdb are left out.
 set -eu
 here=$(cd "$(dirname "$0")" && pwd)
 built=$(cd "$1" && pwd)

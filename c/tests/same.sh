@@ -1,6 +1,6 @@
-# The program and the library, each on a disk of its own: what both print, their statuses, and every
-# byte of the two disks after each command. The test of a file in an answer is that of its text, by
-# number and name.
+# Runs the program and the library, each on a disk of its own, and compares what both print, their
+# statuses, and every byte of the two disks after each command. If an answer has a test of a file, it has
+# to be the test of its text, by number and name.
 
 count=0
 

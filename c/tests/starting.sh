@@ -1,5 +1,5 @@
-# What rlibreg-run does before a program runs: its words, files, places and permissions, and what it
-# tells of the program. The programs are those of gcc's usual linker.
+# Tests what rlibreg-run does before a program runs: its arguments, files, places and permissions, and
+# what it reports about the program. The programs are those of gcc's usual linker.
 
 programs=$here/programs
 compile='command gcc -g -O1 -fPIC -nostdlib -fno-stack-protector -fno-asynchronous-unwind-tables'

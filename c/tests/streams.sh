@@ -1,5 +1,5 @@
-# The two programs of docs/C.md, the loader and the Python module with each set of the standard
-# streams closed, and with the disk behind each: nothing is written into the disk but by a change.
+# Runs the two programs of docs/C.md, the loader and the Python module with each set of the standard
+# streams closed, and with each stream leading to the disk: only a change writes into the disk.
 
 cat > greet.c << 'EOF'
 #include "start.h"

@@ -1,6 +1,6 @@
-# rlibreg-switch over two files: refusals, two at once, signals, and cuts at each step. The script and
-# each command of it are killed before and after each command, and the power fails there in a model.
-# In the model the medium has of a disk and of the link only what was synced, or any part of the rest.
+# Tests rlibreg-switch over two files: refusals, two at once, signals, and cuts at each step. The script
+# and each of its commands are killed before and after each command, and in a model the power fails there.
+# In the model the medium has only what was synced of a disk and of the link, or also any part of the rest.
 
 mkdir switch
 cd switch

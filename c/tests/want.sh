@@ -1,4 +1,4 @@
-# What a test wants, and what it found.
+# Compares what a test found with what it wants.
 
 # want WHAT WANTED FOUND
 want() {
