@@ -14,7 +14,8 @@ WRITING = 'while :; do dd if=/dev/zero of="$0" bs=1M count=8 conv=fsync 2> /dev/
 
 @contextlib.contextmanager
 def kept_folder(place='/dev/shm'):
-    """A folder for images, in memory or elsewhere, after a while in which nothing that was made before is changed."""
+    """Makes a folder for images, in `place` or in memory. First waits until no file that was made before counts as
+    just changed."""
     with tempfile.TemporaryDirectory(dir=place) as name:
         time.sleep(2.5)
         yield Path(name)
@@ -27,7 +28,7 @@ def empty(folder):
 
 @contextlib.contextmanager
 def writer(folder):
-    """A process that writes and syncs a file of a folder all the time."""
+    """Runs a process that keeps writing and syncing a file of the folder."""
     it = subprocess.Popen([shutil.which('sh'), '-c', WRITING, str(folder / 'written')], start_new_session=True)
     try:
         yield

@@ -43,7 +43,7 @@ def done(*words, **more):
 
 
 def source(rng, is_program):
-    """Definitions and references: what is referred to stays undefined where this file has no definition."""
+    """Returns definitions and references in C. A reference is undefined if this file has no definition of the name."""
     defined = set(rng.sample(FUNCTIONS, rng.randint(0, 2 if is_program else 6)))
     data = set(rng.sample(DATA, rng.randint(0, 0 if is_program else 3)))
     said, used = [], []
@@ -69,7 +69,7 @@ def source(rng, is_program):
 
 
 def make_symbolic(path):
-    """Sets DF_SYMBOLIC behind the linker's back: its own -Bsymbolic leaves no name to be looked up."""
+    """Sets DF_SYMBOLIC in a linked object. The linker's own -Bsymbolic would leave no name to be looked up."""
     file = bytearray(path.read_bytes())
     start, = struct.unpack_from('<Q', file, 32)
     count, = struct.unpack_from('<H', file, 56)
@@ -82,7 +82,7 @@ def make_symbolic(path):
 
 
 def make(rng, folder):
-    """Makes a program and its libraries: each needs some of those made before it."""
+    """Makes a program and its libraries. Each needs some of those that were made before it."""
     names, count = [], rng.randint(1, 8)
     for n in range(count + 1):
         is_program = n == count
@@ -101,7 +101,7 @@ def make(rng, folder):
 
 
 def of_loader(folder, preloads):
-    """The load order, what each object's symbols are bound to, and which are undefined, by ld.so."""
+    """Returns the load order, what each object's symbols are bound to, and which of them are undefined, by ld.so."""
     words = {'LD_TRACE_LOADED_OBJECTS': '1', 'LD_WARN': '1', 'LD_BIND_NOW': '1', 'LD_DEBUG': 'bindings', 'LD_LIBRARY_PATH': '.'}
     words |= {'LD_PRELOAD': ' '.join(f'./{name}' for name in preloads)} if preloads else {}
     ended = run(LOADER, './program', cwd=folder, env=words)
@@ -142,7 +142,7 @@ def of_tool(text):
 
 
 def symbols_of(path):
-    """The names of an object's relocations, which of them are weak references, and what it defines."""
+    """Returns the names of an object's relocations, which of them are weak references, and what the object defines."""
     referred = set(re.findall(r'R_X86_64_(?:64|GLOB_DAT|JUMP_SLO?T?)\s+[0-9a-f]+ (\w+)', done('readelf', '-rW', path)))
     weak, values = set(), {}
     for line in done('readelf', '--dyn-syms', '-W', path).splitlines():
@@ -159,7 +159,7 @@ def needs_of(path):
 
 
 def differences(folder, names, preloads, told, status):
-    """What the tool tells otherwise than the loader does."""
+    """Yields each difference between the tool's output and the loader's."""
     order, bases, bound, undefined, unresolved, needs, missing = of_tool(told)
     loader_order, loader_bound, loader_undefined = of_loader(folder, preloads)
     file_of = {PROGRAM: folder / 'program', **{name: folder / name for name in names}}
@@ -184,7 +184,7 @@ def differences(folder, names, preloads, told, status):
 
 
 def lacking_differences(folder, installed, preloads, told, status):
-    """What it tells otherwise than a walk by levels where names are missing."""
+    """Yields each difference between the tool's output and a walk by levels, if names are missing."""
     order, found, lacks = [PROGRAM, *preloads], {PROGRAM: 'program', **{name: name for name in installed}}, []
     for name in order:
         for needed in needs_of(folder / found[name]):

@@ -55,7 +55,7 @@ def make(i, length):
 
 
 def fill(path, number, length):
-    """A disk with so many libraries, and room for one more where there may be one."""
+    """Makes a disk with `number` libraries, and with room for one more if there may be one more."""
     size = len(make(0, length))
     sectors = number * (size // 512 + 2) + number // 16 + 2 * size // 512 + 100
     program = f'{sys.argv[1]}/rlibreg'
@@ -66,7 +66,7 @@ def fill(path, number, length):
 
 
 def install_one(it, path, file):
-    """Tells how long an installation takes with its syncs, once the disk is open."""
+    """Prints how long an installation takes with its syncs, once the disk is open."""
     registry = ctypes.c_void_p(it.rlibreg_create())
     assert it.rlibreg_open(registry, path.encode(), RLIBREG_CHANGES) == 0
     start = time.perf_counter()
@@ -92,7 +92,7 @@ class Calls:
         assert status == 0, (name, status, self.tail[0].raw[:self.answer.text])
 
     def tell(self, call, *words, what=None):
-        """The least time of a call, and what it answered."""
+        """Prints the least time of a call, and its answer."""
         taken = least(lambda: self.ask(call, *words))
         told = f', {what(self.answer)}' if what else ''
         print(f'  rlibreg_{call}: {taken:.1f} ms{told}', flush=True)

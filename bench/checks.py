@@ -19,7 +19,7 @@ Ended = collections.namedtuple('Ended', 'status output errors seconds')
 
 
 class Program:
-    """The program `rlibreg` in a folder; its status is None where it had to be killed."""
+    """The program `rlibreg` in a folder. The status of a run is None if it had to be killed."""
 
     name, more = 'rlibreg', {}
 
@@ -52,16 +52,16 @@ class Program:
         return ended.output
 
     def unread(self, ended, disk):
-        """Whether it said that the disk can't be read, and nothing else."""
+        """Returns whether a run said that the disk can't be read, and nothing else."""
         return ended[:3] == (3, b'', f'rlibreg: cannot read {disk}\n'.encode())
 
     held = unread
 
 
 class CLibrary(Program):
-    """The program over the C library, c/tests/tool.c, which takes the same words."""
+    """The program over the C library, c/tests/tool.c, which takes the same arguments."""
 
-    # Where it was built with the sanitizer of addresses: leaks aren't looked for under strace.
+    # If it was built with the sanitizer of addresses: under strace, it doesn't look for leaks.
     name, more = 'C library', {'ASAN_OPTIONS': 'detect_leaks=0'}
 
     def unread(self, ended, disk):
@@ -72,7 +72,7 @@ class CLibrary(Program):
 
 
 class Checks:
-    """What was looked at, by kinds; of each kind that is wrong the first few are printed."""
+    """Counts what was checked, by kinds. Of each kind that is wrong, it prints the first few."""
 
     def __init__(self):
         self.looked, self.wrong = collections.Counter(), collections.Counter()
@@ -93,13 +93,13 @@ class Checks:
         print(f'skipped: {what}: {why}', flush=True)
 
     def tell(self):
-        """A line for each kind."""
+        """Prints a line for each kind."""
         for kind in self.looked:
             answers = ', '.join(f'{count} {answer}' for answer, count in sorted(self.answers[kind].items()))
             print(f'{kind}: {self.looked[kind]} looked at, {self.wrong[kind]} wrong' + (f' ({answers})' if answers else ''), flush=True)
 
     def end(self, name):
-        """The last line, and the exit status."""
+        """Prints the last line. Returns the exit status."""
         self.tell()
         print(f'{name}: {sum(self.looked.values())} looked at, {sum(self.wrong.values())} wrong')
         return 1 if sum(self.wrong.values()) else 0
@@ -111,8 +111,9 @@ def shortened(it):
 
 
 def soon(run, most):
-    """Runs a command that changes nothing, again if it took `most` seconds or more, since a busy machine may stop any process for
-    seconds. Returns how the last run ended, or the first that ended otherwise than the one before."""
+    """Runs a command that changes nothing, and runs it again if it took `most` seconds or more, because a busy machine
+    may stop any process for seconds. Returns how the last run ended, or the first that ended otherwise than the one
+    before."""
     ended = run()
     for _ in range(ATTEMPTS - 1):
         if ended.seconds < most:
@@ -125,7 +126,7 @@ def soon(run, most):
 
 @contextlib.contextmanager
 def held_file(path, how):
-    """The file is locked by this process, as another process would."""
+    """Locks the file in this process, as another process would."""
     number = os.open(path, os.O_RDONLY)
     try:
         fcntl.flock(number, how | fcntl.LOCK_NB)
@@ -135,14 +136,14 @@ def held_file(path, how):
 
 
 def emptied(folder):
-    """The folder, made anew."""
+    """Empties the folder, or makes it."""
     shutil.rmtree(folder, ignore_errors=True)
     folder.mkdir(parents=True)
     return folder
 
 
 def looks(path):
-    """What stands at a path, as it can be seen without opening anything but a regular file."""
+    """Returns what a path names, without opening anything other than a regular file."""
     try:
         found = os.lstat(path)
     except FileNotFoundError:
@@ -157,7 +158,7 @@ def looks(path):
 
 
 def for_others(program, folder):
-    """A copy of a program that another user may run, or None."""
+    """Returns a copy of a program that another user may run, or None."""
     copy = folder / 'for-others'
     shutil.copy(program, copy)
     copy.chmod(0o755)
@@ -166,5 +167,5 @@ def for_others(program, folder):
 
 
 def has(tool):
-    """Whether the machine has this tool."""
+    """Returns whether the machine has this tool."""
     return shutil.which(tool, path=os.environ.get('PATH', '') + ':/usr/sbin:/sbin') is not None

@@ -17,9 +17,9 @@ ITEM = re.compile(r'^( *)pub (?:const )?(?:unsafe )?(?:extern "C" )?fn (\w+)')
 TRAIT_ITEM = re.compile(r'^    fn (\w+)')
 OWNER = re.compile(r'^(?:pub )?(impl|trait)\b(?:<.*?>)? ?(?:[\w:]+(?:<.*?>)? for )?(\w+)')
 CLAUSE = re.compile(r'^ *ensures (?:(\w+) )?\{')
-# how long a clause with a label may be that stands as it is
+# The maximum length of a clause with a label that is copied as it is.
 MOST = 100
-# records of disks and of states that most clauses cite, whose parts say nothing of a call
+# Records of disks and of states that most clauses cite, whose parts say nothing of a call.
 GENERAL = {'sector_disk/Disk', 'states/State', 'store/Opened', 'store/Stands', 'registry/Opened', 'registry/Stands'}
 HEAD = """# Clauses
 
@@ -29,7 +29,7 @@ For who uses a crate, or asks what is proved of a call: each public call, which 
 
 
 def exported(crate):
-    """The names that a crate's lib.rt gives its users, and those that it exports to C."""
+    """Returns the names that a crate's lib.rt gives its users, and those that it exports to C."""
     names = set()
     for used in re.findall(r'^pub use ([^;]*);', (crate / 'src' / 'lib.rt').read_text(), re.M):
         names.update(re.findall(r'\w+', used.split('::', 1)[-1]))
@@ -39,20 +39,20 @@ def exported(crate):
 
 
 def described(comment):
-    """The first sentence of a comment."""
+    """Returns the first sentence of a comment."""
     text = ' '.join(line.strip()[4:] for line in comment)
     return re.split(r'(?<=[.:]) (?=[A-Z])', text)[0].rstrip('.')
 
 
 @cache
 def cited_by(path):
-    """What the names of a file of code or of definitions stand for, and its lines without comments."""
+    """Returns what the names in a file of code or of definitions refer to, and the file's lines without comments."""
     lines = path.read_text().splitlines()
     return definitions.uses_of(lines), lines
 
 
 def found_at(name, path):
-    """The file of definitions and the name for which a name stands in a file, or None."""
+    """Returns the file of definitions and the name that a name in `path` refers to, or None."""
     first, *rest = name.split('.')
     used = cited_by(path)[0].get(first)
     if used is None:
@@ -64,8 +64,8 @@ def found_at(name, path):
 
 
 def conjuncts(text):
-    """What stands at the end of a clause, behind its premises and of what a call gives: the first words of its parts. Of an
-    alternative there is none."""
+    """Returns the first word of each part of a clause's conclusion, which comes after its premises and binders. An
+    alternative has none."""
     text = ' '.join(text.split())
     text = re.split(r' → (?![^(]*\))|→ ', text)[-1] if '→' in text else text
     text = re.sub(r'^(?:IfOk|IfErr|IfSome) \w+ \((?:λ \w+\. )?', '', text)
@@ -77,8 +77,8 @@ def conjuncts(text):
 
 @cache
 def parts_of(name, path):
-    """The parts of the record that a name stands for in a file: each group of fields with the comment above it; none where it is
-    no record. An abbreviation stands for what it says."""
+    """Returns the parts of the record that a name refers to: each group of fields with the comment above it. Returns
+    none if the name is no record. An abbreviation is replaced by its text."""
     found = found_at(name, path)
     if found is None or f'{found[0].parts[-3]}/{found[0].stem}' in GENERAL:
         return ()
@@ -93,7 +93,7 @@ def parts_of(name, path):
 
 
 def body_of(name, lines):
-    """What an abbreviation stands for."""
+    """Returns the text of an abbreviation."""
     body = []
     for line in lines:
         if not body and line.strip().startswith(f'{name} ') and ' =' in line:
@@ -106,12 +106,13 @@ def body_of(name, lines):
 
 
 def cited_in(text, path, own=None):
-    """The parts of the records that a text cites."""
+    """Returns the parts of the records that a text cites."""
     return tuple(part for name in conjuncts(text) if name != own for part in parts_of(name, path))
 
 
 def fields_of(lines, indent, path):
-    """The fields of a record: groups of a comment and names, each with the parts of a record that it cites without a premise."""
+    """Returns the fields of a record: groups of a comment and names, each with the parts of a record that it cites
+    without a premise."""
     groups, margin = [], ' ' * (indent + 2)
     for line in lines:
         named = re.match(rf'{margin}pub (\w+) : (.*)', line)
@@ -131,14 +132,14 @@ def fields_of(lines, indent, path):
 
 
 def told(parts):
-    """Parts in square brackets."""
+    """Returns parts in square brackets."""
     listed = '; '.join(', '.join(names) + (f': {comment}' if comment else '') for comment, names in parts)
     return f' [{listed}]' if listed else ''
 
 
 def clause_at(number, lines, path):
-    """The clause at a line as the page has it: its label, itself where that is short or isn't there, and the parts of the record
-    that it cites."""
+    """Returns the clause at a line as the page has it: its label; the clause itself if it is short or has no label;
+    and the parts of the record that it cites."""
     label = CLAUSE.match(lines[number]).group(1)
     clause = ' '.join(next(definitions.clause_texts(' '.join(lines[number:]), label or 'result')).split())
     shown = [f'*{label}*'] if label else []
@@ -148,7 +149,7 @@ def clause_at(number, lines, path):
 
 
 def groups_of(lines, path):
-    """The clauses of a call: for each group between empty lines its comment and they themselves."""
+    """Returns the clauses of a call: for each group between empty lines, its comment and the clauses."""
     groups, comment, clauses = [], [], []
     for number, line in enumerate([*lines, '']):
         if CLAUSE.match(line):
@@ -165,7 +166,7 @@ def groups_of(lines, path):
 
 
 def end_of_header(lines, number):
-    """The line behind a function's clauses: its body begins there, or it has none."""
+    """Returns the line after a function's clauses: its body begins there, or it has none."""
     depth = 0
     for k in range(number, len(lines)):
         line = lines[k].split('//')[0].rstrip()
@@ -178,7 +179,7 @@ def end_of_header(lines, number):
 
 
 def calls_in(path, names):
-    """The public calls of a file, with the file, what is said of them, and their clauses."""
+    """Returns the public calls of a file, with the file, their descriptions, and their clauses."""
     owner, comment, found = None, [], []
     lines = path.read_text().splitlines()
     for number, line in enumerate(lines):
@@ -198,13 +199,13 @@ def calls_in(path, names):
 
 
 def row_of(name, path, said, groups):
-    """The row of a call."""
+    """Returns the row of a call."""
     parts = [(f'{comment}: ' if comment else '') + '; '.join(clauses) for comment, clauses in groups]
     return f'| [`{name}`](../{path.relative_to(ROOT)}) | {said} | {"<br>".join(parts)} |'.replace('  ', ' ')
 
 
 def page(crates):
-    """The page of all crates: their names with their titles."""
+    """Returns the page of all crates: their names with their titles."""
     lines = [HEAD.rstrip('\n'), '']
     for crate, title in crates:
         folder = ROOT / 'crates' / crate

@@ -20,7 +20,7 @@ RUNS = 5
 
 
 def run(program, file):
-    """One run: the real time, the processor's time, and a digest of the text."""
+    """Runs a program once. Returns the real time, the processor's time, and a digest of the text."""
     words = ['image'] if Path(program).name.startswith('rlibreg') else []
     with tempfile.NamedTemporaryFile() as text:
         before, start = resource.getrusage(resource.RUSAGE_CHILDREN), time.perf_counter()

@@ -11,12 +11,12 @@ SOURCES = f'deb-src [signed-by={KEYS}] http://deb.debian.org/debian bookworm mai
 
 
 class NotHad(Exception):
-    """Why a source, or what is made of it, can't be had."""
+    """Says why a source, or something made of it, isn't available."""
 
 
 def own_apt(folder):
-    """The environment of an apt-get with its state below a folder: it needs neither root nor lines
-    `deb-src` of the system's, and changes nothing there."""
+    """Returns the environment of an apt-get that has its state below a folder. It needs neither root nor `deb-src`
+    lines of the system's, and changes nothing there."""
     place = folder / 'apt'
     (place / 'lists').mkdir(parents=True, exist_ok=True)
     (place / 'sources.list').write_text(SOURCES)
@@ -29,7 +29,7 @@ def own_apt(folder):
 
 
 def get(folder, package):
-    """Has apt-get leave a package's source in a folder. It tests Debian's signature."""
+    """Lets apt-get put a package's source into a folder. apt-get checks Debian's signature."""
     if not shutil.which('apt-get'):
         raise NotHad('there is no apt-get')
     environment = own_apt(folder)
@@ -41,19 +41,19 @@ def get(folder, package):
 
 
 def archives(folder, package):
-    """The upstream archives of a package that a folder has."""
+    """Returns the upstream archives of a package that a folder has."""
     return [it for it in folder.glob(f'{package}_*.orig.tar.*') if it.suffix != '.asc']
 
 
 def unpacked(folder, package, place):
-    """Unpacks the upstream source of a package, which apt-get gets where it isn't in the folder.
-    Gives the folder in which it is, and its version."""
+    """Unpacks the upstream source of a package, which apt-get loads if the folder doesn't have it. Returns the folder
+    in which the source is, and its version."""
     if not archives(folder, package):
         get(folder, package)
     (path,) = archives(folder, package)
     with tarfile.open(path) as it:
         it.extractall(place / 'whole')
     found = [*(place / 'whole').iterdir()]
-    # Most archives have one folder, in which all is.
+    # Most archives have one folder, which has everything.
     source = found[0] if len(found) == 1 else place / 'whole'
     return source, path.name.split('_')[1].split('.orig')[0]

@@ -44,7 +44,7 @@ CLAUSES = [
     ('rlibreg_c/upgrade', 'rlibreg_plan_upgrade', 'plan answered left'),
     ('rlibreg_c/update', 'rlibreg_plan_update', 'plan answered left'),
 ]
-# the calls of the headline, among them
+# The calls of the headline, among them.
 HEADLINE = [('registry/format', 'format'), ('registry/open', 'open'), ('registry/apply', 'apply'), ('registry/apply', 'run')]
 READING = [
     ('1. Files', 'What the bytes of a file say, and when they are refused (gABI chapters 4 and 5).', [
@@ -110,7 +110,8 @@ PLAIN = {
     'binders/Events: happening_of': 'what an event asks',
     'binders/EventsRan: exchanges': 'what events and their replies are to the state',
     'binders/Stepped: SteppedIn': 'the flights after a step: one step further, over with the answer of the bind, or where it was',
-    # What the comment leaves to its context, or what is longer than a row: in one plain sentence, here and in the table.
+    # One plain sentence in place of a comment that needs its context, or that is longer than a row, here and in the
+    # table.
     'elf_file/Address: bytes_at': 'so many bytes at an address, where one PT_LOAD of the file has them',
     'elf_dynamic/Strings: soname': "the library's own name, DT_SONAME, where it has one",
     'elf_dynamic/Strings: needed': 'the names of the libraries that an object needs, DT_NEEDED, in their order',
@@ -218,7 +219,7 @@ WORD = re.compile(r"[A-Za-z_][\w']*(?:\.[A-Za-z_][\w']*)*")
 
 
 def section_of(text):
-    """The section of the standard that a comment names, or None."""
+    """Returns the section of the standard that a comment names, or None."""
     for part in STANDARD.findall(text):
         if re.search(r'gABI|elf\(5\)|psABI|ld\.so|^own$', part):
             return part
@@ -226,7 +227,7 @@ def section_of(text):
 
 
 def sentence(text):
-    """A comment without the section that it names."""
+    """Returns a comment without the section that it names."""
     for part in STANDARD.findall(text):
         if re.search(r'gABI|psABI|ld\.so|^own$', part) or part == 'elf(5)':
             text = text.replace(f' ({part})', '')
@@ -234,7 +235,8 @@ def sentence(text):
 
 
 def definitions_of(path):
-    """The section of a file, and its definitions: name, value, what is said of it, and a section of its own if any."""
+    """Returns the section of a file, and its definitions: name, value, description, and a section of its own if it has
+    one."""
     lines = path.read_text().splitlines()
     head, k = [], 0
     while k < len(lines) and lines[k].startswith('--'):
@@ -263,12 +265,12 @@ def definitions_of(path):
 
 
 def key_of(path):
-    """A file of definitions as crate/File."""
+    """Returns the name of a file of definitions as crate/File."""
     return f'{path.relative_to(ROOT).parts[1]}/{path.stem}'
 
 
 def read_all():
-    """The definitions of each file, by crate/File, crate by crate in the order of CRATES."""
+    """Returns the definitions of each file, by crate/File, crate by crate in the order of CRATES."""
     files, named = {}, [crate for crate, _ in CRATES]
     lacking = {path.parts[-2] for path in (ROOT / 'crates').glob('*/specs')} - set(named)
     gone = {crate for crate in named if not (ROOT / 'crates' / crate).is_dir()}
@@ -284,7 +286,7 @@ def read_all():
 
 
 def uses_of(lines):
-    """What the names are that a text imports: (crate/File, name), with None for all names of a file."""
+    """Returns what the names that a text imports refer to: (crate/File, name), with None for all names of a file."""
     uses = {}
     for line in lines:
         used = USE.match(line)
@@ -298,7 +300,7 @@ def uses_of(lines):
 
 
 def names_in(text, uses, own, file):
-    """The definitions that a text names."""
+    """Returns the definitions that a text names."""
     found = []
     for word in WORD.findall(text):
         first, *rest = word.split('.')
@@ -312,7 +314,7 @@ def names_in(text, uses, own, file):
 
 
 def citations(files):
-    """What each definition names, and what each file passes on from others."""
+    """Returns what each definition names, and what each file passes on from others."""
     names, passed = {}, {}
     for crate, _ in CRATES:
         for path in sorted((ROOT / 'crates' / crate / 'specs').glob('*.antt')):
@@ -331,7 +333,8 @@ def citations(files):
 
 
 def clause_texts(text, label):
-    """The clauses and laws of a label in a text, or its clauses without one: all that is between the braces behind the label."""
+    """Yields the clauses and laws of a label in a text, or its clauses without a label: everything between the braces
+    after the label."""
     for begin in re.finditer(r'ensures {' if label == 'result' else rf'(?:ensures {label}|ghost {label}:) {{', text):
         depth, end = 1, begin.end()
         while depth:
@@ -341,7 +344,7 @@ def clause_texts(text, label):
 
 
 def cited(files, clauses=CLAUSES):
-    """The definitions that the clauses cite, directly or through others."""
+    """Returns the definitions that the clauses cite, directly or through others."""
     names, passed = citations(files)
     waiting = []
     for file, calls, labels in clauses:
@@ -367,18 +370,18 @@ def cited(files, clauses=CLAUSES):
 
 
 def table(*rows):
-    """Rows of cells, the first of them the heading."""
+    """Returns the lines of a table with these rows of cells; the first row is the heading."""
     lines = ['| ' + ' | '.join(row) + ' |' for row in rows]
     return [lines[0], '|' + '---|' * len(rows[0]), *lines[1:]]
 
 
 def listed_in(parts):
-    """The definitions that READING or PLAIN names."""
+    """Returns the definitions that READING or PLAIN names."""
     return [(part.split(': ')[0], name) for part in parts for name in part.split(': ')[1].split()]
 
 
 def reading(files):
-    """The first part."""
+    """Returns the lines of the first part."""
     lines = []
     for title, intro, parts in READING:
         rows = [('Definition', 'Says', 'Crate/file')]
@@ -390,7 +393,7 @@ def reading(files):
 
 
 def rows_of(file, common, found):
-    """The rows of a file. Constants that share a comment share rows."""
+    """Returns the rows of a file. Constants that share a comment share rows."""
     rows = []
     for name, value, text, section in found:
         listed = f'`{name}`' + (f' = {value}' if value else '')
@@ -404,7 +407,7 @@ def rows_of(file, common, found):
 
 
 def crate_rows(files, crate, wanted):
-    """The rows of a crate that are wanted."""
+    """Returns the rows of a crate that are in `wanted`."""
     rows = []
     for file, (common, found) in files.items():
         if file.split('/')[0] == crate:
@@ -413,7 +416,7 @@ def crate_rows(files, crate, wanted):
 
 
 def page(files, first, needed):
-    """The page of all definitions but the main ones, crate by crate."""
+    """Returns the page of all definitions except the main ones, crate by crate."""
     lines = [HEAD]
     for crate, title in CRATES:
         groups = [lambda one: one in needed and one not in first, lambda one: one not in needed]
@@ -426,7 +429,7 @@ def page(files, first, needed):
 
 
 def lines_of(files, wanted):
-    """How many lines these definitions have, without comments, imports and empty ones."""
+    """Returns how many lines these definitions have, without comments, imports and empty lines."""
     count = 0
     for path in sorted((ROOT / 'crates').glob('*/specs/*.antt')):
         file, name = key_of(path), None
@@ -439,12 +442,12 @@ def lines_of(files, wanted):
 
 
 def every_of(files):
-    """All definitions, as (crate/File, name)."""
+    """Returns all definitions, as (crate/File, name)."""
     return [(file, found[0]) for file, (_, all_found) in files.items() for found in all_found]
 
 
 def all_of_them():
-    """The definitions of each file; the main ones; and those that the clauses cite."""
+    """Returns the definitions of each file; the main ones; and those that the clauses cite."""
     files = read_all()
     every, needed = set(every_of(files)), cited(files)
     first = listed_in(part for _, _, parts in READING for part in parts)
@@ -458,7 +461,7 @@ def all_of_them():
 
 
 def numbers(files, first, needed):
-    """How many there are."""
+    """Returns the sentence with the numbers of definitions."""
     every = every_of(files)
     format_count = sum(file.startswith(('elf_file/', 'elf_dynamic/')) for file, _ in needed)
     headline = cited(files, [clause for clause in CLAUSES if clause[:2] in HEADLINE])

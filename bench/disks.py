@@ -21,7 +21,7 @@ SECTORS = '400000'
 
 
 def library(i, size, needed=()):
-    """A library of so many bytes, about, that exports one symbol."""
+    """Returns a library of about `size` bytes that exports one symbol."""
     return Made(name(i), needed=needed, exports=[symbol(i)], data=size - 1024)
 
 
@@ -49,7 +49,7 @@ class Bench:
         return self.run([self.program, *words], given, status)
 
     def least(self, words, start=None, given=b''):
-        """The least times of some runs, each from a copy of a disk as it was."""
+        """Returns the least times of some runs, each from a copy of a disk as it was."""
         rows = []
         for _ in range(RUNS):
             if start:
@@ -59,7 +59,7 @@ class Bench:
         return [min(row[k] for row in rows) for k in (0, 1)]
 
     def told(self, what, words, start, size, given=b''):
-        """A row: the program beside a copy of as many bytes that is synced."""
+        """Prints a row: the program, compared with a copy of as many bytes that is synced."""
         words = [self.program, *words]
         real, used = self.least(words, start, given)
         (self.folder / 'bytes').write_bytes(bytes(range(256)) * (size // 256))

@@ -21,26 +21,26 @@ import promised
 
 ROOT = Path(__file__).resolve().parent.parent
 PROOFS, DEFINITIONS, CLAUSES = (ROOT / 'docs' / f'{name}.md' for name in ('PROOFS', 'DEFINITIONS', 'CLAUSES'))
-# names of the standards, of the system and of the toolchain, which the tree doesn't spell
+# Names of the standards, of the system and of the toolchain, which no file of the tree contains.
 ELSEWHERE = {'sqlite_std_file', 'elf_x86_64', 'thread_local', 'lW', '__cxa_atexit', 'luaL_openlibs'}
 QUOTED = re.compile(r'`([^`\n]+)`')
 NAME = re.compile(r'[A-Za-z_][\w]*(?:::[A-Za-z_]\w*)*')
 PATH = re.compile(r'^[\w.{},*-]+(?:/[\w.{},*-]+)+/?$')
 BRACES = re.compile(r'\{([^{}]*)\}')
 OF_THE_ROOT, IN_A_CRATE = ('crates', 'docs', 'bench', 'c', 'python', '.ci'), ('src', 'specs', 'proofs', 'data', 'must-fail')
-# what a build makes, and a path that stands for many
+# The folder that a build makes, and a path that stands for many.
 MADE, ANY_FILE = 'out', 'proofs/FILE'
 
 
 def replaced(text, mark, lines):
-    """A page with these lines between its marks."""
+    """Returns a page with these lines between its marks."""
     begin, end = f'<!-- {mark} -->', f'<!-- end of {mark} -->'
     before, rest = text.split(begin)
     return f'{before}{begin}\n\n' + '\n'.join(lines) + f'\n{end}' + rest.split(end)[1]
 
 
 def pages():
-    """What the generated pages have to be."""
+    """Returns the generated pages as they have to be."""
     files, first, needed = definitions.all_of_them()
     text = replaced(PROOFS.read_text(), 'numbers', [definitions.numbers(files, first, needed), ''])
     return {
@@ -50,13 +50,13 @@ def pages():
 
 
 def written():
-    """The documents that are written by hand."""
+    """Returns the documents that are written by hand."""
     found = [ROOT / 'README.md', *sorted(ROOT.glob('docs/*.md')), *sorted(ROOT.glob('crates/*/README.md'))]
     return [path.relative_to(ROOT).as_posix() for path in found if path not in (CLAUSES, DEFINITIONS)]
 
 
 def words_of_the_tree():
-    """Every word of the code."""
+    """Returns every word of the code."""
     words = set()
     for path in ROOT.rglob('*'):
         parts = path.relative_to(ROOT).parts
@@ -68,7 +68,7 @@ def words_of_the_tree():
 
 
 def expanded(path):
-    """The paths that braces stand for."""
+    """Returns the paths that a path with braces stands for."""
     found = BRACES.search(path)
     if not found:
         return [path]
@@ -76,19 +76,19 @@ def expanded(path):
 
 
 def is_there(path, crate):
-    """Whether a path of the repository is there, as a page of a crate names it, or one of no crate."""
+    """Returns whether the repository has a path that the page of a crate, or of no crate, names."""
     if path.split('/')[0] in OF_THE_ROOT:
         return any(ROOT.glob(path))
     return any(ROOT.glob(f'crates/{crate or "*"}/{path}'))
 
 
 def is_in_code(name):
-    """Whether a name looks like one of the code's."""
+    """Returns whether a name looks like a name of the code."""
     return '_' in name.strip('_') or '::' in name or re.search(r'[a-z][A-Z]', name)
 
 
 def unknown_names(text, words, crate):
-    """The names between backquotes that the tree hasn't, of a page of a crate, or of none."""
+    """Yields the names between backquotes, in a page of a crate or of no crate, that the tree doesn't have."""
     text = re.sub(r'^    .*$', '', text, flags=re.M)
     for quoted in QUOTED.findall(text):
         if PATH.match(quoted) and quoted.split('/')[0] in OF_THE_ROOT + IN_A_CRATE:
@@ -101,7 +101,7 @@ def unknown_names(text, words, crate):
 
 
 def unlisted():
-    """The files of this folder that its list doesn't name once."""
+    """Returns the files of this folder that its list doesn't name exactly once."""
     named = QUOTED.findall((ROOT / 'bench' / 'README.md').read_text())
     return sorted(path.name for path in (ROOT / 'bench').iterdir()
                   if path.is_file() and path.name != 'README.md' and named.count(path.name) != 1)

@@ -63,7 +63,7 @@ def linked(flags):
 
 
 def make_library(folder, choose, name, flags):
-    """A library, and what its function gives when it is first called."""
+    """Makes a library. Returns the value that its function returns when it is first called."""
     size, more = choose.randint(1, 5000), choose.randint(1, 20000)
     value, other = choose.randint(1, 100), choose.randint(1, 20)
     source = folder / f'{name}.c'
@@ -82,14 +82,14 @@ def make_program(folder, name, needs, flags):
 
 
 def loads(file):
-    """Of each PT_LOAD of a file p_flags, p_offset, p_vaddr, p_filesz and p_memsz."""
+    """Returns p_flags, p_offset, p_vaddr, p_filesz and p_memsz of each PT_LOAD of a file."""
     at, count = struct.unpack_from('<Q', file, 32)[0], struct.unpack_from('<H', file, 56)[0]
     headers = (struct.unpack_from('<IIQQQQQQ', file, at + 56 * i) for i in range(count))
     return [(flags, offset, address, size, memory) for kind, flags, offset, address, _, size, memory, _ in headers if kind == 1]
 
 
 def pages(file, base=0):
-    """What each page of a file's segments permits, by p_flags."""
+    """Returns what each page of a file's segments permits, as p_flags."""
     permitted = {}
     for flags, _, address, _, size in loads(file):
         if size:
@@ -99,7 +99,8 @@ def pages(file, base=0):
 
 
 def are_one(first, second):
-    """Whether one PT_LOAD would do for two: they permit the same, not writing and executing, and no whole page lies between."""
+    """Returns whether one PT_LOAD would be enough for two: they permit the same, not both writing and executing, and
+    no whole page lies between them."""
     (flags, _, address, size, _), (other, _, begin, _, _) = first, second
     return flags == other and flags & 3 != 3 and begin // PAGE * PAGE < address + size + PAGE
 
@@ -109,7 +110,7 @@ def is_both(file):
 
 
 class Executables:
-    """Executables in a folder: of each the status that is wanted, and how many program headers it has."""
+    """Executables in a folder, each with its expected status and its number of program headers."""
 
     def __init__(self, words):
         self.words, self.folder = words, words.folder.resolve()
@@ -123,7 +124,7 @@ class Executables:
         done(self.words.rlibreg, 'install', self.disk, self.folder / f'lib{name}.so')
 
     def wanted(self, name, needs):
-        """What is said of the first object of which a page may be written and executed."""
+        """Returns the message about the first object that has a page which may be both written and executed."""
         if is_both(self.folder / f'{name}.bound'):
             return 'rlibreg-tool: refused WritableCode /program\n'
         both = [need for need in needs if is_both(self.folder / f'lib{need}.so')]
@@ -198,7 +199,7 @@ class Executables:
         self.compare('here', os.uname().release, ended)
 
     def guest(self, kernel, accel):
-        """A guest whose first process starts each of them."""
+        """Starts a guest whose first process starts each of them."""
         root = self.folder / 'root'
         for part in ('bin', 'proc'):
             (root / part).mkdir(parents=True, exist_ok=True)

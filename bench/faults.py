@@ -28,19 +28,19 @@ from short import try_short_calls
 from streams import Streams, ToolStreams, try_streams
 
 SECTORS = '64'
-# Where a call fails before the program's own code runs, the loader of the C library says so and exits with 127.
+# If a call fails before the program's own code runs, the loader of the C library says so and exits with 127.
 LOADER = 127
 CALLS = ('openat,read,pread64,readv,write,pwrite64,writev,lseek,fsync,fdatasync,fstat,stat,lstat,newfstatat,statx,close,ftruncate,'
          'flock,fadvise64,link,linkat,unlink,unlinkat,rename,renameat,renameat2,readlink,readlinkat,getdents64,fremovexattr')
 GROWING = {'openat', 'write', 'pwrite64', 'writev', 'ftruncate', 'fsync', 'fdatasync', 'link', 'linkat', 'rename', 'renameat', 'renameat2'}
 UNLINKS = {'unlink', 'unlinkat'}
-# A quota that is used up is tried at the calls alone that take room.
+# A quota that is used up is tried only at the calls that take space.
 FAULTS = {'error=EIO': None, 'error=ENOSPC': None, 'error=EINTR': None, 'error=EDQUOT': GROWING, 'signal=KILL': None}
 TWO_SYNCS = 'two syncs'
 
 
 def made_files(folder):
-    """Two libraries, the second also with other bytes, a program that needs the first, and one that needs none."""
+    """Makes two libraries, the second also with other bytes, a program that needs the first, and one that needs none."""
     files = {
         'a.so': Made(b'a', exports=[b'fa'], data=600),
         'b.so': Made(b'b', exports=[b'fb'], data=900),
@@ -72,7 +72,7 @@ class Bench:
         return text
 
     def seen(self):
-        """What the disk holds, as its user sees it; of version 1, also what an upgrade makes of it."""
+        """Returns what the disk holds, as its user sees it; for version 1, also what an upgrade makes of it."""
         listed = self.run(['list', 'disk'])
         if listed[1] == b'refused S12 OldFormat\n':
             self.done('upgrade', 'disk')
@@ -80,13 +80,13 @@ class Bench:
         return listed, self.run(['bind', 'disk', 'program', '0x100000'])
 
     def calls(self, words):
-        """How often each system call is made, in the order of the first of each."""
+        """Returns how often each system call is made, in the order in which each is first made."""
         log = self.folder / 'calls'
         self.run(words, ['strace', '-qq', '-o', str(log), '-e', f'trace={CALLS}'])
         return collections.Counter(line.split('(')[0] for line in log.read_text().splitlines() if '(' in line)
 
     def trial(self, words, start):
-        """Each fault at each call in turn, from a disk as it was (none where there was none)."""
+        """Tries each fault at each call in turn, from a disk as it was (or from none if there was none)."""
         self.put(start)
         before = self.seen()
         self.put(start)
@@ -100,7 +100,7 @@ class Bench:
         self.tell(words, TWO_SYNCS, [self.faulted(words, start, states, *it) for it in two_syncs(calls)])
 
     def faulted(self, words, start, states, call, fault):
-        """One run with a fault, and how it ended."""
+        """Makes one run with a fault. Returns how it ended."""
         self.put(start)
         status, text = self.run(words, ['strace', '-qq', '-o', '/dev/null', '-e', f'inject={fault}'])
         left = self.other.exists() and call not in UNLINKS and 'KILL' not in fault
@@ -125,7 +125,7 @@ class Bench:
 
 
 def two_syncs(calls):
-    """Every two of the syncs, as faults."""
+    """Yields every two of the syncs, as faults."""
     for call in ('fsync', 'fdatasync'):
         for first in range(1, calls[call]):
             for second in range(first + 1, calls[call] + 1):

@@ -31,7 +31,7 @@ def run(*words, **more):
 
 
 class Graph:
-    """What the objects of a graph need, and how they are linked: object 0 is the program."""
+    """What the objects of a graph need, and how they are linked. Object 0 is the program."""
 
     def __init__(self, choose):
         self.count = choose.choice((2, 3, 4, 5, 6, 8, 12, MOST))
@@ -46,7 +46,7 @@ class Graph:
         self.preloads = choose.sample(libraries, choose.choice((0, 0, 0, 1, min(3, self.count))))
 
     def is_cyclic(self):
-        """Whether a library needs itself, through others or at once."""
+        """Returns whether a library needs itself, through others or directly."""
         return any(at in self.reached(at) for at in range(1, self.count + 1))
 
     def reached(self, start):
@@ -60,7 +60,7 @@ class Graph:
 
 
 class Bench:
-    """Objects that are compiled once, and a folder in which each graph is linked anew."""
+    """Objects that are compiled once, and a folder in which each graph is linked from them."""
 
     def __init__(self, built, folder):
         self.built, self.folder = Path(built).resolve(), Path(folder)

@@ -65,7 +65,7 @@ def make(folder):
 
 
 def killed_at_times(words, choose, rate):
-    """Runs a command, and maybe kills it. Gives what it ended with and wrote, or None where it was killed."""
+    """Runs a command, and kills it in some of the runs. Returns its status and output, or None if it was killed."""
     it = subprocess.Popen(words, stdout=subprocess.PIPE, stderr=subprocess.PIPE)
     if choose.random() < rate:
         time.sleep(choose.random() ** 2 / 20)
@@ -82,7 +82,7 @@ def change(words, library, folder, versions, choose, until):
         (folder / 'new.so').write_bytes(library.replace(b'000000', b'%06d' % version))
         ended = killed_at_times([*words, 'replace', versions.disk, 'new.so'], choose, 0.1)
         if ended is None:
-            continue # it may have been made
+            continue # the change may have been made
         assert ended[0] == 0 and ended[1] == b'ok\n', ended
         versions.acknowledge(version)
         if choose.random() < 0.2:

@@ -133,7 +133,7 @@ class Disk:
         return f'{path.name} replaced'
 
     def program_changed(self):
-        """Changes a program in its place, and sets its time of writing back."""
+        """Changes a program in place, and sets its modification time back."""
         path = self.program()
         if not path.exists():
             return self.program_replaced()
@@ -178,7 +178,7 @@ class Disk:
         return self.choose.choice(images) if images else None
 
     def image_byte(self):
-        """Changes a byte of an image's first page, which has a check."""
+        """Changes a byte of an image's first page, which has a checksum."""
         path = self.an_image()
         if not path or path.is_symlink():
             return 'no image'
@@ -237,7 +237,7 @@ class Disk:
         self.changes.append(getattr(self, name)())
 
     def started(self):
-        """Returns a folder of images, a program and options: mostly some that were tried lately."""
+        """Returns a folder of images, a program and options: mostly those of a recent start."""
         if self.recent and self.choose.random() < 0.75:
             return self.choose.choice(self.recent)
         name = self.choose.choice(list(PROGRAMS))
@@ -410,7 +410,7 @@ def main():
         made = trial.run(given.changes)
     for disk in trial.disks:
         for name in ('kept', 'kept-2'):
-            (disk.folder / name).chmod(0o700) # else the user may not remove what is in it
+            (disk.folder / name).chmod(0o700) # otherwise the user may not remove what is in it
     for kind in {it.kind: None for it in trial.disks}:
         print(f'{kind}: {trial.starts.taken[kind]} images taken, of {2 * trial.checks.looked[kind] // 3} starts that tell')
     print(f'{made} changes')

@@ -77,7 +77,7 @@ class Damage:
         self.checks.want(f'{name}: other bytes', True)
 
     def changed(self, kind, wanted, kept, path, image, program, at, mask):
-        """Starts a program from an image with a changed byte. Returns whether the image was taken."""
+        """Starts a program from an image with a changed byte. Returns whether the image was used."""
         path.unlink(missing_ok=True)
         path.write_bytes(image[:at] + bytes([image[at] ^ mask]) + image[at + 1:])
         path.chmod(0o600)
@@ -86,8 +86,9 @@ class Damage:
     # Pages that can't be read.
 
     def unreadable(self, kind, kept, places_of, spoil):
-        """Makes each page of an image unreadable, one after the other, each of a new image. `places_of` returns where on the medium a
-        page of a file lies, and `spoil` makes these places unreadable. The first start can't keep another image."""
+        """Makes each page of an image unreadable, one after the other, each in a new image. `places_of` returns where
+        on the medium a page of a file lies, and `spoil` makes these places unreadable. The first start can't keep
+        another image."""
         at, end = 0, 1
         while at < end:
             emptied_kept(kept)
@@ -179,13 +180,13 @@ class Damage:
 
 
 def identity(path):
-    """What tells a file from another one of its name."""
+    """Returns what distinguishes a file from another file of the same name."""
     found = path.stat() if path.exists() else None
     return found and (found.st_ino, found.st_ctime_ns)
 
 
 def place_by_extents(path, at):
-    """The place of a page of a file, as the file system tells it (FS_IOC_FIEMAP)."""
+    """Returns the place of a page of a file on the medium, as the file system reports it (FS_IOC_FIEMAP)."""
     os.sync()
     request = bytearray(struct.pack('QQIIII', PAGE * at, PAGE, 0, 0, 1, 0) + bytes(56))
     with open(path, 'rb') as file:
@@ -196,7 +197,7 @@ def place_by_extents(path, at):
 
 
 def places_by_bytes(path, at, medium):
-    """The places on a medium that have the bytes of a page of a file."""
+    """Returns the places on a medium that have the bytes of a page of a file."""
     os.sync()
     content = path.read_bytes()[PAGE * at:PAGE * (at + 1)]
     whole, places, at = medium.read_bytes() if any(content) else b'', [], 0
@@ -207,7 +208,8 @@ def places_by_bytes(path, at, medium):
 
 
 def mapped_pages(maps, path):
-    """The numbers of an image's pages that a program has in its memory. A map from the file's beginning is the loader's own."""
+    """Returns the numbers of an image's pages that a program has in its memory. A map from the file's beginning is the
+    loader's own."""
     pages = set()
     for line in maps.decode().splitlines():
         fields = line.split()

@@ -29,8 +29,8 @@ from media import SECTOR, NotHere, loop, mounted, system, zeros
 
 ONE, OTHER = [('a', 0), ('b', 0), ('c', 0), ('p', 0)], [('a', LAST), ('b', 0), ('c', 0), ('p', 0)]
 KEPT, PROGRAM = 'kept', './numbers'
-SETTLED = 2.1 # seconds, after which the state of a file tells that it is changed
-UNSEEN = 'file_systems', # parts that are tried only if they are named: no state of a file tells of such a change
+SETTLED = 2.1 # seconds after which the state of a file shows that the file has changed
+UNSEEN = 'file_systems', # parts that are tried only if they are named: no state of a file shows such a change
 
 
 class Devices:
@@ -82,14 +82,15 @@ class Devices:
                 self.registries.make(device, ONE)
 
     def partitions(self):
-        """The device number of a partition is given to another place."""
+        """Gives the device number of a partition to another place."""
         with loop(self.image(bytes(64 * SECTOR) + self.one + self.other)) as device, part(device, 64, SECTORS) as path:
             for start in (64 + SECTORS, 64):
                 with self.changed('a partition whose number has another place', path):
                     move(device, start, SECTORS)
 
     def written(self):
-        """Another registry is written onto a partition, and onto a device. Several folders keep images, of which one is emptied."""
+        """Writes another registry onto a partition, and onto a device. Several folders keep images, one of which is
+        emptied."""
         kept = (KEPT, 'kept-2', 'kept-3')
         with loop(self.image(bytes(64 * SECTOR) + self.one)) as device, part(device, 64, SECTORS) as path:
             with self.changed('an image that dd writes onto a partition', path, kept=kept):
@@ -105,8 +106,8 @@ class Devices:
                 self.dd(self.other, device)
 
     def each_part(self):
-        """Registries of equal roots differ in one part of a library: in read-only bytes, where a relocated pointer leads, code, data
-        beside that pointer, or bytes that no start maps."""
+        """Compares registries of equal roots that differ in one part of a library: in read-only bytes, in the target
+        of a relocated pointer, in code, in data beside that pointer, or in bytes that no start maps."""
         with loop(self.image(self.one)) as device:
             for name in ('a', 'b'):
                 for version in range(1, len(VERSIONS)):
@@ -120,7 +121,7 @@ class Devices:
                     write(device, self.one)
 
     def huge(self):
-        """A library differs only after its first 2 MiB."""
+        """Changes a library only after its first 2 MiB."""
         versions = self.registries.libraries['huge']
         assert all(it[:2 << 20] == versions[0][:2 << 20] for it in versions)
         one, other = (self.registries.image([('huge', it), ('b', 0)], sectors=16384) for it in (0, LAST))
@@ -128,7 +129,7 @@ class Devices:
             write(device, other)
 
     def many(self):
-        """A registry has two catalogues, and a library in several extents."""
+        """Uses a registry with two catalogues, and with a library in several extents."""
         path, sectors = self.image(b''), 2850
         path.unlink()
         self.registries.done('format', path, sectors)
@@ -157,13 +158,13 @@ class Devices:
         system('dd', f'if={self.folder / "written"}', f'of={device}', 'bs=64k', 'conv=notrunc,fsync')
 
     def backing(self):
-        """The file under a loop device is written, and the system forgets what it kept of the device."""
+        """Writes the file under a loop device, and drops the device from the page cache."""
         with loop(self.image(self.one)) as device, self.changed('a loop device whose file has other bytes', device):
             write(self.folder / 'image', self.other)
             forget(device)
 
     def tables(self):
-        """A device of device mapper is given another table. Its number, length and sequence stay."""
+        """Gives a device of device mapper another table. Its number, length and sequence stay."""
         with contextlib.ExitStack() as stack:
             devices = [stack.enter_context(loop(self.image(it, f'image-{k}'))) for k, it in enumerate((self.one, self.other))]
             device = stack.enter_context(mapped([linear(SECTORS, devices[0])]))
@@ -175,7 +176,7 @@ class Devices:
                 load(device, [linear(half, devices[1]), linear(half, devices[0], half)])
 
     def memory(self):
-        """A disk and a program on tmpfs are written through a map whose pages are dirty already, so their times stay."""
+        """Writes a disk and a program on tmpfs through a map whose pages are dirty already, so that their times stay."""
         place = self.folder / 'memory'
         kind = 'a file on tmpfs that is written through a map'
         with mounted('tmpfs', place, '-t', 'tmpfs'):
@@ -199,7 +200,7 @@ class Devices:
                     shared[:] = versions[1]
 
     def file_systems(self):
-        """Another ext4 is mounted from the same device. The file on it has the same numbers and times, and other bytes."""
+        """Mounts another ext4 from the same device. The file on it has the same numbers and times, and other bytes."""
         images = self.folder / 'first', self.folder / 'second'
         images[0].write_bytes(bytes(16 << 20))
         system('mkfs.ext4', '-q', '-F', '-b', '4096', images[0])
@@ -225,8 +226,9 @@ class Devices:
     # Writes that the medium refused.
 
     def refused(self):
-        """A `replace` over a loop device without direct I/O returns S1: the device's file lies on ext4, on a device over tmpfs, which
-        has no room for the roots. Then the system forgets the new bytes that it shows, and another `replace` succeeds."""
+        """Checks that a `replace` over a loop device without direct I/O returns S1 (Device): the device's file lies on
+        ext4, on a device over tmpfs, which has no room for the roots. Then the new bytes in the page cache are
+        dropped, and another `replace` succeeds."""
         kind = 'a replace after one that was answered S1'
         with contextlib.ExitStack() as stack:
             place = stack.enter_context(mounted('tmpfs', self.folder / 'memory', '-t', 'tmpfs', '-o', 'size=33m'))
@@ -238,7 +240,7 @@ class Devices:
             (upper / 'disk').write_bytes(self.one)
             os.sync()
             device = stack.enter_context(loop(upper / 'disk', '--direct-io=off'))
-            stack.enter_context(open(device, 'rb')) # else the system forgets what it shows
+            stack.enter_context(open(device, 'rb')) # otherwise the system drops the bytes that it shows
             self.refuse_one(device, below, place)
             emptied_kept(self.folder / KEPT)
             shown = self.starts.start(device, PROGRAM)
@@ -252,7 +254,7 @@ class Devices:
             self.starts.compared(kind, KEPT, device, PROGRAM)
 
     def refuse_one(self, device, below, place):
-        """Lets a `replace` fail when it writes the roots. The medium then has the old ones."""
+        """Makes a `replace` fail when it writes the roots. The medium then has the old ones."""
         with open(below, 'r+b') as file, mmap.mmap(file.fileno(), 0) as medium:
             at = medium.find(self.one[:mmap.PAGESIZE])
             assert at >= 0 and at % mmap.PAGESIZE == 0 and medium.find(self.one[:mmap.PAGESIZE], at + 1) < 0
@@ -274,7 +276,8 @@ class Devices:
     # What can't be read, and what is shorter.
 
     def cut_below(self):
-        """The file under a loop device with direct I/O becomes shorter. The device keeps its length, and its end can't be read."""
+        """Makes the file under a loop device with direct I/O shorter. The device keeps its length, and its end can't
+        be read."""
         kind = 'a device whose end can\'t be read'
         path = self.image(self.one)
         used = max(k for k in range(SECTORS) if any(self.one[SECTOR * k:SECTOR * (k + 1)])) + 1
@@ -289,7 +292,7 @@ class Devices:
                 forget(device)
 
     def unreadable(self):
-        """Each block that the registry uses can't be read, one after the other."""
+        """Makes each block that the registry uses unreadable, one after the other."""
         kind = 'a device of which a sector can\'t be read'
         used = [k for k in range(SECTORS) if any(self.one[SECTOR * k:SECTOR * (k + 1)])]
         with loop(self.image(self.one)) as below, mapped([linear(SECTORS, below)]) as device:
@@ -302,7 +305,7 @@ class Devices:
                 forget(device)
 
     def shorter(self):
-        """A device becomes shorter, and then has its length again."""
+        """Makes a device shorter, and then restores its length."""
         path = self.image(self.one)
         with loop(path) as device:
             with self.changed('a device that is shorter', device):
@@ -321,7 +324,7 @@ class Devices:
     # Catalogues, entries and preloads.
 
     def lists(self):
-        """The sectors of all libraries stay, and those of catalogues, entries or roots change."""
+        """Changes the sectors of catalogues, entries or roots; those of all libraries stay."""
         with loop(self.image(self.one)) as device:
             place, old_at, old = self.entry_of(device, b'liba.so')
             self.registries.done('replace', device, self.registries.file('a', LAST))
@@ -368,7 +371,7 @@ class Devices:
         return at, sector[:22] + struct.pack('<HH', 1, len(ONE) - 1) + sector[26:]
 
     def preloads(self):
-        """The registry of other preloads is written onto a device."""
+        """Writes the registry with other preloads onto a device."""
         for versions in ((['p'], []), ([], ['p']), (['p'], ['c'])):
             first, second = (self.registries.image(ONE, it) for it in versions)
             with loop(self.image(first)) as device, self.changed('other preloads', device):

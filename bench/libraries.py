@@ -31,8 +31,8 @@ def elf_hash(name):
 
 
 def hash_table(names, buckets):
-    """A hash table that has the symbols of these names, from number 1 on, in so many buckets; without buckets one that
-    has none of them."""
+    """Returns a hash table that has the symbols of these names, from number 1 on, in `buckets` buckets. Without
+    buckets, it has none of the symbols."""
     heads, chains = [0] * (buckets or 1), [0] * (len(names) + 1)
     for i, name in enumerate(names, 1) if buckets else ():
         at = elf_hash(name) % buckets
@@ -45,8 +45,8 @@ def padded(part):
 
 
 class Made:
-    """An object of one writable segment: its tables, `data` bytes, and `behind` bytes of memory behind the file, into which
-    its relocations write. An export has its value in the memory behind the file too."""
+    """An object of one writable segment. It has its tables, `data` bytes, and `behind` bytes of memory after the
+    file's bytes, into which its relocations write. The value of an export lies in that memory too."""
 
     def __init__(self, soname=None, needed=(), exports=(), undefined=(), relocations=(), data=0, behind=0, tags=(), binding=GLOBAL, buckets=None):
         strings, places = b'\0', []
@@ -86,42 +86,43 @@ def symbol(i):
 
 
 def chain():
-    """100 libraries, each of which needs the next; the program needs the first."""
+    """Returns 100 libraries, each of which needs the next; the program needs the first."""
     return Made(needed=[name(0)], behind=8), [Made(name(i), [name(i + 1)] if i < 99 else [], behind=8) for i in range(100)]
 
 
 def mesh():
-    """100 libraries, each of which needs all."""
+    """Returns 100 libraries, each of which needs all."""
     everyone = [name(i) for i in range(100)]
     return Made(needed=[name(0)], behind=8), [Made(name(i), everyone, behind=8) for i in range(100)]
 
 
 def exports():
-    """A library with 100,000 exports, and a program with 600,000 relocations that name 50,000 of them."""
+    """Returns a library with 100,000 exports, and a program with 600,000 relocations that name 50,000 of them."""
     library = Made(name(0), exports=[symbol(i) for i in range(100_000)], behind=800_000)
     relocations = [(1 if i % 3 else 6, 8 * i, 1 + i * 7919 % 50_000, i) for i in range(600_000)]
     return Made(needed=[name(0)], undefined=[symbol(2 * i) for i in range(50_000)], relocations=relocations, behind=4_800_000), [library]
 
 
 def of_itself(tags):
-    """A library with 50,000 exports and 600,000 relocations that name them, and a program that needs it."""
+    """Returns a library with 50,000 exports and 600,000 relocations that name them, and a program that needs it."""
     relocations = [(1 if i % 3 else 6, 8 * i, 1 + i * 7919 % 50_000, i) for i in range(600_000)]
     library = Made(name(0), exports=[symbol(i) for i in range(50_000)], relocations=relocations, behind=4_800_000, tags=tags)
     return Made(needed=[name(0)], behind=8), [library]
 
 
 def own_names():
-    """A library that isn't symbolic: FLAGS is 8."""
+    """Returns a library that isn't symbolic: FLAGS is 8."""
     return of_itself([(30, 8)])
 
 
 def symbolic():
-    """The same that is symbolic: FLAGS is 2."""
+    """Returns the same library as a symbolic one: FLAGS is 2."""
     return of_itself([(30, 2)])
 
 
 def one_symbol():
-    """A program of 16 MiB, nearly all of it relocations of one symbol, which the last of 100 libraries exports."""
+    """Returns a program of 16 MiB, nearly all of which is relocations of one symbol, which the last of 100 libraries
+    exports."""
     libraries = [Made(name(i), exports=[b'other'], behind=8) for i in range(99)] + [Made(name(99), exports=[b'wanted'], behind=8)]
     count = (16_777_216 - 8_000) // 24
     relocations = [(1, 8 * i, 1, i) for i in range(count)]
@@ -129,13 +130,14 @@ def one_symbol():
 
 
 def megabytes():
-    """100 libraries of 1 MiB each."""
+    """Returns 100 libraries of 1 MiB each."""
     libraries = [Made(name(i), exports=[symbol(i)], data=1_048_576 - 512, behind=8) for i in range(100)]
     return Made(needed=[name(i) for i in range(100)], undefined=[symbol(99)], relocations=[(1, 0, 1, 0)], behind=8), libraries
 
 
 def many_lookups():
-    """99 libraries with 2,000 exports each of other names, and a program that names 5,000 exports of the last one."""
+    """Returns 99 libraries with 2,000 exports each of other names, and a program that names 5,000 exports of the last
+    one."""
     libraries = [Made(name(i), exports=[b'n%02d%s' % (i, symbol(k)) for k in range(2_000)], behind=16_000) for i in range(99)]
     last = Made(name(99), exports=[symbol(i) for i in range(5_000)], behind=40_000)
     relocations = [(1, 8 * i, 1 + i % 5_000, 0) for i in range(50_000)]
@@ -148,8 +150,8 @@ def function(library, i):
 
 
 def graph(count):
-    """So many libraries with 2,000 exports each, which name 1,000 exports of three others and 500 of their own; a program that
-    names 2,000 exports of all of them."""
+    """Returns `count` libraries with 2,000 exports each, which name 1,000 exports of three others and 500 of their
+    own; and a program that names 2,000 exports of all of them."""
     libraries = []
     for k in range(count):
         pick = random.Random(k)
@@ -164,22 +166,22 @@ def graph(count):
 
 
 def graph_25():
-    """25 libraries."""
+    """Returns the graph of 25 libraries."""
     return graph(25)
 
 
 def graph_50():
-    """50 libraries."""
+    """Returns the graph of 50 libraries."""
     return graph(50)
 
 
 def graph_100():
-    """100 libraries."""
+    """Returns the graph of 100 libraries."""
     return graph(100)
 
 
 def absent():
-    """25,000 weak names that none of 100 libraries with 1,000 exports each has."""
+    """Returns 25,000 weak names that none of 100 libraries with 1,000 exports each has."""
     libraries = [Made(name(k), exports=[function(k, i) for i in range(1_000)], behind=8_000, buckets=501) for k in range(100)]
     relocations = [(1, 8 * i, 1 + i, 0) for i in range(25_000)]
     wanted = [b'no_' + function(0, i) for i in range(25_000)]
@@ -207,7 +209,7 @@ def make(folder):
 
 
 def least(words, place):
-    """The least real time and the least of user + system of some runs."""
+    """Returns the least real time and the least of user + system of some runs."""
     rows = []
     for _ in range(RUNS):
         before, start = resource.getrusage(resource.RUSAGE_CHILDREN), time.perf_counter()
@@ -219,7 +221,7 @@ def least(words, place):
 
 
 def peak(words, place):
-    """The most memory of a run, in MiB."""
+    """Returns the maximum memory of a run, in MiB."""
     said = subprocess.run(['/usr/bin/time', '-f', '%M', *words], cwd=place, check=True, capture_output=True, text=True).stderr
     return int(said.split()[-1]) / 1024
 

@@ -14,7 +14,7 @@ from libraries import Made
 from registries import SECTOR
 
 SECTORS, ROOTS, PAGE, PAGES, CUT_STATUS = 64, 1024, 4096, 1024, 86
-# A run of more seconds ends the script.
+# A run that takes more seconds ends the script.
 LONGEST = 60
 DISK, NEW = 'disk', 'new'
 FILES = {DISK: 'disk', NEW: '.disk.rlibreg-new'}
@@ -27,25 +27,25 @@ PROGRAM = Made(needed=[b'a'], undefined=[b'fa'], relocations=[(1, 0, 1, 0)], beh
 STEPS = ('sync', 'write', 'truncate', 'link', 'unlink', 'rename')
 SOURCES = Path(__file__).resolve().parent
 
-# The bytes of the file and the names that lead to it; of the medium its bytes and its names; the dirty pages; and whether the
+# The bytes of the file and the names that lead to it; the medium's bytes and names; the dirty pages; and whether the
 # medium gets no more names.
 Held = collections.namedtuple('Held', 'content names medium named dirty lost', defaults=[False])
 Ended = collections.namedtuple('Ended', 'status output held log')
 
 
 def clean(content, names=frozenset([DISK])):
-    """A machine that has just started, over a medium with these bytes, or with no file."""
+    """Returns a machine that has just started, over a medium with these bytes, or with no file."""
     names = frozenset() if content is None else names
     return Held(content, names, content or b'', names, frozenset())
 
 
 def is_shown_otherwise(held):
-    """Whether the medium has other roots than the file shows, and nothing is going to bring them there."""
+    """Returns whether the medium has other roots than the file shows, and nothing is going to write them there."""
     return bool(held.names) and 0 not in held.dirty and held.content[:ROOTS] != held.medium[:ROOTS]
 
 
 def steps_of(log):
-    """How many steps a run had, as the stand-in counts them."""
+    """Returns how many steps a run had, as the stand-in counts them."""
     return sum(line[0] in STEPS or line[0] == 'open' and line[3] == 'made' for line in log)
 
 
@@ -58,8 +58,8 @@ def has_failed(log):
 
 
 class Machine:
-    """Runs commands, each a tuple: its word and its others, of a script its lines as such tuples. A word that is text is a
-    file's name, one of bytes is taken as it is. The same run is made once."""
+    """Runs commands. Each is a tuple of its name and its arguments; a script has its lines as such tuples. An argument
+    that is text is a file's name, and an argument of bytes is passed as it is. The same run is made only once."""
 
     def __init__(self, program, folder, body):
         self.program, self.folder, self.kept = str(program), folder, folder / 'kept'
@@ -94,7 +94,7 @@ class Machine:
         (self.kept / 'state').write_bytes(bytes([*(name in held.named for name in (DISK, NEW)), held.lost]) + dirty)
 
     def once(self, content):
-        """Equal bytes are kept once."""
+        """Returns the content. Equal bytes are kept only once."""
         return self.contents.setdefault(content, content)
 
     def held(self):
@@ -114,7 +114,7 @@ class Machine:
         return b' '.join([words[0].encode(), *others]) + b'\n'
 
     def run(self, held, command, **how):
-        """A command on a machine; `how` has variables of the stand-in."""
+        """Runs a command on a machine. `how` has variables of the stand-in."""
         key = held, command, tuple(sorted(how.items()))
         if key not in self.known:
             self.put(held)
@@ -122,7 +122,7 @@ class Machine:
         return self.known[key]
 
     def run_here(self, command, how):
-        """A command on what is there."""
+        """Runs a command on what is there."""
         self.runs += 1
         (self.kept / 'log').write_bytes(b'')
         (self.folder / 'lines').write_bytes(b''.join(map(self.line, command[1:])) if command[0] == 'script' else b'')
@@ -138,7 +138,8 @@ class Machine:
 
 
 def some_of(places, trials, chance):
-    """Sets of the sectors that have come to the medium: none, all, those of the page of the roots, all others, and mixtures."""
+    """Yields sets of the sectors that have reached the medium: none, all, those of the page of the roots, all others,
+    and mixtures."""
     yield from (set(), set(places), {at for at in places if at < PAGE}, {at for at in places if at >= PAGE})
     if len(places) <= 4:
         yield from (set(some) for count in range(1, len(places)) for some in itertools.combinations(places, count))
@@ -150,7 +151,8 @@ def some_of(places, trials, chance):
 
 
 def mixtures(held, trials):
-    """The bytes that may be found after a cut: the medium's, with all, some or none of the sectors of dirty pages."""
+    """Yields the bytes that may be found after a cut: the medium's, with all, some or none of the sectors of dirty
+    pages."""
     old = held.medium.ljust(len(held.content), b'\0')
     places = [at for at in range(0, len(old), SECTOR) if at // PAGE in held.dirty and old[at:at + SECTOR] != held.content[at:at + SECTOR]]
     for new in set(map(frozenset, some_of(places, trials, random.Random(zlib.crc32(held.content))))):
@@ -161,7 +163,8 @@ def mixtures(held, trials):
 
 
 def found(held, trials):
-    """The machines that may be found after a cut: each name, and the length, is as the medium has it or as it was last."""
+    """Yields the machines that may be found after a cut: each name, and the length, is as the medium has it or as it
+    was last."""
     sure, perhaps = held.names & held.named, sorted(held.names ^ held.named)
     for count in range(len(perhaps) + 1):
         for some in itertools.combinations(perhaps, count):

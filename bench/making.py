@@ -37,10 +37,10 @@ FAULTS = ('EIO', 'ENOSPC', 'EDQUOT', 'EINTR')
 FULL = {'a full file system': 'size=8k', 'a file system without a free number': 'size=1m,nr_inodes=2', 'a read-only file system': 'size=1m'}
 NO_LINKS = ('EPERM', 'EOPNOTSUPP', 'ENOSYS', 'EMLINK')
 LINKS = ('link', 'linkat')
-# Calls of memory and of the process itself: that these fail says nothing of files.
+# Calls of memory and of the process itself: if they fail, that says nothing of files.
 NO_FILES = set('brk mmap munmap mprotect madvise mremap arch_prctl set_tid_address set_robust_list rseq prlimit64 rt_sigaction '
                'rt_sigprocmask sigaltstack getrandom futex getpid gettid uname personality sched_getaffinity clock_gettime'.split())
-# Where a call fails before the program's own code runs, the loader of the C library says so.
+# If a call fails before the program's own code runs, the loader of the C library says so.
 LOADER = 127
 
 Call = collections.namedtuple('Call', 'name number text')
@@ -73,7 +73,7 @@ class Making:
         return sorted(path.name for path in self.place.iterdir())
 
     def found(self):
-        """The disk's bytes, or None."""
+        """Returns the disk's bytes, or None."""
         return self.disk.read_bytes() if self.disk.exists() else None
 
     def listed(self, name='disk'):
@@ -85,7 +85,7 @@ class Making:
     # Faults.
 
     def calls(self, faults=()):
-        """The system calls of a making, in their order."""
+        """Returns the system calls of a making, in their order."""
         self.clear()
         log = self.folder / 'calls'
         self.by.run(FORMAT, wrapped=['strace', '-qq', '-y', '-o', str(log), *injected(faults)])
@@ -105,7 +105,7 @@ class Making:
         return ended
 
     def judge(self, call, fault, ended):
-        """What a fault or a kill leaves, and what is answered then."""
+        """Judges what a fault or a kill leaves, and what is answered then."""
         kind = 'killed' if fault == 'signal=KILL' else f'faults, {fault}'
         told, found = (call.text[:100], ended), self.found()
         self.want(kind, found in (None, self.whole), 'left half:', *told)
@@ -119,7 +119,8 @@ class Making:
         self.again(kind, told)
 
     def is_fault_answer(self, ended, found):
-        """`ok`, or status 3 with S1 or a message; where the making is over, as where standard output fails."""
+        """Returns whether an answer fits a fault: `ok`, if the making is over, as when standard output fails; or
+        status 3 with S1 (Device) or a message."""
         if ended.output == b'ok\n' or ended.status == LOADER:
             return True
         if isinstance(self.by, CLibrary):
@@ -127,7 +128,7 @@ class Making:
         return ended.status == 3 and ended.output in ((S1, b'') if found else (S1, b'')) and (not found or not ended.errors)
 
     def again(self, kind, told):
-        """Asked again, at most twice, it succeeds or says that it is there."""
+        """Runs `format` again, at most twice: it succeeds or says that the disk exists."""
         for _ in range(2):
             ended = self.by.run(FORMAT)
             if ended.status == 0 or ended.output == S4:
@@ -139,7 +140,7 @@ class Making:
         self.want(kind, left, 'left beside it:', self.names(), *told)
 
     def study(self, more=()):
-        """Each call of a making is killed, and fails."""
+        """Kills the program at each call of a making, and makes each call fail."""
         calls = self.calls(more)
         self.want('a making', self.found() == self.whole and self.names() == ['disk'], self.names())
         if more:
@@ -158,7 +159,7 @@ class Making:
         return bool(synced) and synced[1] == str(self.place)
 
     def order(self, calls, kind):
-        """What was written is synced before it has the name, and the folder after that."""
+        """Checks that the file is synced before it has its name, and the folder after that."""
         def last(is_it, before=len(calls)):
             return max((at for at, call in enumerate(calls[:before]) if is_it(call)), default=-1)
         named = last(lambda it: it.name in LINKS or it.name.startswith('rename'))
@@ -170,10 +171,10 @@ class Making:
         told = f'written {wrote}, synced {synced}, named {named}, other name taken away {taken}, folder synced {folder}, asked {asked}'
         self.want(kind, 0 <= wrote < synced < named < folder < asked and taken < folder, told)
 
-    # What stands under the other name.
+    # Things under the other name.
 
     def leftovers(self):
-        """What a dead process may have left is taken away."""
+        """Checks that the leftovers of a dead process are removed."""
         for what, content in (('empty', b''), ('short', b'RLIBREG2'), ('zeros', bytes(len(self.whole))), ('long', bytes(2 * len(self.whole)))):
             self.clear()
             self.other.write_bytes(content)
@@ -192,7 +193,7 @@ class Making:
         self.want(kind, self.found() == self.whole and self.names() == list(names), self.names())
 
     def odd_leftovers(self):
-        """What isn't a regular file stays as it is, with what it leads to."""
+        """Checks that a leftover that isn't a regular file stays as it is, with what it leads to."""
         links = [('a link to a file', lambda path: make_link(path, self.folder / 'linked'))]
         for kind, make in [*odd_things(self.folder), *links]:
             self.clear()
@@ -217,7 +218,8 @@ class Making:
             self.made_over('a leftover whose lock has gone')
 
     def killed_between(self, calls):
-        """Killed before the other name is taken away; the registry is moved, and made anew: the first one stays whole."""
+        """Kills the program before the other name is removed. The registry is moved, and made again: the first one
+        stays whole."""
         kind = 'killed between link and unlink, then moved'
         links = [at for at, call in enumerate(calls) if call.name in LINKS]
         unlinks = [call for call in calls[links[0]:] if call.name.startswith('unlink')] if links else []
@@ -241,7 +243,7 @@ class Making:
     # Names, folders and file systems.
 
     def long_names(self):
-        """The other name, for names up to the longest."""
+        """Tries the other name, for names up to the longest."""
         for length in (1, 241, 242, 243, 254, 255):
             kind, long = 'long names', 'n' * length
             expected = f'.{long}.rlibreg-new' if length <= 242 else '.rlibreg-new'
@@ -257,7 +259,7 @@ class Making:
         self.want(kind, self.by.unread(ended, 'n' * 256) and not self.names(), ended)
 
     def paths(self):
-        """DISK in other folders, and paths that lead to none."""
+        """Tries a DISK in other folders, and paths that lead to none."""
         good = {'./disk': 'disk', 'sub/disk': 'sub/disk', 'sub/../disk': 'disk', str(self.disk): 'disk', 'link/disk': 'sub/disk'}
         for path, there in good.items():
             self.clear()
@@ -274,7 +276,7 @@ class Making:
             self.want('paths', self.by.unread(ended, path) and self.names() == ['file', 'sub'], path, ended, self.names())
 
     def no_links(self):
-        """Where links aren't supported the name is given by a rename."""
+        """Checks that the name is given by a rename if links aren't supported."""
         for error in NO_LINKS:
             kind = f'no hard links: {error}'
             self.clear()
@@ -289,7 +291,7 @@ class Making:
         self.study(without_links('EPERM'))
 
     def limits(self):
-        """A file that may not grow: the signal that comes with it kills."""
+        """Tries a file that may not grow: the signal that comes with it kills."""
         if not has('prlimit'):
             return self.checks.skip('a limit of file sizes', 'there is no prlimit')
         self.clear()
@@ -298,7 +300,7 @@ class Making:
         self.made_over('after a limit of file sizes')
 
     def other_users(self):
-        """Folders and leftovers that another user may not write."""
+        """Tries folders and leftovers that another user may not write."""
         if os.getuid():
             return self.checks.skip('another user', 'wants root')
         path, self.by.path = self.by.path, for_others(self.by.path, self.folder)
@@ -324,7 +326,7 @@ class Making:
         self.clear()
 
     def full(self):
-        """File systems that are full, or may not be written."""
+        """Tries file systems that are full, or that may not be written."""
         for kind, options in FULL.items():
             self.clear()
             if not self.mount('-t', 'tmpfs', '-o', options, 'tmpfs'):
@@ -343,7 +345,7 @@ class Making:
         return not os.getuid() and not subprocess.run(['mount', *words, str(self.place)], capture_output=True).returncode
 
     def fill(self):
-        """A file that takes what there is, up to 64 KiB."""
+        """Makes a file that takes the free space, up to 64 KiB."""
         with open(self.place / 'filler', 'wb', buffering=0) as file:
             try:
                 for _ in range(16):
@@ -352,7 +354,7 @@ class Making:
                 pass
 
     def vfat(self):
-        """A file system without hard links."""
+        """Tries a file system without hard links."""
         self.clear()
         image = self.folder / 'image'
         with open(image, 'wb') as file:
@@ -383,7 +385,7 @@ class Making:
     # A DISK that is no file.
 
     def odd_disks(self):
-        """Answered at once, never opened by the program, and nothing is made."""
+        """Checks that these are answered at once and never opened by the program, and that nothing is made."""
         (self.folder / 'program').write_bytes(Made().file)
         for kind, make in [*odd_things(self.folder), *linked_things(self.folder), ('a folder', lambda path: path.mkdir())]:
             for words in self.commands():
@@ -425,7 +427,7 @@ class Making:
 
 
 def make_socket(path):
-    """A socket, by a short path, since those of sockets are short."""
+    """Makes a socket, by a short path, because the paths of sockets are short."""
     here = os.open('.', os.O_RDONLY)
     try:
         os.chdir(path.parent)
@@ -448,7 +450,7 @@ def make_link(path, target):
 
 
 def odd_things(folder):
-    """What is neither a regular file nor a block device, and how it is made."""
+    """Returns things that are neither a regular file nor a block device, and how each is made."""
     things = [('a folder with a file', make_folder), ('a fifo', os.mkfifo), ('a socket', make_socket),
               ('a symbolic link to nothing', lambda path: path.symlink_to('nothing')),
               ('a symbolic link to itself', lambda path: path.symlink_to(path.name))]
@@ -458,7 +460,7 @@ def odd_things(folder):
 
 
 def linked_things(folder):
-    """Symbolic links to such things."""
+    """Returns symbolic links to such things."""
     def linked(make):
         def both(path):
             make(path.with_name('target'))

@@ -23,7 +23,8 @@ FEW, SMALL = 500, 1024
 
 
 def fill(bench, folder, count, kept):
-    """Registries of so many libraries in a chain; `kept` says after how many a copy is kept, and under which name."""
+    """Makes registries of `count` libraries in a chain. `kept` says after how many libraries a copy is kept, and under
+    which name."""
     bench.done('format', 'disk', SECTORS)
     done = 0
     for last in sorted(kept):
@@ -35,7 +36,7 @@ def fill(bench, folder, count, kept):
 
 
 def installs(bench, tool, folder):
-    """Small libraries, installed by a script, and by an update of the same lines."""
+    """Times small libraries, installed by a script, and by an update of the same lines."""
     lines = b''.join(b'install ' + library(i, SMALL).file.hex().encode() + b'\n' for i in range(FEW))
     bench.done('format', 'disk', SECTORS)
     shutil.copyfile(folder / 'disk', folder / 'empty')
