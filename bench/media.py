@@ -40,7 +40,7 @@ SOURCES = {
 }
 OBJECT = ['gcc', '-O1', '-fPIC', '-nostdlib', '-Wl,--hash-style=sysv']
 STARTED = 42
-# How often eight lists are started at once.
+# The number of times that eight lists are started at once.
 LISTS = 50
 MEDIA = {
     'squashfs': ['mksquashfs', 'content', 'image', '-noappend', '-quiet'],
@@ -48,16 +48,16 @@ MEDIA = {
     'iso9660': ['genisoimage', '-quiet', '-R', '-o', 'image', 'content'],
     'ext4': ['mkfs.ext4', '-q', '-F', '-d', 'content', 'image', '16M'],
 }
-# File systems on which a disk is a file, with the options of their mounts: btrfs without its checksums.
+# File systems on which a disk is a file, with their mount options: btrfs without its checksums.
 FILE_SYSTEMS = {'ext4': ('loop', 'mkfs.ext4', '-q', '-F'), 'xfs': ('loop', 'mkfs.xfs', '-q', '-f'), 'btrfs': ('loop,nodatasum', 'mkfs.btrfs', '-q', '-f')}
 
 
 class NotHere(Exception):
-    """What a part wants isn't on this machine."""
+    """This machine lacks what a part needs."""
 
 
 def system(*words, **how):
-    """A tool of the system; that it fails is why a part is left out."""
+    """Runs a tool of the system. If the tool fails, that is the reason to leave a part out."""
     if not has(words[0]):
         raise NotHere(f'there is no {words[0]}')
     path = os.environ.get('PATH', '') + ':/usr/sbin:/sbin'
@@ -69,7 +69,7 @@ def system(*words, **how):
 
 @contextlib.contextmanager
 def loop(image, *options):
-    """A loop device over an image."""
+    """Makes a loop device over an image."""
     path = system('losetup', '-f', '--show', *options, image)
     try:
         yield Path(path)
@@ -88,7 +88,7 @@ def mounted(what, place, *options):
 
 
 def zeros(path, sectors):
-    """A file of so many sectors, of which none takes room."""
+    """Makes a file of `sectors` sectors that takes no space."""
     path.unlink(missing_ok=True)
     with open(path, 'wb') as file:
         file.truncate(SECTOR * sectors)
@@ -96,7 +96,7 @@ def zeros(path, sectors):
 
 
 def partition(device, number, start, sectors):
-    """Makes a partition: by a table where the system reads it, else by asking for it."""
+    """Makes a partition: by a table if the system reads the table, otherwise by asking for it."""
     path = Path(f'{device}p{number}')
     system('addpart', device, number, start, sectors)
     for _ in range(100):
@@ -107,7 +107,8 @@ def partition(device, number, start, sectors):
 
 
 def are_in_order(calls, changes):
-    """Whether a sync comes before all else, and of a change one directly before each write of a root, and one after it."""
+    """Returns whether a sync comes before everything else, and in a change one directly before each write of a root,
+    and one after it."""
     made = [call for call in calls if call != 'read']
     roots = [at for at, call in enumerate(made) if call == 'root']
     return calls[:1] == ['sync'] and bool(roots) == changes and made[-1:] == ['sync'] and all(made[at - 1] == 'sync' for at in roots)
@@ -132,7 +133,7 @@ class Media:
             self.by.done('install', str(disk), library)
 
     def reads(self, disk):
-        """What only reads, with what it is given."""
+        """Returns the commands that only read, with their input."""
         words = [(['list', disk], b''), (['bind', disk, 'program', '0x100000'], b'')]
         return words if self.is_library() else [*words, (['script', disk], b'list\n\n')]
 
@@ -151,7 +152,7 @@ class Media:
         return [self.by.run(words, given, **how)[:3] for words, given in self.reads(str(disk))]
 
     def only_read(self, kind, disk, plain, **how):
-        """What reads gives what it gives of a plain file, and a change is refused and changes nothing."""
+        """Checks that these commands answer as on a plain file, and that a change is refused and changes nothing."""
         self.want(kind, self.answers(disk, **how) == plain, self.answers(disk, **how), 'and not', plain)
         for words, given in self.changes(str(disk)) + self.makings(str(disk), 64):
             ended = self.by.run(words, given, **how)
@@ -179,7 +180,8 @@ class Media:
                 self.checks.skip(f'{self.by.name}: {kind_read}', why)
 
     def programs(self, content):
-        """A registry with a library that a C compiler made, and a program that ends with a status by it."""
+        """Makes a registry with a library that a C compiler made, and a program that ends with a status by that
+        library."""
         if not self.runner or not has('gcc'):
             return False
         for name, text in SOURCES.items():
@@ -195,7 +197,7 @@ class Media:
             self.want(f'{kind}, a program is started', ended.returncode == STARTED, ended)
 
     def another_user(self):
-        """A file that only its owner may write, and one that only its owner may read."""
+        """Tries a file that only its owner may write, and one that only its owner may read."""
         path = self.by.path
         self.by.path = for_others(path, self.folder) or path
         if self.by.path == path:
@@ -214,7 +216,7 @@ class Media:
     # Devices.
 
     def sequence(self, disk, sectors):
-        """All commands, one after the other, with what each answers."""
+        """Runs all commands, one after the other. Returns the answer of each."""
         given = b'install ' + (self.folder / 'large.so').read_bytes().hex().encode() + b'\nlist\nremove c\n'
         words = [['format', disk, str(sectors - 1)], ['format', disk, str(sectors + 1)], ['list', disk], ['format', disk, str(sectors)]]
         words += [['format', disk, str(it)] for it in (sectors, sectors + 8)]
@@ -224,7 +226,7 @@ class Media:
         return [(it, self.by.run(it, given if it[0] == 'script' else b'')[:3]) for it in words if it[0] != 'script' or not self.is_library()]
 
     def devices(self):
-        """Devices of some sizes beside files of the same."""
+        """Compares devices of some sizes with files of the same sizes."""
         for sectors, options in ((64, ()), (65, ()), (100, ()), (64, ('--sector-size', '4096')), (4096, ()), (4194304, ())):
             kind = f'a device of {sectors} sectors' + (' of 4,096 bytes' if options else '')
             plain = zeros(self.folder / 'plain', sectors)
@@ -257,7 +259,7 @@ class Media:
             self.want('the node of no device', self.by.unread(ended, 'node'), words, ended)
 
     def partitions(self):
-        """A partition; the sectors around it stay as they are."""
+        """Tries a partition; the sectors around it stay as they are."""
         with loop(zeros(self.image, 8192), '-P') as device:
             part = self.by_a_table(device) or partition(device, 1, 2048, 100)
             plain = zeros(self.folder / 'plain', 100)
@@ -270,7 +272,7 @@ class Media:
             self.want('a partition of 100 sectors', apart and 2048 <= apart[0] and apart[-1] < 2148, 'written:', apart)
 
     def by_a_table(self, device):
-        """The same partition by a table, where the machine writes and reads such tables."""
+        """Makes the same partition by a table, if the machine writes and reads such tables."""
         path = Path(f'{device}p1')
         if has('sfdisk'):
             subprocess.run(['sfdisk', '-q', str(device)], input=b'label: dos\nstart=2048, size=100, type=83\n', capture_output=True)
@@ -278,8 +280,8 @@ class Media:
         return path if path.is_block_device() else None
 
     def unseen(self):
-        """Through a loop device without direct I/O the medium can't be seen, nor that of its partition: there each change has the
-        medium take the roots, and else none where nothing differs."""
+        """Tries a loop device without direct I/O, and its partition, through which the medium can't be seen. Each
+        change there writes the roots to the medium; on other devices none does if nothing differs."""
         for option, wanted in (('off', True), ('on', False)):
             kind = f'a change over a loop device, direct I/O {option}'
             try:
@@ -294,7 +296,7 @@ class Media:
                 self.checks.skip(f'{self.by.name}: {kind}', why)
 
     def is_written(self, disk):
-        """Whether an `upgrade` writes that has nothing to do."""
+        """Returns whether an `upgrade` that has nothing to do writes."""
         before = self.sectors_written(disk)
         self.by.done('upgrade', str(disk))
         return self.sectors_written(disk) > before
@@ -303,7 +305,7 @@ class Media:
         return int(Path(f'/sys/class/block/{disk.name}/stat').read_text().split()[6])
 
     def in_use(self):
-        """Devices that are in use are read, and not changed."""
+        """Checks that devices in use are read, and not changed."""
         for part in (self.mounted_device, self.mounted_partition, self.mounted_whole, self.swapped, self.mapped):
             try:
                 part()
@@ -311,7 +313,7 @@ class Media:
                 self.checks.skip(f'{self.by.name}: {part.__doc__}', why)
 
     def busy(self, kind, device, sectors):
-        """Answers while it is in use."""
+        """Checks the answers while the device is in use."""
         before = self.image.read_bytes()
         listed = self.by.run(['list', str(device)])
         self.want(kind, listed[:3] == (0, b'end\n', b''), listed)
@@ -395,7 +397,7 @@ class Media:
             self.free(kind, device)
 
     def two_nodes(self):
-        """Another node of the same device."""
+        """Tries another node of the same device."""
         kind, node = 'two nodes of a device', self.folder / 'node'
         with loop(zeros(self.image, 64)) as device:
             node.unlink(missing_ok=True)
@@ -413,7 +415,7 @@ class Media:
                     self.streams(device, behind)
 
     def streams(self, device, behind):
-        """The device behind a standard stream: what the program writes would go into it."""
+        """Tries the device as the file of a standard stream: the program's output would go into it."""
         kind = 'a device behind a stream' + (', by another node' if behind != device else '')
         for stream in ('stdin', 'stdout', 'stderr'):
             for words, _ in self.reads(str(device)) + self.changes(str(device)) + self.makings(str(device), 64):
@@ -440,7 +442,8 @@ class Media:
             os.fsync(file.fileno())
 
     def locks(self):
-        """A change waits some two seconds for a device, since others look at it once it was written; what reads doesn't."""
+        """Checks that a change waits some two seconds for a device, because others look at it after each write; a
+        command that only reads doesn't wait."""
         with loop(zeros(self.image, 64)) as device:
             self.make(device, 64, 'a.so')
             plain = self.answers(device)[0]
@@ -463,7 +466,7 @@ class Media:
                     self.want(kind, ended.seconds < AT_ONCE, 'a list took', ended.seconds)
 
     def under_the_cache(self):
-        """The medium has changed, and the system still has the bytes from before: an opening reads the medium."""
+        """Changes the medium while the system still has the bytes from before: an opening reads the medium."""
         kind = 'a device whose medium has changed'
         with loop(zeros(self.image, 64)) as device:
             self.make(device, 64, 'a.so', 'b.so')
@@ -479,7 +482,7 @@ class Media:
                 self.want(kind, self.answers(device) == wanted, self.answers(device)[0], 'and not', wanted[0])
 
     def eight_at_once(self):
-        """The same again and again, with eight lists at once."""
+        """Does the same again and again, with eight lists at once."""
         kind = 'eight lists of a device whose medium has changed'
         with loop(zeros(self.image, 64)) as device:
             self.make(device, 64, 'a.so', 'b.so')
@@ -497,7 +500,8 @@ class Media:
                 self.want(kind, all(output == wanted for output in ends), turn, ends, 'and not', wanted)
 
     def under_a_file(self):
-        """The medium has older roots of a file than the system keeps, in pages or larger pieces: an opening reads the medium."""
+        """Gives the medium older roots of a file than the system has, in pages or larger pieces: an opening reads the
+        medium."""
         for name, (options, *make) in FILE_SYSTEMS.items():
             kind = f'a file on {name} whose roots have changed on the medium'
             try:
@@ -524,7 +528,8 @@ class Media:
         self.while_mapped(f'{kind}, and that somebody maps', disk, place, older)
 
     def while_mapped(self, kind, disk, place, older):
-        """Who reads is refused, and a change, also one that has nothing to do, has the medium take the roots that are shown."""
+        """Checks that readers are refused, and that a change, even one that has nothing to do, writes the shown roots
+        to the medium."""
         newer, shown = self.roots(disk), self.answers(disk)
         with open(disk, 'rb') as file, mmap.mmap(file.fileno(), SECTOR, prot=mmap.PROT_READ) as front:
             assert front[:SECTOR] == newer[:SECTOR]
@@ -537,7 +542,7 @@ class Media:
             self.want(kind, self.answers(disk) == shown, self.answers(disk)[0], 'and not', shown[0])
 
     def in_pieces(self, disk):
-        """Has the system keep the file in larger pieces than pages, as what is written in one call."""
+        """Makes the system keep the file in larger pieces than pages, like data that was written in one call."""
         content = disk.read_bytes()
         os.sync()
         with open(disk, 'rb') as file:
@@ -548,7 +553,8 @@ class Media:
         return disk.read_bytes()[:2 * SECTOR]
 
     def past_memory(self, disk):
-        """The roots that the medium has, wherever the file system puts them. Into memory that wasn't touched btrfs reads its cache."""
+        """Returns the roots that the medium has, wherever the file system puts them. Into memory that wasn't touched
+        btrfs reads its cache."""
         with mmap.mmap(-1, PAGE) as page:
             page.write(bytes(PAGE))
             file = os.open(disk, os.O_RDONLY | os.O_DIRECT)
@@ -557,7 +563,7 @@ class Media:
             return page[:2 * SECTOR]
 
     def place_of(self, content):
-        """Where some bytes of the image stand, once."""
+        """Returns the one place of some bytes in the image."""
         with open(self.image, 'rb') as image, mmap.mmap(image.fileno(), 0, prot=mmap.PROT_READ) as medium:
             at = medium.find(content)
             assert at >= 0 and medium.find(content, at + 1) < 0, f'the roots stand at {at}, and once more'
@@ -569,7 +575,7 @@ class Media:
             assert file.write(content) == len(content)
 
     def shorter(self):
-        """A device that becomes shorter, before a command and within a script."""
+        """Tries a device that becomes shorter, before a command and within a script."""
         kind = 'a device that became shorter'
         with loop(zeros(self.image, 64)) as device:
             self.make(device, 64, 'a.so', 'b.so')
@@ -591,7 +597,8 @@ class Media:
         system('losetup', '-c', device)
 
     def within_a_script(self, kind, device, plain, fail, heal):
-        """An `install` behind which the device fails: S1, or S2, and afterwards the state from before or after."""
+        """Tries an `install` after which the device fails: it returns S1 (Device) or S2 (Reopen), and afterwards the
+        disk holds the state from before or after."""
         process = self.by.begin(['script', str(device)])
         process.stdin.write(b'list\n')
         process.stdin.flush()
@@ -607,9 +614,9 @@ class Media:
         self.want(kind, found.status == 0 and done == (1, 0) if ended.output == b'ok\nok\n' else done in ((0, 1), (1, 1)), ended, 'and then', found)
 
     def full_medium(self):
-        """A device whose medium has no room: the system takes the write, and the sync fails. A loop device says so only where
-        it can't write the first page of several, so it is the making that fails. The device is open meanwhile, for else the
-        system forgets what it keeps of it."""
+        """Tries a device whose medium has no space: the system accepts the write, and the sync fails. A loop device
+        reports it only if it can't write the first page of several, so it is the making of a registry that fails. The
+        device is open meanwhile, because otherwise the system would drop its cached bytes."""
         kind = 'a device whose writes fail at the sync'
         options = ('-t', 'tmpfs', '-o', 'size=64k')
         with mounted('tmpfs', self.place, *options), loop(zeros(self.place / 'image', 64)) as device, open(device, 'rb'):
@@ -626,7 +633,7 @@ class Media:
             self.want(kind, ended[:2] == (0, b'ok\n'), 'with room again:', ended)
 
     def read_only_device(self):
-        """A device that turned read-only, before a command and within a script."""
+        """Tries a device that turned read-only, before a command and within a script."""
         kind = 'a device that turned read-only'
         with loop(zeros(self.image, 64)) as device:
             self.make(device, 64, 'a.so', 'b.so')
@@ -640,8 +647,9 @@ class Media:
                 self.within_a_script(kind, device, plain[0], fail, heal)
 
     def synced(self):
-        """A command syncs a device before it reads it, a change also before it writes its root and after that. A sync that fails
-        is answered S1, and the device holds what it held before the change or after it."""
+        """Checks that a command syncs a device before it reads it, and that a change also syncs before it writes its
+        root and after that. A sync that fails returns S1 (Device), and the device holds what it held before the change
+        or after it."""
         if not has('strace'):
             raise NotHere('there is no strace')
         with loop(zeros(self.image, 64)) as device:
@@ -661,7 +669,7 @@ class Media:
                 self.write_at(device, 0, before)
 
     def calls_of(self, device, words, given):
-        """The syncs, reads and writes of the device, in their order; `root` is the write of one root."""
+        """Returns the syncs, reads and writes of the device, in their order. `root` is the write of one root."""
         log = self.folder / 'calls'
         ended = self.by.run(words, given, wrapped=['strace', '-qq', '-y', '-o', str(log), '-e', 'trace=fsync,fdatasync,pread64,pwrite64'])
         assert ended.status == 0, (words, ended)

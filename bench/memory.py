@@ -29,8 +29,8 @@ from checks import emptied
 from real_programs import asked_for
 
 SHELLS, ROUNDS = 10, 7
-# A group of the first version of cgroups, or of the second: the file that tells what it has, the words of memory.stat for
-# what stays, and a file with more of that. The system brings the words up to date every two seconds.
+# A group of the first version of cgroups, or of the second: the file that says how much it has, the words of
+# memory.stat for what stays, and a file with more of that. The system updates the words every two seconds.
 GROUPS = (('/sys/fs/cgroup/memory', 'memory.usage_in_bytes', ('rss', 'shmem'), 'memory.kmem.usage_in_bytes'),
           ('/sys/fs/cgroup', 'memory.current', ('anon', 'shmem', 'kernel'), None))
 TOLD_WITHIN = 2.5
@@ -57,7 +57,7 @@ def own(it):
 
 
 class Group:
-    """Processes whose memory the system counts together, where it does."""
+    """Processes whose memory the system counts together, if it can."""
 
     def __init__(self):
         found = (it for it in GROUPS if (Path(it[0]) / 'cgroup.procs').exists())
@@ -68,7 +68,7 @@ class Group:
         return ['sh', '-c', JOIN, self.at, *words] if self.at else words
 
     def counts(self):
-        """What it has, and what of that stays where others need memory, in KiB."""
+        """Returns how much memory the group has, and how much of it stays if others need memory, in KiB."""
         if not self.at or not (self.at / self.used).exists():
             return 0, 0
         told = dict(line.split() for line in (self.at / 'memory.stat').read_text().splitlines())
@@ -82,7 +82,7 @@ class Group:
 
 
 def shells(words, place):
-    """The fall of what is available, what their group has, and what the shells' memory is by their maps, in KiB."""
+    """Returns the fall of the available memory, the memory of the group, and the shells' memory by their maps, in KiB."""
     group, before = Group(), available()
     them = []
     for _ in range(SHELLS):

@@ -10,7 +10,7 @@ def sectors_of(size):
 
 
 def entry(name, size, start):
-    """The sector of an entry: one extent."""
+    """Returns the sector of an entry with one extent."""
     head = b'LIBE' + struct.pack('<IHHI', size, len(name), 1, 0) + name.ljust(240, b'\0')
     return (head + struct.pack('<II', start, sectors_of(size))).ljust(SECTOR, b'\0')
 
@@ -21,7 +21,8 @@ def root(generation, sectors, entries):
 
 
 def old_disk(sectors, libraries):
-    """A disk of so many sectors with these libraries, each a name and its bytes, installed one after the other."""
+    """Returns a disk of `sectors` sectors with these libraries, each a name and its bytes, installed one after the
+    other."""
     disk, free, entries = bytearray(SECTOR * sectors), 2, []
     for name, data in libraries:
         at = free + sectors_of(len(data))

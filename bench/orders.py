@@ -9,26 +9,26 @@
 
 from machines import PAGE, ROOTS, has_failed
 
-# How much of the front is let go at most.
+# The maximum length of the front that is dropped from memory.
 FRONT = 2 << 20
 
 
 class OpenFile:
-    """What was done with an open file so far, by all its descriptors."""
+    """What was done with an open file so far, through all its descriptors."""
 
     def __init__(self, is_made):
         self.descriptors, self.lock, self.synced, self.read, self.written = 1, '', False, False, False
         self.is_made = is_made
         # Whether the roots were found to be the medium's, or nothing can tell.
         self.agrees = self.is_blind = False
-        # How much was let go last, and whether the front was gone then.
+        # How much was dropped last, and whether the front was gone then.
         self.let_go, self.is_gone = 0, False
 
 
 class Order:
     def __init__(self, log, shared):
         self.log, self.shared, self.files, self.faults = log, shared, {}, set()
-        # Whether a write waits for its sync, and a name for that of the folder and for the question behind that.
+        # Whether a write still needs its sync, and a name the sync of its folder and the question after that.
         self.waiting = self.unnamed = self.unasked = False
         self.letting_go = None
         self.last_sync = max([at for at, line in enumerate(log) if line[0] == 'sync'], default=-1)
@@ -79,7 +79,7 @@ class Order:
         self.fault_if(not file.synced or words[1:] != ['0', str(PAGE)], 'the roots are compared before the sync')
 
     def kept(self, file, words):
-        """What memory has is compared where the next call asks for what the medium has, and else read."""
+        """Handles a read of memory: a comparison, if the next call asks for what the medium has, and otherwise a read."""
         behind = self.log[self.at + 1:self.at + 2]
         is_compared = behind and behind[0][0] in ('past', 'refused')
         (self.looked if is_compared else self.read)(file, words)

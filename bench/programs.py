@@ -13,19 +13,19 @@ def header(kind, flags, offset, address, file_size, memory_size, alignment):
     return struct.pack('<IIQQQQQQ', kind, flags, offset, address, address, file_size, memory_size, alignment)
 
 
-# The tables that an object has to have: a hash table of one bucket, symbol 0, and eight bytes of strings.
+# The tables that an object must have: a hash table of one bucket, symbol 0, and eight bytes of strings.
 TABLES = struct.pack('<4I', 1, 1, 0, 0) + bytes(24 + 8)
 
 
 def tags_of(address):
-    """The dynamic entries that say where these tables stand."""
+    """Returns the dynamic entries that give the addresses of these tables."""
     return [(4, address), (6, address + 16), (5, address + 40), (10, 1), (11, 24)]
 
 
 def program(relocations, memory, loads=0, data=0, notes=1):
-    """A program: one PT_LOAD over the whole file with some memory behind it, `loads` more PT_LOADs of 16 bytes of
-    memory with `notes` PT_NOTEs before each, the relocations as (place behind the file, addend), and `data` bytes at
-    the end."""
+    """Returns a program: one PT_LOAD over the whole file with `memory` bytes after it, `loads` more PT_LOADs of 16
+    bytes of memory with `notes` PT_NOTEs before each, the relocations as pairs of a place after the file and an
+    addend, and `data` bytes at the end."""
     count = 2 + (1 + notes) * loads
     table = 64 + 56 * count
     tables = table + 24 * len(relocations)
@@ -47,13 +47,14 @@ def program(relocations, memory, loads=0, data=0, notes=1):
 
 
 def two_headers(load, dynamic):
-    """A file header and two program headers."""
+    """Returns a file header and two program headers."""
     file = HEADER + struct.pack('<HHIQQQIHHHHHH', 3, 62, 1, 0, 64, 0, 0, 64, 56, 2, 0, 0, 0)
     return file + header(1, 6, *load) + header(2, 6, *dynamic)
 
 
 def empty_segment(memory):
-    """A program with one PT_LOAD of so many bytes of memory, of which the file has its tables, and no relocations."""
+    """Returns a program with one PT_LOAD of `memory` bytes of memory, whose file has only its tables, and no
+    relocations."""
     tables = 64 + 56 * 2
     dynamic = tables + len(TABLES)
     file = two_headers((tables, 0, len(TABLES), memory, 1), (dynamic, 0, 96, 96, 8))
@@ -61,7 +62,8 @@ def empty_segment(memory):
 
 
 def long_dynamic(count):
-    """A program whose dynamic section has so many entries of a tag that isn't read, and then its tables'."""
+    """Returns a program whose dynamic section has `count` entries of a tag that isn't read, and then those of its
+    tables."""
     tables = 64 + 56 * 2
     dynamic, size = tables + len(TABLES), 16 * (count + 6)
     file = two_headers((tables, 0, len(TABLES), len(TABLES), 1), (dynamic, 0, size, size, 8))
@@ -70,7 +72,8 @@ def long_dynamic(count):
 
 
 def scattered(loads, count):
-    """A program of so many PT_LOADs with a PT_NOTE before each, and so many relocations into them in random order."""
+    """Returns a program of `loads` PT_LOADs with a PT_NOTE before each, and `count` relocations into them in random
+    order."""
     first = program([(0, 0)] * count, 16, loads)
     start = (len(first) + 16 + 15) // 16 * 16 - (len(first) + 7) // 8 * 8
     numbers = random.Random(1)

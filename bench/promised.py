@@ -18,14 +18,14 @@ MEMBER = {'enum': re.compile(r'    ([A-Z]\w*)(?=[,({ ]|$)'), 'struct': re.compil
 
 
 def promised():
-    """The names of the list, in its order."""
+    """Returns the names of the list, in its order."""
     lines = (line.strip() for line in LIST.read_text().splitlines())
     return [line for line in lines if line and not line.startswith('#')]
 
 
 @cache
 def exports_of(crate):
-    """The names that a crate exports, each with the crate whose source has it."""
+    """Returns the names that a crate exports, each with the crate whose source has it."""
     source = ROOT / 'crates' / crate / 'src'
     found = {}
     for module, names in USED.findall((source / 'lib.rt').read_text()) if source.exists() else []:
@@ -35,7 +35,7 @@ def exports_of(crate):
 
 
 def types_in(path):
-    """The public types of a file, and their variants and public fields."""
+    """Yields the public types of a file, and their variants and public fields."""
     kind = owner = None
     for line in path.read_text().splitlines():
         begun = TYPE.match(line)
@@ -51,7 +51,7 @@ def types_in(path):
 
 @cache
 def names_in(crate):
-    """The public names of a crate's source, `Type::name` for what a type has."""
+    """Returns the public names of a crate's source, with `Type::name` for the names within a type."""
     names = set()
     for path in (ROOT / 'crates' / crate / 'src').rglob('*.rt'):
         names.update(types_in(path))
@@ -60,14 +60,14 @@ def names_in(crate):
 
 
 def is_exported(promise):
-    """Whether the crate of a promised name exports it."""
+    """Returns whether the crate of a promised name exports it."""
     crate, name = promise.split('::', 1)
     owner = exports_of(crate).get(name.split('::')[0])
     return owner is not None and name in names_in(owner)
 
 
 def broken():
-    """What is wrong with the list or with the sources, a line each."""
+    """Yields what is wrong with the list or with the sources, one line each."""
     names = promised()
     for name in sorted(set(names)):
         if names.count(name) > 1:

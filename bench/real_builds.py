@@ -15,13 +15,13 @@ LUA = ['-DLUA_USE_POSIX', '-DluaL_openlibs=open_modules']
 
 
 def program_of_the_page(start):
-    """The program in C of the page that begins so."""
+    """Returns the program in C of the page that begins with `start`."""
     found = re.findall(r'^```c\n(.*?)^```$', PAGE.read_text(), re.M | re.S)
     return next(it for it in found if it.startswith(start))
 
 
 class NotBuilt(Exception):
-    """How a build failed."""
+    """Says how a build failed."""
 
 
 def run(*words, cwd=None):
@@ -36,8 +36,8 @@ def need(tool, package):
 
 
 class Build:
-    """A folder in which packages are built: `linked` and `static` have the programs, `libraries`
-    the libraries in the order in which they are linked and installed."""
+    """A folder in which packages are built. `linked` and `static` have the programs, and `libraries` has the libraries
+    in the order in which they are linked and installed."""
 
     def __init__(self, folder):
         need('musl-gcc', 'musl-tools')
@@ -54,7 +54,7 @@ class Build:
         return source
 
     def compiled(self, files, *words):
-        """The objects of C files."""
+        """Returns the objects of C files."""
         made = []
         for file in files:
             made.append(self.objects / f'{len(list(self.objects.iterdir()))}-{file.stem}.o')
@@ -62,20 +62,20 @@ class Build:
         return made
 
     def library(self, soname, objects):
-        """A library that may need those before it."""
+        """Links a library that may need those before it."""
         path = self.linked / soname
         run('rlibreg-gcc', '-shared', '-o', path, *objects, *self.libraries)
         self.libraries.append(path)
         self.parts += objects
 
     def program(self, name, objects):
-        """A program that needs all libraries so far, and the same of these objects alone."""
+        """Links a program that needs all libraries so far, and a static program of these objects."""
         run('rlibreg-gcc', '-o', self.linked / name, *objects, *self.libraries[::-1])
         run('musl-gcc', '-static', '-o', self.static / name, *objects, *self.parts)
 
 
 def lua(folder, archives):
-    """Lua with its core as a library, and LPeg, a module in C, as another."""
+    """Builds Lua with its core as one library, and LPeg, a module in C, as another."""
     build = Build(folder)
     source = build.source(archives, 'lua5.4') / 'src'
     lpeg = build.source(archives, 'lua-lpeg')
@@ -91,13 +91,13 @@ def lua(folder, archives):
 
 
 def sqlite(folder, archives):
-    """SQLite's shell over its library."""
+    """Builds SQLite's shell over its library."""
     build = Build(folder)
     need('tclsh', 'tcl')
     source = build.source(archives, 'sqlite3')
     run('./configure', '--disable-tcl', '--disable-readline', cwd=source)
     run('make', f'-j{min(2, os.cpu_count())}', 'sqlite3.c', 'shell.c', cwd=source)
-    extensions = '-DSQLITE_OMIT_LOAD_EXTENSION' # else it asks for dlopen
+    extensions = '-DSQLITE_OMIT_LOAD_EXTENSION' # otherwise it asks for dlopen
     build.library('libsqlite3.so', build.compiled([source / 'sqlite3.c'], extensions))
     build.program('sqlite3', build.compiled([source / 'shell.c'], extensions))
     return build

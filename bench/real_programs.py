@@ -34,7 +34,7 @@ Ended = collections.namedtuple('Ended', 'status output errors')
 Variant = collections.namedtuple('Variant', 'name file before')
 
 
-# Programs that are built by hand; those that their own commands build are in unchanged.PROJECTS.
+# The programs that are built by hand; unchanged.PROJECTS has those that are built by their own commands.
 BY_HAND = {'Lua': real_builds.lua, 'SQLite': real_builds.sqlite}
 
 
@@ -54,7 +54,7 @@ class Bench:
             checks.skip('executables', 'rlibreg-tool has no form `executable`')
 
     def registry(self, build):
-        """A disk with the libraries of a program."""
+        """Makes a disk with the libraries of a program."""
         disk = build.folder / 'disk'
         done(self.programs / 'rlibreg', 'format', disk, SECTORS)
         install(self.programs / 'rlibreg', disk, (it.read_bytes() for it in build.libraries))
@@ -81,7 +81,7 @@ class Bench:
         return Ended(it.returncode, it.stdout, it.stderr)
 
     def results(self, trial, file, before):
-        """What each start ended with and wrote, and the files that are left."""
+        """Returns the status and output of each start, and the files that are left."""
         emptied(self.place).chmod(0o777)
         for name, data in {**trial.files, trial.program: file}.items():
             path = self.place / name
@@ -95,7 +95,7 @@ class Bench:
         return ended, {str(it.relative_to(self.place)): it.read_bytes() for it in left}
 
     def compare(self, trial, variants, user, wrapped):
-        """A program by all of its variants: the first is the static one."""
+        """Compares a program in all of its variants; the first is the static one."""
         wanted = None
         for variant in variants:
             ended, left = self.results(trial, variant.file, [*wrapped, *variant.before])
@@ -109,7 +109,7 @@ class Bench:
             self.checks.want(kind, wanted[1] == left, 'files:', sorted(wanted[1]), sorted(left))
 
     def users(self):
-        """Who starts the programs, and by which words."""
+        """Yields the users who start the programs, and the words by which they do."""
         yield 'who asked', []
         paths = [self.programs / 'rlibreg-run', self.folder]
         if not has('setpriv') or subprocess.run([*NOBODY, 'true'], capture_output=True).returncode:
@@ -121,7 +121,7 @@ class Bench:
 
 
 def builds(bench, sources, names):
-    """Each program that can be built here, by its name."""
+    """Yields each program that can be built here, by its name."""
     built = {}
     for name in names:
         place = bench.folder / name.replace(', ', '-')
@@ -151,7 +151,7 @@ def try_all(bench, sources, names):
 
 
 def asked_for():
-    """By the words of the process; FOLDER is emptied."""
+    """Returns what the command line asks for; FOLDER is emptied."""
     asked = argparse.ArgumentParser()
     asked.add_argument('programs', type=Path)
     asked.add_argument('folder', type=Path)

@@ -23,15 +23,15 @@ int main(int number, char **words) {
     return 42;
 }
 """
-# A start of a program: its words, its input, and the status that is wanted.
+# A start of a program: its arguments, its input, and the expected status.
 Step = collections.namedtuple('Step', 'words given status', defaults=(b'', 0))
-# What is tried of a program: the files that it finds, its starts, and a test of what it did, which
-# gets what each start ended with and wrote, the files that are left, and their folder.
+# What is tried of a program: the files that it finds, its starts, and a test of its results. The test gets the status
+# and output of each start, the files that are left, and their folder.
 Trial = collections.namedtuple('Trial', 'program files steps is_right')
 
 
 def is_packed_right(ended, left, _):
-    """Python reads what minigzip packed, and the file was unpacked again."""
+    """Checks that Python reads what minigzip packed, and that the file was unpacked again."""
     data = left.get('data')
     unpacked = gzip.decompress(ended[0].output)
     return unpacked == data == left.get('again') and 'again.gz' not in left
@@ -51,7 +51,7 @@ def zlib_trials(_):
 
 
 def is_script_right(ended, *_):
-    """The script and LPeg's own test came to their ends."""
+    """Checks that the script and LPeg's own test reached their ends."""
     return ended[0].output.endswith(b'\nend\n') and ended[1].output.endswith(b'OK\n')
 
 
@@ -65,7 +65,7 @@ def lua_trials(build):
 
 
 def is_database_right(_, left, place):
-    """Python's SQLite finds what the shell has left."""
+    """Checks that Python's SQLite finds what the shell has left."""
     with sqlite3.connect(f'file:{place}/database?mode=ro&immutable=1', uri=True) as it:
         counts = it.execute('SELECT count(*), sum(id) FROM people').fetchone()
         sound = it.execute('PRAGMA integrity_check').fetchall()
@@ -81,7 +81,7 @@ def sqlite_trials(_):
 
 
 def right(*_):
-    """Nothing but what the static one did is wanted."""
+    """Wants nothing but the results of the static program."""
     return True
 
 
@@ -154,7 +154,7 @@ def pcre_trials(it):
 
 
 def below(folder, pattern):
-    """The files below a folder, by the names that they have from there."""
+    """Returns the files below the folder, by their names relative to it."""
     return {str(it.relative_to(folder)): it.read_bytes()
             for it in sorted(folder.glob(pattern)) if it.is_file()}
 
@@ -194,7 +194,7 @@ def tls_trials(it):
 
 
 def is_compiler_right(ended, place, preprocessed, compiled):
-    """What tcc told and wrote, and what the programs print that it compiled, are as is wanted."""
+    """Checks the messages and the output of tcc, and the output of the programs that it compiled."""
     found = [(it.errors + it.output).split() for it in ended]
     for n, name in enumerate(compiled, len(preprocessed)):
         found[n] += subprocess.run([place / f'{name}.out'], capture_output=True).stdout.split()

@@ -28,7 +28,7 @@ def fields(form, sector, at):
 
 
 def spelt(sector, *parts):
-    """The sector has to be these parts, each with its place, and zeros."""
+    """Checks that the sector consists of these parts, each with its place, and of zeros."""
     whole = bytearray(SECTOR)
     for at, form, *values in parts:
         struct.pack_into('<' + form, whole, at, *values)
@@ -36,7 +36,7 @@ def spelt(sector, *parts):
 
 
 def root(sector):
-    """The root in a sector, none where there is no magic."""
+    """Returns the root in a sector, or None if there is no magic."""
     if sector[:8] not in (b'RLIBREG1', b'RLIBREG2'):
         return None
     version = sector[7] - ord('0')
@@ -53,7 +53,7 @@ def root(sector):
 
 
 def current(even, odd):
-    """Which of the roots in the sectors 0 and 1 is the current one."""
+    """Returns the current one of the roots in the sectors 0 and 1."""
     need(even and even.generation % 2 == 0)
     if not odd:
         need(even.generation == 0)
@@ -65,14 +65,14 @@ def current(even, odd):
 
 
 def catalogue(sector, count):
-    """The sectors of entries in a catalogue, which has to have so many."""
+    """Returns the sectors of entries in a catalogue, which has to have `count` of them."""
     listed = fields(f'{count}I', sector, 16)
     spelt(sector, (0, '4sH', b'LIBC', count), (16, f'{count}I', *listed))
     return listed
 
 
 def entry(sector):
-    """The length of a file, its name and its extents."""
+    """Returns the length of a file, its name and its extents."""
     length, size, count = fields('IHH', sector, 4)
     need(64 <= length <= 16777216 and 1 <= size <= 240 and 1 <= count <= 32)
     name, numbers = sector[16:16 + size], fields(f'{2 * count}I', sector, 256)
@@ -83,7 +83,7 @@ def entry(sector):
 
 
 def read_all(disk):
-    """The state of a disk that has magics."""
+    """Returns the state of a disk that has magics."""
     sectors, used = len(disk) // SECTOR, {0, 1}
 
     def sector(at):
@@ -106,7 +106,7 @@ def read_all(disk):
 
 
 def state_of(disk):
-    """What the bytes of a disk are, or the lack of a file."""
+    """Returns the state of a disk's bytes, or of a missing file."""
     if disk is None:
         return State(NO_FILE, 0, (), ())
     sectors = len(disk) // SECTOR
@@ -155,7 +155,8 @@ CHANGES = {'install': installed, 'replace': replaced, 'remove': removed, 'preloa
 
 
 def answer(state, command, *words):
-    """The reply of a command or of a script's line, and the state after it. Each file is two words, its name and its bytes."""
+    """Returns the reply to a command or to a script's line, and the state after it. Each file is two words, its name
+    and its bytes."""
     if command == 'format':
         made = State(REGISTRY, int(words[0]), (), ())
         return (b'ok\n', made) if state.kind in (NO_FILE, ZEROS) else (b'refused S4 AlreadyFormatted\n', state)
@@ -169,13 +170,14 @@ def answer(state, command, *words):
 
 
 def segment(address, name, data):
-    """The lines of an object of one segment, as its image has them."""
+    """Returns the lines of an object of one segment, as its image has them."""
     lines = [data[at:at + 16].hex() for at in range(0, len(data), 16)]
     return '\n'.join([f'object 0x{address:016x} {name}', f'segment 0x{address:016x} {len(data)} rw-', *lines, ''])
 
 
 def image(base, program, library, name):
-    """The image of a program (`libraries.py` makes it) whose first word behind its file is the first export of its library."""
+    """Returns the image of a program (made by `libraries.py`) whose first word after its file is the first export of
+    its library."""
     at = -(-(base + program.size) // PAGE) * PAGE
     word = struct.pack('<Q', at + library.memory)
     text = segment(base, '/program', (program.file + word).ljust(program.size, b'\0'))

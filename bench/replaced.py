@@ -43,12 +43,13 @@ class Tool(Program):
 
 
 def is_refused(by, ended, disk):
-    """S1 as the last reply; of the tool, where the disk isn't open yet, on standard error; or the disk can't be read."""
+    """Returns whether a change was refused: S1 (Device) as the last reply; from the tool, if the disk isn't open yet,
+    on standard error; or the disk can't be read."""
     replied = ended.status == 3 and ended.output.replace(b'planned\n', b'') == S1 and not ended.errors
     return replied or ended[:3] == (3, b'', b'rlibreg-tool: ' + S1) or by.unread(ended, disk)
 
 
-# What becomes of the disk.
+# What is done to the disk.
 
 def rename_over(folder):
     os.rename(folder / 'other', folder / 'disk')
@@ -68,20 +69,20 @@ def move_and_back(folder):
 
 
 def link_again(folder):
-    """The same file under the same name, by another entry of the folder."""
+    """Gives the same file the same name again, by another entry of the folder."""
     os.link(folder / 'disk', folder / 'again')
     os.unlink(folder / 'disk')
     os.rename(folder / 'again', folder / 'disk')
 
 
 def lead_elsewhere(folder):
-    """A link that led to the disk leads to another one."""
+    """Makes a link that led to the disk lead to another one."""
     os.symlink('other', folder / 'next')
     os.rename(folder / 'next', folder / 'link')
 
 
 def lead_there(folder):
-    """It leads to the disk by another path."""
+    """Makes it lead to the disk by another path."""
     os.symlink(folder / 'disk', folder / 'next')
     os.rename(folder / 'next', folder / 'link')
 
@@ -121,7 +122,7 @@ class Replaced:
         emptied(self.folder)
 
     def put(self, content):
-        """The disk, a second name of it, another disk beside it, and a link to the first."""
+        """Makes the disk, a second name of it, another disk beside it, and a link to the first."""
         self.clear()
         self.disk.write_bytes(content)
         os.link(self.disk, self.folder / 'old')
@@ -131,7 +132,7 @@ class Replaced:
     # Between two lines.
 
     def lines(self, by, words, first, replies, rest, do):
-        """What is answered to the rest of the lines, if something is done once the first are answered."""
+        """Returns the answers to the rest of the lines, if something is done once the first lines are answered."""
         self.put(self.one)
         with subprocess.Popen([by.path, *words], cwd=self.folder, stdin=subprocess.PIPE, stdout=subprocess.PIPE) as process:
             process.stdin.write(first)
@@ -163,10 +164,10 @@ class Replaced:
                 ended = self.lines(self.tool, ['update', 'disk'], install, b'planned\n', b'commit\n', do)
                 self.want(self.tool, f'an update, {do.__name__}', ended == (0, b'ok\n'), ended)
 
-    # Behind each sync.
+    # After each sync.
 
     def traced(self, by, words, given=b'', more=(), number=None):
-        """Begins a command whose syncs are logged, and which stops behind the sync of this number."""
+        """Starts a command whose syncs are logged, and which stops after the sync of this number."""
         self.log.unlink(missing_ok=True)
         stops = ['-e', f'inject=fsync:signal=STOP:when={number}'] if number else []
         wrapped = ['strace', '-D', '-qq', '-o', str(self.log), '-e', 'trace=fsync', *stops]
@@ -179,12 +180,12 @@ class Replaced:
         return process
 
     def syncs_of(self, by, words, given=b''):
-        """How many syncs a command makes that nobody disturbs, and how it ended."""
+        """Returns how many syncs a command makes if nobody disturbs it, and how it ended."""
         ended = by.end(self.traced(by, words, given))
         return self.log.read_text().count('fsync('), ended
 
     def stopped(self, by, words, number, do, given=b'', more=()):
-        """How a command ends, if something is done behind its sync of this number."""
+        """Returns how a command ends if something is done after its sync of this number."""
         process = self.traced(by, words, given, more, number)
         end = time.monotonic() + SECONDS
         while process.poll() is None and time.monotonic() < end:
@@ -198,7 +199,7 @@ class Replaced:
         return ended
 
     def each_sync(self, by, words, content, given, ways):
-        """The disk is replaced behind each sync of a command: its change is refused."""
+        """Replaces the disk after each sync of a command: the command's change is refused."""
         self.put(content)
         syncs, ended = self.syncs_of(by, words, given)
         whole = ended.status == 0 and ended.output.endswith(b'ok\n') and syncs >= 2
@@ -233,7 +234,7 @@ class Replaced:
                 self.each_sync(by, words, content, given, ways)
 
     def other_paths(self):
-        """The path of the disk by which it is changed."""
+        """Tries other paths by which the disk is changed."""
         words = ['remove', 'disk', 'b']
         for path, do, is_ok in (('link', rename_over, False), ('link', lead_elsewhere, False), ('link', lead_there, True),
                                 ('./../place/disk', rename_over, False), (str(self.disk), remove, False),
@@ -245,7 +246,7 @@ class Replaced:
                 self.want(self.program, f'a disk at {path}, {do.__name__}', good, ended)
 
     def open_files(self):
-        """The path of an open file names it, whatever becomes of its own."""
+        """Checks that the path of an open file names it, whatever happens to the file's own path."""
         for form in ('/dev/fd/{}', '/proc/self/fd/{}'):
             self.put(self.one)
             fd = os.open(self.disk, os.O_RDWR)
@@ -256,7 +257,7 @@ class Replaced:
                 os.close(fd)
 
     def others_take_no_notice(self):
-        """What only reads gives what it gives without that, and a disk that isn't there is made."""
+        """Checks that commands that only read answer as without the replacement, and that a missing disk is made."""
         for words in (['list', 'disk'], ['bind', 'disk', '../alone', '0x100000']):
             self.put(self.one)
             plain = self.program.run(words)
@@ -271,7 +272,7 @@ class Replaced:
     # Mounts and devices.
 
     def mounts(self):
-        """Another file is mounted over the disk."""
+        """Mounts another file over the disk."""
         def mount_over(folder):
             subprocess.run(['mount', '--bind', 'other', 'disk'], cwd=folder, check=True)
         self.put(self.one)
@@ -290,7 +291,7 @@ class Replaced:
         self.clear()
 
     def devices(self):
-        """Another node in the place of a device's."""
+        """Puts another node in the place of a device's node."""
         with contextlib.ExitStack() as stack:
             try:
                 devices = [stack.enter_context(loop(self.files / f'image-{i}', self.one)) for i in range(2)]
@@ -326,7 +327,7 @@ class Replaced:
 
 @contextlib.contextmanager
 def loop(image, content):
-    """A loop device over a file."""
+    """Makes a loop device over a file."""
     image.write_bytes(content)
     ended = subprocess.run(['losetup', '-f', '--show', str(image)], check=True, capture_output=True,
                            env={**os.environ, 'PATH': os.environ.get('PATH', '') + ':/usr/sbin:/sbin'})

@@ -24,23 +24,23 @@ def install(file):
 
 
 def binding(made, times):
-    """The libraries of a program, and then so many binds of it."""
+    """Returns lines that install the libraries of a program, and then bind it `times` times."""
     program, libraries = made
     return [install(library.file) for library in libraries] + [b'bind 0x10000 ' + program.file.hex().encode()] * times
 
 
 def small():
-    """Four libraries of few bytes."""
+    """Returns lines that install four libraries of few bytes."""
     return [install(Made(name(i), behind=8).file) for i in range(4)]
 
 
 def of_length(length, i=0):
-    """A library of so many bytes."""
+    """Returns the line that installs a library of `length` bytes."""
     return install(Made(name(i), behind=8).file.ljust(length, b'\1'))
 
 
 def made():
-    """The lines of each script."""
+    """Yields the lines of each script."""
     yield 'list_and_preload', small() + [b'list', b'preload lib01 lib03', b'list', b'preload'] * (LINES // 4)
     yield 'list', small() + [b'list'] * LINES
     yield 'preload', small() + [b'preload lib01 lib03', b'preload'] * (LINES // 2)
@@ -61,7 +61,7 @@ def made():
 
 
 def run(script, program, disk):
-    """The processor time of a script on a new disk, the real time, and the most memory, in MiB."""
+    """Returns the processor time of a script on a new disk, the real time, and the maximum memory, in MiB."""
     disk.unlink(missing_ok=True)
     subprocess.run([program, 'format', disk, SECTORS], stdout=subprocess.DEVNULL, check=True)
     with script.open('rb') as lines:
@@ -73,7 +73,7 @@ def run(script, program, disk):
 
 
 def times(script, program):
-    """The least processor time of some runs with its real time, and the most memory of one, in MiB."""
+    """Returns the least processor time of some runs with its real time, and the maximum memory of a run, in MiB."""
     with tempfile.TemporaryDirectory() as folder:
         runs = [run(script, program, Path(folder) / 'disk') for _ in range(RUNS)]
     return min(runs)[:2], max(memory for _, _, memory in runs)

@@ -24,8 +24,9 @@ from checks import shortened
 
 SECTOR, ROOTS = 512, 1024
 PARTS_OF_A_SECTOR = {'pwrite64': (100, 511), 'pread64': (511,)}
-# How many bytes a call moves at most: a part of a sector, one sector, one and a part, nearly two. No write moves a part of a
-# sector alone, since that would tear a root: no registry is claimed to survive a sector that isn't written whole.
+# The maximum number of bytes that a call transfers: a part of a sector, one sector, one and a part, nearly two. No
+# write transfers only a part of a sector, because that would tear a root: no registry is claimed to survive a sector
+# that isn't written whole.
 MOST_BYTES = {'pwrite': (512, 612, 1023), 'pread': (100, 512, 612, 1023)}
 OF_ONE_CALL = 612
 FAILED, S1, XFSZ = 3, b'refused S1 Device\n', -25
@@ -35,8 +36,9 @@ Plain = collections.namedtuple('Plain', 'start ended content states')
 
 
 def is_unanswered(words, ended, plain):
-    """Whether a run that failed said S1 where a run that is whole says `ok` or its text. An `update` says it on standard error
-    before the first line, and after its answers to lines that were planned. What a signal ends says nothing more."""
+    """Returns whether a failed run said S1 (Device) where a whole run says `ok` or its text. An `update` says it on
+    standard error before the first line, and after its answers to lines that were planned. A run that a signal ends
+    says nothing more."""
     status, output = ended
     said = output.removesuffix(S1)
     if words[0] == 'update':
@@ -45,7 +47,7 @@ def is_unanswered(words, ended, plain):
 
 
 class Short:
-    """The programs of a Bench of `faults.py`, whose calls are made short by one of the ways."""
+    """Runs the programs of a Bench of `faults.py`, and makes their calls short in one of the ways."""
 
     def __init__(self, bench):
         self.bench = bench
@@ -53,14 +55,14 @@ class Short:
         self.wrong = 0
 
     def found(self):
-        """The disk's bytes, and what they hold."""
+        """Returns the disk's bytes, and what they hold."""
         content = self.bench.disk.read_bytes() if self.bench.disk.exists() else None
         if content not in self.known:
             self.known[content] = self.bench.seen()
         return content, self.known[content]
 
     def plain(self, words, start):
-        """How the command ends if no call is short, and what the disk holds before and after it."""
+        """Returns how the command ends if no call is short, and what the disk holds before and after it."""
         self.bench.put(start)
         before = self.found()[1]
         self.bench.put(start)
@@ -69,7 +71,7 @@ class Short:
         return Plain(start, ended, content, (before, after))
 
     def judge(self, kind, words, plain, wrapped, may_end=FAILED):
-        """One run with short calls, which may end so if it doesn't end as the plain run."""
+        """Judges one run with short calls. It has to end as the plain run, or unanswered with the status `may_end`."""
         self.bench.put(plain.start)
         ended = self.bench.run(words, wrapped)
         left = self.bench.other.exists()
@@ -83,7 +85,7 @@ class Short:
         self.ends[kind]['as if none were short' if done else f'status {ended[0]}'] += 1
 
     def calls(self, words, plain):
-        """Each read and each write: its name, how many bytes it asks for, and from where."""
+        """Returns each read and each write: its name, how many bytes it asks for, and from where."""
         log = self.bench.folder / 'calls'
         self.bench.put(plain.start)
         self.bench.run(words, ['strace', '-qq', '-o', str(log), '-e', 'trace=pread64,pwrite64'])
@@ -99,7 +101,8 @@ class Short:
                     self.judge(f'{name} that answers {part}', words, plain, ['strace', '-qq', '-o', '/dev/null', '-e', fault])
 
     def by_limit(self, words, plain, calls):
-        """Limits within each write and at the end of its first sector. One within the roots would tear a root."""
+        """Tries limits within each write and at the end of its first sector. A limit within the roots would tear a
+        root."""
         for name, asked, at in calls:
             if name != 'pwrite64' or at < ROOTS:
                 continue
@@ -111,7 +114,7 @@ class Short:
                         self.judge('a limit of the size, by a signal', words, plain, limit, XFSZ)
 
     def by_library(self, library, words, plain, calls):
-        """Calls that do move a part."""
+        """Tries calls that do transfer a part."""
         for name, sizes in MOST_BYTES.items():
             wrapped = ['env', f'LD_PRELOAD={library}', f'SHORT_CALL={name}']
             for size in sizes:
@@ -128,7 +131,7 @@ class Short:
 
 
 def library_in(folder):
-    """The stand-in for calls, compiled."""
+    """Compiles the stand-in for calls."""
     library = folder / 'short.so'
     source = Path(__file__).resolve().parent / 'short.c'
     subprocess.run(['gcc', '-std=c11', '-O1', '-Wall', '-Wextra', '-shared', '-fPIC', '-o', str(library), str(source)], check=True)
@@ -136,8 +139,8 @@ def library_in(folder):
 
 
 def try_short_calls(bench, dynamic, changes, disk):
-    """The changes, each with the disk that it starts from, and what only reads a disk. `dynamic` is a Bench of programs that
-    aren't static, or None."""
+    """Tries the changes, each with the disk that it starts from, and the commands that only read a disk. `dynamic` is
+    a Bench of programs that aren't static, or None."""
     commands = [*changes, *((words, disk) for words in READS)]
     has_limits = shutil.which('prlimit')
     if not has_limits:

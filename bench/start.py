@@ -26,11 +26,11 @@ from real_programs import asked_for, done
 from starts import timed
 
 STARTS, STARTS_BESIDE, SECTORS = 500, 60, 700_000
-OTHERS = ((21, 15 * MIB), (315, MIB)) # how many, of so many bytes
+OTHERS = ((21, 15 * MIB), (315, MIB)) # the number of libraries, and the bytes of each
 
 
 def crowded(programs, build, number, size):
-    """A disk with other libraries beside those of the program, which come last."""
+    """Makes a disk with other libraries beside those of the program, which come last."""
     disk = build.folder / f'crowded{number}'
     done(programs / 'rlibreg', 'format', disk, SECTORS)
     install(programs / 'rlibreg', disk, (library(i, size).file for i in range(number)))
@@ -40,7 +40,7 @@ def crowded(programs, build, number, size):
 
 @contextlib.contextmanager
 def device(disk):
-    """A loop device over a copy of a disk, held open; or None where there can be none."""
+    """Makes a loop device over a copy of a disk, held open. Yields None if there can be none."""
     copy = disk.with_suffix('.device')
     shutil.copy(disk, copy)
     made = subprocess.run(['losetup', '--find', '--show', copy], capture_output=True, text=True) if os.geteuid() == 0 else None
@@ -74,7 +74,7 @@ def all_variants(bench, build, made, on_disk, in_memory, loop):
 
 
 def words_of(variant, place):
-    """The words of a start, whose file is made in a folder."""
+    """Returns the words of a start, whose file is made in a folder."""
     (place / 'lua').write_bytes(variant.file)
     (place / 'lua').chmod(0o755)
     return [*map(str, variant.before), str(place / 'lua'), '-e', '']

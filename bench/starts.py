@@ -33,7 +33,7 @@ def run(*words, **more):
 
 
 def source(number, count, relocations, choose):
-    """A library's functions, and its row of addresses of the others'."""
+    """Returns a library's functions, and its array of addresses of the others' functions."""
     own = ''.join(f'void f{number}_{k}(void) {{}}\n' for k in range(EXPORTS))
     others = [it for it in range(count) if it != number]
     named = [f'f{choose.choice(others)}_{choose.randrange(EXPORTS)}' for _ in range(relocations)]
@@ -55,7 +55,7 @@ def make(folder, count, relocations):
 
 
 def start(words, environment):
-    """The time of a start by the clock and of the processor."""
+    """Returns the time of a start, by the clock and of the processor."""
     begin = time.perf_counter()
     child = os.posix_spawn(words[0], words, environment)
     _, status, usage = os.wait4(child, 0)

@@ -22,14 +22,14 @@ RUNS, BASE = 7, b'0x10000'
 
 
 def scripts(file, libraries, times):
-    """The script that binds a program so often at once, and the one that does by steps: one for the program, one for each
-    library, and a last one."""
+    """Returns the script that binds a program `times` times at once, and the script that does so in steps: one step
+    for the program, one for each library, and a last one."""
     words = BASE + b' ' + file.hex().encode() + b'\n'
     return (b'bind ' + words) * times, (b'begin ' + words + b'advance 0\n' * (libraries + 2)) * times
 
 
 def digest(text):
-    """One of the answers to binds, without those to the steps before."""
+    """Returns a digest of the answers to binds, without the answers to the steps before."""
     answers = hashlib.sha256()
     for line in io.BytesIO(text):
         if line not in (b'going\n', b'slot 0\n'):
@@ -38,7 +38,7 @@ def digest(text):
 
 
 def told(bench, what, file, libraries, times, status):
-    """A row."""
+    """Prints a row."""
     rows = {}
     for _ in range(RUNS):
         for given in scripts(file, libraries, times):
@@ -51,7 +51,7 @@ def told(bench, what, file, libraries, times, status):
 
 
 def registry(bench, folder, sectors, count, size):
-    """A disk with so many libraries, each of which needs the one before it."""
+    """Makes a disk with `count` libraries, each of which needs the one before it."""
     (folder / 'disk').unlink(missing_ok=True)
     bench.done('format', 'disk', str(sectors))
     lines = [b'install ' + library(i, size, [name(i - 1)] if i else []).file.hex().encode() + b'\n' for i in range(count)]
