@@ -23,11 +23,11 @@ Ended = collections.namedtuple('Ended', 'status output errors disk')
 
 
 class Streams:
-    """Those of the program `rlibreg`."""
+    """The streams of the program `rlibreg`."""
 
     NAME, BAD_LINE = 'rlibreg', b'bad command line'
-    UNWRITTEN = b''  # what is said where the output fails
-    # The command that reads lines, with lines, how many reads these take, and the status where none come.
+    UNWRITTEN = b''  # what is said if the output fails
+    # The command that reads lines, with lines, how many reads these take, and the status if no lines come.
     READER, LINES, READS, NO_LINES = 'script', b'preload b a\nlist\n', 2, 0
 
     def __init__(self, program, folder, one, two, old):
@@ -47,7 +47,8 @@ class Streams:
         ]
 
     def with_disk(self, disk):
-        """Commands that look for a disk of this name, each with its status and message where the disk is behind a stream."""
+        """Returns commands that look for a disk of this name, each with its status and message if a stream leads to
+        the disk."""
         unread = 3, f'{self.NAME}: cannot read {disk}\n'.encode()
         commands = [words for words in self.commands(disk) if disk in words] + [['install', disk, 'none']]
         return [(words, *unread) for words in commands] + [(['bind', disk, 'program', '10'], 2, b'rlibreg: bad base\n')]
@@ -57,7 +58,7 @@ class Streams:
                 self.odd_words]
 
     def start_of(self, words, start):
-        """An install finds a registry without its library."""
+        """Returns the disk that a command starts from: an install gets a registry without its library."""
         return self.one if words[0] == 'install' and start == 'a registry' else self.starts[start]
 
     def put(self, content):
@@ -72,7 +73,8 @@ class Streams:
         return {path.name: path.read_bytes() for path in self.folder.iterdir() if path.name != 'disk'}
 
     def run(self, words, given=None, closed=(), passed=(), wait=60):
-        """Runs the words; `given` has open files for some of the streams. What doesn't end by itself is killed."""
+        """Runs the command; `given` has open files for some of the streams. A run that doesn't end by itself is
+        killed."""
         given = given or {}
         def close():
             for number in closed:
@@ -96,7 +98,7 @@ class Streams:
         return self.run(words, **how)
 
     def check(self, kind, words, start, ended, holds, before, after):
-        """Notes how a run ended, and whether it was as it has to be."""
+        """Notes how a run ended, and whether it was right."""
         if not holds or ended.disk not in (before, after):
             self.wrong += 1
             print(f'WRONG: {kind}: {words} on {start}: {ended.status} {ended.output} {ended.errors}')
@@ -104,12 +106,13 @@ class Streams:
         self.ends[kind][(ended.status, disk)] += 1
 
     def expected(self, words, plain, failing):
-        """The status where some streams fail: of a command that gives text to the output, or of a script that was run."""
+        """Returns the status if some streams fail, for a command that writes text to the output, or for a script that
+        was run."""
         reads = words[0] == self.READER and plain.output
         return 3 if OUTPUT in failing and plain.output or INPUT in failing and reads and plain.status == 0 else plain.status
 
     def closed_streams(self, kind, words, start, plain, **how):
-        """Each of the streams closed, each two, and all three."""
+        """Tries each of the streams closed, each two of them, and all three."""
         before = self.start_of(words, start)
         for closed in SUBSETS:
             self.put(before)
@@ -128,7 +131,7 @@ class Streams:
                 self.closed_streams('closed, ' + start, words, start, self.plain(words, start))
 
     def numbered(self):
-        """The same with DISK, FILE and PROGRAM as the numbers of open files."""
+        """Does the same with DISK, FILE and PROGRAM as the numbers of open files."""
         for start in ('a registry', 'version 1', 'zeros'):
             for form in ('/dev/fd/%d', '/proc/self/fd/%d'):
                 for at, ordinary in enumerate(self.commands()):
@@ -139,7 +142,7 @@ class Streams:
                         opened[name] = os.open(self.folder / name, os.O_RDONLY)
                         return form % opened[name]
                     self.put(before)
-                    # The file stays the same one, since its number is open: it is written anew in its place.
+                    # The file stays the same file, because its number is open: it is written again in its place.
                     self.put = self.rewrite
                     opened['disk'] = os.open(self.disk, os.O_RDWR)
                     words = self.commands(form % opened['disk'], number)[at]
@@ -159,8 +162,9 @@ class Streams:
             file.truncate()
 
     def the_disk(self):
-        """The disk itself behind a stream: nothing is written, and only a message elsewhere is said. Standard input is looked
-        at for `script` and `update` alone: for every other command the disk behind it is one like any other."""
+        """Tries a stream that leads to the disk itself: nothing is written, and only a message on another stream is
+        said. Standard input is checked only for `script` and `update`; to every other command, a disk that standard
+        input leads to is a disk like any other."""
         contents = {'a registry': self.starts['a registry'], 'zeros': self.starts['zeros'], 'an empty file': b'', '24 bytes': bytes(24)}
         for (start, content), stream in itertools.product(contents.items(), NAMES):
             for name, more in itertools.product(('disk', 'link', NAMES[stream], f'/proc/self/fd/{stream}', f'/dev/fd/{stream}'), (0, os.O_APPEND)):
@@ -174,7 +178,7 @@ class Streams:
                     self.check(f'the disk behind {NAMES[stream]}', words, start, ended, holds, content, content)
 
     def behind(self, stream, words, content, more):
-        """Runs the words with the disk behind a stream; it has the name `link` too."""
+        """Runs the command with a stream that leads to the disk, which has the name `link` too."""
         self.put(content)
         link = self.folder / 'link'
         os.link(self.disk, link)
@@ -185,7 +189,8 @@ class Streams:
         return ended
 
     def behind_input(self, name, words, start, content, more):
-        """As without it; where the disk's name is that of the stream `format` makes nothing, since its folder can't be synced."""
+        """Checks that standard input makes no difference. If the disk's name is that of the stream, `format` makes
+        nothing, because its folder can't be synced."""
         self.put(content)
         plain = self.run([words[0], 'disk', *words[2:]])
         ended = self.behind(INPUT, words, content, more)
@@ -193,7 +198,7 @@ class Streams:
         self.check('the disk behind /dev/stdin', words, start, ended, holds, content, plain.disk)
 
     def files_of_streams(self):
-        """FILE and PROGRAM on standard input: reading does no harm."""
+        """Tries FILE and PROGRAM on standard input: reading does no harm."""
         for at, ordinary in enumerate(self.commands()):
             name = {'image': 'alone', 'install': 'b.so', 'replace': 'b2.so', 'bind': 'program'}.get(ordinary[0])
             if name:
@@ -205,7 +210,7 @@ class Streams:
                 self.check('FILE on standard input', ordinary, 'a registry', ended, ended == plain, before, plain.disk)
 
     def odd(self):
-        """Streams of other kinds, with what they have to end with."""
+        """Tries streams of other kinds, with the expected ends."""
         for kind, stream, statuses, made in kinds(self.LINES, self.NO_LINES):
             for start, words in itertools.product(self.starts, self.odd_commands()):
                 plain, before = self.plain(words, start), self.start_of(words, start)
@@ -224,12 +229,12 @@ class Streams:
         return self.commands()
 
     def hung_up(self, words, stream, given, behind):
-        """The other end of a terminal goes before the command is run."""
+        """Closes the other end of a terminal before the command runs."""
         os.close(behind)
         return self.run(words, {stream: given})
 
     def without_proc(self):
-        """Where it can't be told what stands behind a stream, a message is still printed."""
+        """Checks that a message is still printed if nothing can tell which file a stream leads to."""
         hidden = ['unshare', '-m', 'sh', '-c', 'mount -t tmpfs none /proc && exec "$@"', 'sh']
         if os.getuid() or subprocess.run([*hidden, 'true'], capture_output=True).returncode:
             print('skipped: no /proc: nothing can be mounted')
@@ -243,7 +248,8 @@ class Streams:
             self.check('no /proc', ['list', name], 'a folder', plain, plain[:3] == (3, b'', f'rlibreg: cannot read {name}\n'.encode()), None, None)
 
     def interrupted(self):
-        """A read of lines that a signal interrupts is made again: the first, and the one that finds the end of a script."""
+        """Checks that a read of lines that a signal interrupts is made again: the first, and the one that finds the
+        end of a script."""
         if not shutil.which('strace'):
             print('skipped: an interrupted read: there is no strace')
             return
@@ -264,7 +270,7 @@ class Streams:
             log.unlink()
 
     def odd_words(self):
-        """A word that isn't UTF-8, at each place."""
+        """Tries an argument that isn't UTF-8, at each place."""
         before = self.starts['a registry']
         for words in self.commands():
             for at in range(len(words)):
@@ -275,7 +281,8 @@ class Streams:
 
 
 class ToolStreams(Streams):
-    """Those of the program `rlibreg-tool`. Other kinds of streams are tried by `update` alone, which reads standard input."""
+    """The streams of the program `rlibreg-tool`. Only `update`, which reads standard input, tries other kinds of
+    streams."""
 
     NAME, BAD_LINE = 'rlibreg-tool', b'usage: rlibreg-tool '
     UNWRITTEN = b'rlibreg-tool: cannot write\n'
@@ -348,8 +355,9 @@ def device(name, mode):
 
 
 def kinds(lines, no_lines):
-    """Kinds of streams: which of the three, the statuses where it is used, and how it is made, a socket with lines. A process that Python starts
-    has SIGPIPE as the system has it, so that it would end one that doesn't ignore it."""
+    """Yields kinds of streams: which of the three, the statuses if it is used, and how it is made, a socket with
+    lines. A process that Python starts has SIGPIPE as the system has it, so the signal would end a process that
+    doesn't ignore it."""
     for stream, name in NAMES.items():
         yield f'a folder as {name}', stream, (3,), folder
         yield f'a socket as {name}', stream, (0, 1, 3), lambda: talking_socket(lines)
@@ -364,7 +372,7 @@ def kinds(lines, no_lines):
 
 
 def try_streams(kind, program, folder, *disks):
-    """All that there is for a program of this kind, and whether it was as it has to be."""
+    """Tries everything for a program of this kind. Returns whether it was right."""
     streams = kind(program, folder, *disks)
     files = streams.others()
     for part in streams.parts():

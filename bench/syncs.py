@@ -37,7 +37,7 @@ from old_disks import old_disk
 from orders import Order
 from registries import DAMAGED, NO_FILE, REGISTRY, SECTOR, answer, image, state_of
 
-# So many faults of each kind are shown.
+# The number of faults of each kind that are shown.
 SHOWN = 6
 FAILED, REOPEN = b'refused S1 Device\n', b'refused S2 Reopen\n'
 LIST = ('list',)
@@ -52,7 +52,7 @@ FURTHER = [
     ('script', ('remove', b'b'), ('install', 'c.so'), LIST),
 ]
 FEW_FURTHER = [('replace', 'a2.so'), ('remove', b'b')]
-# What a failing sync brings to the medium, as `medium.c` has it.
+# What a failing sync writes to the medium, as `medium.c` has it.
 PARTS = ['none', 'all', 'first', 'rest', 'half', 'kept']
 FEW_PARTS = ['none', 'rest']
 BODIES = [
@@ -70,12 +70,13 @@ def told(state):
 
 
 def unanswered(state, replies):
-    """The states that lines without answers may have led to: no other is made before an accepted change is answered."""
+    """Returns the states that lines without answers may have led to: no other change is made before an accepted change
+    is answered."""
     return {state, *[after for reply, after in replies if reply == b'ok\n'][:1]}
 
 
 class Book:
-    """What this script itself knows that commands make of states."""
+    """This script's own knowledge of the states that commands make."""
 
     def __init__(self, files):
         self.files, self.image = files, image(BASE, PROGRAM, LIBRARIES['a.so'][1], 'a')
@@ -87,7 +88,7 @@ class Book:
         return answer(state, words[0], *rest)
 
     def answers(self, state, command):
-        """The replies to a command, or to a script's lines, each with the state after it, and the status."""
+        """Returns the replies to a command, or to a script's lines, each with the state after it, and the status."""
         replies = []
         script = command[0] == 'script'
         if script and state.kind != REGISTRY:
@@ -100,7 +101,8 @@ class Book:
         return replies, int(any(reply.startswith(b'refused') for reply, _ in replies))
 
     def after(self, state, command, ended):
-        """The states that may be there after a run that ended so from a state: none where it can't have."""
+        """Returns the states that may be there after a run that ended in this way from a state; none if it can't have
+        ended so."""
         replies, status = self.answers(state, command)
         text, number = ended.output, 0
         while number < len(replies) and text.startswith(replies[number][0]) and (text or ended.status == status):
@@ -131,7 +133,7 @@ class Bench:
             print(f'WRONG: {kind}: {what}{more}', flush=True)
 
     def states(self, held):
-        """The states that machines may find after a cut, with their number."""
+        """Returns the states that machines may find after a cut, with their number."""
         if held not in self.of_cuts:
             disks = {machine.content if DISK in machine.names else None for machine in found(held, self.trials)}
             self.of_disks.update((disk, state_of(disk)) for disk in disks if disk not in self.of_disks)
@@ -139,7 +141,7 @@ class Bench:
         return self.of_cuts[held]
 
     def after_cuts(self, way):
-        """What machines find after a cut has to be allowed."""
+        """Checks that what machines find after a cut is allowed."""
         count, states = self.states(way.held)
         self.judged += count
         for state in states - way.allowed:
@@ -153,7 +155,7 @@ class Bench:
                 self.wrong(fault, what)
 
     def run(self, way, command, what, **how):
-        """A run, which has to end as it may, and the way on from there: none where it ended otherwise."""
+        """Makes a run, which has to end as it may. Returns the way on from there, or None if it ended otherwise."""
         ended = self.machine.run(way.held, command, **how)
         allowed = frozenset().union(*(self.book.after(state, command, ended) for state in way.allowed))
         self.judged += 1
@@ -169,7 +171,7 @@ class Bench:
         return ended, on
 
     def opened(self, way, **how):
-        """A `list`: what it showed is shown again, also after a cut. Gives the way on from there."""
+        """Runs a `list`: the state that it showed is shown again, also after a cut. Returns the way on from there."""
         what = way.what + ', list'
         ended, shown = self.run(way, LIST, what, **how)
         if shown:
@@ -178,7 +180,8 @@ class Bench:
         return shown
 
     def failing(self, way, command, syncs, parts, what, **how):
-        """Each sync failing with each part that it brings to the medium, and the next one too if it is still made."""
+        """Yields each sync failing with each part that it writes to the medium, and the next sync too if it is still
+        made."""
         for number, brought in itertools.product(range(1, syncs + 1), parts):
             words = f'{what}, sync {number} fails and brings {brought}'
             ended, on = self.run(way, command, words, fail=number, brought=brought, **how)
@@ -187,7 +190,8 @@ class Bench:
                 yield self.run(way, command, words + ', the next too', fail=f'{number},{number + 1}', brought=brought, **how)[1]
 
     def ways(self, way, command, parts, **how):
-        """Where a command leads to, each once: it is done, a sync fails, or the process ends before a step."""
+        """Yields the ways that a command leads to, each once: it is done, a sync fails, or the process ends before a
+        step."""
         what = f'{way.what}, {command[0]}' if way.what else command[0]
         ended, on = self.run(way, command, what, **how)
         cuts = (self.run(way, command, f'{what} ended before step {n}', cut=n, **how)[1] for n in range(1, steps_of(ended.log) + 1))
@@ -198,7 +202,7 @@ class Bench:
                 yield later
 
     def hidden(self, way):
-        """The sync of the next opening fails, or answers that it was done since the failure was told to another process."""
+        """Makes the sync of the next opening fail, or succeed because the failure was reported to another process."""
         for brought in PARTS if way.held.dirty else ():
             what = f'{way.what}, list whose sync brings {brought}'
             ways = [self.run(way, LIST, what, fail=1, brought=brought)[1]]
@@ -210,7 +214,8 @@ class Bench:
                 self.opened(later)
 
     def other_errors(self, way, command):
-        """Syncs that answer other errors: EINVAL is forgiven only of a file that is open for reading alone, EROFS never."""
+        """Tries syncs that return other errors: EINVAL is forgiven only for a file that is open only for reading,
+        EROFS never."""
         syncs = syncs_of(self.machine.run(way.held, command).log)
         errors = [errno.EROFS] if command in (LIST, BIND) else [errno.EINVAL, errno.EROFS]
         for number, error in itertools.product(range(1, syncs + 1), errors):
@@ -220,7 +225,8 @@ class Bench:
                 self.opened(on)
 
     def read_only(self, way, command):
-        """A medium that can't be written, whose syncs answer EINVAL: a `list` or a `bind` works, a change writes nothing."""
+        """Tries a medium that can't be written, whose syncs return EINVAL: a `list` or a `bind` works, a change writes
+        nothing."""
         ended = self.machine.run(way.held, command, read_only=1, brought='none', error=errno.EINVAL)
         self.judged += 1
         if command in (LIST, BIND):
@@ -231,7 +237,8 @@ class Bench:
             self.wrong('another answer', f'{command[0]} of a medium that is read alone', f': {ended.status} {ended.output}')
 
     def moved(self):
-        """A first format ends where its file has both names; the registry is moved away, and DISK formatted again."""
+        """Ends a first format while its file has both names. Then the registry is moved away, and DISK formatted
+        again."""
         for number in range(1, steps_of(self.machine.run(clean(None), FORMAT).log) + 1):
             held = self.machine.run(clean(None), FORMAT, cut=number).held
             if held.names != {DISK, NEW}:
@@ -245,28 +252,29 @@ class Bench:
                 self.wrong('another answer', 'format, its registry moved, format', f': {ended.status} {ended.output} {whole}')
 
     def lost(self):
-        """The system couldn't write the journal before the sync of the folder, which doesn't tell."""
+        """Tries a journal that the system couldn't write before the sync of the folder, which doesn't report it."""
         start = Way(clean(None), frozenset([state_of(None)]), '')
         way = self.run(start, FORMAT, 'format whose name is lost', lost=1)[1]
         if way:
             self.run(way, FORMAT, f'{way.what}, asked again')
 
     def further(self, way, command):
-        """A further change, with its own faults."""
+        """Makes a further change, with its own faults."""
         for later in self.ways(way, command, PARTS if self.all else FEW_PARTS):
             if self.all:
                 self.hidden(later)
             self.opened(later)
 
     def refused(self, way, command, what, **how):
-        """A run that has to be refused, and to leave all as it was."""
+        """Makes a run that has to be refused, and to leave everything as it was."""
         ended = self.machine.run(way.held, command, **how)
         self.judged += 1
         if ended.status != 3 or ended.output.replace(REOPEN, b'') not in (b'', FAILED) or ended.held != way.held:
             self.wrong('another answer', f'{way.what}, {command[0]}, {what}', f': {ended.status} {ended.output}')
 
     def shown_otherwise(self, way, further):
-        """The medium has other roots than are shown: a read past memory fails, or can't be had, or somebody has them mapped."""
+        """Tries a medium that has other roots than are shown: a read past memory fails, or isn't available, or
+        somebody has the roots mapped."""
         changes = [command for command in further if command[0] not in ('script', 'format')]
         mapped = way._replace(what=way.what + ', mapped')
         self.refused(mapped, LIST, 'which only looks', mapped=1)
@@ -279,7 +287,8 @@ class Bench:
                 self.opened(later)
 
     def faulty(self, start, command, further):
-        """A command with its faults, and after each of them an opening and each further change. Gives how many states it led to."""
+        """Runs a command with its faults, and after each of them an opening and each further change. Returns how many
+        states it led to."""
         states = 0
         for way in self.ways(start, command, PARTS):
             states += 1
@@ -296,7 +305,7 @@ class Bench:
         return states
 
     def row(self, name, command, disk, further):
-        """All of it for one command from one disk, with the line that says so."""
+        """Tries everything for one command from one disk, and prints the line about it."""
         began, runs, judged, faults = time.monotonic(), self.machine.runs, self.judged, sum(self.faults.values())
         start = Way(clean(disk), frozenset([state_of(disk)]), '')
         states = self.faulty(start, command, further)
@@ -307,7 +316,7 @@ class Bench:
 
 
 def disk_with(machine, *commands):
-    """The bytes of a disk on which these were done after a format, with nothing failing."""
+    """Returns the bytes of a disk on which these commands were run after a format, with nothing failing."""
     held = clean(None)
     for command in (FORMAT, *commands):
         ended = machine.run(held, command)
@@ -318,7 +327,7 @@ def disk_with(machine, *commands):
 
 
 def rows(machine, everything):
-    """The commands, each with its name, the disk that it is run on, and the further changes after it."""
+    """Yields the commands, each with its name, the disk that it is run on, and the further changes after it."""
     one = disk_with(machine, ('install', 'a.so'))
     two = disk_with(machine, ('install', 'a.so'), ('install', 'b.so'))
     old = old_disk(SECTORS, [machine.files[file] for file in ('a.so', 'b.so')])
@@ -336,7 +345,7 @@ def rows(machine, everything):
 
 
 def try_all(program, folder, body, everything):
-    """How many faults there are."""
+    """Tries everything. Returns the number of faults."""
     bench = Bench(Machine(program, folder, body), everything)
     for row in rows(bench.machine, everything):
         bench.row(*row)

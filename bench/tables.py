@@ -36,8 +36,9 @@ def words(numbers):
 
 
 def library(strings, symbols, buckets, chains, needed=0):
-    """A library named q: symbols from number 1 on as (offset of the name, st_info), the strings behind the library's own,
-    the buckets and the chain words, that of symbol 0 too, and how often it needs q. Addresses are offsets of the file."""
+    """Returns a library named q. It has symbols from number 1 on as pairs (offset of the name, st_info), the strings
+    after the library's own, the buckets and the chain words, also that of symbol 0, and needs q `needed` times.
+    Addresses are offsets of the file."""
     own = b'\0q\0'
     table = words([len(buckets), len(chains)]) + words(buckets) + words(chains)
     table += bytes(-len(table) % 8)
@@ -60,12 +61,12 @@ def library(strings, symbols, buckets, chains, needed=0):
 
 
 def numbered(count, stem=b'', digits=6):
-    """So many names that end in their number."""
+    """Returns `count` names that end in their number."""
     return [stem + f'{i:0{digits}x}'.encode() for i in range(count)]
 
 
 def placed(names):
-    """The strings of some names, and where each begins."""
+    """Returns the strings of some names, and where each begins."""
     offsets, at = [], 0
     for name in names:
         offsets.append(at)
@@ -74,7 +75,7 @@ def placed(names):
 
 
 def line(count):
-    """The chain words of one walk from symbol 1 through all."""
+    """Returns the chain words of one walk from symbol 1 through all."""
     return [0] + [i + 1 if i < count else 0 for i in range(1, count + 1)]
 
 
@@ -88,7 +89,7 @@ def one_bucket(count, buckets=1):
 
 
 def own_buckets(count):
-    """As many buckets as symbols, each with the chain of its symbols."""
+    """Makes as many buckets as symbols, each with the chain of its symbols."""
     names = numbered(count)
     strings, offsets = placed(names)
     buckets, chains = [0] * count, [0] * (count + 1)
@@ -100,8 +101,8 @@ def own_buckets(count):
 
 
 def tree(count):
-    """Chains that merge: the word of i is i // 2. Each symbol whose bucket is free is exported, and its bucket holds an
-    index as deep below it as there is."""
+    """Makes chains that merge: the word of i is i // 2. Each symbol whose bucket is free is exported, and its bucket
+    has an index as deep below it as there is."""
     names = numbered(count)
     strings, offsets = placed(names)
     buckets, symbols = [count - i % (count // 2) for i in range(count)], []
@@ -119,8 +120,8 @@ def tree(count):
 
 
 def comb(count):
-    """Chains that merge into one of half the symbols: each symbol of the other half begins a walk along it. The symbols
-    of the long walk are exported, those whose bucket is free."""
+    """Makes chains that merge into one of half the symbols: each symbol of the other half begins a walk along it. The
+    symbols of the long walk whose buckets are free are exported."""
     half = count // 2
     names = numbered(count)
     strings, offsets = placed(names)
@@ -135,7 +136,7 @@ def comb(count):
 
 
 def used(program, file):
-    """What a run takes of the processor, in milliseconds, or more than any where it hasn't ended after 20 seconds."""
+    """Returns the processor time of a run, in milliseconds, or infinity if it hasn't ended after 20 seconds."""
     before = resource.getrusage(resource.RUSAGE_CHILDREN)
     try:
         ended = subprocess.run([program, 'image', str(file), '0x1'], stdout=subprocess.DEVNULL, timeout=20)

@@ -24,8 +24,8 @@ def string(length, kind):
 
 
 def made(strings, symbols, soname=b'', needed=(), tags=()):
-    """An object of symbols (where the name begins in its strings, EXPORT or ASKED), whose exports are in one bucket, and in
-    which a relocation names each symbol that is asked for."""
+    """Returns an object of symbols (pairs of where the name begins in its strings, and EXPORT or ASKED). Its exports
+    are in one bucket, and a relocation names each symbol that is asked for."""
     own, places = b'\0', []
     for name in [soname, *needed]:
         places.append(len(own))
@@ -63,27 +63,28 @@ def tails(count, kind, begin=0):
 
 
 def in_two_libraries(n):
-    """n tails of one string, which two libraries export."""
+    """Returns n tails of one string, which two libraries export."""
     text = string(50 * n, 1)
     libraries = [made(text, tails(n, EXPORT), name) for name in (b'a', b'b')]
     return made(text, tails(n, ASKED), needed=[b'a', b'b']), libraries
 
 
 def of_one_library(n):
-    """n tails of one string, which one library exports."""
+    """Returns n tails of one string, which one library exports."""
     text = string(50 * n, 1)
     return made(text, tails(n, ASKED), needed=[b'a']), [made(text, tails(n, EXPORT), b'a')]
 
 
 def of_a_symbolic_library(n):
-    """A symbolic library that exports n tails of one string, and asks for n tails of another, which the program gives."""
+    """Returns a symbolic library that exports n tails of one string, and asks for n tails of another, which the
+    program exports."""
     own, other = string(50 * n, 1), string(50 * n, 2)
     symbols = tails(n, EXPORT) + tails(n, ASKED, len(own) + 1)
     return made(other, tails(n, EXPORT), needed=[b'a']), [made(own + b'\0' + other, symbols, b'a', tags=[SYMBOLIC])]
 
 
 def least(folder, programs):
-    """The least time of each program, all of which have to write the same."""
+    """Returns the least time of each program; all of them have to write the same."""
     for at, program in enumerate(programs):
         disk = folder / f'disk-{at}'
         disk.unlink(missing_ok=True)

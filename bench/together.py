@@ -29,7 +29,7 @@ from checks import Checks, CLibrary, Program, emptied, has, held_file, looks, so
 from libraries import Made, name, symbol
 
 COUNT, SECTORS = 12, '512'
-# Seconds: what is at once, how long a change tries, and how long a command is asked again.
+# Seconds: the limit of "at once", how long a change tries, and how long a command is repeated.
 AT_ONCE, TRIES, AGAIN = 1.0, 2.0, 60.0
 LOOKS = ('list', 'bind')
 READS = {'read', 'pread64', 'readv', 'write', 'pwrite64', 'writev', 'ftruncate', 'mmap', 'fsync', 'fdatasync'}
@@ -41,7 +41,7 @@ def library(i, version):
 
 
 def made_files(folder):
-    """Two versions of each library, of different lengths, and a program that needs the first one."""
+    """Makes two versions of each library, of different lengths, and a program that needs the first library."""
     for i in range(COUNT + 4):
         for version in (0, 1):
             made = Made(name(i), exports=[symbol(i)], data=700 + 1000 * version + 100 * i)
@@ -51,7 +51,7 @@ def made_files(folder):
 
 
 class State:
-    """What a listing says: the libraries with their lengths, in their order, and the preloads."""
+    """The state that a listing shows: the libraries with their lengths, in their order, and the preloads."""
 
     def __init__(self, text):
         words = [line.split() for line in text.decode().splitlines()]
@@ -60,7 +60,7 @@ class State:
         self.preloads = [word[1] for word in words if word[0] == 'preload']
 
     def changed(self, change):
-        """What a change that was made leaves: its first word, and the library or the preloads."""
+        """Applies a change that was made: its command, the library or the preloads, and the length."""
         what, names, length = change
         if what in ('install', 'replace'):
             self.libraries[names[0]] = length
@@ -70,7 +70,8 @@ class State:
             self.preloads = names
 
     def between(self, before, after):
-        """Whether it may be found on the way: what was installed on it, in the order of the end, is a first part of that."""
+        """Returns whether this state may be found between `before` and `after`: the libraries that were installed on
+        the way, in the order of the end, are a first part of those installed in all."""
         kept = [it for it in before.libraries if it in self.libraries]
         grown = list(self.libraries)[len(kept):]
         good = self.whole and list(self.libraries)[:len(kept)] == kept
@@ -81,14 +82,14 @@ class State:
 
 
 def change_of(folder, words):
-    """What the words change, as `State.changed` takes it."""
+    """Returns the change that a command asks for, as `State.changed` takes it."""
     if words[0] in ('install', 'replace'):
         return words[0], [name(int(words[2].split('-')[1])).decode()], (folder / words[2]).stat().st_size
     return words[0], words[2:], 0
 
 
 def side_by_side(calls):
-    """Makes all calls at the same time, and gives what they gave."""
+    """Makes all calls at the same time. Returns their results."""
     found = [None] * len(calls)
     def one(i):
         found[i] = calls[i]()
@@ -119,7 +120,7 @@ class Rounds:
         self.images = self.all_images()
 
     def all_images(self):
-        """The images of the program over each state that a round of all commands may go through."""
+        """Returns the images of the program over each state that a round of all commands may go through."""
         images = set()
         for first in (0, 1):
             for second in (0, 1):
@@ -140,12 +141,12 @@ class Rounds:
         return State(ended.output if ended.status == 0 else b''), ended
 
     def at_once(self, asked):
-        """Runs them all at the same time; each is a program, its words, and what it is given."""
+        """Runs all of them at the same time; each is a program, its arguments, and its input."""
         begun = [(by, words, given, by.begin(words)) for by, words, given in asked]
         return [(by, words, by.end(process, given)) for by, words, given, process in begun]
 
     def judge(self, kind, before, answers, others=False):
-        """Compares the end of a round with what was answered in it; where no others hold the disk one has to get it."""
+        """Compares the end of a round with its answers. If no others hold the disk, one of the runs has to get it."""
         wanted = State(before)
         for by, words, ended in answers:
             if words[0] in ('install', 'replace', 'remove', 'preload', 'script') and ended.output[:3] == b'ok\n':
@@ -159,7 +160,7 @@ class Rounds:
         self.checks.want(kind, others or any(not by.held(ended, 'disk') for by, _, ended in answers), 'nobody got the disk')
 
     def answer(self, by, words, ended, before, after):
-        """What was answered, in a word."""
+        """Returns the answer of a run as one word."""
         what, listing = words[0], ended.output
         if by.held(ended, 'disk'):
             return 'held'
@@ -186,7 +187,7 @@ class Rounds:
             self.round('12 installs', self.empty, [(self.program, ['install', 'disk', library(i, 0)], b'') for i in range(COUNT)])
 
     def until_done(self):
-        """Each is asked again until it isn't held: then all are there."""
+        """Repeats each command until the disk isn't locked for it: then all libraries are there."""
         kind = '12 installs, each until it is done'
         for _ in range(self.count):
             self.put(self.empty)
@@ -206,7 +207,7 @@ class Rounds:
         return self.tool if self.tool and i % 2 else self.program
 
     def commands(self):
-        """All commands at once, each of which may be answered `ok` after each other."""
+        """Returns all commands, to be run at once, each of which may be answered `ok` after each other."""
         given = b'install ' + (self.folder / library(COUNT, 0)).read_bytes().hex().encode() + b'\nlist\n'
         words = [['install', 'disk', library(i, 0)] for i in (3, 4, 5)] + [['replace', 'disk', library(i, 1)] for i in (0, 1)]
         words += [['remove', 'disk', name(2).decode()], ['preload', 'disk', name(1).decode()], ['list', 'disk']]
@@ -220,7 +221,7 @@ class Rounds:
             self.round('all commands', self.three, asked)
 
     def beside(self):
-        """Half of them by the C library."""
+        """Runs half of them by the C library."""
         for turn in range(self.count):
             asked = [(by, ['install', 'disk', library(i, 0)], b'') for i, by in zip(range(3, 11), [self.program, self.tool] * 4)]
             for i, by in enumerate((self.program, self.tool)):
@@ -229,7 +230,7 @@ class Rounds:
             self.round('program beside C library', self.three, asked)
 
     def lists(self):
-        """One writer, which replaces one library after the other, beside eleven that list."""
+        """Runs one writer, which replaces one library after the other, beside eleven processes that list."""
         kind, steps = 'lists beside a writer', [(0, 1), (1, 1), (2, 1), (0, 0), (1, 0), (2, 0)]
         states = [State(self.listing_of(self.three))]
         for i, version in steps:
@@ -262,7 +263,7 @@ class Rounds:
                 thread.join()
 
     def until(self, by, words):
-        """Asked again until it isn't held."""
+        """Repeats a command until the disk isn't locked."""
         end = time.monotonic() + AGAIN
         ended = by.run(words)
         while by.held(ended, 'disk') and time.monotonic() < end:
@@ -275,7 +276,7 @@ class Rounds:
         return self.program.done('list', 'disk')
 
     def moved(self):
-        """A copy is put in the disk's place again and again, by one who holds the lock of the file that stood there."""
+        """Puts a copy in the disk's place again and again, while locking the file that was there before."""
         kind = 'a copy put in its place, beside installs'
         for _ in range(self.count):
             self.put(self.three)
@@ -305,7 +306,7 @@ class Rounds:
             time.sleep(0.002)
 
     def exchanged(self):
-        """Two registries in each other's place, without a lock: a list shows one of the two."""
+        """Exchanges two registries again and again, without a lock: a list shows one of the two."""
         kind, good = 'other registries put in its place, beside lists', []
         for content in (self.empty, self.three):
             good.append(self.listing_of(content))
@@ -349,7 +350,7 @@ class Rounds:
         self.checks.want(kind, not (self.folder / '.disk.rlibreg-new').exists(), 'the other name is left')
 
     def holders(self):
-        """A disk that is held: what the commands are answered, and how soon."""
+        """Tries a locked disk: what the commands answer, and how soon."""
         for by in filter(None, (self.program, self.tool)):
             for how, kind in ((fcntl.LOCK_SH, f'{by.name}: a reader holds the disk'), (fcntl.LOCK_EX, f'{by.name}: a writer holds the disk')):
                 self.put(self.three)
@@ -381,7 +382,7 @@ class Rounds:
         self.checks.note(kind, 'held' if by.held(ended, 'disk') else 'done' if good else 'wrong')
 
     def before_the_disk(self, kind):
-        """What is asked before the disk is opened."""
+        """Tries refusals that come before the disk is opened."""
         for words, status, errors in ((['install', 'disk', 'none'], 3, b'rlibreg: cannot read none\n'),
                                       (['bind', 'disk', 'none', '0x10000'], 3, b'rlibreg: cannot read none\n'),
                                       (['bind', 'disk', 'program', '10'], 2, b'rlibreg: bad base\n')):
@@ -389,7 +390,7 @@ class Rounds:
             self.checks.want(kind, ended[:3] == (status, b'', errors), words, ended)
 
     def traced(self, words, given, injected=()):
-        """Runs it under strace, and gives what it did with the disk."""
+        """Runs the command under strace. Returns how it ended, and what it did with the disk."""
         log = self.folder / f'calls-{threading.get_ident()}'
         wrapped = ['strace', '-f', '-qq', '-o', str(log), '-P', str(self.disk)] + [it for one in injected for it in ('-e', f'inject={one}')]
         ended = self.program.run(words, given, wrapped)
@@ -397,7 +398,7 @@ class Rounds:
         return ended, [call for call in calls if call in READS]
 
     def unlocked(self):
-        """A held disk isn't read; nor is one on a file system that can't lock."""
+        """Checks that a locked disk isn't read, and neither is one on a file system that can't lock."""
         for fault in (None, 'ENOLCK', 'EOPNOTSUPP', 'ENOSYS', 'EIO', 'EBADF'):
             kind, injected = (f'no lock: {fault}', [f'flock:error={fault}']) if fault else ('nothing is read of a held disk', [])
             self.put(self.three)
@@ -409,7 +410,7 @@ class Rounds:
                 self.checks.want(kind, good, words, ended, calls)
 
     def interrupted(self):
-        """A lock that a signal interrupts is asked for again, or given up."""
+        """Checks that a lock that a signal interrupts is requested again, or given up."""
         for _, words, given in self.commands():
             self.put(self.three)
             before = self.program.done('list', 'disk')
@@ -418,7 +419,7 @@ class Rounds:
             self.judge('an interrupted lock', before, [(self.program, words, ended), (self.program, ['list', 'disk'], listed)])
 
     def between_opening_and_locking(self):
-        """The lock comes a second late, and another registry stands there by then."""
+        """Delays the lock by a second; by then another registry is in the disk's place."""
         kind = 'put in its place between opening and locking'
         for words in (['install', 'disk', library(3, 0)], ['list', 'disk']):
             self.put(self.empty)
@@ -454,7 +455,7 @@ class Rounds:
 
 
 class Waiting:
-    """The C library's program, which waits for a disk that is held."""
+    """The C library's program, which waits for a locked disk."""
 
     def __init__(self, tool):
         self.tool, self.name = tool, 'C library, waiting'

@@ -30,7 +30,7 @@ READ = re.compile(r'^pread64\(\d+<([^>]*)>, .*, (\d+)\) += (\d+)$')
 TRACED = ['strace', '-qq', '-y', '-s', '0', '-e', 'trace=pread64', '-o', 'log']
 EACH, SIZES = 1024, (3000, 5000, 90_000)
 
-# The sectors that tell of a registry, and those of each library's file.
+# The sectors that describe a registry, and those of each library's file.
 Layout = collections.namedtuple('Layout', 'told files')
 
 
@@ -57,7 +57,7 @@ def layout(disk):
 
 
 def reads(log, disk):
-    """The sectors of each read of a disk in a log of strace."""
+    """Returns the sectors of each read of a disk in a log of strace."""
     calls = (READ.match(line) for line in log.read_text().splitlines())
     begun = ((int(call[2]), int(call[3])) for call in calls if call and call[1] == str(disk))
     return [range(place // SECTOR, (place + length) // SECTOR) for place, length in begun]
@@ -71,7 +71,7 @@ class Bench:
         self.tool = Tool(programs / 'rlibreg-tool', folder)
 
     def fill(self, files):
-        """A disk with these libraries and room for some more."""
+        """Makes a disk with these libraries and room for some more."""
         self.disk.unlink(missing_ok=True)
         sectors = sum(len(file) // SECTOR + 3 for file in files) + 200
         self.rlibreg.done('format', 'disk', str(sectors))
@@ -106,7 +106,7 @@ class Bench:
     # Memory.
 
     def memory(self, form):
-        """The most memory of a form, in bytes."""
+        """Returns the maximum memory of a form, in bytes."""
         words = ['/usr/bin/time', '-f', '%M', self.tool.path, form, 'disk']
         ended = subprocess.run(words, cwd=self.folder, check=True, stdout=subprocess.DEVNULL,
                                stderr=subprocess.PIPE)
@@ -127,7 +127,7 @@ class Bench:
     # Damage.
 
     def three(self):
-        """Three libraries, of which the last has the last sectors of all; a program for each."""
+        """Makes three libraries, the last of which has the last sectors of all, and a program for each."""
         self.fill([library(i, size).file for i, size in enumerate((2000, *SIZES))])
         self.rlibreg.done('remove', 'disk', name(0).decode())
         self.rlibreg.done('preload', 'disk', name(1).decode())
@@ -138,7 +138,7 @@ class Bench:
         return layout(self.disk.read_bytes())
 
     def digests(self, kind, disk, files, line):
-        """The digests of files, and what is said of the library that can't be read."""
+        """Checks the digests of files, and the message about the library that can't be read."""
         sums = [b'%s  %s\n' % (hashlib.sha256(file).hexdigest().encode(), called)
                 for called, file in sorted(files.items())]
         wanted = (1, b''.join(sums), b'rlibreg-tool: ' + line) if line else (0, b''.join(sums), b'')
@@ -146,7 +146,7 @@ class Bench:
         self.checks.want(f'{kind}: digests', ended[:3] == wanted, ended, wanted)
 
     def answers(self, kind, disk, wrong, line, status):
-        """What each form answers where one library, of the name `wrong`, is told by `line`."""
+        """Checks the answer of each form if `line` reports one library, of the name `wrong`."""
         others = [called for called in map(name, (1, 2, 3)) if called != wrong]
         files = {called: self.files[called] for called in others}
         lengths = {called: b'ok %s %d\n' % (called, len(file)) for called, file in files.items()}

@@ -46,7 +46,7 @@ class Turns:
         subprocess.run(words, cwd=self.folder, check=True, stdout=subprocess.DEVNULL)
 
     def begin_loops(self, kind, count):
-        """Each has a file of the statuses of what it started."""
+        """Starts loops. Each has a file with the statuses of what it started."""
         loops = []
         for i in range(count):
             log = open(self.folder / f'log-{i}', 'w+')
@@ -55,7 +55,7 @@ class Turns:
         return loops
 
     def end_loops(self, loops):
-        """How many had each status."""
+        """Ends the loops. Returns how many starts ended with each status."""
         found = collections.Counter()
         for loop, _ in loops:
             loop.kill()
@@ -67,7 +67,7 @@ class Turns:
         return found
 
     def changes(self, command, count):
-        """How many succeed, and the milliseconds of these, in order."""
+        """Makes changes. Returns the milliseconds of those that succeed, in order."""
         times = []
         for i in range(count):
             begun = time.perf_counter()
@@ -80,7 +80,7 @@ class Turns:
         return sorted(times)
 
     def beside(self, kind, loops, changes):
-        """The times of updaters and of replacements, and what the loops did."""
+        """Returns the times of updaters and of replacements, and what the loops did."""
         begun = self.begin_loops(kind, loops)
         since = time.perf_counter()
         time.sleep(0.2)

@@ -7,13 +7,12 @@ import shutil
 from debian_sources import NotHad
 from real_builds import Build, need, run
 
-# A project: its package; its commands, in which {cc} and {cxx} are the compilers, {words} those of
-# `linked` or of `static`, and the name of a project in `before` is its folder; where its libraries are,
-# in the order of what needs what; its programs, by where they are, and where the static ones are; and
-# the tools that it takes.
+# A project: its package; its commands, in which {cc} and {cxx} are the compilers, {words} are those of `linked` or of
+# `static`, and the name of a project in `before` is its folder; the places of its libraries, in the order of what
+# needs what; its programs, by their places, and the places of the static ones; and the tools that it needs.
 Project = collections.namedtuple(
     'Project', 'package commands linked static libraries programs tools before', defaults=((), ()))
-# The packages of tools, where these have another name.
+# The packages of tools that have another name.
 PACKAGES = {'libtoolize': 'libtool', 'tclsh': 'tcl'}
 CMAKE = 'cmake -DCMAKE_C_COMPILER={cc} -DCMAKE_CXX_COMPILER={cxx} {words} . && make'
 STATIC = '-DBUILD_SHARED_LIBS=OFF -DCMAKE_EXE_LINKER_FLAGS=-static'
@@ -30,15 +29,15 @@ YAML = ('run-parser', 'run-scanner', 'run-loader', 'run-emitter', 'run-dumper', 
 # xz's tests.
 XZ = ('bcj_exact_size', 'block_header', 'check', 'filter_flags', 'hardware', 'index', 'index_hash',
       'lzip_decoder', 'memlimit', 'stream_flags', 'vli')
-# Of libsodium's tests those that end soon, each after what it is about.
+# Those of libsodium's tests that end soon, each after its subject.
 SODIUM = ('aead_aes256gcm', 'aead_xchacha20poly1305', 'auth', 'box', 'chacha20', 'core_ristretto255',
           'ed25519_convert', 'generichash', 'hash', 'kdf', 'kx', 'misuse', 'onetimeauth', 'randombytes',
           'scalarmult', 'secretbox', 'secretstream', 'shorthash', 'sign', 'sodium_core', 'sodium_utils',
           'sodium_utils2', 'sodium_utils3', 'sodium_version', 'stream')
-# Of mbedTLS's tests some of those that hold at each date: certificates of ssl and x509parse have ended.
+# Some of mbedTLS's tests that hold at each date: certificates of ssl and x509parse have expired.
 TLS = ('aes.ecb', 'base64', 'bignum.misc', 'ccm', 'error', 'gcm.aes128_en', 'md', 'pem', 'rsa', 'version',
        'x509write')
-# tcc with no dlopen, that compiles for musl.
+# tcc without dlopen, which compiles for musl.
 MUSL = '/usr/lib/x86_64-linux-musl'
 TCC = (f'./configure --cc="{{cc}}" {{words}} --extra-cflags="-O2 -DCONFIG_TCC_STATIC" --config-musl '
        f'--crtprefix={MUSL} --libpaths={MUSL} '
@@ -108,8 +107,8 @@ PROJECTS = {
 
 
 def build_one(project, source, kind, words, compiler, before):
-    """Runs a project's commands in its source, a copy of which is kept. Both kinds are built under one
-    name, since some programs print it."""
+    """Runs a project's commands in its source, a copy of which is kept. Both kinds are built under one name, because
+    some programs print it."""
     place, kept = source.with_name(kind), source.with_name('source')
     if not kept.exists():
         source.rename(kept)
@@ -121,7 +120,8 @@ def build_one(project, source, kind, words, compiler, before):
 
 
 def build(name, folder, archives, built):
-    """A project with its programs, by the driver and static; `built` has those that came before."""
+    """Builds a project with its programs, by the driver and as static programs. `built` has the projects that came
+    before."""
     project, it = PROJECTS[name], Build(folder)
     for tool in project.tools:
         need(tool, PACKAGES.get(tool, tool))

@@ -47,7 +47,8 @@ class Files:
         return file
 
     def library(self, choose, name):
-        """One of the libraries of this name: of 1 to 13 sectors, or seldom more; some export another symbol, some need a library."""
+        """Returns one of the libraries of this name: of 1 to 13 sectors, or rarely more. Some export another symbol,
+        some need a library."""
         size = choose.choice((0, 0, 500, 1500, choose.randrange(6000), choose.randrange(15000)))
         return self.made(name, choose.choice(((), (), (), (b'a',), (b'b', b'a'))), (choose.choice((b'f', b'f', b'g')) + name,), (), size)
 
@@ -57,7 +58,7 @@ class Files:
 
 
 def lists(count):
-    """The catalogues of so many libraries."""
+    """Returns the number of catalogues of `count` libraries."""
     return -(-count // 64)
 
 
@@ -66,7 +67,7 @@ def cost(data):
 
 
 class Draft:
-    """What the lines of an update have planned so far, beside the state that stands."""
+    """What the lines of an update have planned so far, beside the current state."""
 
     def __init__(self, stands, known):
         self.stands = self.state = stands
@@ -93,7 +94,7 @@ class Draft:
         return b'planned\n'
 
     def refused_first(self, command, words):
-        """C1, C5 and C6, which CHANGES hasn't."""
+        """Returns the refusals C1, C5 (RepeatedPreload) and C6 (TooManyPreloads), which CHANGES doesn't have."""
         if command in ('install', 'replace') and words[0] is None:
             return b'refused C1 E2 BadMagic\n', None
         if command == 'preload' and len(words) > 16:
@@ -103,8 +104,8 @@ class Draft:
         return None
 
     def lacks_room(self, command, data):
-        """Whether the free sectors are fewer than the file costs: what stands, what is planned and room for the catalogues of
-        either, twice, are left alone."""
+        """Returns whether there are fewer free sectors than the file costs. The sectors of the current state, of the
+        plan, and of the catalogues of either, twice, aren't free."""
         count = len(self.state.libraries)
         kept = 2 * max(self.catalogues, lists(count)) - self.catalogues
         more = 2 if command == 'install' and count % 64 == 0 else 0
@@ -130,7 +131,7 @@ class Draft:
 
 
 class Lines:
-    """The lines of a random update, and what they have to end with."""
+    """The lines of a random update, and how they have to end."""
 
     def __init__(self, choose, files, names, stands, generation):
         self.choose, self.files, self.names = choose, files, names
@@ -157,7 +158,7 @@ class Lines:
         return (command, name) if command == 'remove' else (command,)
 
     def ask(self, command, *words):
-        """Adds a line, and gives whether it is accepted."""
+        """Adds a line. Returns whether it is accepted."""
         if command in ('install', 'replace'):
             said = [words[1].hex().encode()]
         elif command == 'bind':
@@ -170,7 +171,7 @@ class Lines:
         return not answer.startswith(b'refused')
 
     def end(self):
-        """Adds what ends the lines, and gives what the update ends with."""
+        """Adds the last line. Returns how the update ends."""
         behind, answer = self.choose.choice([(b'commit\n', OK)] * 12 + [
             (b'commit\ncommit\n', OK), (b'commit\nnothing of this is read', OK), (b'', b'refused L3 NoCommit\n'),
             (b'commit', b'refused L2 CutLine\n'), (b'remove a', b'refused L2 CutLine\n'), (b'commit \ncommit\n', b'refused L1 BadLine\n'),
@@ -185,7 +186,7 @@ class Lines:
 
 
 def empty(sectors):
-    """A disk that holds an empty registry."""
+    """Returns a disk that holds an empty registry."""
     return struct.pack('<8sQI', b'RLIBREG2', 0, sectors).ljust(SECTOR * sectors, b'\0')
 
 
@@ -205,7 +206,7 @@ class Bench:
             self.checks.skip('power cuts', 'there is no strace')
 
     def updates(self, count, choose):
-        """So many updates, some after each other on each disk."""
+        """Runs `count` updates, some of them after each other on each disk."""
         while count:
             many = choose.random() < 0.1
             names = [b'l%d' % i for i in range(70)] if many else list(b'abcdefg'[i:i + 1] for i in range(7))
@@ -219,7 +220,7 @@ class Bench:
                 count -= 1
 
     def filled(self, names, state):
-        """The state with a small library of each of these names, made by one update."""
+        """Returns the state with a small library of each of these names, made by one update."""
         pairs = tuple((name, self.files.made(name, (), (b'f' + name,))) for name in names)
         text = b''.join(b'install %s\n' % data.hex().encode() for _, data in pairs) + b'commit\n'
         ended = self.tool.run(['update', 'disk'], text)
@@ -227,7 +228,7 @@ class Bench:
         return state._replace(libraries=pairs)
 
     def update(self, lines, choose):
-        """One update; gives what stands behind it."""
+        """Runs one update. Returns the state and generation after it."""
         before, wanted = self.disk.read_bytes(), lines.end()
         wrapped = []
         if self.cuts and lines.draft.changed:
@@ -245,7 +246,7 @@ class Bench:
         return wanted.state, wanted.generation
 
     def cut(self, before, stood, stands, choose):
-        """A power cut behind each call."""
+        """Cuts the power after each call."""
         synced, unsynced, ways = bytearray(before), [], {stood}
         for call in (self.folder / 'calls').read_text().splitlines():
             if call.startswith('fsync('):
@@ -264,7 +265,8 @@ class Bench:
                 self.checks.want('cuts', any(holds(bytes(disk), *it) for it in ways), call[:60], len(unsynced))
 
     def kills(self, count, choose):
-        """So many updates of 20 libraries, from the old ones to the new ones or back, that are killed at some time."""
+        """Runs `count` updates of 20 libraries, from the old ones to the new ones or back, each of which is killed at
+        some time."""
         sets = [tuple((b'k%d' % i, self.files.made(b'k%d' % i, (), (b'f',), (), 1000 * i + 3000 * k)) for i in range(SET)) for k in range(2)]
         texts = [b''.join(b'replace %s\n' % data.hex().encode() for _, data in it) + b'preload k%d\ncommit\n' % k for k, it in enumerate(sets)]
         states = [State(REGISTRY, KILLED_SECTORS, it, (b'k%d' % k,)) for k, it in enumerate(sets)]
@@ -285,7 +287,7 @@ class Bench:
         self.checks.want('installs', self.tool.run(['update', 'disk'], text).status == 0)
 
     def killed(self, text, seconds):
-        """An update that is killed so long after its start; where it isn't, how long it takes."""
+        """Runs an update that is killed `seconds` after its start. Without `seconds` it isn't killed, and its time is returned."""
         (self.folder / 'lines').write_bytes(text)
         with open(self.folder / 'lines', 'rb') as lines:
             process = self.tool.begin(['update', 'disk'], stdin=lines)
@@ -299,7 +301,8 @@ class Bench:
 
 
 def mixtures(unsynced, choose):
-    """Which of the writes that no sync followed a disk may have: all choices where they are few, else some of them."""
+    """Returns which of the writes that no sync followed a disk may have: all choices if they are few, otherwise some
+    of them."""
     if len(unsynced) <= 6:
         return itertools.chain.from_iterable(itertools.combinations(unsynced, k) for k in range(len(unsynced) + 1))
     return [[], unsynced, *([it for it in unsynced if choose.random() < 0.5] for _ in range(30))]
