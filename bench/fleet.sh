@@ -41,7 +41,7 @@ for number in map(int, sys.argv[2:]):
     gcc -shared -nostdlib -Wl,--hash-style=sysv,--no-as-needed -o "$room/www/program" "$room/www/libraries/7"
 }
 
-# ways: a script for each. `url` is the server's folder, `number` the version that is wanted.
+# ways: writes a script for each way. `url` is the server's folder, `number` the requested version.
 ways() {
     local ways=$root/try disks image switch list
     disks=$(of Partitions 'a=/dev' | head -n 1)
@@ -80,7 +80,7 @@ END
     cat > "$ways/ostree" << END
 new=/var/registry/\$number/disk
 [ ! /etc/rlibreg/disk -ef \$new ] || exit 0 # the next lines would remove the live registry
-# Without the commit before its delta, the file would come whole too.
+# Without the commit before its delta, the whole file would be loaded too.
 for only in --commit-metadata-only ''; do
     ostree --repo=/var/ostree pull --url=\$url/ostree \$only fleet v\$number
 done
@@ -96,7 +96,7 @@ END
     of Fleets 'dump image' > "$ways/sign"
 }
 
-# rauc_knows: its slots, and who switches.
+# rauc_knows: RAUC's slots, and the program that switches.
 rauc_knows() {
     mkdir -p "$root/etc/rauc"
     rm "$root/usr/share/dbus-1/system-services/de.pengutronix.rauc.service" # else dbus starts it
@@ -121,7 +121,7 @@ bootname=b
 END
 }
 
-# made: what the server has, made within that Debian.
+# made: makes the server's files, inside that Debian.
 made() {
     libraries
     mv "$room/www" "$root/www"
@@ -132,12 +132,12 @@ made() {
     mv "$root/www" "$room/www"
 }
 
-# at: the versions that the guest said it has; a line that a cut has broken says none.
+# at: prints the versions that the guest said it has; a line that a cut has broken counts as none.
 at() {
     sed -n 's/^rlibreg: at \([1-4]\).*/\1/p' "$room/said"
 }
 
-# counted: what the server gave between `begin` and `end`, in KB.
+# counted: prints what the server sent between `begin` and `end`, in KB.
 counted() {
     awk '$1 ~ /^\/begin/ {way = substr($1, 8); sum = 0; next} $1 == "/end" {printf "%s: %d KB\n", way, sum / 1000}
         {sum += $2}' "$room/log"

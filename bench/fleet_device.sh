@@ -19,12 +19,12 @@ failed() {
     busybox poweroff -f
 }
 
-# runs WAY NUMBER [FOLDER]: the way, to that version, from a folder of the server.
+# runs WAY NUMBER [FOLDER]: goes the way, to that version, from a folder of the server.
 runs() {
     url=$server${3:-} number=$2 bash -euo pipefail "/try/$1" > said 2>&1
 }
 
-# The version of the registry, or nothing.
+# Prints the version of the registry, or nothing.
 version() {
     local number sum
     sum=$(rlibreg-tool dump /etc/rlibreg/disk | sha256sum)
@@ -33,14 +33,14 @@ version() {
     done
 }
 
-# forgets NUMBER: what OSTree has, but for that version.
+# forgets NUMBER: removes everything that OSTree has, except that version.
 forgets() {
     ostree --repo=$repository refs --list | grep -v ":v$1$" |
         xargs -rn 1 ostree --repo=$repository refs --delete
     ostree --repo=$repository prune --refs-only
 } > said
 
-# begins WAY NUMBER: with this version.
+# begins WAY NUMBER: begins with this version.
 begins() {
     forgets none
     dd if=/try/image-"$2" of=$a conv=fsync status=none
@@ -50,7 +50,7 @@ begins() {
     [ "$(version)" = "$2" ] || failed "$1 doesn't begin with $2"
 }
 
-# reaches WAY: version 4, by as many lists as it takes, or at once.
+# reaches WAY: goes to version 4, by as many lists as it takes, or at once.
 reaches() {
     local at
     while at=$(version) && [ "$at" != 4 ]; do
@@ -60,7 +60,7 @@ reaches() {
     [ "$(version)" = 4 ]
 }
 
-# refuses WAY FOLDER: what the server has there; the device stays as it is.
+# refuses WAY FOLDER: tries what the server has there; the device stays as it is.
 refuses() {
     local before
     before=$(readlink /etc/rlibreg/disk)

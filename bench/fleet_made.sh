@@ -6,7 +6,7 @@ set -eu
 cd /www
 sectors=8192
 
-# lines WORD FILE..: with the bytes of these.
+# lines WORD FILE..: prints lines with the bytes of these files.
 lines() {
     local file
     for file in "${@:2}"; do
@@ -14,14 +14,14 @@ lines() {
     done
 }
 
-# update FILE..: puts these in the place of others, and binds the program.
+# update FILE..: replaces libraries by these files, and binds the program.
 update() {
     lines replace "$@"
     lines 'bind 0x10000' program
     echo commit
 }
 
-# keys NAME: of gpg and of RAUC.
+# keys NAME: makes keys of gpg and of RAUC.
 keys() {
     export GNUPGHOME=/www/$1
     mkdir -m 700 "$GNUPGHOME"
@@ -30,7 +30,7 @@ keys() {
     openssl req -x509 -newkey rsa:2048 -nodes -subj "/CN=$1" -days 3650 -keyout "$1.key" -out "$1.cert"
 } 2> /dev/null
 
-# as NAME FOLDER: what is in the folder, signed by that key: the sum, a bundle of RAUC, casync's index.
+# as NAME FOLDER: signs what is in the folder with that key: the sum, a bundle of RAUC, casync's index.
 as() {
     export GNUPGHOME=/www/$1
     (
@@ -47,7 +47,7 @@ as() {
     ) > log 2>&1 || { cat log >&2; exit 1; }
 }
 
-# list NAME FOLDER LINES SUM: the list for the registry of that sum.
+# list NAME FOLDER LINES SUM: makes the list for the registry of that sum.
 list() {
     local name
     export GNUPGHOME=/www/$1
@@ -57,7 +57,7 @@ list() {
     cat "$4" "$3" | gpg -q --batch --detach-sign > "$2/$name.sig"
 }
 
-# repository NAME FOLDER NUMBER..: of OSTree, with these versions.
+# repository NAME FOLDER NUMBER..: makes a repository of OSTree, with these versions.
 repository() {
     local number key
     export GNUPGHOME=/www/$1

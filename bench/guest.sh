@@ -11,12 +11,12 @@ failed() {
     exit 1
 }
 
-# of SECTION FIRST: the page's commands.
+# of SECTION FIRST: prints the page's commands.
 of() {
     commands "$page" "$1" "$2" || failed "${page##*/} has no commands that begin with $2"
 }
 
-# debian PACKAGES MODULE..: one with these, and with what is installed.
+# debian PACKAGES MODULE..: makes a Debian with these, and with what is installed.
 debian() {
     local wanted=udev,initramfs-tools,linux-image-amd64,busybox,zstd,$1
     debootstrap --variant=minbase --include="$wanted" "$release" "$root" > "$room/log" 2>&1 ||
@@ -27,7 +27,7 @@ debian() {
     printf '%s\n' virtio_pci virtio_blk ext4 "${@:2}" > "$root/etc/initramfs-tools/modules"
 }
 
-# initramfs: makes the one of that Debian, and takes it and the kernel out of it.
+# initramfs: makes the initramfs of that Debian, and copies it and the kernel out of it.
 initramfs() {
     chroot "$root" sh -c 'mkinitramfs -o /boot/initramfs "$(ls /lib/modules)"'
     mv "$root"/boot/vmlinuz-* "$room/kernel"
@@ -35,7 +35,7 @@ initramfs() {
     rm -rf "$root"/boot/* "$root"/usr/lib/modules/* "$root"/var/cache/apt "$root"/var/lib/apt/lists
 }
 
-# partitions PARTITION..: a disk of the root and of these, as sfdisk takes them.
+# partitions PARTITION..: makes a disk with the root and these partitions, as sfdisk takes them.
 partitions() {
     local size
     size=$(($(du -sm "$root" | cut -f1) + 150))
@@ -44,7 +44,8 @@ partitions() {
     mke2fs -q -t ext4 -d "$root" -E offset=$((1 << 20)) "$disk" ${size}M
 }
 
-# boot [WORD]..: with these behind the kernel's command line. The console's lines are in a file.
+# boot [WORD]..: boots with these words at the end of the kernel's command line. The console's lines are
+# in a file.
 boot() {
     : > "$room/console" # else `begun` may find what the guest before has said
     qemu-system-x86_64 -accel "${ACCEL:-tcg}" -m 1024 -nographic -no-reboot -kernel "$room/kernel" \
@@ -54,14 +55,14 @@ boot() {
     guest=$!
 }
 
-# begun TEXT: waits until the guest says it, or ends.
+# begun TEXT: waits until the guest prints it, or ends.
 begun() {
     timeout "${PATIENCE:-1800}" sh -c \
         "until grep -aq '$1' '$room/console' || ! kill -0 $guest 2> /dev/null; do sleep 0.2; done" ||
         failed 'the guest goes on'
 }
 
-# power_cut SECONDS: the guest has its power for so long, at most.
+# power_cut SECONDS: cuts the guest's power after this time at most.
 power_cut() {
     sleep "$((RANDOM % $1)).$((RANDOM % 10))"
     kill -9 $guest || true
@@ -69,8 +70,8 @@ power_cut() {
     ended
 }
 
-# ended: waits for the end of the guest. What it said is without the console's own signs, and without
-# the firmware's last line, which may not have ended.
+# ended: waits for the end of the guest. Its output is without the console's own signs, and without the
+# firmware's last line, which may not have ended.
 ended() {
     timeout "${PATIENCE:-1800}" tail --pid=$guest -f /dev/null || failed 'the guest goes on'
     wait $guest || true
@@ -79,7 +80,7 @@ ended() {
         grep -a '^rlibreg\|^library' > "$room/said" || true
 }
 
-# said LINE..: whether the console has each.
+# said LINE..: whether the console has each of these lines.
 said() {
     local line
     for line; do grep -aq "$line" "$room/said" || failed "the guest didn't say: $line"; done

@@ -30,7 +30,7 @@ trap 'echo "failed: $BASH_COMMAND" >&2' ERR
 . /rlibreg/page.sh
 docs=/rlibreg/docs
 
-# program PAGE NUMBER: one of its programs in C.
+# program PAGE NUMBER: prints one of the page's programs in C.
 program() {
     awk -v number="$2" '/^```c$/ {block++; next} /^```$/ {inside = 0}
         block == number && /^\/\*/ {inside = 1} inside' "$docs/$1.md"
@@ -39,8 +39,8 @@ everything() {
     find / -xdev -path /proc -prune -o -print | sort
 }
 
-# The sources of Lua and LPeg, zlib and bzip2, as Debian has them: the archives alone, since a mirror may
-# lack what else its index names.
+# The sources of Lua and LPeg, zlib and bzip2, as Debian has them: only the archives, because a mirror
+# may lack the other files that its index names.
 get_sources() {
     mkdir lua lua/lpeg lua-alone zlib bzip2
     (
@@ -71,7 +71,7 @@ by_python() {
     rm disk
 }
 
-# The module alone, in an environment of its own, with the library that is installed.
+# The module by itself, in an environment of its own, with the installed library.
 by_wheel() {
     python3 -m venv --system-site-packages environment
     environment/bin/pip -q install --no-index --no-build-isolation /rlibreg/python
@@ -111,7 +111,7 @@ C
     [ "$(tr '\n' ' ' < said)" = '+one +two main -main -two -one ' ]
 }
 
-# What rlibreg-tool says of that disk, and the same on a larger one.
+# What rlibreg-tool prints about that disk, and the same on a larger one.
 tool() {
     rlibreg-tool info old
     rlibreg-tool check old
@@ -165,7 +165,7 @@ LUA
     echo 'docs/LINKING.md: as written, and Lua prints what it prints where it is linked statically'
 }
 
-# by_table PROJECT FOLDER: builds it by the command that the page's table has.
+# by_table PROJECT FOLDER: builds the project by the command in the page's table.
 by_table() {
     local command
     command=$(sed -n "s/^| $1 [0-9.]* | \`\([^\`]*\)\` .*/\1/p" /rlibreg/docs/LINKING.md)
@@ -174,7 +174,7 @@ by_table() {
 }
 
 # A registry on a partition, its copy, the switch, and growing, by the page's commands, over loop devices
-# in the place of partitions. The system's word on a device is asked for in /proc and /sys.
+# in place of partitions. What the system reports about a device is read in /proc and /sys.
 partitions() {
     local page=$docs/DEVICES.md node number
     mount -t proc proc /proc
@@ -207,7 +207,7 @@ partitions() {
     rm -rf loops rlibreg_* /dev/loop* /dev/disk /var/cache/rlibreg /etc/rlibreg
 }
 
-# Projects as they are: three by their own commands, and what they do.
+# Projects without changes: three by their own commands, and what they do.
 projects() {
     [ -d ../zlib ] || { echo "left out: projects, whose sources can't be had"; return 0; }
     by_table zlib zlib

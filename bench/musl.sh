@@ -25,7 +25,7 @@ done
 want 'what the shared library needs' libc.so \
     "$(readelf -dW musl/librlibreg.so | sed -n 's/.*Shared library: \[\(.*\)\]/\1/p')"
 
-# `root` has musl alone, `other` what was built otherwise.
+# `root` has only musl, and `other` has the other builds.
 mkdir -p root/lib root/bin other
 cp "$(readlink -f /lib/ld-musl-x86_64.so.1)" root/lib/ld-musl-x86_64.so.1
 ln -s ld-musl-x86_64.so.1 root/lib/libc.so
@@ -56,7 +56,7 @@ for place in root other; do
     chmod u+w $place/old-one.disk
 done
 
-# both COMMAND WORD..: in both places: the same text, status and bytes of the disk. The line
+# both COMMAND WORD..: runs it in both places, with the same text, status and bytes of the disk. The line
 # on standard input is for `script`.
 count=0
 both() {

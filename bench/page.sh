@@ -1,7 +1,7 @@
 # page.sh is read by scripts: it finds the commands of a document.
 
-# commands PAGE [SECTION FIRST]: all of them; or those of the section, by the words that the first has,
-# up to the next line that is none.
+# commands PAGE [SECTION FIRST]: prints all commands of the page, or those of a section that begin with
+# the command that contains FIRST, up to the next line that is no command.
 commands() {
     awk -v section="${2:-}" -v first="${3:-}" '
         /^## / {inside = substr($0, 4) == section}

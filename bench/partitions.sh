@@ -109,7 +109,7 @@ killed_over_loop_devices() {
     echo "two loop devices: 40 switches that were killed, of which $reached had been made, and each again"
 }
 
-# A Debian with what is installed, and what the guest needs beside it.
+# A Debian with the installed files, and with what else the guest needs.
 prepare() {
     debian systemd,systemd-sysv,cryptsetup-bin,e2fsprogs
     cp "$room/made/program" "$room/made/first" "$root/usr/bin/"

@@ -56,7 +56,7 @@ down() {
     rm -f image copy
 }
 
-# A `format` whose sync of this number fails: its answer.
+# Runs a `format` whose sync of this number fails, and prints its answer.
 failing_format() {
     rm -f trace
     strace -e trace=fsync -e "inject=fsync:delay_enter=${DELAY:-2000000}:when=$1" -o trace \
@@ -72,7 +72,7 @@ failing_format() {
     cat reply
 }
 
-# What a cut leaves: the listing of the disk in a copy.
+# Prints what a cut leaves: the listing of the disk in a copy.
 after_a_cut() {
     cp image copy
     other=$(losetup -f) && losetup "$other" copy

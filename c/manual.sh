@@ -18,9 +18,9 @@ if ! command -v pandoc > /dev/null; then
     exit 0
 fi
 
-# page NAME SECTION WHAT: of the Markdown on standard input, whose sections begin with `##`. A document
-# that is a page has the page's name there, each other its own. Words aren't hyphenated, and lines not
-# adjusted, so that they can be searched.
+# page NAME SECTION WHAT: makes a page of the Markdown on standard input, whose sections begin with `##`.
+# A link to a document that is a page becomes the page's name, and any other link its own. Words aren't
+# hyphenated and lines aren't adjusted, so that they can be searched.
 page() {
     {
         printf '# %s(%s)\n\n## Name\n\n%s - %s\n\n' "$1" "$2" "$1" "$3"
@@ -45,7 +45,8 @@ awk '/^## Synopsis/ {inside = 1} inside' COMMANDS.md |
 awk '/^## Synopsis/ {inside = 1} inside' TOOL.md |
     page rlibreg-tool 1 'tells what the disk of a registry has, and gives it back'
 
-# section PAGE NAME: the section of a page on a program, which begins with its words.
+# section PAGE NAME: prints the section of a page about a program; the section begins with the program's
+# arguments.
 section() {
     awk -v name="$2" '/^## / {inside = $2 == name; if (inside) print "## Synopsis"; next}
         inside && /^[^ ]/ && !body++ {print "## Description\n"}

@@ -1,12 +1,12 @@
 # Cuts each change on small disks at each step (cuts.c).
 
-# cut_change CHANGE [WORD]..: of the disk `disk`, which then gets the change.
+# cut_change CHANGE [WORD]..: cuts a change of the disk `disk`, which then gets the change.
 cut_change() {
     ./cuts "$rlibreg" left disk "$data/program-1.so" "$@"
     ./tool "$1" disk "${@:2}" > /dev/null
 }
 
-# Free sectors that hold anything, so that no old content is that of a new one.
+# Free sectors that hold anything, so that no old content equals a new one.
 yes rlibreg 2> /dev/null | head -c $((24 * 512)) > disk || true
 ./cuts "$rlibreg" left disk "$data/program-1.so" format
 ./tool format disk 24 > /dev/null
@@ -20,8 +20,9 @@ cut_change remove a
 cut_change preload
 cut_change remove b
 
-# Several changes in one plan; then the disk gets each by itself. Sectors that an update has written and
-# left are written again by its later changes, and of preloads alone the root is.
+# Several changes in one plan; then the disk gets each change by itself. Sectors that an update has
+# written and no longer uses are written again by its later changes. A change of preloads writes only the
+# root.
 cut_update() {
     ./cuts "$rlibreg" left disk "$data/program-1.so" update "$@"
 }

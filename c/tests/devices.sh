@@ -29,7 +29,7 @@ end' "$("$rlibreg" list "$device")"
 want 'a change by the program' ok "$("$rlibreg" remove "$device" b)"
 want 'a listing after it' end "$(./tool list "$device")"
 
-# Who looks shares it; a change asks again for two seconds.
+# Readers share the lock; a change tries again for two seconds.
 held_by ./tool hold list "$device"
 want 'a list beside a list' 'end
 = 0' "$(ended ./tool list "$device")"
@@ -44,7 +44,7 @@ want 'a change after a moment' 'ok
 = 0' "$(ended ./tool install "$device" "$data/strong.so")"
 wait
 
-# One that may only be read.
+# A device that may only be read.
 trap 'blockdev --setrw "$device"; losetup -d "$device"' EXIT
 blockdev --setro "$device"
 want 'a list of what may only be read' 'library b 376

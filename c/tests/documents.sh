@@ -16,7 +16,7 @@ gcc $checked -o updating "$here/updating.c" updater.o $watched $beside
 mkdir updating.files
 (cd updating.files && ../updating "$data/strong.so" b)
 
-# The lines `    $ COMMAND`, and what stands behind each up to the next.
+# Prints the lines `    $ COMMAND`, and after each its lines up to the next.
 rm -f disk
 command= wanted=
 count=0
@@ -37,7 +37,7 @@ compare
 [ $count -gt 10 ] || { echo "docs/C.md has only $count commands" >&2; exit 1; }
 echo "documents: two programs and $count commands of docs/C.md: as written"
 
-# What the host can't read.
+# Disks that the host can't read.
 truncate -s $((8192 * 512 + 1)) long
 for file in none . long; do
     case $file in
@@ -58,7 +58,7 @@ want 'a host that waits' '' "$(cat waited)"
 let_go
 want 'after it has waited' 100 "$(cat waited)"
 
-# The two are killed at each call of the system, and run again; an updater beside another, too.
+# The two programs are killed at each system call, and run again; also an updater beside another.
 gcc $flags -o killed "$here/killed.c"
 status=0
 ./killed 0 true 2> lost || status=$?

@@ -26,7 +26,8 @@ want 'a change after it' 'ok
 # The program takes the same lock; its changes try for two seconds.
 shut_out='rlibreg: cannot read disk
 = 3'
-# tries TENTHS TENTHS COMMAND..: it is shut out after so many tenths of a second at least, and at most.
+# tries TENTHS TENTHS COMMAND..: checks that a command gives up after this many tenths of a second at
+# least, and at most.
 tries() {
     local began=${EPOCHREALTIME/[.,]/} took
     want "${*:3}" "$shut_out" "$(ended "${@:3}")"
@@ -63,7 +64,8 @@ want 'a change that waits for it' '' "$(cat waited)"
 let_go
 want 'after it has waited for it' ok "$(cat waited)"
 
-# Who holds the disk around the program shuts it out; the lock of another file has it wait.
+# A process that has locked the disk and then runs the program shuts it out; the lock of another file
+# makes it wait.
 want 'flock of the disk' "$shut_out" "$(ended flock disk "$rlibreg" list disk)"
 held_by flock disk.lock ./tool hold list disk
 flock disk.lock "$rlibreg" remove disk b > waited 9>&- &
@@ -72,7 +74,7 @@ want 'a change that waits for another file' '' "$(cat waited)"
 let_go
 want 'after it has waited for that' ok "$(cat waited)"
 
-# The name under which a disk is made is held.
+# The name under which a disk is made is locked.
 touch .new.rlibreg-new
 held_by flock .new.rlibreg-new cat
 want 'a making beside another' "$held" "$(ended ./tool format new 64)"
@@ -86,7 +88,7 @@ let_go
 want 'after it has waited for that' ok "$(cat waited)"
 want 'what that left' new "$(ls -A | grep new)"
 
-# One that waits finds the file that was put in the other's place.
+# A process that waits finds the file that was put in the other's place.
 held_by ./tool hold list disk
 ./tool wait install disk "$data/strong.so" > waited 9>&- &
 sleep 0.1

@@ -8,8 +8,8 @@ compile="$compile -Wl,--hash-style=sysv"
 rm -f disk many
 ./tool format disk 512 > /dev/null
 
-# library NAME NEEDED..: a library of stage.c, which needs those; for a circle they are made before.
-# It is linked as `asks` says too.
+# library NAME NEEDED..: makes a library of stage.c, which needs NEEDED; for a circle, these are made
+# before. It is also linked as `asks` says.
 library() {
     local name=$1 flags=-Wl,-init,first,-fini,last,--no-as-needed
     shift
@@ -42,8 +42,8 @@ want 'preloads' "before 3 ./stages$(printf ' %s' {c,b,a}-{first,early,late}) ent
     "$(./rlibreg-run disk ./stages two words)"
 ./tool preload disk > /dev/null
 
-# The last of those that ask to come first, in load order, comes before what it needs, and before
-# what the program has to be called before all. It is finalized in its place.
+# The last library in load order that asks to come first comes before what it needs, and before what the
+# program has called before everything else. It is finalized in its usual place.
 for name in f g; do asks=-Wl,-z,initfirst library $name a; done
 library h f
 for name in f g h; do ./tool install disk lib$name.so > /dev/null; done
@@ -58,7 +58,7 @@ compiled damaged "$checked" "$here/damaged.c" "$here"/../rlibreg_run_{objects,or
 gcc $checked -o damaged "$objects"/damaged/*.o "$built/librlibreg.a"
 ./damaged disk stages
 
-# C++, and what initializers are given.
+# C++, and the arguments of initializers.
 if command -v g++ > /dev/null; then
     cxx="g++ ${compile#command gcc} -fno-exceptions -fno-rtti -fno-use-cxa-atexit"
     $cxx -shared -Wl,-soname,libobjects.so -o libobjects.so "$programs/objects.cc"
@@ -81,7 +81,7 @@ $compile -fstack-protector-all -pie -Wl,-e,_start,--no-as-needed -o guards "$pro
 want 'a library and a program with a stack protector' ' guarded entered= 0' \
     "$(ended ./rlibreg-run disk ./guards)"
 
-# number_at FILE OFFSET NUMBER: eight bytes, little endian.
+# number_at FILE OFFSET NUMBER: writes eight bytes, little endian.
 number_at() {
     local shift
     for shift in 0 8 16 24 32 40 48 56; do
@@ -89,7 +89,7 @@ number_at() {
     done | dd of="$1" bs=1 seek=$(($2)) conv=notrunc 2> lost
 }
 
-# with_tag TAG NUMBER WANTED: liba.so with another value of a tag in its dynamic section.
+# with_tag TAG NUMBER WANTED: tries liba.so with another value of a tag in its dynamic section.
 with_tag() {
     local entry at
     cp liba.so changed.so
@@ -126,7 +126,7 @@ number_at changed $(($(readelf -lW stages | awk '$1 == "DYNAMIC" {print $2}') + 
 want 'a half of an address' "rlibreg-run: ./changed: DT_PREINIT_ARRAY $half
 = 125" "$(ended ./rlibreg-run disk ./changed)"
 
-# A constructor of a name that another library has too is that one's.
+# A constructor with a name that another library also has is that library's own.
 for name in d e; do
     echo 'void setup(void) {} void (*call)(void) __attribute__((section(".init_array"))) = setup;' |
         $compile -shared -Wl,-soname,lib$name.so -o lib$name.so -x c -
@@ -136,7 +136,7 @@ $compile -pie -Wl,-e,_start,--no-as-needed -o setups "$programs/bare.c" libd.so 
 want "another library's constructor" "rlibreg-run: libe.so: DT_INIT_ARRAY $outside
 = 125" "$(ended ./rlibreg-run disk ./setups)"
 
-# A circle of 2,048 libraries, with a small stack: x0000 needs x0001, and so on, and the last x0000.
+# A circle of 2,048 libraries, with a small stack: x0000 needs x0001, and so on, and the last needs x0000.
 $compile -DNAME='"x0000"' -shared -Wl,-soname,y0000 -o y0000 "$programs/stage.c"
 $compile -DNAME='"x0000"' -DBRIEF -shared -s -Wl,-z,noseparate-code,-soname,x0000,--no-as-needed \
     -o x0000 "$programs/stage.c" y0000

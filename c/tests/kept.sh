@@ -11,7 +11,7 @@ for name in words place both; do
     $compile -pie -Wl,-e,_start -o $name "$programs/$name.c" 2> warned
 done
 $compile -pie -Wl,-e,_start -o chain "$programs/chain.c" libtwo.so libone.so
-# disk_of FILE: a disk with these libraries, made by the same commands.
+# disk_of FILE: makes a disk with these libraries, by the same commands.
 disk_of() {
     ./tool format "$1" 512 > /dev/null
     for name in one two; do ./tool install "$1" lib$name.so > /dev/null; done
@@ -20,7 +20,7 @@ rm -f disk
 disk_of disk
 mkdir -m 700 kept
 
-# start WHAT SAID WANTED WORD..: what is said of the image, then what is printed, and the status.
+# start WHAT SAID WANTED WORD..: checks what is said of the image, then what is printed, and the status.
 start() {
     want "$1" "$(printf '%s\n' "$2" | sed 's/^/rlibreg-run: kept: /')
 $3" "$(ended ${by:-./run-kept} -v -c kept "${@:4}")"
@@ -45,7 +45,7 @@ for _ in 1 2 3; do start 'a start again' "$taken" "$said" disk ./chain; done
 cmp "$image" copy
 want 'binds where an image is taken' "$said" "$(BINDS=1 ended ./run-kept -c kept disk ./chain)"
 [ "$(stat -c %s "$image")" -lt 200000 ] || { echo "1.2 MB of zeros are in $image" >&2; exit 1; }
-# open_of COMMAND..: how many files a program has open that runs, and how many of its maps are
+# open_of COMMAND..: prints how many files a running program has open, and how many of its maps are
 # shared.
 open_of() {
     held_by "$@" /dev/stdin
@@ -59,7 +59,7 @@ for run in ./run-taken "./run-kept -c kept" "./run-kept -c kept" "$built/rlibreg
     want "what a program has by $run" "$usual" "$(open_of $run disk ./place)"
 done
 rm kept/*
-# shared: how many maps of an image are of its file.
+# shared: prints how many maps of an image are of its file.
 shared() {
     ./run-kept -c kept disk ./place | grep -cE '^([0-3][0-9a-f]{11}|[0-9a-f]{8,11})-.*/kept/'
 }
@@ -68,7 +68,7 @@ kept_by_it=$(shared)
 want 'maps of the file in the next start' "$kept_by_it" "$(shared)"
 rm kept/*
 
-# What is fixed is so in the start that keeps the image too, which has its pages from the file.
+# What is read-only stays so in the start that keeps the image too, which has its pages from the file.
 $compile -pie -Wl,-e,_start,-z,relro -o walls "$programs/walls.c"
 for said_of_it in "$none$keeps" "$taken" "$taken"; do
     start 'pages that are fixed' "$said_of_it" 'before
@@ -115,7 +115,7 @@ nothing is kept: what was bound can't be read again" "$said" disk ./chain
     start 'these bytes' "$none$keeps" "$changed" disk ./chain
 fi
 
-# A block device, in which another disk of equal roots and length comes in the place of one.
+# A block device on which another disk of equal roots and length replaces the first.
 if [ "$(id -u)" = 0 ] && cp before.disk first.disk && device=$(losetup -f --show first.disk 2> lost); then
     trap 'losetup -d "$device"' EXIT
     start 'a block device' "$none$keeps" "$said" "$device" ./chain
@@ -124,7 +124,7 @@ if [ "$(id -u)" = 0 ] && cp before.disk first.disk && device=$(losetup -f --show
     start 'another disk that is written onto the device' "$other$keeps" "$changed" "$device" ./chain
     dd if=before.disk of="$device" conv=notrunc,fsync 2> lost
     start 'the first one, written onto it' "$other$keeps" "$said" "$device" ./chain
-    # Another name in an entry, whose library's bytes stay.
+    # An entry gets another name, and its library's bytes stay.
     entry=$(LC_ALL=C grep -aboP 'LIBE[\s\S]{12}libone' before.disk | sed -n '1s/:.*//p')
     printf libuno | dd of="$device" bs=1 seek=$((entry + 16)) conv=notrunc,fsync 2> lost
     start 'another name in an entry' "$other" 'refused B3 Missing /program libone.so
@@ -162,7 +162,7 @@ if setarch -R true 2> lost; then
         "$(setarch -R ./run-kept -c kept disk place | low | head -1)"
 fi
 
-# Whose the file is, and the folder. What isn't taken is replaced.
+# The owners of the file and of the folder. An image that isn't used is replaced.
 replaced() {
     start "$1" "$2$keeps" "$changed" disk ./chain
     start "$1, replaced" "$taken" "$changed" disk ./chain
@@ -210,7 +210,8 @@ mv kept moved
 nothing 'no folder' 'No such file or directory'
 ln -s moved kept
 nothing 'a link to a folder' 'Not a directory'
-# used FOLDER COMMAND..: runs a start by COMMAND. Prints 1 if it takes an image from FOLDER or keeps one there, else 0.
+# used FOLDER COMMAND..: runs a start by COMMAND. Prints 1 if it uses an image from FOLDER or keeps one
+# there, else 0.
 used() {
     "${@:2}" ./run-kept -v -c "$1" disk ./chain 2>&1 | grep -c 'is taken$\|is kept$' || true
 }
@@ -226,7 +227,7 @@ nothing 'a file for a folder' 'Not a directory'
 rm kept
 mv moved kept
 
-# Who may read an image: all, if all may read the disk and the program, and reach both.
+# Who may read an image: everybody, if everybody may read the disk and the program, and reach both.
 chmod 755 kept
 chmod a+r disk chain
 mkdir -m 755 within_reach
@@ -279,7 +280,7 @@ chmod go-r disk
 start 'a disk of other rights' "$other$keeps" "$changed" disk ./chain
 chmod 700 kept
 
-# In a user namespace where owners have no numbers all of them are shown as one user.
+# In a user namespace in which owners have no numbers, all of them are shown as one user.
 if [ "$(id -u)" = 0 ] && unshare -U true 2> lost; then
     unmapped=(ended unshare -U ./run-kept -v -c kept disk ./chain)
     "${unmapped[@]}" > lost
@@ -299,7 +300,7 @@ rm kept/*
 start 'an image behind these' "$none$keeps" "$changed" disk ./chain
 image=kept/$(ls -A kept)
 
-# Files that are cut, of zeros, of another form, boot or disk.
+# Files that are cut, of zeros, or of another format, boot or disk.
 for length in 0 100 1400 4096 8192 $(($(stat -c %s "$image") - 1)); do
     truncate -s $length "$image"
     replaced "a file of $length bytes" "$other"
@@ -307,7 +308,7 @@ done
 head -c "$(stat -c %s "$image")" /dev/zero > zeros
 cat zeros > "$image"
 replaced 'a file of zeros' "$other"
-# another_byte FILE PLACE: writes it there.
+# another_byte FILE PLACE: writes another byte there.
 another_byte() {
     local byte=$(od -An -tu1 -j "$2" -N 1 "$1")
     printf "\\$(printf %o $((byte ^ 7)))" | dd of="$1" bs=1 seek="$2" conv=notrunc 2> lost
@@ -323,8 +324,8 @@ for ((at = 5; at < 4096; at += 61)); do
     start "another byte $at" "$other$keeps" "$changed" disk ./chain
 done
 
-# Another build of the loader, which may bind otherwise, beside the first; a third; and one that
-# doesn't tell which it is.
+# Another build of the loader, which may bind otherwise, beside the first; a third build; and one that
+# doesn't say which build it is.
 by=./run-kept-other start 'another build' "$none$keeps" "$changed" disk ./chain
 for _ in 1 2; do
     start 'the image of the first build' "$taken" "$changed" disk ./chain
@@ -344,7 +345,7 @@ by=./run-kept-none nothing 'a loader that tells of no build' "$untold"
 want 'what it keeps' '' "$(ls -A kept)"
 start 'an image behind it' "$none$keeps" "$changed" disk ./chain
 
-# Addresses that are taken.
+# Addresses that are in use.
 pieces=$(./run-taken disk place | low | wc -l)
 ./run-kept -c kept disk place > lost
 cp -r kept copies
@@ -359,7 +360,7 @@ rm -r copies
 want 'a page that nobody gets' 'rlibreg-run: memory at the base: Operation not permitted
 = 126' "$(ended ./run-kept -c kept -b 0 disk ./words)"
 
-# Folders that are mounted: where nothing may be executed, and without room. mounted OPTIONS COMMAND
+# Folders that are mounted: without permission to execute, and without space. mounted OPTIONS COMMAND
 words=(./run-kept -v -c kept disk ./chain)
 mounted() {
     unshare -m "$BASH" -c 'mount -t tmpfs -o "$1" none kept && eval "$2"; "${@:3}"; ls -A kept | wc -l' \
@@ -412,7 +413,7 @@ images 'another boot' 2
 want "a file that is none of the loader's" user "$(cat kept/0123456789abcdef)"
 rm kept/*
 
-# What was changed just now isn't kept: the file of a disk, or of a long program.
+# No image is kept if a file was changed just now: the file of a disk, or of a long program.
 $compile -pie -Wl,-e,_start -o long "$programs/place.c" -x c - <<< 'char more[3 << 20] = "more";'
 now() {
     ./rlibreg-run -v -c kept disk "./$1" 2>&1 > lost | sed 's/^rlibreg-run: kept: //'
@@ -422,7 +423,7 @@ just='was changed just now'
 want 'a disk that was changed just now' "$none
 nothing is kept: the disk $just, or tells too little" "$(now place)"
 sleep 2.1
-# other_bytes: puts others into the long program in place, and leaves its length and time.
+# other_bytes: writes other bytes into the long program in place, and keeps its length and time.
 other_bytes() {
     cp -p long before
     printf 'less' |
@@ -448,8 +449,8 @@ $none" "$(now long)"
 $other" "$(now long)"
 fi
 
-# The loader as it is built: what is usual it takes before its C library is set up, which would have
-# a heap; and all the rest, once that is.
+# The loader as it is built: in the usual case it uses the image before its C library is set up, which
+# would have a heap; and in all other cases once the library is set up.
 run="$built/rlibreg-run -c kept"
 heap() {
     "$@" | grep -c heap || true
@@ -484,7 +485,7 @@ for how in DIE FAIL; do
     [ "$call" -gt 4 ] && [ "$call" -lt 40 ] || { echo "$how: $call calls" >&2; exit 1; }
     images "$how" 1
 done
-# age: has the image be of another boot.
+# age: makes the image look like one of another boot.
 age() {
     printf x | dd of="$(echo kept/*)" bs=1 seek=56 conv=notrunc 2> lost
 }
@@ -509,7 +510,7 @@ for length in '' 999; do
     start "the image that was written in parts of $length bytes" "$taken" "$changed" disk ./striped
 done
 
-# Reads that fail: the program is bound, and an image that can't be read goes.
+# Reads that fail: the program is bound, and an image that can't be read is removed.
 with_pages wide 'const char more[1 << 14] = "more"; void *relocated[1 << 11] = { [0 ... 2047] = &relocated };'
 rm -f kept/*
 start 'an image to be read' "$none$keeps" "$changed" disk ./wide
@@ -529,7 +530,7 @@ for read in {1..99}; do
 done
 [ "$read" -gt 7 ] && [ "$read" -lt 99 ] || { echo "$read reads" >&2; exit 1; }
 
-# Rights, streams and words.
+# Rights, streams and arguments.
 ./run-kept -c kept disk ./place > lost
 for run in ./run-kept "$built/rlibreg-run"; do
     found=$(ended ./within secure "$run" -c kept disk ./chain)

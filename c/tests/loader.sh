@@ -6,7 +6,7 @@ compile='command gcc -O1 -fPIC -nostdlib -fno-stack-protector -fno-asynchronous-
 compile="$compile -Wl,--hash-style=sysv"
 glibc=/lib64/ld-linux-x86-64.so.2
 
-# made NAME LINKER FLAGS..: a program; library NAME LINKER FLAGS.. a library.
+# made NAME LINKER FLAGS..: makes a program; library NAME LINKER FLAGS..: makes a library.
 made() {
     $compile -fuse-ld="$2" -pie -Wl,-e,_start -o "$1" "$programs/$1.c" "${@:3}"
 }
@@ -14,7 +14,8 @@ library() {
     $compile -fuse-ld="$2" -shared -Wl,-soname,"$1" -o "$1" "$programs/${1:3:-3}.c" "${@:3}"
 }
 
-# runs WHAT WANTED PROGRAM WORD..: under rlibreg-run, and where it can under glibc's loader.
+# runs WHAT WANTED PROGRAM WORD..: runs a program under rlibreg-run, and if it can also under glibc's
+# loader.
 runs() {
     want "$linker: $1" "$2" "$(SEE=me ended ./rlibreg-run disk "${@:3}")"
     count=$((count + 1))

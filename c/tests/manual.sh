@@ -16,7 +16,7 @@ for page in manual/*.[13]; do
     want "what man says of $page" '' "$(cat told)"
 done
 
-# shown PAGE NAME..: each begins a line of the page, alone or with what is printed behind it.
+# shown PAGE NAME..: checks that each begins a line of the page, by itself or with more after it.
 count=0
 shown() {
     local page=$1 name
@@ -55,7 +55,7 @@ for name in $(grep -ohE '\brlibreg[a-z_.]*\(3\)' manual/rlibreg*.3.shown | sed '
     [ -f "manual/$name" ] || [ ! -f manual/rlibreg.1 ] || { echo "a page names $name" >&2; exit 1; }
 done
 
-# statuses PAGE NUMBER..: the numbers of the statuses that it says of a call.
+# statuses PAGE NUMBER..: checks the numbers of the statuses on the page of a call.
 statuses() {
     want "the statuses of $1" "${*:2}" \
         "$(sed -n '/^ERRORS/,/^NOTES/s/^ *RLIBREG_[A-Z_]* (\([0-9]*\))$/\1/p' "manual/$1.3.shown" | xargs)"

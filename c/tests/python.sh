@@ -25,7 +25,8 @@ eval "$(sed -n 's/^    \$ //p' "$page")"
 python3 -B -m doctest "$page"
 cd ..
 
-# imported FOLDER: the last line of Python where the library is looked for in this folder first.
+# imported FOLDER: prints the last line of Python's output if the library is looked for in this folder
+# first.
 imported() {
     LD_LIBRARY_PATH=$1 python3 -B -c 'import rlibreg' 2>&1 | tail -n 1
 }

@@ -9,7 +9,7 @@ here=$(cd "$(dirname "$0")" && pwd)
 built=$(cd "$1" && pwd)
 rlibreg=$(cd "$(dirname "$2")" && pwd)/$(basename "$2")
 data=$here/../../crates/cases/data
-# Where there is a disk in memory, from which programs can be run: there a sync costs nothing.
+# Uses a disk in memory if there is one from which programs can be run: a sync takes no time there.
 for place in /dev/shm "${TMPDIR:-/tmp}"; do
     room=$(mktemp -d -p "$place" 2> /dev/null) || continue
     cp "$(type -P true)" "$room/"
@@ -26,7 +26,7 @@ musl=
 gcc -E -dM -include stdio.h -x c /dev/null | grep -q __GLIBC__ || musl=yes
 flags="-std=c11 -g -Wall -Wextra -Wpedantic -Werror -I$built"
 sanitizers='-fno-sanitize-recover=all -fsanitize=undefined'
-# has_sanitizer NAME: whether a program runs that is compiled with it; else it says why not.
+# has_sanitizer NAME: whether a program that is compiled with it runs; otherwise prints why not.
 has_sanitizer() {
     gcc -fsanitize="$1" -x c -o "$room/probe" - <<< 'int main(void) { return 0; }' && "$room/probe"
 }
@@ -36,7 +36,7 @@ else
     sanitizers="$sanitizers -fsanitize-undefined-trap-on-error"
     checked="$flags -O1 $sanitizers"
 fi
-# error_text NUMBER: as the C library has it.
+# error_text NUMBER: prints the text of the C library.
 error_text() {
     printf '#include <stdio.h>\n#include <string.h>\nint main(void) { return puts(strerror(%d)) < 0; }\n' "$1" |
         gcc -x c -o "$room/probe" -
@@ -44,7 +44,7 @@ error_text() {
 }
 wraps=-Wl,--wrap=malloc,--wrap=calloc,--wrap=realloc
 objects=$(realpath -m "${3:-$room/objects}")
-# compiled NAME FLAGS FILE..: objects of C files, in a folder of the name.
+# compiled NAME FLAGS FILE..: compiles objects of C files, in a folder of that name.
 compiled() {
     [ ! -d "$objects/$1" ] || return 0
     mkdir -p "$objects/$1"
@@ -66,7 +66,8 @@ for name in faults $over_watched; do
     if [ $name = faults ]; then wrapped=$wraps; fi
     gcc $checked $wrapped -o "$room/$name" "$objects/tests/$name.o" $watched $beside
 done
-# With the sanitizer of addresses a program can't be mapped at each address, so the loader has one.
+# With the sanitizer of addresses a program can't be mapped at each address, so the loader has only that
+# of undefined behaviour.
 loader="$flags -O1 $sanitizers"
 compiled loader "$loader" "$here"/../rlibreg_run*.c "$here/../rlibreg_stack.c" $library
 gcc $loader -o "$room/rlibreg-run" "$objects"/loader/*.o "$built/librlibreg.a"
@@ -74,9 +75,8 @@ taking=-Wl,--wrap=mmap,--wrap=kernel_map,--wrap=rlibreg_bind
 gcc $loader -o "$room/run-taken" $taking "$here/taken.c" "$objects"/loader/*.o \
     "$built/librlibreg.a"
 gcc $flags -o "$room/within" "$here/within.c"
-# The loader as it keeps images, and it in each start of the tests of the loader.
-# The first says that it is the built one, the others are the same but for that: an id of another
-# build, and none.
+# The loader as it keeps images, also for each start of the loader's tests. The first says that it is the
+# built one. The others are the same except for that: one has an id of another build, and one has none.
 keeping=$taking$(printf ',--wrap=%s' kernel_clock kernel_read kernel_advise openat fchmod writev fdatasync \
     linkat unlinkat)
 build_id=0x$(readelf -nW "$built/rlibreg-run" | sed -n 's/.*Build ID: //p')
@@ -98,7 +98,7 @@ given+=("$(sha256sum < "$data/strong.so" | cut -d ' ' -f 1)")
 gcc $flags -O1 -o "$room/calls" "$here/calls.c" "$built/librlibreg.a"
 (ulimit -s 512 && "$room/calls" "${given[@]}")
 "$room/together" "${given[@]:0:2}" "$data/long.so"
-# alone NAME WORD..: a test in a folder of its own.
+# alone NAME WORD..: runs a test in a folder of its own.
 alone() {
     mkdir $1.files
     (cd $1.files && "$room/$1" "${@:2}")
@@ -110,7 +110,8 @@ alone place "$data/strong.so" b
 alone front
 alone making "$data/strong.so" b
 alone turns
-# Threads by the sanitizer of threads, where there is one; once, since they are those of the C side.
+# Threads with the sanitizer of threads, if there is one; only once, because the threads are those of the
+# C side.
 if [ -d "$objects/threads" ]; then
     :
 elif mkdir "$objects/threads" && has_sanitizer thread 2> lost; then
@@ -124,7 +125,7 @@ alone contents "$data/strong.so" b
 alone findings "$data/strong.so" b "$data/old-one.disk"
 of_updates=("$data/strong.so" "$data/protected.so" "$data/long.so" "$data/program-1.so")
 alone updates "${of_updates[@]}"
-# Where memory is refused, which the sanitizer of addresses has much of.
+# Refused memory. The sanitizer of addresses needs much memory itself.
 gcc $flags -O1 -o limited "$here/updates.c" "$here/watched.c" ${watched%% *} "$built/librlibreg.a"
 alone limited "${of_updates[@]}" > told || { cat told; exit 1; }
 sed -n '/^skipped/p' told
@@ -134,7 +135,7 @@ for part in cuts same held devices full loader starting initializers kept docume
     (. "$here/$part.sh")
 done
 (. "$here/twice.sh")
-# Images in a folder on a disk, where OBJECTS is; once, since they are those of the C side.
+# Images in a folder on a disk, where OBJECTS is; only once, because they are those of the C side.
 case $(stat -f -c %T "$objects") in
     ext2/ext3 | xfs | btrfs | f2fs)
         if mkdir "$objects/disk" 2> lost; then
@@ -145,9 +146,9 @@ case $(stat -f -c %T "$objects") in
     *) echo 'skipped: images in a folder on a disk' ;;
 esac
 
-# What build.sh has made, as it stands: no C of the library is compiled anew for these.
+# The files that build.sh has made, as they are: these tests don't compile the library's C again.
 for part in shared installed manual python driver; do
     (. "$here/$part.sh")
 done
-# The switch of two disks; once, since no compiler makes it.
+# The switch of two disks; only once, because no compiler makes it.
 if mkdir "$objects/switch" 2> lost; then (. "$here/switch.sh"); fi

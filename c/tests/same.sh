@@ -4,7 +4,7 @@
 
 count=0
 
-# both COMMAND [WORD]..: on the disks `theirs` and `ours`.
+# both COMMAND [WORD]..: runs it on the disks `theirs` and `ours`.
 both() {
     local theirs ours test=
     theirs=$("$rlibreg" "$1" theirs "${@:2}" && echo '= 0' || echo "= $?")

@@ -15,7 +15,7 @@ rm -f disk
 ./tool format disk 512 > /dev/null
 for name in one two both; do ./tool install disk lib$name.so > /dev/null; done
 
-# Words.
+# Arguments.
 usage='rlibreg-run: usage: rlibreg-run [-x] [-b BASE] [-c FOLDER [-v]] DISK PROGRAM [WORD]..
 = 127'
 want 'no words' "$usage" "$(ended ./rlibreg-run)"
@@ -50,8 +50,8 @@ want 'a disk that is cut under it' "refused S1 Device
 cp disk cut
 want 'a disk that is cut while it is read' "rlibreg-run: the disk can't be read
 = 126" "$(ended env CUT_LATE=cut ./run-taken cut ./words)"
-# From an address space into which the kernel can't even map the loader, which it kills then; where
-# the system's loader comes before it, that tells the same by 127.
+# An address space into which the kernel can't even map the loader: the kernel then kills it. If the
+# system's loader comes before it, that reports the same by status 127.
 few=
 memory=$(error_text 12)
 interpreter=$(readelf -lW "$built/rlibreg-run" | grep INTERP || true)
@@ -86,7 +86,7 @@ else
     echo "skipped: a file system without programs ($(cat lost))"
 fi
 
-# More rights than the user's: the loader's C library takes variables out of the environment.
+# More rights than the user has: the loader's C library removes variables from the environment.
 for loader in "$plain" "$built/rlibreg-run"; do
     found=$(ended env LOCPATH=x NLSPATH=x TZDIR=x SEE=me ./within secure "$loader" disk ./words)
     case $found in
@@ -113,7 +113,7 @@ done
 want 'a stack of 512 KiB' '= 3' \
     "$(ulimit -s 512 && ended "$built/rlibreg-run" disk ./words $(seq 8000) | tail -1)"
 
-# Zeros are no memory of the program's until it writes them, and a large image is bound once.
+# Zeros take no memory of the program until it writes them, and a large image is bound only once.
 $compile -pie -Wl,-e,_start -o zeros "$programs/place.c" -x c - <<< 'char zeros[60 << 20];'
 found=$(./rlibreg-run disk zeros /proc/self/statm | tail -1 | cut -d ' ' -f 2)
 [ "$found" -lt 4096 ] || { echo "60 MiB of zeros: $found pages" >&2; exit 1; }
@@ -141,7 +141,7 @@ rlibreg-run: no registry has a C library: link it into the program, statically
     rm $name
 done
 
-# Places: what is mapped below what the kernel chooses, that is, of the image.
+# Addresses: what is mapped below the addresses that the kernel chooses belongs to the image.
 low() {
     grep -E '^([0-3][0-9a-f]{11}|[0-9a-f]{8,11})-'
 }
@@ -178,7 +178,7 @@ want 'a start beside a change' '' "$(cat waited)"
 let_go
 want 'a start after it' 'one 36 13 nobody' "$(cat waited)"
 
-# Alignments. aligned FILE NEW BYTE: its first segment gets one of BYTE, hexadecimal, times 2^40.
+# Alignments. aligned FILE NEW BYTE: the first segment gets an alignment of BYTE, hexadecimal, times 2^40.
 aligned() {
     number=$(readelf -lW "$1" | awk '$1 == "LOAD" {print seen + 0; exit} / 0x/ {seen++}')
     cp "$1" "$2"
@@ -213,7 +213,7 @@ case $found in
 = 126' "$found" ;;
 esac
 
-# What the system and a debugger are told.
+# What the system and a debugger get to know.
 cp place a-program-of-a-long-name
 want 'the name' place "$(./rlibreg-run disk ./place | head -1)"
 want 'a long name' a-program-of-a- "$(./rlibreg-run disk a-program-of-a-long-name | head -1)"

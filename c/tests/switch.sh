@@ -8,7 +8,7 @@ export ROOM=$PWD
 lines() {
     printf '%s %s\n' "$1" "$(od -An -v -tx1 "$2" | tr -d ' \n')"
 }
-# digest FILE..: what rlibreg-tool prints of a registry of these libraries: b, and then a.
+# digest FILE..: prints what rlibreg-tool prints of a registry of these libraries: b, and then a.
 digest() {
     local names=(b a) at
     for ((at = 1; at <= $#; at++)); do
@@ -21,7 +21,7 @@ old=$(digest "$data/strong.so")
 new=$(digest "$data/protected.so")
 both=$(digest "$data/protected.so" "$data/long.so")
 
-# Here the script lies beside the programs, and may be given less patience.
+# Here the script lies beside the programs, and may get less time to wait.
 mkdir bin steps start
 sed 's/^readonly patience=10 /readonly patience=${PATIENCE:-10} /' "$here/../rlibreg-switch" > bin/rlibreg-switch
 want 'its patience' 1 "$(grep -c '^readonly patience=${PATIENCE:-10} ' bin/rlibreg-switch)"
@@ -33,7 +33,7 @@ change() {
     bin/rlibreg-switch --link "$PWD/disk" "$@"
 }
 
-# start: the link leads to `one`, and `two` has an older registry, in the same sectors.
+# start: makes the link lead to `one`; `two` has an older registry, in the same sectors.
 { cat "$data/strong.so" && echo older; } > older.so
 older=$(digest older.so)
 "$rlibreg" format start/one 64 > said
@@ -45,7 +45,7 @@ start() {
     ln -sfT "$PWD/one" disk
     rm -f .disk.rlibreg-switch
 }
-# leads WHAT DISK DIGEST: the link leads there, to a registry of these libraries.
+# leads WHAT DISK DIGEST: checks that the link leads to this disk, with a registry of these libraries.
 leads() {
     want "where the link leads $1" "$PWD/$2" "$(readlink disk)"
     want "the registry $1" "$3" "$("$tool" digest disk)"
@@ -70,7 +70,8 @@ ok
 = 0" "$(ended change two one sh -c 'echo "hello from $RLIBREG_OTHER" && rlibreg-tool remove "$RLIBREG_OTHER" a > /dev/null')"
 leads 'after the third' two "$new"
 
-# refused STATUS MESSAGE WORD..: it is refused so, and neither disk nor the link changes.
+# refused STATUS MESSAGE WORD..: checks that a switch is refused in this way, and that neither disk nor
+# the link changes.
 refused() {
     local status=$1 message=$2
     shift 2
@@ -126,8 +127,8 @@ rlibreg-switch: $PWD/fixed/disk still leads to $PWD/one
     cmp two start/two
 fi
 
-# stays STATUS WHAT WORD..: standard input or a command is no good, so the link stays, and what it
-# leads to.
+# stays STATUS WHAT WORD..: standard input or a command fails, so the link stays, and so does the disk
+# that it leads to.
 stays() {
     want "the status of $2" "$1" "$(ended change "${@:3}" 2>&1 | sed -n 's/^= //p')"
     leads "after $2" one "$old"
@@ -152,7 +153,7 @@ ok
 = 0' "$(ended change --bind "$data/program-1.so" one two < first)"
 leads 'after that' two "$new"
 
-# Other lengths, to and fro. A copy that is cut leaves no registry, which isn't taken as it is.
+# Other lengths, to and fro. A copy that is cut leaves no registry; the next switch doesn't use it as it is.
 start
 "$rlibreg" format large 128 > said
 want 'growing' 'planned
@@ -173,7 +174,7 @@ start
 printf '%-512s' rlibreg-switch | dd of=two conv=notrunc status=none
 stays 1 'a copy that was cut' --as-is one two
 
-# Two at once: the second waits, finds that the first has switched, and makes the way back.
+# Two at once: the second waits, finds that the first has switched, and switches back.
 start
 mkfifo begun
 change one two sh -c 'echo > begun; sleep 0.3; rlibreg-tool update "$RLIBREG_OTHER" < first' > waited &
@@ -188,7 +189,7 @@ ok
 wait $!
 leads 'after both' one "$both"
 want 'a change after it' ok "$("$rlibreg" remove disk a)"
-# A change that waits for the live one is made to the new one.
+# A change that waits for the live disk is made to the new one.
 start
 change one two sh -c 'echo > begun; sleep 0.3; rlibreg-tool update "$RLIBREG_OTHER" < first' > waited &
 switching=$!
@@ -201,7 +202,7 @@ wait $!
 want 'after it has waited' ok "$(cat waits)"
 leads 'after that change' two "$both"
 cmp one start/one
-# locked WHAT STATUS: a switch beside somebody who has a lock.
+# locked WHAT STATUS: runs a switch while another process has a lock.
 locked() {
     want "what is said beside $1" "$2" "$(PATIENCE=0.2 ended change one two < first 2>&1 | grep -v still)"
     let_go
@@ -219,7 +220,7 @@ locked 'a reader of the other one' "rlibreg-switch: $PWD/two can't be changed: i
 cmp two start/two
 leads 'after these' one "$old"
 
-# Signals; and a kill of the script alone, whose command goes on.
+# Signals; and a kill of only the script, whose command goes on.
 for signal in HUP:129 INT:130 TERM:143 KILL:137; do
     start
     setsid env --default-signal=HUP,INT,TERM bin/rlibreg-switch --link disk one two \
@@ -249,7 +250,8 @@ done
 rm begun
 
 # Cuts. A step is a command of the script that locks, writes or syncs. `steps` has its stand-ins: they
-# count the steps, and kill all processes after the step of one number, or halfway through a copy or `ln`.
+# count the steps, and kill all processes after the step of one number, or halfway through a copy or
+# `ln`.
 cat > steps/step << 'END'
 #!/bin/sh
 name=${0##*/}
@@ -278,13 +280,14 @@ status=0
 [ "$CUT" != "after:$number" ] || kill -9 0
 exit $status
 END
-# The model: looks at what a power cut would leave, and then brings to `medium` what the step has synced.
+# The model: looks at what a power cut would leave, and then writes to `medium` what the step has synced.
 cat > steps/model << 'END'
 #!/bin/bash
 set -eu
 step=$*
 cd "$ROOM"
-# keeps LINK ONE TWO: the link leads to one of the two disks; its registry is the old or the new one.
+# keeps LINK ONE TWO: checks that the link leads to one of the two disks, whose registry is the old or
+# the new one.
 keeps() {
     local found
     case $1 in */one) found=$2 ;; *) found=$3 ;; esac
@@ -292,7 +295,7 @@ keeps() {
     found=$(real/rlibreg-tool digest looked-at 2>&1) || true
     [ "$found" = "$OLD" ] || [ "$found" = "$NEW" ] || echo "in $step: $1: $found" >> wrong
 }
-# looks LINK: of each disk, some of the sectors that aren't synced are on the medium.
+# looks LINK: tries that the medium has some of the unsynced sectors of each disk.
 looks() {
     local disk sectors
     keeps "$1" one two
@@ -328,15 +331,16 @@ for command in flock sync ln dd mv rlibreg rlibreg-tool; do
     ln -s "$(PATH=$PWD/bin:$PATH type -P $command)" real/$command
 done
 export OLD=$old NEW=$new CUT HALF
-# stepped CUT WORD..: a switch with the stand-ins, in a group of its own; its status is 137 if it was cut.
+# stepped CUT WORD..: runs a switch with the stand-ins, in a process group of its own; its status is 137
+# if it was cut.
 stepped() {
     CUT=$1
     : > count
     status=0
     { setsid --wait steps/rlibreg-switch --link "$PWD/disk" "${@:2}" < first > said 2> told || status=$?; } 2> lost
 }
-# again WORD..: after a cut the old state or the new one is there. The same switch leaves the new one, and
-# another change is made to that. Each state of the files is tried once.
+# again WORD..: checks that after a cut the old state or the new one is there. The same switch leaves the
+# new state, and another change is made to that. Each state of the files is tried once.
 again() {
     local found
     flock . flock one flock two true # once all that was killed has ended
@@ -352,7 +356,7 @@ again() {
     want "another change after $CUT" 0 "$(change "$@" < second > said 2> told; echo $?)"
     want "the state after $CUT and another change" "$both" "$(bin/rlibreg-tool digest disk)"
 }
-# way WORD..: all cuts of such a switch of one and two.
+# way WORD..: tries all cuts of such a switch of one and two.
 cuts=0
 way() {
     local number steps halves
@@ -387,8 +391,8 @@ mv start/two start/two.equal
 way --resize one two
 mv start/two.equal start/two
 
-# The power fails in the model, also when the link was changed just before and isn't on the medium: then
-# `one` is written, as `two`.
+# The power fails in the model, also if the link was changed just before and the medium doesn't have the
+# change: then `one` is written, as `two`.
 start
 mkdir medium
 cp -P one two disk medium/
@@ -419,7 +423,8 @@ want 'the link on the medium then' "$PWD/one" "$(readlink medium/disk)"
 [ $cuts -ge 40 ] || { echo "there were only $cuts cuts" >&2; exit 1; }
 echo "switch: $cuts cuts, and power cuts in a model at $(wc -l < modelled) steps: old or new, and done again"
 
-# Block devices. A second node of the live one and a second loop device over its file are the live one.
+# Block devices. A second node of the live device, and a second loop device over its file, are the live
+# one.
 if [ "$(id -u)" != 0 ]; then
     echo 'skipped: a switch of block devices, which only root makes'
     exit 0

@@ -8,15 +8,15 @@ want() {
     fi
 }
 
-# ended COMMAND..: what it prints, and behind that a line with its status.
+# ended COMMAND..: prints the command's output, and after that a line with its status.
 ended() {
     local status=0
     "$@" 2>&1 || status=$?
     echo "= $status"
 }
 
-# held_by HOLDER..: it holds a disk until let_go, which ends its standard input. It is given a line,
-# so that a script has something to answer.
+# held_by HOLDER..: runs a process that locks a disk until let_go, which ends its standard input. The
+# process gets a line, so that a script has something to answer.
 held_by() {
     mkfifo ends
     "$@" < ends > held.out &
