@@ -273,7 +273,7 @@ class Devices:
         if not ended.output.endswith(b'refused S1 Device\n'):
             raise NotHere(f'the replace was answered {ended.output}')
 
-    # What can't be read, and what is shorter.
+    # Devices that can't be read, and devices that become shorter.
 
     def cut_below(self):
         """Makes the file under a loop device with direct I/O shorter. The device keeps its length, and its end can't

@@ -14,7 +14,7 @@ COMPILE = ['gcc', '-O1', '-fPIC', '-nostdlib', '-fno-stack-protector', '-fno-asy
 SECTORS = 512
 PATIENCE, ENDLESS = 60, 10 # how many seconds a command, and a start, may take
 
-# Versions differ in a letter among the read-only bytes, in where a relocated pointer leads, in a number in code, in a number beside
+# Versions differ in a letter among the read-only bytes, in the target of a relocated pointer, in a number in code, in a number beside
 # that pointer, and in bytes that no start maps.
 VERSIONS = (('A', 0, 10, 1, 'x'), ('B', 0, 10, 1, 'x'), ('A', 1, 10, 1, 'x'), ('A', 0, 11, 1, 'x'), ('A', 0, 10, 2, 'x'), ('A', 0, 10, 1, 'y'),
             ('C', 2, 13, 3, 'z'))

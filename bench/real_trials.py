@@ -204,7 +204,7 @@ def is_compiler_right(ended, place, preprocessed, compiled):
 
 def tcc_trials(it):
     place = it.place['static']
-    # 02: where it is linked statically, tcc doesn't do what that test wants either.
+    # 02: a statically linked tcc doesn't do what that test wants either.
     preprocessed, compiled = (
         {path.stem: path.with_suffix('.expect').read_bytes().split()
          for path in sorted((place / 'tests').glob(pattern)) if path.stem != '02'}
