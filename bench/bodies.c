@@ -1,32 +1,32 @@
-/* Wrong bodies of the program, for `syncs.py`: a library to preload before `medium.c`, which makes other calls of those that the
-   program makes. BODY says which:
+/* Wrong bodies of the program, for `syncs.py`: a library to preload before `medium.c`. It turns the calls of the program into other
+   calls. BODY says which:
 
-   right         makes none
-   none          the cache isn't let go
-   small         its first page alone is let go
-   before        it is let go before the sync
-   after_read    it is let go after the first read
-   second_page   it is let go from the second page on
+   right         changes nothing
+   none          the cache isn't dropped
+   small         only its first page is dropped
+   before        it is dropped before the sync
+   after_read    it is dropped after the first read
+   second_page   it is dropped from the second page on
    compared_early    the roots are compared before the sync
-   one_root          the second one isn't
-   failed_equal      they are taken for equal where the read past memory fails
-   written_unsynced  memory's are written, and not synced
-   compared_once     what was let go, or written, isn't compared again
-   not_compared      they are taken for equal
+   one_root          the second root isn't compared
+   failed_equal      the roots count as equal if the read past memory fails
+   written_unsynced  the roots in memory are written, and not synced
+   compared_once     after the cache was dropped, or the roots written, they aren't compared again
+   not_compared      the roots count as equal without a comparison
    unlocked      there is no lock
    shared        each lock is a shared one
    lock_late     the lock is taken after the first read
-   lock_let_go   the lock is let go before the second sync
+   lock_let_go   the lock is released before the second sync
    no_sync       the sync before the root isn't made
-   no_last_sync  no sync after that is made
+   no_last_sync  no sync after the root is made
    named_early   the file of another name becomes DISK before its first sync
    folder        the folder isn't synced
-   unasked       it isn't asked behind that whether the medium has the names
-   asked_early   it is asked before that
-   left          no name is taken away
+   unasked       after the folder's sync nothing asks whether the medium has the names
+   asked_early   that is asked before the folder's sync
+   left          no name is removed
    dead_written  the file that a dead process left is opened and written
-   einval        a sync that answers EINVAL is taken for done, whatever the file is open for
-   erofs         one that answers EROFS is
+   einval        a sync that returns EINVAL counts as done, whatever the file is open for
+   erofs         a sync that returns EROFS counts as done
 
        gcc -std=c11 -O2 -U_FORTIFY_SOURCE -shared -fPIC -o bodies.so bodies.c */
 #define _GNU_SOURCE
@@ -52,7 +52,7 @@ static bool is(const char *body) {
     return this && !strcmp(this, body);
 }
 
-/* Whether the body is one that lets the cache go at another place than the program does. */
+/* Returns whether the body drops the cache at another place than the program does. */
 static bool moves_the_cache(void) {
     return is("none") || is("before") || is("after_read");
 }
@@ -83,7 +83,7 @@ int fcntl(int descriptor, int command, ...) {
     return NEXT(int, "fsync", int)(descriptor);
 }
 
-/* Whether a read past memory is taken for one of memory. */
+/* Returns whether a read past memory is replaced by a read of memory. */
 static bool is_believed(int descriptor, ssize_t answer) {
     bool again = compared[descriptor]++;
     return is("not_compared") || (is("compared_once") && again) || (is("failed_equal") && answer < 0);
@@ -115,7 +115,7 @@ static void name_it(void) {
     named = !NEXT(int, "link", const char *, const char *)(path, getenv("MEDIUM_DISK"));
 }
 
-/* Whether the sync of this number of a file is left out. */
+/* Returns whether the sync of this number of a file is left out. */
 static bool is_left_out(int number) {
     return (is("no_sync") && number == 2) || (is("no_last_sync") && number > 2);
 }

@@ -1,27 +1,27 @@
 /* A stand-in for a kernel, for `syncs.py`: a library to preload. It keeps the medium of the file DISK apart from the file.
 
-   The file is the page cache. What is written to it marks pages of 4,096 bytes dirty, and a sync brings these to the medium. A sync
-   that is to fail answers EIO: the dirty pages are then taken for clean, whether the medium has them or not, and the file goes on
-   showing them, to later processes too, until posix_fadvise(POSIX_FADV_DONTNEED) lets them go: they then show what the medium has. The
-   cache is in pieces of four pages, and a piece is let go if it is clean and lies whole in the range; mincore says that the first page is
-   kept until that was let go. A read with O_DIRECT, which has to be aligned, gives what the medium has, and of dirty pages what the file
-   has: they are written back first, but not flushed, so a cut can still take them. Names are the medium's once the folder is synced or,
-   as where a file system has a journal, the file itself. Writes through mappings aren't seen, and no time is slept.
+   The file is the page cache. A write marks pages of 4,096 bytes dirty, and a sync writes these pages to the medium. A sync that has
+   to fail returns EIO. The dirty pages are then treated as clean, whether the medium has them or not, and the file goes on showing
+   them, also to later processes, until posix_fadvise(POSIX_FADV_DONTNEED) drops them: then the file shows what the medium has. The
+   cache is in pieces of four pages. A piece is dropped if it is clean and lies whole in the range; mincore says that the first page is
+   cached until it was dropped. A read with O_DIRECT, which has to be aligned, returns what the medium has, and for dirty pages what
+   the file has: they are written back first, but not flushed, so a cut can still lose them. The medium has a name once the folder is
+   synced or, as on a file system with a journal, the file itself. The stand-in doesn't see writes through maps, and it doesn't sleep.
 
        gcc -std=c11 -O2 -U_FORTIFY_SOURCE -shared -fPIC -o medium.so medium.c
 
    MEDIUM          the folder with the files `medium` (the bytes that the medium has), `state` (struct kept) and `log`
    MEDIUM_DISK     DISK as an absolute path; the file that becomes it is `.NAME.rlibreg-new` beside it
-   MEDIUM_FAIL     which syncs fail, of DISK and of its folder, counted from 1 on: numbers with a comma between them
-   MEDIUM_BROUGHT  what a failing sync brings to the medium all the same: `none`, `all`, `first` (the page of the roots alone),
-                   `rest` (all pages but that one), `half` (the front half of each page), or `kept`: none, and they stay dirty
-   MEDIUM_ERROR    the number that a failing sync leaves in errno, EIO where it isn't there
-   MEDIUM_READ_ONLY  if it is there, neither file is opened for writing (EROFS), and each sync of one answers MEDIUM_ERROR
-   MEDIUM_SILENT   if it is there, a failing sync answers that it was done: another process was told of the failure
-   MEDIUM_LOST     if it is there, the journal couldn't be written before the first sync of the folder, as of ext4: that sync and later
-                   ones succeed and bring no name, and no change of the folder begins from then on (EROFS)
-   MEDIUM_MAPPED   if it is there, somebody has the front mapped: it isn't let go
-   MEDIUM_PAST     how reads with O_DIRECT fail: EINVAL where a descriptor is to have it, if it is `refused`, or a number for errno
+   MEDIUM_FAIL     which syncs of DISK and of its folder fail, counted from 1 on: numbers with a comma between them
+   MEDIUM_BROUGHT  what a failing sync writes to the medium all the same: `none`, `all`, `first` (only the page of the roots),
+                   `rest` (all pages but that one), `half` (the first half of each page), or `kept`: none, and they stay dirty
+   MEDIUM_ERROR    the number that a failing sync leaves in errno; EIO without it
+   MEDIUM_READ_ONLY  if it is set, neither file is opened for writing (EROFS), and each sync of one returns MEDIUM_ERROR
+   MEDIUM_SILENT   if it is set, a failing sync succeeds: the failure was reported to another process
+   MEDIUM_LOST     if it is set, the journal couldn't be written before the first sync of the folder, as on ext4: that sync and later
+                   ones succeed and write no name, and no change of the folder begins from then on (EROFS)
+   MEDIUM_MAPPED   if it is set, somebody has the front mapped: it isn't dropped
+   MEDIUM_PAST     how reads with O_DIRECT fail: EINVAL when a descriptor gets O_DIRECT, if it is `refused`; or a number for errno
    MEDIUM_CUT      before which step the process ends: steps are the calls after which a machine can find something else */
 #define _GNU_SOURCE
 #include <errno.h>
@@ -92,7 +92,7 @@ static bool ready(void) {
     return kept;
 }
 
-/* The log: a line for each call, which ends with its answer. */
+/* The log: a line for each call, which ends with its result. */
 static void note(const char *form, ...) {
     char line[2 * PATH_MAX];
     int saved = errno;
@@ -104,7 +104,7 @@ static void note(const char *form, ...) {
     errno = saved;
 }
 
-/* A step begins: the process ends before it, if it is the one of the cut. */
+/* Begins a step: the process ends before it, if it is the step of the cut. */
 static void step(void) {
     if (++steps == cut) _exit(CUT_STATUS);
 }
@@ -135,7 +135,7 @@ static bool is_file(int descriptor) {
     return name == THE_DISK || name == THE_NEW;
 }
 
-/* What is kept of the file. */
+/* What is known of the file. */
 
 static off_t length_of(int descriptor) {
     struct stat facts;
@@ -149,7 +149,7 @@ static void set_dirty(off_t from, size_t size) {
     }
 }
 
-/* The file for reading and writing, whatever its own descriptor is for. */
+/* Returns the file, open for reading and writing, whatever its own descriptor permits. */
 static int file_again(int descriptor) {
     char path[64];
     snprintf(path, sizeof path, "/proc/self/fd/%d", descriptor);
@@ -158,7 +158,7 @@ static int file_again(int descriptor) {
     return file;
 }
 
-/* Copies the front of a page, zeros where there are no bytes, but none past the end. */
+/* Copies the front of a page: zeros for missing bytes, and nothing past the end. */
 static void copy_page(int from, int to, off_t page, size_t front, off_t end) {
     char bytes[PAGE] = {0};
     off_t place = page * PAGE, left = end - place;
@@ -177,7 +177,7 @@ static bool is_brought(const char *brought, off_t page) {
     return !strcmp(brought, "all") || !strcmp(brought, "half");
 }
 
-/* Brings the dirty pages to the medium, or what a failing sync brings of them. */
+/* Writes the dirty pages to the medium, or those that a failing sync writes. */
 static void bring_pages(int descriptor, const char *brought) {
     int file = file_again(descriptor);
     size_t front = !strcmp(brought, "half") ? PAGE / 2 : PAGE;
@@ -190,7 +190,7 @@ static void bring_pages(int descriptor, const char *brought) {
     syscall(SYS_close, file);
 }
 
-/* Whether the sync of this number is one of those that fail. */
+/* Returns whether the sync of this number is one of those that fail. */
 static bool is_to_fail(int number) {
     const char *list = getenv("MEDIUM_FAIL");
     if (getenv("MEDIUM_READ_ONLY")) return true;
@@ -222,7 +222,7 @@ static bool is_clean(off_t first) {
     return true;
 }
 
-/* Lets go the clean pieces that lie whole in the range, the last one of the file also where its end is the range's. */
+/* Drops the clean pieces that lie whole in the range; the last piece of the file also if the range ends where the file does. */
 static void let_go(int descriptor, off_t from, off_t size) {
     int file = file_again(descriptor);
     off_t end = length_of(file), stop = size ? from + size : end;
@@ -235,7 +235,7 @@ static void let_go(int descriptor, off_t from, off_t size) {
     syscall(SYS_close, file);
 }
 
-/* Bytes as they are read past the cache: of each page at most what the file has of it. */
+/* Reads bytes past the cache: of each page at most what the file has of it. */
 static ssize_t bytes_past(int descriptor, char *into, size_t size, off_t from) {
     ssize_t length = syscall(SYS_pread64, descriptor, into, size, from);
     for (off_t at = 0; at < length; at += PAGE) {
@@ -332,7 +332,7 @@ static int doubled(int descriptor, int answer) {
     return answer;
 }
 
-/* The file itself may lie where there is no O_DIRECT. */
+/* The file itself may lie on a file system without O_DIRECT. */
 static int set_past(int descriptor, long flags) {
     if (flags & O_DIRECT && !strcmp(told("MEDIUM_PAST", ""), "refused")) {
         note("refused %d\n", descriptor);
@@ -400,7 +400,7 @@ static ssize_t was_written(int descriptor, off_t from, ssize_t answer) {
     return answer;
 }
 
-/* Where a write goes, which is a step where it goes to the file. */
+/* Returns the place of a write. A write to the file is a step. */
 static off_t write_begins(int descriptor) {
     if (!is_file(descriptor)) return 0;
     step();

@@ -1,11 +1,11 @@
 /*
- * Refuses one growth (request for memory) of a program, whose number is in REFUSE; where there is
- * none, or 0, it refuses none, and tells at the end how many there were.
+ * Refuses one growth (request for memory) of a program, the one whose number is in REFUSE. Without
+ * REFUSE, or if it is 0, refuses none, and prints at the end how many growths there were.
  *
  *     gcc -O1 -shared -fPIC -o refuse.so bench/refuse.c
  *     REFUSE=7 LD_PRELOAD=./refuse.so PROGRAM ..
  *
- * It stands before the calls of glibc by which what Rattle compiles gets its memory.
+ * It replaces the calls of glibc by which compiled Rattle gets its memory.
  */
 #include <errno.h>
 #include <stdio.h>

@@ -1,7 +1,7 @@
 /*
- * Makes reads or writes of a program move fewer bytes than it asks for, as a system may. SHORT_CALL
- * is `pread` or `pwrite`, and each such call moves at most SHORT_BYTES bytes. If SHORT_NUMBER is
- * given, only the call of this number does, counted from 1.
+ * Makes reads or writes of a program transfer fewer bytes than it asks for, as a system may.
+ * SHORT_CALL is `pread` or `pwrite`, and each such call transfers at most SHORT_BYTES bytes. If
+ * SHORT_NUMBER is given, only the call of this number does so, counted from 1.
  *
  *     gcc -O1 -shared -fPIC -o short.so bench/short.c
  *     SHORT_CALL=pwrite SHORT_BYTES=612 LD_PRELOAD=./short.so PROGRAM ..
@@ -23,7 +23,7 @@ __attribute__((constructor)) static void begin(void) {
     number = only ? strtol(only, NULL, 10) : 0;
 }
 
-/* How many bytes the next call of this name moves at most. */
+/* Returns the maximum number of bytes that the next call of this name transfers. */
 static size_t most_of(const char *name, size_t asked) {
     if (!call || strcmp(name, call)) return asked;
     calls++;

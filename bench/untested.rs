@@ -1,7 +1,7 @@
-//! A program of the same rules for `compare.py`: one object at a base, PT_LOADs, RELATIVE relocations, the text. It makes
+//! A program with the same rules, for `compare.py`: one object at a base, PT_LOADs, RELATIVE relocations, the text. It makes
 //! no test of the file. `rustc --edition 2021 -O -C target-cpu=x86-64-v2 bench/untested.rs`; with `--cfg tests -o two_tests`
-//! it makes the two that cost something on large tables: that no tag which may be present once is present twice, and that
-//! each relocation's place lies in a PT_LOAD, both before anything is written.
+//! it makes the two tests that take time on large tables: no tag that may be present only once is present twice, and the
+//! place of each relocation lies in a PT_LOAD. Both come before anything is written.
 use std::fs;
 use std::io::{self, Write};
 use std::os::fd::FromRawFd;
@@ -90,7 +90,7 @@ impl<W: Write> Out<W> {
     }
 }
 
-/// No tag that may be present once is present twice.
+/// Asserts that no tag that may be present only once is present twice.
 #[cfg(tests)]
 fn test_tags(section: &[u8]) {
     let mut counts = [0u32; 40];
@@ -108,7 +108,7 @@ fn test_tags(section: &[u8]) {
     assert!(single.iter().all(|&tag| counts[tag] < 2));
 }
 
-/// The eight bytes of each relocation's place lie in the memory of a PT_LOAD.
+/// Asserts that the eight bytes at each relocation's place lie in the memory of a PT_LOAD.
 #[cfg(tests)]
 fn test_places(table: &[u8], loads: &[Load]) {
     let holds = |l: &Load, place: u64| place >= l.address && place + 8 <= l.address + l.memory as u64;
