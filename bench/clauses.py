@@ -23,7 +23,7 @@ MOST = 100
 GENERAL = {'sector_disk/Disk', 'states/State', 'store/Opened', 'store/Stands', 'registry/Opened', 'registry/Stands'}
 HEAD = """# Clauses
 
-For who uses a crate, or asks what is proved of a call: each public call, which leads to its file, with its clauses behind the comments above them. Labels are in italics; a clause of over 100 characters is told by its label alone, and stands in that file in front of the body. Where a clause cites one record, its parts are in square brackets. No call that [PROMISED_CALLS.txt](PROMISED_CALLS.txt) lists is renamed or removed. `bench/documents.py` makes this page.
+This page is for everyone who uses a crate, or asks what is proved of a call. It lists each public call, as a link to its file, with its clauses after the comments above them. Labels are in italics. If a clause has more than 100 characters, the page has only its label; the clause is in that file, before the function's body. If a clause cites one record, the record's parts are in square brackets. No call that [PROMISED_CALLS.txt](PROMISED_CALLS.txt) lists is renamed or removed. `bench/documents.py` makes this page.
 
 """
 

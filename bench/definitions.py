@@ -193,22 +193,22 @@ PLAIN = {
     'extents/Runs: IsUnusedRun': 'an unused run, seen from outside: it is on the disk and unused, and could be longer on neither side',
 }
 CRATES = [
-    ('names', 'Names of their own'), ('elf_file', 'Files'), ('elf_dynamic', 'Symbols and relocations of files'),
-    ('hash_check', 'Admission and the search of names'), ('scope', 'Load order and lookup'),
+    ('names', 'Owned names'), ('elf_file', 'Files'), ('elf_dynamic', 'Symbols and relocations of files'),
+    ('hash_check', 'Admission and the search for names'), ('scope', 'Load order and lookup'),
     ('text_output', 'Text on its way to a writer'), ('image', 'Images'), ('executable', 'Executable files'),
     ('bindings', 'What symbols are bound to'), ('requests', 'Requests and the step table'),
     ('sector_disk', 'The disk model'), ('file_disk', 'A disk over a file'), ('extents', 'Unused and claimed sectors'),
     ('states', 'States'), ('roots', 'Root, catalogue and entry sectors'), ('passes', 'Passes over a disk'), ('store', 'Named byte strings'),
     ('snapshots', 'Snapshots'), ('contents', 'What a disk has'), ('registry', 'The registry on a disk'),
     ('binders', 'Binders in slots'), ('byte_disk', 'A disk over given bytes'),
-    ('byte_registry', 'A registry on given bytes'), ('c_answers', 'What calls for C are answered'), ('rlibreg_c', 'The calls for C'), ('commands', 'The program'),
-    ('program_parts', 'What programs share'), ('scripts', 'The lines of scripts'), ('updates', 'Several changes, one commit'), ('tool_parts', 'What forms tell and say'), ('tool_commands', 'The second program'),
-    ('replays', 'The law that a dump replays')]
+    ('byte_registry', 'A registry on given bytes'), ('c_answers', 'The answers to calls for C'), ('rlibreg_c', 'The calls for C'), ('commands', 'The program'),
+    ('program_parts', 'Parts that the programs share'), ('scripts', 'The lines of scripts'), ('updates', 'Several changes, one commit'), ('tool_parts', 'Output and messages of forms'), ('tool_commands', 'The second program'),
+    ('replays', 'The laws that a dump replays, and that an update binds ahead')]
 HEAD = """# Definitions
 
-For who reads a clause: all definitions but the main ones, which [PROOFS](PROOFS.md) has in the order of a reading. `bench/documents.py` makes this page from the comments in `specs/`.
+This page is for everyone who reads a clause. It has all definitions except the main ones, which [PROOFS](PROOFS.md) has in the order in which they should be read. `bench/documents.py` makes this page from the comments in `specs/`.
 
-Beside the name of each file is the section of the public standard that its definitions are taken from, or "own" where the rule is this project's. A definition with another section than its file's has that behind it. The standards are gABI (System V ABI, the chapters on object files and on program loading and dynamic linking), psABI (its AMD64 supplement), elf(5) and ld.so(8).
+Each file's name is followed by the section of the public standard that its definitions are taken from, or by "own" if the rule is this project's. If a definition has another section than its file, that section comes after the definition. The standards are gABI (System V ABI, the chapters on object files and on program loading and dynamic linking), psABI (its AMD64 supplement), elf(5) and ld.so(8).
 """
 STANDARD = re.compile(r'\(([^()]*(?:\([^()]*\)[^()]*)*)\)')
 VALUE = re.compile(r'^\S+ = (0x[0-9a-f]+|[0-9]+)$')
