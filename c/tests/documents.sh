@@ -37,7 +37,7 @@ compare
 [ $count -gt 10 ] || { echo "docs/C.md has only $count commands" >&2; exit 1; }
 echo "documents: two programs and $count commands of docs/C.md: as written"
 
-# Disks that the host can't read.
+# Plugins and disks that the host can't read.
 truncate -s $((8192 * 512 + 1)) long
 for file in none . long; do
     case $file in

@@ -126,7 +126,7 @@ number_at changed $(($(readelf -lW stages | awk '$1 == "DYNAMIC" {print $2}') + 
 want 'a half of an address' "rlibreg-run: ./changed: DT_PREINIT_ARRAY $half
 = 125" "$(ended ./rlibreg-run disk ./changed)"
 
-# A constructor with a name that another library also has is that library's own.
+# A constructor with a name that another library also exports is the other library's, and is refused.
 for name in d e; do
     echo 'void setup(void) {} void (*call)(void) __attribute__((section(".init_array"))) = setup;' |
         $compile -shared -Wl,-soname,lib$name.so -o lib$name.so -x c -

@@ -141,7 +141,7 @@ rlibreg-run: no registry has a C library: link it into the program, statically
     rm $name
 done
 
-# Addresses: what is mapped below the addresses that the kernel chooses belongs to the image.
+# Addresses. low: prints the maps below the addresses that the kernel chooses: those of the image.
 low() {
     grep -E '^([0-3][0-9a-f]{11}|[0-9a-f]{8,11})-'
 }

@@ -153,7 +153,8 @@ ok
 = 0' "$(ended change --bind "$data/program-1.so" one two < first)"
 leads 'after that' two "$new"
 
-# Other lengths, to and fro. A copy that is cut leaves no registry; the next switch doesn't use it as it is.
+# Other lengths, to and fro; and a switch to a disk as it is. A copy that is cut leaves no registry, so that
+# switch refuses it.
 start
 "$rlibreg" format large 128 > said
 want 'growing' 'planned
