@@ -119,8 +119,8 @@ class Making:
         self.again(kind, told)
 
     def is_fault_answer(self, ended, found):
-        """Returns whether an answer fits a fault: `ok`, if the making is over, as when standard output fails; or
-        status 3 with S1 (Device) or a message."""
+        """Returns whether an answer fits a fault: `ok`; status 3 with S1 (Device) or a message; or, once the making is
+        over, status 3 without a message, as when standard output fails."""
         if ended.output == b'ok\n' or ended.status == LOADER:
             return True
         if isinstance(self.by, CLibrary):

@@ -76,7 +76,7 @@ def unanswered(state, replies):
 
 
 class Book:
-    """This script's own knowledge of the states that commands make."""
+    """This script's own record of the states that commands make."""
 
     def __init__(self, files):
         self.files, self.image = files, image(BASE, PROGRAM, LIBRARIES['a.so'][1], 'a')
