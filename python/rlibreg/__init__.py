@@ -35,12 +35,12 @@ Content = Union[bytes, bytearray, memoryview, str, 'os.PathLike[str]', 'os.PathL
 Wait = Union[bool, float]
 Put = Literal['installed', 'replaced', 'unchanged']
 
-_MOST = 1 << 24  # bytes that a file may have which isn't refused for its length
-_DUMPED = 1 << 15  # bytes of a library that a piece of a dump has at most
+_MOST = 1 << 24  # the maximum length of a file that isn't refused for its length
+_DUMPED = 1 << 15  # the maximum number of a library's bytes in one piece of a dump
 
 
 class Status(enum.IntEnum):
-    """What a call is answered, by the names and numbers of rlibreg.h."""
+    """The answers of calls, by the names and numbers of rlibreg.h."""
 
     DONE = 0
     NO_ROOM = 1
@@ -83,7 +83,7 @@ class Status(enum.IntEnum):
 
 
 class Permissions(enum.IntFlag):
-    """What may be done with the memory of a segment."""
+    """What the memory of a segment permits."""
 
     EXECUTE = 1
     WRITE = 2
@@ -91,14 +91,15 @@ class Permissions(enum.IntFlag):
 
 
 class Library(NamedTuple):
-    """An installed library: its SONAME, and how many bytes its file has."""
+    """An installed library: its SONAME, and the length of its file in bytes."""
 
     name: str
     length: int
 
 
 class Listing(NamedTuple):
-    """What a registry has, in the order of installation, and how many changes it has taken."""
+    """The libraries and preloads of a registry, in the order of installation, and the number of
+    its changes."""
 
     generation: int
     libraries: list[Library]
@@ -106,31 +107,31 @@ class Listing(NamedTuple):
 
 
 class Info(NamedTuple):
-    """What is told of a registry as a whole."""
+    """The numbers of a registry as a whole."""
 
-    version: int  # of the disk's layout: 2
-    sectors: int  # how many the disk has
-    generation: int  # how many changes the registry has taken
-    libraries: int  # how many are installed
-    preloads: int  # how many there are
-    unused_sectors: int  # how many nothing uses: some are kept back for catalogues
-    unused_runs: int  # in how many runs these are
-    largest: int  # how many bytes a library of a new name may have now, or 0
+    version: int  # the version of the disk's layout: 2
+    sectors: int  # the number of the disk's sectors
+    generation: int  # the number of changes that the registry has accepted
+    libraries: int  # the number of installed libraries
+    preloads: int  # the number of preloads
+    unused_sectors: int  # the number of unused sectors; some are reserved for catalogues
+    unused_runs: int  # the number of runs of unused sectors
+    largest: int  # the maximum length of a library of a new name now, or 0
 
 
 class Finding(NamedTuple):
-    """What is found of an installed library, as rlibreg-tool says it."""
+    """What was found of an installed library, in the words of rlibreg-tool."""
 
-    number: int  # 0 where it is sound, n of the first test En that refuses its file, else 100
-    name: str  # 'Sound', of a test as 'E2 BadMagic', or 'OtherName'
-    text: str  # 'ok', as 'damaged E2 BadMagic', or 'damaged OtherName'
+    number: int  # 0 if sound; n of the first test En that refuses its file; else 100
+    name: str  # 'Sound'; the name of a test, such as 'E2 BadMagic'; or 'OtherName'
+    text: str  # 'ok'; a test, such as 'damaged E2 BadMagic'; or 'damaged OtherName'
 
 
 Findings = List[Tuple[str, Finding]]
 
 
 class Segment(NamedTuple):
-    """A segment of an image: the address of its first byte, and its bytes."""
+    """A segment of an image: the address of its first byte, its permissions, and its bytes."""
 
     address: int
     permissions: Permissions
@@ -138,49 +139,49 @@ class Segment(NamedTuple):
 
 
 class Object(NamedTuple):
-    """The program of an image, or one of its libraries, with the segments that are its own. An
-    address is one of the image; `headers` and `dynamic` are 0 where no segment has them."""
+    """The program of an image, or one of its libraries, with its own segments. Addresses are those
+    of the image; `headers` and `dynamic` are 0 if no segment has them."""
 
-    base: int  # what is added to the addresses of its file
+    base: int  # the number that is added to the addresses of its file
     name: str  # a library's SONAME; the program's is '/program'
     segments: list[Segment]
-    headers: int  # of its program headers
-    header_count: int  # how many of them its file has
-    dynamic: int  # of its dynamic section
-    entry: int  # its base and its file's e_entry together, modulo 2^64
+    headers: int  # the address of its program headers
+    header_count: int  # the number of program headers in its file
+    dynamic: int  # the address of its dynamic section
+    entry: int  # the sum of its base and its file's e_entry, modulo 2^64
 
 
 class Image(NamedTuple):
-    """A program in memory, as bound: its segments and those of its libraries, from low addresses
-    to high ones; and these objects in load order, the program first."""
+    """A bound program in memory: the segments of the program and its libraries, from low addresses
+    to high ones, and these objects in load order, the program first."""
 
     segments: list[Segment]
     objects: list[Object]
 
 
 class Binding(NamedTuple):
-    """What a symbol is bound to that a relocation of an object names."""
+    """A symbol that a relocation of an object names, and what it is bound to."""
 
     symbol: str
-    object: str | None  # the name of the one that defines it; None where none does
-    address: int | None  # 0 where it is weak and none defines it; None where it is undefined (B5)
+    object: str | None  # the name of the object that defines it, or None
+    address: int | None  # 0 if weak and not defined; None if undefined (B5)
 
 
 class BoundObject(NamedTuple):
-    """An object, what it needs, and what its symbols are bound to."""
+    """An object, the libraries that it needs, and the bindings of its symbols."""
 
     name: str  # a library's SONAME; the program's is '/program'
-    base: int | None  # None where a name is missing: then no object has a place
+    base: int | None  # None if a name is missing: then no object has a place
     needs: list[str]
-    missing: list[str]  # those of them that aren't installed (B3)
+    missing: list[str]  # those of the needed libraries that aren't installed (B3)
     bindings: list[Binding]
 
 
 class Bindings(NamedTuple):
-    """What the symbols of a program and its libraries are bound to, object by object in load order;
-    or where names are missing what was found."""
+    """What the symbols of a program and its libraries are bound to, object by object in load
+    order. If names are missing, it has the objects that were found."""
 
-    status: Status  # that of a bind: DONE, MISSING or UNDEFINED
+    status: Status  # the status of a bind: DONE, MISSING or UNDEFINED
     objects: list[BoundObject]
     text: str  # as rlibreg-tool prints it
 
@@ -189,32 +190,32 @@ class Bindings(NamedTuple):
 
 
 class Error(Exception):
-    """A call that wasn't answered DONE."""
+    """A call whose answer isn't DONE."""
 
-    number: int = Status.BAD_ARGUMENT  # of rlibreg.h: a Status
-    name: str = ''  # as 'B3 Missing'
-    text: str = ''  # the line of the program, as 'refused B3 Missing libtwo.so libone.so'
-    file_refusal: int = 0  # of a file that is refused (B1, C1): n of the first test En
-    file_refusal_name: str = ''  # its name, as 'E1 TooShort'
-    errno: int = 0  # of a device that failed (S1): why
-    change: int | None = None  # of an update: which of its changes is refused, counted from 0
+    number: int = Status.BAD_ARGUMENT  # a Status, as in rlibreg.h
+    name: str = ''  # for example 'B3 Missing'
+    text: str = ''  # the program's line, such as 'refused B3 Missing libtwo.so libone.so'
+    file_refusal: int = 0  # if a file is refused (B1, C1): n of the first test En
+    file_refusal_name: str = ''  # the name of that test, such as 'E1 TooShort'
+    errno: int = 0  # if a device failed (S1): the reason
+    change: int | None = None  # in an update: the number of the refused change, from 0
 
     def __str__(self) -> str:
         return self.text or super().__str__()
 
 
 class Refusal(Error):
-    """The registry refuses, by a number that the program's manual has: B1 to B5, C1 to C6, S1 to
-    S12; or a bound program has no executable file. Nothing was done; but after S1 a change was made
-    or not, and the registry has to be opened again."""
+    """The registry refuses, by a number that the program's manual explains (B1 to B5, C1 to C6, S1
+    to S12), or a bound program has no executable file. Nothing was done, except after S1 (Device):
+    then a change was made or not, and the registry has to be opened again."""
 
 
 class Held(Error):
-    """Another process, or another Registry of this one, holds the file."""
+    """Another process, or another Registry of this process, has locked the file."""
 
 
 class Busy(Error, RuntimeError):
-    """A call from within a call of the same Registry, by the handler of a signal."""
+    """The handler of a signal made a call while a call of the same Registry was running."""
 
 
 class Closed(Error, ValueError):
@@ -222,8 +223,8 @@ class Closed(Error, ValueError):
 
 
 class SystemFault(OSError, Error):
-    """A call of the system failed, before anything was done. Where Python has a class for its errno
-    it is of that class too, as the following ones are."""
+    """A call of the system failed, before anything was done. If Python has a class for its errno,
+    the error is of that class too, like the classes below."""
 
 
 class FileNotFound(SystemFault, FileNotFoundError):
@@ -257,7 +258,7 @@ def _error(kind: type[Error], number: int, *words: object) -> Error:
 
 
 def version() -> int:
-    """The version of the shared library: 10,000 * major + 100 * minor + patch."""
+    """Returns the version of the shared library: 10,000 * major + 100 * minor + patch."""
     return int(_library.rlibreg_version())
 
 
@@ -265,17 +266,17 @@ def version() -> int:
 
 
 def _content(file: Content) -> bytes:
-    """The bytes of a library or a program, which are given, or read from a path: of a file that is
-    too long no more than show that."""
+    """Returns the bytes of a library or a program, which are given, or are read from a path. Of a
+    file that is too long, returns only as many as show that it is too long."""
     if isinstance(file, (str, os.PathLike)):
         with open(file, 'rb') as stream:
-            length = os.fstat(stream.fileno()).st_size or _MOST  # what is no file has none
+            length = os.fstat(stream.fileno()).st_size or _MOST  # what isn't a file has no length
             return stream.read(min(length, _MOST) + 1)
     return file if isinstance(file, bytes) else bytes(memoryview(file))
 
 
 def _word(word: PathName) -> bytes:
-    """A path or a name for C, which would end it at a byte 0."""
+    """Returns a path or a name for C, where a byte 0 would end it."""
     given = os.fsencode(word)
     if b'\0' in given:
         raise ValueError('embedded null byte')
@@ -283,14 +284,14 @@ def _word(word: PathName) -> bytes:
 
 
 def _words(names: Iterable[str]) -> list[bytes]:
-    """The names of preloads."""
+    """Returns the names of preloads for C."""
     if isinstance(names, (str, bytes)):
         raise TypeError('preloads are a list of names')
     return [_word(name) for name in names]
 
 
 def _unsigned(value: int, bits: int) -> int:
-    """A number that C can have: ctypes would take it modulo 2^bits."""
+    """Returns a number that fits into C's type: ctypes would take it modulo 2^bits."""
     number = operator.index(value)
     if not 0 <= number < 1 << bits:
         raise OverflowError(f'{number} is no unsigned number of {bits} bits')
@@ -298,7 +299,7 @@ def _unsigned(value: int, bits: int) -> int:
 
 
 def _seconds(wait: Wait) -> float:
-    """How many seconds a lock is waited for."""
+    """Returns how many seconds to wait for a lock."""
     if not isinstance(wait, (int, float)):
         raise TypeError('wait is True, False, or a number of seconds')
     if not wait >= 0:
@@ -308,13 +309,13 @@ def _seconds(wait: Wait) -> float:
 
 # ---- Calls
 
-_PIECE = 0.1  # seconds that the library waits at a stretch, where a limit keeps handlers from running
+_PIECE = 0.1  # seconds that the library waits at once, if a limit keeps handlers from running
 
 
 _Given = TypeVar('_Given')
 
 
-_forks = 0  # of which this process, or one that it is a child of, was the child
+_forks = 0  # the number of forks between the first process and this one
 
 
 def _count_fork() -> None:
@@ -326,7 +327,7 @@ os.register_at_fork(after_in_child=_count_fork)
 
 
 def _process() -> tuple[int, int]:
-    """Which process this is. A child can have its parent's process number, if it is process 1 of
+    """Identifies this process. A child can have its parent's process number, if it is process 1 of
     another process namespace, so forks are counted, too."""
     return os.getpid(), _forks
 
@@ -338,12 +339,13 @@ class _Turn(threading.local):
 
 
 class _Handle:
-    """A struct rlibreg. One call of it is made at a time, and only in the process that made it.
+    """A struct rlibreg. Only one call of it is made at a time, and only in the process that made
+    it.
 
-    Python runs the handler of a signal between any two steps of the main thread: between a call and
-    the reading of its text, say. So a thread takes its turn before it waits for the lock, and keeps
-    it until all that it was answered is read. A handler that finds the turn taken makes no call, and
-    leaves the closing to the call that it interrupts."""
+    Python may run the handler of a signal between any two steps of the main thread, for example
+    between a call and the reading of its text. So a thread takes its turn before it waits for the
+    lock, and keeps it until it has read the whole answer. A handler that finds the turn taken
+    makes no call, and leaves the closing to the call that it interrupts."""
 
     def __init__(self, path: PathName) -> None:
         self.path = path
@@ -356,8 +358,9 @@ class _Handle:
             raise MemoryError
 
     def close(self) -> None:
-        """In a child of fork this closes the child's file, and the parent keeps its lock. There
-        a thread that isn't in the child may have held the lock of this, so it isn't taken."""
+        """Closes the struct. In a child of fork this closes the child's file, and the parent keeps
+        its lock. There, a thread that isn't in the child may have held `lock`, so `lock` isn't
+        taken."""
         self.is_closed = True
         if self.turn.is_taken:
             return
@@ -376,7 +379,7 @@ class _Handle:
         _library.rlibreg_close(pointer)
 
     def refusal(self) -> Error | None:
-        """Why no call can be made."""
+        """Returns why no call can be made, or None."""
         if _process() != self.process:
             return _error(Error, Status.BAD_ARGUMENT, 'the registry was opened by another process')
         if self.is_closed:
@@ -386,9 +389,10 @@ class _Handle:
         return None
 
     def do(self, work: Callable[[], Union[Error, _Given]]) -> _Given:
-        """Does what makes calls by `ask`, between which none of another thread stands, and raises
-        the error that it gives: behind the turn and the lock, since Python before 3.11 may run a
-        handler as an exception leaves them, and let that leave them taken."""
+        """Runs `work`, which makes calls by `ask`. No call of another thread comes between them.
+        Raises the error that `work` returns only after it has given back the turn and the lock:
+        before Python 3.11 a handler may run while an exception leaves them, and could leave them
+        taken."""
         error = self.refusal()
         if error:
             raise error
@@ -405,13 +409,13 @@ class _Handle:
         return given
 
     def call(self, name: str, *words: object) -> None:
-        """Makes a call, and raises what it is answered."""
+        """Makes a call, and raises its error."""
         self.do(lambda: self.ask(name, *words))
 
     def open(self, name: str, *words: object, flags: int, wait: Wait) -> None:
-        """Makes a call that locks the file, and waits for the lock as long as it is to. Without a
-        limit the library lets a signal end the wait, and with one it doesn't. It answers before its
-        time where the thread would wait for itself."""
+        """Makes a call that locks the file, and waits for the lock as `wait` says. Without a limit
+        a signal ends the library's wait, and with a limit it doesn't. The library answers before
+        the limit if the thread would wait for itself."""
         seconds = _seconds(wait)
         flags |= _calls.WAIT if seconds else 0
         if seconds in (0, math.inf):
@@ -429,8 +433,8 @@ class _Handle:
                     raise
 
     def ask(self, name: str, *words: object) -> Error | None:
-        """What a call is answered. Where a signal ends it while it waits for a lock, the signal's
-        handler runs, and it is made again."""
+        """Makes a call, and returns its error or None. If a signal ends the call while it waits
+        for a lock, the signal's handler runs, and the call is made again."""
         if self.is_closed:
             return _error(Closed, Status.BAD_ARGUMENT, 'the registry is closed')
         function = getattr(_library, f'rlibreg_{name}')
@@ -458,7 +462,7 @@ class _Handle:
 
 
 def _list(handle: _Handle) -> Error | Listing:
-    """A listing of Python's own memory."""
+    """Returns a listing in Python's own memory."""
     given = _calls.Listing()
     try:
         error = handle.ask('listing_of', ctypes.byref(given))
@@ -474,7 +478,7 @@ def _list(handle: _Handle) -> Error | Listing:
 
 
 def _given(handle: _Handle, call: str, *words: object) -> Tuple[Error | None, bytes]:
-    """What a call is answered and gives, of Python's own memory."""
+    """Returns a call's error and its data, in Python's own memory."""
     given, length = _calls.POINTER(), _calls.SIZE()
     try:
         error = handle.ask(call, *words, ctypes.byref(given), ctypes.byref(length))
@@ -485,7 +489,7 @@ def _given(handle: _Handle, call: str, *words: object) -> Tuple[Error | None, by
 
 
 def _file(handle: _Handle, name: bytes) -> Error | bytes:
-    """A library's bytes."""
+    """Returns a library's bytes."""
     error, data = _given(handle, 'file_of', name)
     return error or data
 
@@ -504,7 +508,8 @@ def _bindings(handle: _Handle, program: bytes, base: int) -> Error | Bindings:
 
 
 def _name(word: str) -> str:
-    """A name, as the program spells it: a byte that isn't plain by two digits, none by an e."""
+    """Returns a name from the program's text, which writes a byte that isn't plain as two digits,
+    and an empty name as an e."""
     if word == '\\e':
         return ''
     spelt = re.sub(r'\\x(..)', lambda it: chr(int(it[1], 16)), word)
@@ -512,7 +517,7 @@ def _name(word: str) -> str:
 
 
 def _objects(text: str) -> list[BoundObject]:
-    """The objects of the text of bindings."""
+    """Returns the objects of the text of bindings."""
     objects: list[BoundObject] = []
     for line in text.splitlines():
         what, *words = line.split(' ')
@@ -530,7 +535,7 @@ def _objects(text: str) -> list[BoundObject]:
 
 
 def _binding(what: str, words: list[str]) -> Binding:
-    """Of a line `binds`, `unresolved` or `undefined`."""
+    """Returns the binding of a line `binds`, `unresolved` or `undefined`."""
     symbol = _name(words[0])
     if what == 'binds':
         return Binding(symbol, _name(words[2]), int(words[1], 16))
@@ -538,7 +543,7 @@ def _binding(what: str, words: list[str]) -> Binding:
 
 
 def _has(handle: _Handle, data: bytes) -> Error | bool:
-    """Whether a library has just these bytes."""
+    """Returns whether a library has exactly these bytes."""
     listing = _list(handle)
     if isinstance(listing, Error):
         return listing
@@ -551,8 +556,8 @@ def _has(handle: _Handle, data: bytes) -> Error | bool:
 
 
 def _put(handle: _Handle, data: bytes) -> Error | Put:
-    """Installs a library, or where one of its SONAME is there, which has other bytes, replaces it.
-    What is refused as a file is so first, whatever is there."""
+    """Installs a library. If a library of its SONAME with other bytes is installed, replaces it. A
+    file that is refused is refused first, whatever is installed."""
     error = handle.ask('install', data, len(data))
     if not error or error.number != Status.ALREADY_INSTALLED:
         return error or 'installed'
@@ -572,7 +577,7 @@ def _finding(number: int) -> Finding:
 
 
 def _damaged(name: str, finding: Finding) -> Error:
-    """Why a registry is dumped up to this library alone, in the words of rlibreg-tool."""
+    """Returns why a registry is dumped only up to this library, in the words of rlibreg-tool."""
     error = _error(Refusal, Status.DAMAGED)
     spelt = name.replace('\\', '\\x5c')
     error.text = finding.text.replace(' ', f' {spelt} ', 1)
@@ -582,13 +587,13 @@ def _damaged(name: str, finding: Finding) -> Error:
 
 
 def _findings(given: _calls.Findings) -> Findings:
-    """Names and findings of Python's own memory."""
+    """Returns names and findings in Python's own memory."""
     return [(ctypes.string_at(given.names + it.name, it.name_length).decode(),
              _finding(it.finding)) for it in given.findings[:given.count]]
 
 
 def _image(given: _calls.Image) -> Image:
-    """An image, whose bytes are seen where the library has put them."""
+    """Returns an image that views the bytes in the library's memory."""
     places = given.segments[:given.count]
     data = given.view(sum(it.length for it in places))
     segments = [Segment(it.address, Permissions(it.permissions),
@@ -604,16 +609,16 @@ def _object(it: _calls.Object, given: _calls.Image, segments: list[Segment]) -> 
 
 
 def _is_of_a_change(number: int) -> bool:
-    """Whether a refusal is that of a change, and of no opening or bind."""
+    """Returns whether a refusal is that of a change, and not of an opening or a bind."""
     return (Status.BAD_FILE <= number <= Status.TOO_MANY_PRELOADS or
             Status.FULL <= number <= Status.GENERATION_END)
 
 
 class Update:
-    """Changes of a registry that are made together, as one, where the `with` of this ends; or none,
-    where it ends by an exception. Until then nothing is written or refused: a change that the
-    registry refuses is the exception of the next `bind`, and of the end, and `change` is its place
-    among the changes. Files are given as to a Registry, and are in memory until the end."""
+    """Changes of a registry that are made together, as one, when its `with` block ends. If the
+    block ends by an exception, none is made. Until the end nothing is written or refused. If the
+    registry refuses a change, the next `bind`, and the end, raise the exception; its `change` is
+    the number of the change. Files are given as to a Registry, and are in memory until the end."""
 
     def __init__(self, handle: _Handle) -> None:
         self._handle = handle
@@ -636,13 +641,13 @@ class Update:
             self._changes = None
 
     def _begun(self) -> list[tuple[int, bytes]]:
-        """The changes so far."""
+        """Returns the changes so far."""
         if self._changes is None:
             raise _error(Error, Status.BAD_ARGUMENT, 'an update is made within its `with`')
         return self._changes
 
     def _call(self, name: str, *words: object) -> None:
-        """Makes a call over the changes so far."""
+        """Makes a call with the changes so far."""
         begun, at = self._begun()[:], 0
         places = []
         for kind, own in begun:
@@ -652,18 +657,18 @@ class Update:
         self._handle.do(lambda: self._ask(name, changes, len(places), data, at, *words))
 
     def _ask(self, name: str, *words: object) -> Error | None:
-        """What a call is answered, and of which change it is."""
+        """Makes a call. Returns its error, which says which change is refused, or None."""
         error = self._handle.ask(name, *words)
         if error and _is_of_a_change(error.number):
             error.change = _library.rlibreg_last(self._handle.struct).contents.count
         return error
 
     def install(self, file: Content) -> None:
-        """Installs a library under its SONAME, behind the others."""
+        """Installs a library under its SONAME, as the last of the libraries."""
         self._begun().append((_calls.INSTALL, _content(file)))
 
     def replace(self, file: Content) -> None:
-        """Puts a library in the place of the one of its SONAME."""
+        """Replaces the library that has the same SONAME."""
         self._begun().append((_calls.REPLACE, _content(file)))
 
     def remove(self, name: str) -> None:
@@ -676,8 +681,8 @@ class Update:
         self._begun().append((_calls.PRELOAD, data))
 
     def bind(self, program: Content, base: int) -> Image:
-        """Binds a program over what the registry will have once the changes so far are made, and
-        writes nothing."""
+        """Binds a program against the registry as it will be once the changes so far are made.
+        Writes nothing."""
         data, given = _content(program), _calls.Image()
         address = _unsigned(base, 64)
         self._call('update_image_of', data, len(data), address, ctypes.byref(given))
@@ -685,12 +690,13 @@ class Update:
 
 
 class Registry:
-    """The registry in a file, or on a block device, which is open and locked until `close`, or to
-    the end of a `with`. With `changes` the lock is held alone, else it is shared with others who
-    look; with `wait` it is waited for, where Held would be raised, without end or so many seconds.
+    """The registry in a file, or on a block device. It is open and locked until `close`, or until
+    the end of a `with` block. With `changes` the lock is exclusive, otherwise it is shared with
+    other readers. If somebody else has the lock, Held is raised; with `wait` the call waits for the
+    lock instead, without end or for that many seconds.
 
-    A file of a library or a program is given as its bytes (anything that has a buffer), or by its
-    path (a str or an os.PathLike), and is then read whole."""
+    The file of a library or a program is given as its bytes (any object that has a buffer), or by
+    its path (a str or an os.PathLike). A path is read whole."""
 
     def __init__(self, path: PathName, changes: bool = False, wait: Wait = False) -> None:
         name = _word(path)
@@ -714,37 +720,38 @@ class Registry:
         raise TypeError('a Registry can be neither copied nor pickled')
 
     def __iter__(self) -> Iterator[str]:
-        """The names of the libraries, in the order of installation."""
+        """Iterates over the names of the libraries, in the order of installation."""
         return iter([it.name for it in self.list().libraries])
 
     def __len__(self) -> int:
-        """How many libraries are installed."""
+        """Returns the number of installed libraries."""
         return self.info().libraries
 
     def __contains__(self, name: object) -> bool:
-        """Whether a library of this name is installed."""
+        """Returns whether a library of this name is installed."""
         return any(it.name == name for it in self.list().libraries)
 
     def __bool__(self) -> bool:
         return True
 
     def close(self) -> None:
-        """Gives the file and its lock back. A second time it does nothing."""
+        """Closes the file and releases its lock. A second call does nothing."""
         self._handle.close()
 
     def install(self, file: Content) -> None:
-        """Installs a library under its SONAME, behind the others."""
+        """Installs a library under its SONAME, as the last of the libraries."""
         data = _content(file)
         self._handle.call('install', data, len(data))
 
     def replace(self, file: Content) -> None:
-        """Puts a library in the place of the one of its SONAME."""
+        """Replaces the library that has the same SONAME."""
         data = _content(file)
         self._handle.call('replace', data, len(data))
 
     def put(self, file: Content) -> Put:
-        """Installs a library, or puts it in the place of the one of its SONAME, and says which it
-        was; or 'unchanged', where a library has just these bytes, and nothing is written."""
+        """Installs a library, or replaces the library that has the same SONAME. Returns
+        'installed' or 'replaced'; or 'unchanged' if that library has exactly these bytes, and then
+        writes nothing."""
         data = _content(file)
         return self._handle.do(lambda: _put(self._handle, data))
 
@@ -758,35 +765,36 @@ class Registry:
         self._handle.call('preload', (_calls.TEXT * len(words))(*words), len(words))
 
     def update(self) -> Update:
-        """Changes that are made together, at the end of a `with`; or none, where that ends by an
-        exception."""
+        """Returns an update: changes that are made together, at the end of its `with` block. If
+        the block ends by an exception, none is made."""
         return Update(self._handle)
 
     def list(self) -> Listing:
-        """What the registry has."""
+        """Returns the libraries, the preloads, and the number of changes of the registry."""
         return self._handle.do(lambda: _list(self._handle))
 
     def file(self, name: str) -> bytes:
-        """The bytes of the library of this name, as they were installed. Whether they still are
-        those of a library isn't looked at, nor is any other library's file."""
+        """Returns the bytes of the library of this name, as they were installed. It doesn't test
+        whether they still are those of a library, and reads no other library's file."""
         word = _word(name)
         return self._handle.do(lambda: _file(self._handle, word))
 
     def digest(self, name: str) -> bytes:
-        """The SHA-256 of the bytes that `file` gives of this name, as hashlib's `digest` has it."""
+        """Returns the SHA-256 of the bytes that `file` returns for this name, as hashlib's
+        `digest` does."""
         word, given = _word(name), _calls.array(_calls.DIGEST_BYTES)()
         self._handle.call('digest_of', word, given)
         return bytes(given.raw)
 
     def info(self) -> Info:
-        """What is told of the registry as a whole. It reads no library's file."""
+        """Returns the numbers of the registry as a whole. It reads no library's file."""
         given = _calls.Information()
         self._handle.call('info_of', ctypes.byref(given))
         return Info(*(getattr(given, name) for name in Info._fields))
 
     def check(self) -> Findings:
-        """Looks at each library, in the order of installation: its name, and what is found of its
-        file. One that is damaged keeps no other from being looked at."""
+        """Tests each library, in the order of installation. Returns each name with what was found
+        of its file. A damaged library doesn't prevent the others from being tested."""
         given = _calls.Findings()
         try:
             self._handle.call('findings_of', ctypes.byref(given))
@@ -795,10 +803,10 @@ class Registry:
             _library.rlibreg_findings_free(ctypes.byref(given))
 
     def dump(self) -> Iterator[bytes]:
-        """The script by which `rlibreg script` makes the registry anew, as rlibreg-tool dumps it, in
-        pieces, each to be asked for before the next change. None but the last ends a line: who takes
-        only some of them has a script that is refused. Where a library is damaged, or a call fails,
-        the last one is `cut`, and the next is the exception."""
+        """Yields the script by which `rlibreg script` makes the registry again, as rlibreg-tool
+        dumps it. It comes in pieces, each of which has to be taken before the next change. Only
+        the last piece ends a line, so a script of only some of the pieces is refused. If a library
+        is damaged, or a call fails, the last piece is `cut`, and then the exception is raised."""
         begin = b''
         try:
             listing = self.list()
@@ -828,22 +836,23 @@ class Registry:
         return _image(given)
 
     def bindings(self, program: Content, base: int) -> Bindings:
-        """What the symbols of a program and of the libraries that it needs are bound to, bound at an
-        address. A symbol that is undefined and a name that is missing are no exceptions: `status`
-        has what `bind` would be refused by."""
+        """Binds a program at an address, and returns what the symbols of the program and of the
+        libraries that it needs are bound to. An undefined symbol or a missing name is no
+        exception: `status` has the number by which `bind` would refuse."""
         data, address = _content(program), _unsigned(base, 64)
         return self._handle.do(lambda: _bindings(self._handle, data, address))
 
     def executable(self, program: Content, base: int) -> bytes:
-        """The static executable file of a program that is bound at an address, which needs neither
-        a loader nor the registry. Linux before 6.17 starts none with more than 73 program headers."""
+        """Returns the static executable file of a program that is bound at an address. It needs
+        neither a loader nor the registry. Linux before 6.17 starts no file with more than 73
+        program headers."""
         data, address = _content(program), _unsigned(base, 64)
         return self._handle.do(lambda: _executable(self._handle, data, address))
 
 
 def format(path: PathName, sectors: int, wait: Wait = False) -> None:
-    """Makes an empty registry of so many sectors of 512 bytes: a new file, or where there is one,
-    or a block device, of that length."""
+    """Makes an empty registry of `sectors` sectors of 512 bytes: in a new file, or in an existing
+    file or a block device of that length."""
     name, count = _word(path), _unsigned(sectors, 32)
     handle = _Handle(path)
     try:
@@ -853,6 +862,6 @@ def format(path: PathName, sectors: int, wait: Wait = False) -> None:
 
 
 def upgrade(path: PathName, wait: Wait = False) -> None:
-    """Makes a registry of version 1 one of version 2, with all that it has."""
+    """Makes a registry of version 1 one of version 2, with everything that it has."""
     with Registry(path, changes=True, wait=wait) as registry:
         registry._handle.call('upgrade')

@@ -8,7 +8,7 @@ import glob
 import os
 from typing import Any
 
-VERSION = '0.3.0'  # of rlibreg.h, whose structures and calls stand below
+VERSION = '0.3.0'  # the version of rlibreg.h, whose structures and calls are below
 NAME = f'librlibreg.so.{VERSION.rpartition(".")[0]}'  # its SONAME
 
 CHANGES, WAIT = 1, 2
@@ -68,7 +68,7 @@ class Findings(ctypes.Structure):
 
 @functools.lru_cache(maxsize=64)
 def array(length: int) -> Any:
-    """The type of so many bytes, which takes a while to make."""
+    """Returns the type of `length` bytes, which takes a while to make."""
     return ctypes.c_char * length
 
 
@@ -80,8 +80,8 @@ class Image(ctypes.Structure):
                 ('bytes', ctypes.c_void_p)]
 
     def view(self, length: int) -> memoryview:
-        """The first bytes, which stay as long as anyone has a view of them. Any length is right here,
-        where string_at takes a C int, and nothing is copied."""
+        """Returns a view of the first bytes, which stay as long as anyone has a view of them. Any
+        length works here, while string_at takes a C int, and nothing is copied."""
         data = array(length).from_address(self.bytes)
         data.image = self
         return memoryview(data).cast('B').toreadonly()
@@ -94,7 +94,7 @@ class Registry(ctypes.c_void_p):
 POINTER, TEXT, SIZE = ctypes.c_void_p, ctypes.c_char_p, ctypes.c_size_t
 NUMBER, FLAGS = ctypes.c_uint32, ctypes.c_uint
 
-PROTOTYPES: dict[str, tuple[Any, ...]] = {  # what each gives, and what it takes
+PROTOTYPES: dict[str, tuple[Any, ...]] = {  # the result of each call, and its arguments
     'version': (NUMBER,),
     'status_name': (TEXT, NUMBER),
     'file_refusal_name': (TEXT, NUMBER),
@@ -131,7 +131,8 @@ PROTOTYPES: dict[str, tuple[Any, ...]] = {  # what each gives, and what it takes
 
 
 def not_found(why: OSError) -> ImportError:
-    """Says what was looked for and where, and what there is of its name."""
+    """Returns an error that says what was looked for and where, and which libraries of its name
+    exist."""
     named = os.environ.get('LD_LIBRARY_PATH')
     folders = [*filter(None, (named or '').split(':')), '/usr/local/lib',
                f'/usr/lib/{os.uname().machine}-linux-gnu', '/usr/lib64', '/usr/lib']
@@ -144,7 +145,7 @@ def not_found(why: OSError) -> ImportError:
 
 
 def loaded_from() -> str:
-    """The file that the loader has taken, where the system says it."""
+    """Returns the file that the loader has taken, if the system reports it."""
     try:
         with open('/proc/self/maps') as maps:
             return next((line.split(maxsplit=5)[5].strip() for line in maps
@@ -168,12 +169,12 @@ def load() -> ctypes.CDLL:
 
 
 library = load()
-# What frees is called by Python's C alone: in a method of Python the handler of a signal could run,
-# and its exception would be lost, and the memory with it.
+# Only Python's C calls the functions that free: in a method of Python the handler of a signal
+# could run, and its exception would be lost, and the memory with it.
 method = ctypes.pythonapi.PyInstanceMethod_New
 method.restype, method.argtypes = ctypes.py_object, [ctypes.py_object]
 Registry.__del__ = method(library.rlibreg_close)  # type: ignore[attr-defined]
 Image.__del__ = method(library.rlibreg_image_free)  # type: ignore[attr-defined]
 
-free = ctypes.CDLL(None).free  # of the process, as the library's malloc
+free = ctypes.CDLL(None).free  # that of the process, as the library's malloc
 free.restype, free.argtypes = None, [POINTER]
