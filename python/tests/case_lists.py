@@ -11,9 +11,9 @@ DATA = Path(__file__).resolve().parents[2] / 'crates' / 'cases' / 'data'
 class Case(NamedTuple):
     where: str  # the list and the line
     call: str  # its first word
-    words: list  # the others; words of the program may be empty
+    words: list  # the other words; words of the program may be empty
     answer: str
-    holds: bool  # whether the call gives this answer, or another one
+    holds: bool  # whether the call returns this answer, or another one
 
 
 def number(word):
@@ -39,7 +39,7 @@ def change(data, word):
 
 @functools.lru_cache(maxsize=256)
 def file(spelt):
-    """The bytes of a FILE: its first word, and its changes."""
+    """Returns the bytes of a FILE: its first word, and its changes."""
     first, *changes = spelt.split()
     if first.startswith('made='):
         data = bytearray(file(stored(first[5:]).decode()))
@@ -53,14 +53,14 @@ def file(spelt):
 
 
 def answer(spelt):
-    """The bytes of an ANSWER."""
+    """Returns the bytes of an ANSWER."""
     if spelt == 'nothing':
         return b''
     return file(spelt[5:]) if spelt.startswith('file ') else spelt.encode() + b'\n'
 
 
 def cases():
-    """Every case of every list, but for the cuts of a file, of which a line has many."""
+    """Yields every case of every list, except the cuts of a file, of which one line has many."""
     for path in sorted(DATA.glob('*.txt')):
         for count, line in enumerate(path.read_text().splitlines(), 1):
             found = re.fullmatch(r'(\w+) (.*?) (=/?>) (.*)', line)

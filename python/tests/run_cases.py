@@ -26,10 +26,10 @@ UNOPENED = (Status.NOT_FORMATTED, Status.DAMAGED, Status.BAD_GEOMETRY, Status.OL
 
 
 class NotMapped(Exception):
-    """A case that the module has no calls for."""
+    """A case that needs calls which the module doesn't have."""
 
 
-# ---- The program's words for what the module gives
+# ---- The program's words for what the module returns
 
 
 def listing_text(listing):
@@ -59,7 +59,7 @@ def without_objects(text):
 
 
 def told(call):
-    """What the program prints of a call, and its exit status."""
+    """Returns what the program prints of a call, and its exit status."""
     try:
         text = call()
     except (rlibreg.Error, OSError) as error:
@@ -71,7 +71,7 @@ def told(call):
 
 
 def ask(registry, command, words):
-    """What the program prints of a command over an open registry."""
+    """Returns what the program prints of a command on an open registry."""
     if command == 'list':
         return listing_text(registry.list())
     if command == 'bind':
@@ -82,7 +82,7 @@ def ask(registry, command, words):
 
 
 def test_all(registry):
-    """As the program, which tests each library when it opens a disk, and the module doesn't."""
+    """Tests each library, as the program does when it opens a disk, and as the module doesn't."""
     if any(finding.number for _, finding in registry.check()):
         error = rlibreg.Refusal()
         error.number, error.text = Status.DAMAGED, 'refused S5 Damaged'
@@ -102,7 +102,7 @@ def run_command(disk, command, words):
 
 
 def asked(line):
-    """The command of a line, and its words."""
+    """Returns the command of a line, and its words."""
     command, *words = line.split(' ')
     if command in ('install', 'replace'):
         words = [bytes.fromhex(words[0])]
@@ -112,7 +112,7 @@ def asked(line):
 
 
 def run_lines(registry, script):
-    """The replies to a script's lines, and how many lines were refused."""
+    """Returns the replies to a script's lines, and how many lines were refused."""
     replies, statuses = [], [0]
     for line in script.decode('latin-1').splitlines():
         reply, status = told(functools.partial(ask, registry, *asked(line)))
@@ -122,8 +122,8 @@ def run_lines(registry, script):
 
 
 def update_by(registry, lines):
-    """The replies to the lines of an update. A refusal comes later than the tool's: it says of which
-    change it is."""
+    """Returns the replies to the lines of an update. A refusal comes later than the tool's: it
+    says which change it is about."""
     replies, changes = [], []
     try:
         with registry.update() as update:
@@ -142,7 +142,7 @@ def update_by(registry, lines):
 
 
 def update_of(data):
-    """The lines of an update up to `commit`."""
+    """Returns the lines of an update up to `commit`."""
     lines, commit, _ = data.decode('latin-1').partition('\ncommit\n')
     if data.startswith(b'commit\n'):
         return []
@@ -159,7 +159,7 @@ def script_of(data):
     return data
 
 
-# ---- Calls of cases, each with what it gives
+# ---- Calls of cases, each with what it returns
 
 
 class Run(NamedTuple):
@@ -221,7 +221,7 @@ def told_script(path, script):
 
 
 def is_mapped(run):
-    """Whether the words are those of a command that the module has."""
+    """Returns whether the words are those of a command that the module has."""
     _, *words = run.words
     if run.program == 'tool':
         return run.command == 'update' and not words
@@ -241,7 +241,7 @@ def as_printed(text):
 
 
 def left(spelt, before):
-    """The bytes of AFTER."""
+    """Returns the bytes of AFTER."""
     if spelt == 'none' or spelt.startswith('same') and before is None:
         return None
     if spelt.startswith('same'):
@@ -266,10 +266,10 @@ def script_on(case, disk):
 
 @functools.lru_cache(maxsize=1)
 def bound(spelt, disk):
-    """The image of a BIND, or the text of its refusal."""
+    """Returns the image of a BIND, or the text of its refusal."""
     program, *libraries = spelt.split(' + ')
     if ' as ' in spelt:
-        raise NotMapped  # a library that goes by another name than its SONAME
+        raise NotMapped  # a library with another name than its SONAME
     program, _, preloads = program.partition(' preload ')
     program, base = program.rsplit(' ', 1)
     disk.unlink(missing_ok=True)
@@ -291,7 +291,7 @@ def bind_on(case, disk):
 
 
 def bytes_at(image, address, length):
-    """The bytes that an image has from an address on, or None."""
+    """Returns the bytes of an image from an address on, or None."""
     found = []
     for at in range(address, address + length):
         here = [it.data[at - it.address] for it in image.segments
@@ -315,10 +315,10 @@ def byte_on(case, disk):
 
 
 def library_on(case, disk):
-    """`library FILE => ANSWER`: what is found of it, in the place of a library `b`."""
+    """`library FILE => ANSWER`: what is found of the file, in place of a library `b`."""
     data = file(' '.join(case.words))
     if not (64 <= len(data) <= 1 << 24 and case.holds):
-        raise NotMapped  # nothing of that length is installed; other names are found to be the same
+        raise NotMapped  # no library of that length is installed; other names are found to be the same
     before = file('strong.so').ljust(len(data), b'+')[:len(data)]
     disk.unlink(missing_ok=True)
     rlibreg.format(disk, 40000)

@@ -17,7 +17,7 @@ import rlibreg
 from rlibreg import Registry, Status
 from test_module import LIBRARY, PROGRAM, OnDisk
 
-SECONDS = 0.4  # how long each test strikes
+SECONDS = 0.4  # the seconds of each test
 
 
 class Handlers(OnDisk):
@@ -42,7 +42,7 @@ class Handlers(OnDisk):
 
     @staticmethod
     def heard(call):
-        """What a call gives, or all that is said of why not."""
+        """Returns the result of a call, or everything that is said of why there is none."""
         try:
             return call()
         except rlibreg.Busy:
@@ -51,13 +51,14 @@ class Handlers(OnDisk):
             return it.number, it.name, it.text, it.file_refusal, it.file_refusal_name, it.change
 
     def update(self):
-        """An update whose second change is refused."""
+        """Makes an update whose second change is refused."""
         with self.registry.update() as update:
             update.preload(['b'])
             update.remove('b')
 
     def try_all(self, wrong, busy=None):
-        """Makes each call, and says which were answered otherwise than alone, or not."""
+        """Makes each call. Adds to `wrong` the answers that differ from those without handlers,
+        and to `busy` those that say so."""
         for call, answer in zip(self.calls, self.answers):
             found = self.heard(call)
             if found == 'busy' and busy is not None:
@@ -66,8 +67,9 @@ class Handlers(OnDisk):
                 wrong.append((found, answer))
 
     def strike(self, call):
-        """Has the handler of a signal make a call a millisecond after the one before, until the test
-        ends; and gives what says whether to go on: for a while, and until enough was seen."""
+        """Makes the handler of a signal call a millisecond after the call before, until the test
+        ends. Returns a function that says whether to go on: for a while, and until enough was
+        seen."""
         def handler(*_):
             try:
                 call()
@@ -103,7 +105,7 @@ class Handlers(OnDisk):
         self.assertGreater(len(busy), 10)
 
     def test_calls_beside_those_of_a_thread(self):
-        """A handler waits for another thread, where its own makes no call."""
+        """A handler waits for another thread, which is within a call, and makes no call itself."""
         wrong, ended, ran = [], [], []
 
         def handler():
@@ -145,7 +147,7 @@ class Handlers(OnDisk):
 
     @unittest.skipIf(sys.version_info < (3, 10), 'a `with` may end without its end')
     def test_exceptions_of_a_handler(self):
-        """They end what they interrupt, and keep nothing taken."""
+        """Exceptions of a handler end what they interrupt, and leave no lock taken."""
         raised, wrong, due = [], [], []
 
         def handler():
@@ -188,7 +190,7 @@ class Handlers(OnDisk):
         self.assertEqual((wrong, len(closed)), ([], 80))
 
     def test_a_child_of_a_handler_closes(self):
-        """A child that is made within a call, whose rest it makes too."""
+        """A child that is made within a call also makes the rest of that call."""
         children = []
 
         def handler():
@@ -258,7 +260,7 @@ class Streams(OnDisk):
         return disk.read_bytes()
 
     def test_closed_streams(self):
-        """What is printed doesn't go into a disk that would have their number."""
+        """Printed text doesn't go into a disk that would have the number of a closed stream."""
         with Registry(self.disk, changes=True) as registry:
             registry.install(LIBRARY)
         for closed in ('0', '1', '2', '012'):
@@ -274,7 +276,7 @@ class Streams(OnDisk):
 
 class Ends(OnDisk):
     def test_the_end_of_python(self):
-        """With a registry that is open, in a circle, and in use by two threads."""
+        """Python ends with a registry that is open, in a circle, and in use by two threads."""
         with Registry(self.disk, changes=True) as registry:
             registry.install(LIBRARY)
         for _ in range(3):

@@ -34,20 +34,20 @@ SECTORS = 512
 
 
 def leave_namespace():
-    """Children will be in a new process namespace. 1 if that isn't permitted."""
+    """Puts children into a new process namespace. Returns 1 if that isn't permitted."""
     unshare, user, process = ctypes.CDLL(None).unshare, 0x10000000, 0x20000000
     return int(bool(unshare(process) and unshare(user | process)))
 
 
 def spelt(name):
-    """A name, as the program prints it."""
+    """Returns a name as the program prints it."""
     data = name.encode('utf-8', 'surrogateescape')
     plain = [chr(b) if 0x21 <= b <= 0x7e and b != 92 else f'\\x{b:02x}' for b in data]
     return ''.join(plain) or '\\e'
 
 
 def bindings_text(given):
-    """The text of bindings, made of their objects."""
+    """Returns the text of bindings, made from their objects."""
     lines = []
     for it in given.objects:
         lines.append(f'found {spelt(it.name)}' if it.base is None else
@@ -90,7 +90,7 @@ class OnDisk(unittest.TestCase):
 
 
 class Header(unittest.TestCase):
-    """The module says what rlibreg.h says."""
+    """Compares the module with rlibreg.h."""
 
     def test_statuses(self):
         flags = ('EXECUTE', 'WRITE', 'READ', 'CHANGES', 'WAIT')
@@ -150,7 +150,8 @@ class Arguments(OnDisk):
         self.refused(Status.BAD_ARGUMENT, rlibreg.format, self.disk, 7)
 
     def test_a_file_is_read_up_to_its_limit(self):
-        """A file of 1 TiB, and a pipe that has more than it."""
+        """A file is read up to its limit: a file of 1 TiB, and a pipe that has more than the
+        limit."""
         long, pipe = self.disk.with_name('long'), self.disk.with_name('pipe')
         long.write_bytes(LIBRARY.read_bytes())
         os.truncate(long, 1 << 40)
@@ -334,7 +335,7 @@ class Updates(OnDisk):
 
     @staticmethod
     def update_with(registry, place, call):
-        """So many changes, and one that is refused."""
+        """Makes `place` changes, and one that is refused."""
         with registry.update() as update:
             for _ in range(place):
                 update.preload([])
@@ -378,7 +379,7 @@ class Updates(OnDisk):
         self.assertEqual(self.state(), before)
 
     def test_memory_that_is_refused(self):
-        """A process that may have a little more doesn't get what a long disk takes."""
+        """A process that may have only a little more memory doesn't get what a long disk needs."""
         self.disk.unlink()
         rlibreg.format(self.disk, 1 << 19)
 
@@ -416,7 +417,7 @@ class Locks(OnDisk):
             raise ZeroDivisionError
 
     def held_by_a_child(self, seconds):
-        """A child that holds the disk, and says when it does."""
+        """Makes a child that locks the disk, and says when it has done so."""
         says, said = os.pipe()
         child = os.fork()
         if not child:
@@ -555,7 +556,7 @@ class Processes(OnDisk):
 
 
 class GivingLock:
-    """A lock that who waits for it gets before who had it."""
+    """A lock that a waiting thread gets before the thread that had it."""
 
     def __init__(self):
         self.lock = threading.Lock()
@@ -589,7 +590,7 @@ class Contents(OnDisk):
                 self.assertRaises(TypeError, call, registry)
 
     def test_each_library_has_its_bytes(self):
-        """Each stored library, by itself on the disk."""
+        """Installs each stored library, by itself on the disk."""
         count = 0
         with Registry(self.disk, changes=True) as registry:
             for path in sorted(DATA.glob('*.so')):
@@ -607,7 +608,7 @@ class Contents(OnDisk):
         self.assertGreater(count, 50)
 
     def two_are_there(self):
-        """The names of two libraries that are installed."""
+        """Installs two libraries, and returns their names."""
         with Registry(self.disk, changes=True) as registry:
             registry.install(LIBRARY)
             registry.install(file('first.so'))
@@ -679,7 +680,8 @@ class Contents(OnDisk):
                 self.refused(Status.READ_ONLY, registry.put, it)
 
     def test_what_is_damaged_is_put_anew(self):
-        """And no file that is refused, though a registry has just these bytes."""
+        """A damaged library is put again; a refused file isn't, though a registry has exactly
+        these bytes."""
         self.two_are_there()
         self.damage()
         with Registry(self.disk, changes=True) as registry:
@@ -689,7 +691,8 @@ class Contents(OnDisk):
             self.assertEqual({finding.text for _, finding in registry.check()}, {'ok'})
 
     def test_another_thread_removes_what_is_put(self):
-        """Between the parts of a call no other call is made, though another thread waits for that."""
+        """Between the parts of a call no other call is made, though another thread waits to make
+        one."""
         with Registry(self.disk, changes=True) as registry:
             registry.install(LIBRARY)
             handle, thread = registry._handle, threading.Thread(target=registry.remove, args=('b',))
@@ -706,7 +709,8 @@ class Contents(OnDisk):
             self.assertEqual(list(registry), [])
 
     def test_bindings_and_executables_are_those_of_the_tool(self):
-        """Of each stored object as a program, beside the libraries that have room."""
+        """Compares them for each stored object as a program, together with the libraries that have
+        room."""
         seen = set()
         with Registry(self.disk, changes=True) as registry:
             for path in sorted(DATA.glob('linked*.so')) + sorted(DATA.glob('*.so')):
@@ -726,7 +730,8 @@ class Contents(OnDisk):
                                        'B1'})
 
     def is_told(self, form, path, given):
-        """The tool gives and says the same; and what lines, or which refusals, were seen."""
+        """Checks that the tool prints and says the same. Notes which lines, or which refusals,
+        were seen."""
         if isinstance(given, rlibreg.Bindings):
             self.assertEqual(given.text, bindings_text(given))
             wanted = given.text.encode(), '', int(given.status != Status.DONE)
@@ -750,7 +755,7 @@ class Contents(OnDisk):
             self.refused(Status.BAD_PROGRAM, registry.bindings, b'', 0)
 
     def dumped(self, registry, number=None):
-        """The pieces of a dump, which ends by the error of this number."""
+        """Returns the pieces of a dump, which ends with the error of this number."""
         pieces = []
         if number is None:
             pieces.extend(registry.dump())
@@ -785,7 +790,7 @@ class Contents(OnDisk):
         self.assertRaises(rlibreg.Closed, list, registry.dump())
 
     def test_a_dump_is_cut(self):
-        """At the first library that is damaged, and where nothing can be read."""
+        """A dump is cut at the first library that is damaged, and if nothing can be read."""
         self.two_are_there()
         self.damage()
         with Registry(self.disk) as registry:
@@ -808,7 +813,7 @@ class Contents(OnDisk):
             self.assertEqual(self.dumped(registry, Status.OLD_FORMAT), b'cut')
 
     def test_a_dump_of_what_changes(self):
-        """It is of one state, or ends; what was refused meanwhile changes nothing."""
+        """A dump is of one state, or ends; changes that were refused meanwhile make no difference."""
         self.two_are_there()
         with Registry(self.disk, changes=True) as registry:
             wanted = b''.join(registry.dump())
@@ -843,7 +848,8 @@ class Objects(OnDisk):
 
 class Memory(OnDisk):
     def test_a_library_of_nine_mib(self):
-        """It is installed, replaced in an update, read and bound like any other."""
+        """A library of nine MiB is installed, replaced in an update, read and bound like any
+        other."""
         large = self.disk.with_name('large')
         rlibreg.format(large, 1 << 16)
         first, second = (LIBRARY.read_bytes().ljust(9 << 20, end) for end in (b'+', b'-'))
@@ -865,7 +871,8 @@ class Memory(OnDisk):
                              [it.name for it in registry.list().libraries])
 
     def test_an_image_of_any_length(self):
-        """One of 5 GiB, which a stand-in for the call gives: its memory is there, and untouched."""
+        """Views an image of 5 GiB, which a stand-in for the call returns: its memory exists, and
+        isn't touched."""
         half, end = (1 << 31) + 4096, 5 << 30
         memory = mmap.mmap(-1, end, mmap.MAP_PRIVATE | mmap.MAP_ANONYMOUS | 0x4000)  # NORESERVE
         memory[half], memory[-1] = 7, 9
@@ -894,7 +901,7 @@ class Memory(OnDisk):
         self.assertEqual([it.name for it in image.objects], ['/program', 'b'])
 
     def test_nothing_is_lost(self):
-        """Neither memory nor files, where calls succeed and where they are refused."""
+        """Neither memory nor files are lost, whether calls succeed or are refused."""
         with Registry(self.disk, changes=True) as registry:
             registry.install(LIBRARY)
             self.is_kept(100, lambda: registry.bind(PROGRAM, 0x10000))
@@ -915,8 +922,8 @@ class Memory(OnDisk):
             self.is_kept(2000, lambda: self.refused(Status.HELD, Registry, self.disk))
 
     def is_kept(self, count, call):
-        """So many calls want no more memory and files than fifty, or than as many before: Python takes
-        memory of its own in pieces of a MiB."""
+        """Checks that `count` calls need no more memory and files than fifty calls, or than as
+        many calls before: Python allocates its own memory in pieces of a MiB."""
         self.many(50, call)
         for _ in range(3):
             memory, files = self.in_use()
@@ -934,12 +941,12 @@ class Memory(OnDisk):
 
     @staticmethod
     def in_use():
-        """Bytes of memory, whether they were written or not, and files."""
+        """Returns the bytes of memory, whether they were written or not, and the number of files."""
         pages = int(Path('/proc/self/statm').read_text().split()[5])
         return pages * resource.getpagesize(), len(os.listdir('/proc/self/fd'))
 
     def test_threads_take_turns(self):
-        """Each hears what it was answered itself."""
+        """Each thread gets its own answers."""
         failed = []
         self.addCleanup(sys.setswitchinterval, sys.getswitchinterval())
         sys.setswitchinterval(1e-6)
