@@ -20,6 +20,7 @@ CONSTANT = re.compile(r'(RLIBREG_\w+)(?: = |\s+)(\d\w+|\d),?[ \t]*(?:/\*(.*?)\*/
 NAME = re.compile(r'`([^`]+)`|\b(rlibreg_[a-z_]+|RLIBREG_[A-Z_]+)\b(?!\*)')
 REFUSALS = re.compile(r'[Rr]efusals: (.*?)\.(?:\s|$)', re.S)
 CODE = re.compile(r'\b([BCS])(\d+)(?: to [BCS](\d+))?')
+CAPTION = re.compile(r'^([A-Z][A-Z ]+)\n\n', re.M)
 LIKE = re.compile(r'\b(?:as|and)\s(rlibreg_\w+)')
 NO_ROOM = 1  # of buffers, which calls over a file make themselves
 HUNDREDS = {'B': 100, 'C': 200, 'S': 300}
@@ -115,12 +116,16 @@ class Page:
     def head(self, title):
         self.lines.append(f'.SH {title}')
 
+    def code(self, lines):
+        """Lines of code, as they stand."""
+        written = (re.sub(r"^(?=[.'])", r'\\&', self.escaped(line[4:])) for line in lines)
+        self.lines += ['.PP', '.RS 4', '.nf', *written, '.fi', '.RE']
+
     def paragraphs(self, text):
-        """Paragraphs and lists, of which the first is behind a head."""
+        """Paragraphs, lists and code, of which the first is behind a head."""
         for block in text.split('\n\n'):
             if all(line.startswith('    ') for line in block.split('\n')):
-                for line in block.split('\n'):
-                    self.lines += ['.IP', self.marked(line.strip())]
+                self.code(block.split('\n'))
             elif re.match(r'- |1\. ', block):
                 for it in re.split(r'\n(?=- |\d\. )', block):
                     mark, words = it.split(' ', 1)
@@ -197,11 +202,12 @@ def page_of_all(header, version):
     first = header.groups[0]
     name, about = brief(first).split(': ', 1)
     page = Page(name, about, version, header.calls)
-    use, caveats = first.text.split('CAVEATS\n\n')
+    use, *captions = CAPTION.split(first.text)
     page.head('DESCRIPTION')
     page.paragraphs(use.strip().split('\n\n', 1)[1])
-    page.head('CAVEATS')
-    page.paragraphs(caveats)
+    for title, text in zip(captions[::2], captions[1::2]):
+        page.head(title)
+        page.paragraphs(text.strip())
     for it in header.groups:
         if it.title and it.title.isalpha() and it.text:
             page.head(it.title.upper())

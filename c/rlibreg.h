@@ -1,98 +1,146 @@
 /* rlibreg.h: a registry of shared libraries that survives power cuts, and a binder of programs.
  *
- * A registry is one file, the disk: sectors of 512 bytes that hold ELF-64 shared objects for
- * x86-64, each under its SONAME, and the names of the preloads. To bind a program is to find the
- * libraries that it needs, to place all of them in memory and to apply their relocations.
- * docs/COMMANDS.md has the rules of both, every refusal by its number, and the limits; docs/C.md
- * has two whole examples, and says what of this library is proved.
+ * A registry lies on a disk, which is a file or a block device. The disk's sectors of 512 bytes
+ * hold ELF-64 shared objects for x86-64, each under its SONAME, and the names of the preloads,
+ * which are libraries that every program is bound with. To bind a program is to find the libraries
+ * that it needs, to place all of them in memory, and to apply their relocations. The result is an
+ * image.
  *
- * There are two layers.
+ * docs/COMMANDS.md has the rules of both, every refusal by its number, and the limits. docs/C.md
+ * has two whole programs, and says what is proved of this library.
+ *
+ * EXAMPLE
+ *
+ * This program prints the names of the libraries of the registry in the file `disk`. It returns 1
+ * if the file can't be opened, and 2 if the registry can't be read.
+ *
+ *     #include <rlibreg.h>
+ *     #include <stdio.h>
+ *     int main(void) {
+ *         rlibreg *it = rlibreg_create();
+ *         rlibreg_listing found;
+ *         if (!it || rlibreg_open(it, "disk", RLIBREG_WAIT)) return 1;
+ *         if (rlibreg_listing_of(it, &found)) return 2;
+ *         for (size_t i = 0; i < found.libraries; i++)
+ *             puts(found.names + found.entries[i].name);
+ *         rlibreg_listing_free(&found);
+ *         rlibreg_close(it);
+ *     }
+ *
+ * LAYERS
+ *
+ * There are two layers of calls.
  *
  * 1. Calls over bytes (rlibreg_bind, rlibreg_bindings, rlibreg_executable, rlibreg_list,
  *    rlibreg_file, rlibreg_digest, rlibreg_info, rlibreg_check, rlibreg_plan_*). Each is proved to
- *    return, to do nothing undefined, and to give what is defined (docs/C.md). They do no input or
- *    output: who calls has the bytes of the disk in memory, and gets an image, what its symbols are
- *    bound to, its executable file, a listing, a library's bytes, their digest, what is told of the
- *    whole, what is found of each library, or a plan, which is the list of the writes and syncs that
- *    make a change.
- * 2. Calls over a file (struct rlibreg and the calls behind it), in C over the first layer, which
- *    open, lock and map the file, and carry plans out. They are tested.
+ *    return, to do nothing undefined, and to return what is defined (docs/C.md). They do no input
+ *    or output: the caller has the bytes of the disk in memory. It gets an image, the bindings of
+ *    an image's symbols, an executable file, a listing, a library's bytes or their digest,
+ *    information on the registry, a finding on each library, or a plan. A plan is the list of the
+ *    writes and syncs that make a change.
+ * 2. Calls over a file (struct rlibreg and the calls after it). They are written in C over the
+ *    first layer. They open, lock and map the file, and carry plans out. They are tested, not
+ *    proved.
  *
- * Use the second layer, unless the disk is no file, or you do the input and output yourself.
+ * Use the second layer, unless the disk isn't a file, or you do the input and output yourself.
  *
- * CAVEATS
+ * LOCKS
  *
- * - A disk has one writer at a time, and nobody reads it meanwhile. Who changes it holds the lock
- *   of flock(2) on it alone, who looks shares it. The calls over a file see to that, and so does
- *   the program `rlibreg`, which ends with status 3 where the disk is held, of a change where it is
- *   held for two seconds. So nothing has to be done beside, and who holds the disk around the program
- *   (`flock DISK rlibreg ..`) shuts it out. Who wants to do several things at a stretch holds the
- *   lock of another file, as all others do too (`flock DISK.lock rlibreg ..`).
- * - A change that waits has its turn, also where loaders come one after the other: who opens the disk
- *   to look gives way to it, for two seconds at most, and is refused for nothing but the lock. A mark
- *   says so, an open file's lock of fcntl(2) on a byte behind the disk's end; over NFS, SMB, 9p, AFS
- *   and Lustre, where flock(2) is such a lock itself, there is none.
- * - Who puts another file in the disk's place holds the lock of the file that stood there (`flock
- *   DISK mv NEW DISK`). Library and program look, once they have a lock, whether the path still
- *   names the file that they locked, and else open the path again.
- * - A lock of flock(2) is advice: it stops nobody who doesn't ask. Who may read the disk can hold
- *   it. Over NFS it may do nothing. A child of fork has it too, until the process that opened the
- *   disk closes it, or, where that ends without doing so, as long as the child keeps the file open.
- * - After a write that failed Linux takes the pages for written, and shows them to whoever reads. So
- *   an opening syncs the file, and compares the registry's two roots as the system shows them with
- *   those of the medium, which it reads past the system's memory. Where they differ the system is
- *   made to forget its own. Where it can't, since somebody has them mapped who hasn't the lock, an
- *   opening for changes has the medium take them, and one for reading alone is RLIBREG_SYSTEM with
- *   EIO. Locked memory (mlockall) makes no difference.
- * - Of encrypted and compressed files, of loop devices without direct I/O, and where there is no
- *   O_DIRECT, nothing can be read past memory: there an opening for changes always has the medium
- *   take the roots, and one for reading may show a change that was answered S1.
- * - What a process prints never goes into a disk. Where 0, 1 or 2 isn't open, that number is given
- *   to /dev/null, for reading alone, before any file is opened, and stays so: the disk would get it
- *   else. (Where another thread closes it just then, the disk has it for a moment, and is moved.) A
- *   disk that is the file behind 0, 1 or 2, open for writing, is refused where it is opened, and at
- *   each change: RLIBREG_SYSTEM, with errno ETXTBSY. Who prints before asks rlibreg_stream_of.
- * - The two roots stand in one block of 4,096 bytes. A medium that ruins a block of that size which
- *   it was writing can lose both.
- * - There is no checksum: a byte that changed on the medium within a library's code isn't seen, by
- *   rlibreg_check neither. Who has the digests that were installed compares those of rlibreg_digest.
- * - A sector that the medium can't read ends the process by SIGBUS, in each call over a file: the
- *   file is mapped. So does a file that is made shorter during a call, and, but for rlibreg_format,
- *   a hole that is read on a full tmpfs. Who has to live on reads the bytes into memory under the
- *   lock, which fails with an errno, and makes the calls over bytes: the host of docs/C.md does.
- * - Each call looks at the file's length, and a change, before it and after it, whether the path
- *   still names the file, or the same block device. If one isn't as it was, the answer is S1, with
- *   errno ESTALE, or why the path can't be looked at: so a change isn't answered 0 which nobody would
- *   see.
- * - A disk that may only be read, or is on a file system for reading alone, can be looked at. There
- *   a sync that is answered EINVAL has nothing to do, and is taken for done; one that is answered
- *   EROFS has failed, since a file system that a failure has made read-only answers so.
- * - A block device, or a partition, can be the disk. For a change it is opened alone, which is
- *   refused with EBUSY where it is mounted or in use in another way; who looks shares it. The lock
- *   is that of its node: everybody names the same node. The system's udev holds it for a moment
- *   after each change, so a change without RLIBREG_WAIT tries for two seconds there.
- * - Each call opens the registry anew: it reads the roots, the catalogues and a sector for each
- *   library, and of the libraries' files only those that a bind needs. So a library that is damaged
- *   or can't be read is met by the bind that needs it (S5, S1) and by rlibreg_check, and keeps
- *   nothing else from being done; the program `rlibreg` tests all of them at each command.
- *   rlibreg_plan_upgrade reads and tests each library once, as it does.
- * - A bound image is memory, and not a process: nothing of the library runs what is in it. Who maps
- *   it calls the initializers of the libraries (DT_INIT, DT_INIT_ARRAY) before its entry, as
- *   rlibreg-run does; they are in the dynamic sections of the objects.
- * - Calls may be made at once in several threads, on different struct rlibreg. One struct is used
- *   by one thread at a time. No call is made from a signal handler, nor, in a process of several
- *   threads, from a child between fork and exec. A thread that makes calls has 512 KiB of stack.
- * - A child is told from its parent even if both have the same process number, as process 1 of a
- *   container and process 1 of a process namespace that it makes. A child of vfork, or of clone(2)
- *   with CLONE_VM, shares its parent's memory, and makes no calls. If fork can't be watched for want
- *   of memory (pthread_atfork), nothing is opened: RLIBREG_SYSTEM, with errno ENOMEM.
- * - pthread_cancel ends no call that opens, changes or closes a file: the call returns first, and
+ * - A disk has one writer at a time, and nobody reads it meanwhile. A process that changes the disk
+ *   takes its lock (flock(2)) exclusively; processes that only read it share the lock. The calls
+ *   over a file do this, and so does the program `rlibreg`. If the disk is locked, the program ends
+ *   with status 3, but a change tries for two seconds first.
+ * - So a caller needs no lock of its own. A process that locks the disk around the program (`flock
+ *   DISK rlibreg ..`) locks the program out. To do several things in one go, lock another file, as
+ *   all other processes then have to do too (`flock DISK.lock rlibreg ..`).
+ * - A change that waits gets its turn, even if loaders come one after the other. A process that
+ *   opens the disk to read gives way to it, for two seconds at most. A reader is never refused
+ *   because it gives way, but only because of the lock. The change marks the disk by an open file's
+ *   lock of fcntl(2) on a byte past the disk's end. Over NFS, SMB, 9p, AFS and Lustre, where
+ *   flock(2) is such a lock itself, there is no mark.
+ * - To put another file in the disk's place, hold the lock of the file that is there (`flock DISK
+ *   mv NEW DISK`). Once the library or the program has a lock, it checks that the path still names
+ *   the file that it locked. If it doesn't, the path is opened again.
+ * - A lock of flock(2) is advice: it stops no process that doesn't ask for it. Every process that
+ *   may read the disk can lock it. Over NFS the lock may do nothing. A child of fork has the lock
+ *   too, until the process that opened the disk closes it. If that process ends without closing it,
+ *   the disk stays locked as long as the child keeps the file open.
+ * - Each call checks the file's length. Before and after a change, the call also checks that the
+ *   path still names the file, or the same block device. If one of these has changed, the answer is
+ *   S1 (RLIBREG_DEVICE), with errno ESTALE, or with the errno that says why the path can't be
+ *   checked. So a change that nobody would see isn't answered 0.
+ *
+ * FAILED WRITES
+ *
+ * - After a failed write, Linux treats the pages as written, and shows them to every reader. So an
+ *   opening syncs the file. Then it compares the registry's two roots, the sectors that lead to the
+ *   current state, as the system shows them and as the medium has them. It reads the medium past
+ *   the system's memory. If they differ, the system is made to forget its own. If that fails,
+ *   because a process without the lock has the roots mapped, an opening for changes writes the
+ *   shown roots to the medium, and an opening for reading is refused with RLIBREG_SYSTEM and EIO.
+ *   Locked memory (mlockall) makes no difference.
+ * - Encrypted and compressed files, loop devices without direct I/O, and file systems without
+ *   O_DIRECT can't be read past the system's memory. There an opening for changes always writes the
+ *   shown roots to the medium, and an opening for reading may show a change that was answered S1.
+ *
+ * STANDARD STREAMS
+ *
+ * - Nothing that a process prints ever goes into a disk. If one of the descriptors 0, 1 and 2 isn't
+ *   open, /dev/null is opened there, for reading only, before any file is opened, and stays open.
+ *   Otherwise the disk would get that number. (If another thread closes it just then, the disk has
+ *   the number for a moment, and is then moved.)
+ * - A disk that is the file behind 0, 1 or 2, open for writing, is refused when it is opened and at
+ *   each change: RLIBREG_SYSTEM, with errno ETXTBSY. A process that prints before it opens the disk
+ *   asks rlibreg_stream_of.
+ *
+ * MEDIA
+ *
+ * - The two roots lie in one block of 4,096 bytes. A medium that ruins a block of that size while
+ *   it writes the block can lose both.
+ * - There is no checksum. A byte that changed on the medium within a library's code isn't detected,
+ *   not by rlibreg_check either. To detect it, compare the digests of the installed files with
+ *   those of rlibreg_digest.
+ * - A sector that the medium can't read ends the process by SIGBUS, in each call over a file,
+ *   because the file is mapped. So does a file that is shortened during a call, and, except in
+ *   rlibreg_format, a hole that is read on a full tmpfs. A process that has to survive this reads
+ *   the bytes into memory under the lock, which fails with an errno, and makes the calls over
+ *   bytes. The host of docs/C.md does so.
+ * - A disk that may only be read, or is on a read-only file system, can be read. There a sync that
+ *   fails with EINVAL has nothing to do, and counts as done. A sync that fails with EROFS has
+ *   failed: a file system that a failure has made read-only answers this.
+ * - The disk can be a block device or a partition. It is opened exclusively for a change, which is
+ *   refused with EBUSY if the device is mounted or in use in another way. Readers share it. The
+ *   lock is that of the device's node, so all processes have to name the same node. The system's
+ *   udev holds the lock for a moment after each change, so a change without RLIBREG_WAIT tries for
+ *   two seconds there.
+ * - Each call opens the registry again. It reads the roots, the catalogues (sectors that list the
+ *   libraries) and one sector for each library. It reads only those libraries' files that a bind
+ *   needs. So a library that is damaged or can't be read is met only by rlibreg_check and by a bind
+ *   that needs it (S5, RLIBREG_DAMAGED; S1), and stops nothing else. The program `rlibreg` tests
+ *   all of them at each command. rlibreg_plan_upgrade reads and tests each library once, as the
+ *   program does.
+ *
+ * THREADS AND MEMORY
+ *
+ * - A bound image is memory, not a process: nothing of the library runs what is in it. A caller
+ *   that maps the image calls the libraries' initializers (DT_INIT, DT_INIT_ARRAY) before its
+ *   entry, as rlibreg-run does. The dynamic sections of the objects have them.
+ * - Several threads may make calls at the same time, on different struct rlibreg. Only one thread
+ *   at a time uses one struct. A signal handler makes no calls. Nor, in a process of several
+ *   threads, does a child between fork and exec. A thread that makes calls needs 512 KiB of stack.
+ * - A child is distinguished from its parent even if both have the same process number, such as
+ *   process 1 of a container and process 1 of a process namespace that it makes. A child of vfork,
+ *   or of clone(2) with CLONE_VM, shares its parent's memory, and makes no calls. If fork can't be
+ *   watched for want of memory (pthread_atfork), nothing is opened: RLIBREG_SYSTEM, with errno
+ *   ENOMEM.
+ * - pthread_cancel ends no call that opens, changes or closes a file. The call returns first, and
  *   the thread ends at its next cancellation point. It keeps the lock until rlibreg_close, which a
- *   cleanup handler calls (pthread_cleanup_push). A wait for a lock isn't cancelled either: a limit
- *   ends it (rlibreg_wait_limit). A thread that can be cancelled asynchronously makes no calls.
- * - malloc, realloc and free are the program's, of one allocator. malloc and realloc align a block
- *   to each power of two up to 16 that divides its size. Each block is given back before the call
- *   ends, but for those of which the second layer says who frees them.
+ *   cleanup handler has to call (pthread_cleanup_push). A wait for a lock isn't cancelled either,
+ *   but a limit ends it (rlibreg_wait_limit). A thread that can be cancelled asynchronously makes
+ *   no calls.
+ * - malloc, realloc and free are the program's, of one allocator. malloc and realloc have to align
+ *   a block to each power of two up to 16 that divides its size. Each block is freed before the
+ *   call ends, except those for which the second layer says who frees them.
  */
 #ifndef RLIBREG_H
 #define RLIBREG_H
@@ -104,7 +152,7 @@
 extern "C" {
 #endif
 
-/* What the archive goes by, and the header has to keep. */
+/* Asserts sizes and offsets on which the archive depends. */
 #if defined __cplusplus && __cplusplus < 201103L
 #define RLIBREG_SAME(what) typedef char rlibreg_same[(what) ? 1 : -1]
 #elif defined __cplusplus
@@ -115,28 +163,29 @@ extern "C" {
 
 /* ---- Version
  *
- * 10,000 * major + 100 * minor + patch. Where major or minor is another a caller is compiled again:
- * the shared library's name has the two, as librlibreg.so.0.3. rlibreg_version gives the version of
- * the library that is called. */
+ * rlibreg_version returns the version of the library that is called, and RLIBREG_VERSION is that of
+ * this header: 10,000 * major + 100 * minor + patch. If major or minor changes, callers have to be
+ * compiled again: the shared library's name has the two, as in librlibreg.so.0.3. */
 #define RLIBREG_VERSION 300
 uint32_t rlibreg_version(void);
 
 /* ---- Statuses
  *
- * Each call gives one. 0: it did what it is for. 1 to 9: the library's own. Above: the refusal of
- * that number in docs/COMMANDS.md, with 100 for B (of a bind), 200 for C (of a command) and 300 for
- * S (of the disk): 103 is B3. From 401 on: why a bound program has no executable file, of which
- * docs/TOOL.md has more. rlibreg_status_name gives the name. */
+ * Each call returns a status. 0 means that it did what it is for. 1 to 9 are the library's own. A
+ * greater one is a refusal of docs/COMMANDS.md: its number, and 100 more for B (of a bind), 200
+ * more for C (of a command) or 300 more for S (of the disk). For example, 103 means B3 (Missing).
+ * From 401 on a status says why a bound program has no executable file; docs/TOOL.md has more on
+ * these. rlibreg_status_name returns the name. */
 enum {
     RLIBREG_DONE = 0,
-    RLIBREG_NO_ROOM = 1,      /* a buffer is too small: the answer has what is needed */
-    RLIBREG_BAD_ARGUMENT = 2, /* an argument isn't as the call says */
+    RLIBREG_NO_ROOM = 1,      /* a buffer is too small: the answer has the sizes that are needed */
+    RLIBREG_BAD_ARGUMENT = 2, /* an argument isn't as the call requires it */
     RLIBREG_SYSTEM = 3,       /* a file can't be opened, locked, synced, made or mapped: errno */
-    RLIBREG_HELD = 4,         /* another process, or this one, holds the file */
-    RLIBREG_READ_ONLY = 5,    /* a change, but the file wasn't opened for writing */
+    RLIBREG_HELD = 4,         /* another process, or this one, has locked the file */
+    RLIBREG_READ_ONLY = 5,    /* a change is asked for, but the file wasn't opened for changes */
 
     RLIBREG_BAD_PROGRAM = 101, /* B1: the program's file is refused, by the test file_refusal */
-    RLIBREG_BAD_BASE = 102,    /* B2: the base is no multiple of the program's unit */
+    RLIBREG_BAD_BASE = 102,    /* B2: the base isn't a multiple of the program's unit */
     RLIBREG_MISSING = 103,     /* B3: a needed library isn't installed; the text names both */
     RLIBREG_NO_PLACE = 104,    /* B4: an object's memory would end above 2^47 - 4,096 */
     RLIBREG_UNDEFINED = 105,   /* B5: a symbol is bound to nothing; the text names it */
@@ -144,26 +193,26 @@ enum {
     RLIBREG_BAD_FILE = 201,          /* C1: the file is no library, by the test file_refusal */
     RLIBREG_ALREADY_INSTALLED = 202, /* C2: a library of this SONAME is installed */
     RLIBREG_NOT_INSTALLED = 203,     /* C3: no library has this name */
-    RLIBREG_IN_PRELOADS = 204,       /* C4: it isn't removed as long as it is a preload */
+    RLIBREG_IN_PRELOADS = 204,       /* C4: a library isn't removed as long as it is a preload */
     RLIBREG_REPEATED_PRELOAD = 205,  /* C5: a name is given twice */
-    RLIBREG_TOO_MANY_PRELOADS = 206, /* C6: more than 16 */
+    RLIBREG_TOO_MANY_PRELOADS = 206, /* C6: there are more than 16 names */
 
     RLIBREG_DEVICE = 301,            /* S1: a write or a sync failed: open the file again */
-    RLIBREG_REOPEN = 302,            /* S2: one failed before */
-    RLIBREG_NOT_FORMATTED = 303,     /* S3: there is no registry on the disk */
-    RLIBREG_ALREADY_FORMATTED = 304, /* S4: there is one */
-    RLIBREG_DAMAGED = 305,           /* S5: no writes that were cut off leave these bytes */
-    RLIBREG_BAD_GEOMETRY = 306,      /* S6: not 8 to 4,194,304 whole sectors, or not so many */
-    RLIBREG_FULL = 307,              /* S7: fewer sectors are free than it takes */
-    RLIBREG_FRAGMENTED = 308,        /* S8: they lie in too many runs */
-    RLIBREG_TOO_MANY = 309,          /* S9: more than 2,048 libraries */
-    RLIBREG_GENERATION_END = 310,    /* S10: it was changed 2^64 - 1 times */
+    RLIBREG_REOPEN = 302,            /* S2: a write or a sync failed before */
+    RLIBREG_NOT_FORMATTED = 303,     /* S3: the disk holds no registry */
+    RLIBREG_ALREADY_FORMATTED = 304, /* S4: the disk holds a registry */
+    RLIBREG_DAMAGED = 305,           /* S5: no write that was cut off leaves these bytes */
+    RLIBREG_BAD_GEOMETRY = 306,      /* S6: not 8 to 4,194,304 whole sectors, or not SECTORS */
+    RLIBREG_FULL = 307,              /* S7: fewer sectors are free than the change takes */
+    RLIBREG_FRAGMENTED = 308,        /* S8: the unused sectors lie in too many runs */
+    RLIBREG_TOO_MANY = 309,          /* S9: there would be more than 2,048 libraries */
+    RLIBREG_GENERATION_END = 310,    /* S10: the registry was changed 2^64 - 1 times */
     RLIBREG_OUT_OF_MEMORY = 311,     /* S11: memory was refused */
-    RLIBREG_OLD_FORMAT = 312,        /* S12: a disk of version 1, which is to be upgraded */
+    RLIBREG_OLD_FORMAT = 312,        /* S12: the disk is of version 1, and has to be upgraded */
 
     RLIBREG_NO_ENTRY = 401,         /* the program has no entry in code of its own */
-    RLIBREG_STATIC_PIE = 402,       /* it would relocate itself, by what the file lacks */
-    RLIBREG_PRE_INITIALIZERS = 403, /* it has pre-initializers, which nobody would run */
+    RLIBREG_STATIC_PIE = 402,       /* the program relocates itself, by data that the file lacks */
+    RLIBREG_PRE_INITIALIZERS = 403, /* the program has pre-initializers, which nobody would run */
     RLIBREG_INITIALIZERS = 404,     /* a library has initializers; the text names it */
     RLIBREG_FINALIZERS = 405,       /* a library has finalizers; the text names it */
     /* 406 was OutOfOrder, which no image ever was. It isn't used again. */
@@ -172,90 +221,93 @@ enum {
     RLIBREG_NO_PAGES = 409          /* no pages are free for the headers */
 };
 
-/* The name of a status, as "B3 Missing"; "unknown" of a number that is none. Never freed. */
+/* Returns the name of a status, such as "B3 Missing". For a number that is no status it returns
+ * "unknown". The text is never freed. */
 const char *rlibreg_status_name(uint32_t status);
 
-/* The name of the test of a file that refuses, as "E1 TooShort", by its number: the answer's
- * file_refusal. "unknown" of a number that is none. Never freed. */
+/* Returns the name of the test of a file that refuses it, such as "E1 TooShort". NUMBER is the
+ * test's number, as the answer's `file_refusal` has it. For a number that no test has the call
+ * returns "unknown". The text is never freed. */
 const char *rlibreg_file_refusal_name(uint32_t number);
 
-/* ---- What calls give */
+/* ---- What calls return */
 
-/* What a call was answered. What a call doesn't speak of is 0. It is written in every case. */
+/* The answer of a call. It is written in every case. A field that the call doesn't mention is 0. */
 typedef struct rlibreg_answer {
-    uint32_t status;       /* the status, as the call gives it */
-    uint32_t file_refusal; /* where the status is B1 or C1: n of the first test En that refuses */
-    uint64_t count;        /* how many segments, libraries, steps or program headers there are; of
-                            * an update that is refused: how many changes before the one that is */
-    uint64_t preloads;     /* how many preloads there are */
-    uint64_t bytes;        /* how many bytes there are: of segments, names, a text, a file, a plan */
-    uint64_t text;         /* how many bytes the whole text has */
-    uint64_t generation;   /* of a listing: how many changes the registry has taken */
-    uint64_t objects;      /* how many objects an image has */
+    uint32_t status;       /* the status, as the call returns it */
+    uint32_t file_refusal; /* if the status is B1 or C1: n of the first test En that refuses */
+    uint64_t count;        /* number of segments, libraries, steps or program headers; if an update
+                            * is refused: number of changes before the one that is refused */
+    uint64_t preloads;     /* number of preloads */
+    uint64_t bytes;        /* number of bytes: of segments, names, a text, a file or a plan */
+    uint64_t text;         /* length of the whole text, in bytes */
+    uint64_t generation;   /* of a listing: number of changes that were made to the registry */
+    uint64_t objects;      /* number of objects of an image */
 } rlibreg_answer;
 
 enum { RLIBREG_EXECUTE = 1, RLIBREG_WRITE = 2, RLIBREG_READ = 4 };
 
 /* A segment of an image. */
 typedef struct rlibreg_segment {
-    uint64_t address;     /* of its first byte */
-    uint64_t length;      /* how many bytes it has; of 0 nothing is to be mapped */
-    uint64_t from;        /* where they begin in the buffer of bytes */
+    uint64_t address;     /* address of its first byte */
+    uint64_t length;      /* length in bytes; if it is 0, nothing has to be mapped */
+    uint64_t from;        /* offset of its bytes in the buffer of bytes */
     uint64_t permissions; /* a sum of RLIBREG_EXECUTE, RLIBREG_WRITE and RLIBREG_READ */
 } rlibreg_segment;
 
-/* An object of an image: the program, or a library. An address is one of the image. */
+/* An object of an image: the program or a library. Its addresses are addresses of the image. */
 typedef struct rlibreg_object {
-    uint64_t base;          /* what is added to the addresses of its file */
-    uint64_t name;          /* where its name begins in the buffer of bytes, behind the segments' */
-    uint64_t name_length;   /* how many bytes the name has, without the byte 0 behind it */
-    uint64_t first_segment; /* the number of its first segment in the image */
-    uint64_t segments;      /* how many of the image's segments are its own: they are in a row */
-    uint64_t headers;       /* the address of its program headers, or 0 where no one segment has them
-                             * all; at the base 0 it may be 0 where one has */
-    uint64_t header_count;  /* how many program headers its file has */
-    uint64_t dynamic;       /* the same of its dynamic section */
-    uint64_t entry;         /* its base and its file's e_entry together, modulo 2^64 */
+    uint64_t base;          /* number that is added to the addresses of its file */
+    uint64_t name;          /* offset of its name in the buffer of bytes, after the segments */
+    uint64_t name_length;   /* length of the name in bytes, without the byte 0 after it */
+    uint64_t first_segment; /* number of its first segment in the image */
+    uint64_t segments;      /* number of the image's segments that are its own; they are in a row */
+    uint64_t headers;       /* address of its program headers, or 0 if no single segment has all of
+                             * them; at the base 0 it may be 0 although one has */
+    uint64_t header_count;  /* number of program headers of its file */
+    uint64_t dynamic;       /* address of its dynamic section, or 0 in the same cases */
+    uint64_t entry;         /* sum of its base and its file's e_entry, modulo 2^64 */
 } rlibreg_object;
 
 /* A library or a preload of a listing. */
 typedef struct rlibreg_entry {
-    uint64_t name;        /* where its name begins in the buffer of names */
-    uint32_t name_length; /* how many bytes the name has, without the byte 0 behind it */
-    uint32_t file_length; /* how many bytes a library's file has; 0 of a preload */
+    uint64_t name;        /* offset of its name in the buffer of names */
+    uint32_t name_length; /* length of the name in bytes, without the byte 0 after it */
+    uint32_t file_length; /* length of a library's file in bytes; 0 for a preload */
 } rlibreg_entry;
 
-/* What is told of a registry as a whole. */
+/* Information on a registry as a whole. */
 typedef struct rlibreg_information {
-    uint64_t version;        /* of the disk's layout: 2 */
-    uint64_t sectors;        /* how many sectors the disk has */
-    uint64_t generation;     /* how many changes the registry has taken */
-    uint64_t libraries;      /* how many are installed */
-    uint64_t preloads;       /* how many there are */
-    uint64_t unused_sectors; /* how many sectors nothing uses */
-    uint64_t unused_runs;    /* in how many runs they are */
-    uint64_t largest;        /* how many bytes a library of a new name may have now, or 0 */
+    uint64_t version;        /* version of the disk's layout: 2 */
+    uint64_t sectors;        /* number of sectors of the disk, of 512 bytes each */
+    uint64_t generation;     /* number of changes that were made to the registry */
+    uint64_t libraries;      /* number of libraries that are installed */
+    uint64_t preloads;       /* number of preloads */
+    uint64_t unused_sectors; /* number of sectors that nothing uses */
+    uint64_t unused_runs;    /* number of runs of adjacent unused sectors */
+    uint64_t largest;        /* length in bytes of the largest file that can be installed now
+                              * under a new name, or 0 */
 } rlibreg_information;
 
-/* What is found of a library's file: one of these, or n where En is the first test that refuses it
+/* A finding on a library's file: one of these, or n if En is the first test that refuses the file
  * (rlibreg_file_refusal_name). */
 enum {
-    RLIBREG_SOUND = 0,       /* it is a library of its name */
-    RLIBREG_OTHER_NAME = 100 /* it is a library of another name */
+    RLIBREG_SOUND = 0,       /* the file is a library of its name */
+    RLIBREG_OTHER_NAME = 100 /* the file is a library of another name */
 };
 
-/* A library that was looked at. */
+/* A library that was checked. */
 typedef struct rlibreg_finding {
-    uint64_t name;        /* where its name begins in the buffer of names */
-    uint32_t name_length; /* how many bytes the name has, without the byte 0 behind it */
+    uint64_t name;        /* offset of its name in the buffer of names */
+    uint32_t name_length; /* length of the name in bytes, without the byte 0 after it */
     uint32_t finding;     /* RLIBREG_SOUND, 1 to 33, or RLIBREG_OTHER_NAME */
 } rlibreg_finding;
 
-/* A change of an update. Its bytes are at a place of one buffer, which has those of all. */
+/* A change of an update. One buffer has the bytes of all changes. */
 typedef struct rlibreg_change {
     uint64_t kind;   /* RLIBREG_INSTALL, RLIBREG_REPLACE, RLIBREG_REMOVE or RLIBREG_PRELOAD */
-    uint64_t from;   /* where its bytes begin in the buffer */
-    uint64_t length; /* how many there are: of a file, of a name, or of names in a row */
+    uint64_t from;   /* offset of its bytes in the buffer */
+    uint64_t length; /* number of its bytes: of a file, of a name, or of names in a row */
 } rlibreg_change;
 
 enum { RLIBREG_INSTALL = 1, RLIBREG_REPLACE = 2, RLIBREG_REMOVE = 3, RLIBREG_PRELOAD = 4 };
@@ -285,36 +337,44 @@ RLIBREG_SAME(sizeof(size_t) == 8 && sizeof(void *) == 8);
 
 /* ---- Layer 1: bytes
  *
- * OWED by who calls, and checked by nothing: a pointer has as many bytes (or segments, objects,
- * entries) behind it as the length or the room that follows it says; what is only read isn't
- * changed by anybody before the call returns; what is written overlaps nothing else that the call
- * is given. A pointer may be null where its length is 0. Nothing else is owed: whatever the bytes
- * are, each call returns, with a status.
+ * The caller owes the following, and no call checks it. A pointer has as many bytes (or segments,
+ * objects, entries) after it as the length or the room that follows it says. Nobody changes memory
+ * that a call only reads, until the call returns. Memory that a call writes overlaps nothing else
+ * that the call is given. A pointer may be null if its length is 0. Nothing else is owed: whatever
+ * the bytes are, each call returns, with a status.
  *
- * OWNED by who calls: all of it. A call keeps no pointer, and gives none.
+ * The caller owns all memory. A call keeps no pointer and returns none, so there is nothing to
+ * free.
  *
- * DISK and DISK_LENGTH are the bytes of the disk's sectors, as the medium has them after a sync
- * (CAVEATS says what Linux does after one that failed). A length that isn't that of whole sectors
- * is answered S6.
+ * DISK has the DISK_LENGTH bytes of the disk's sectors, as the medium has them after a sync.
+ * (FAILED WRITES says what Linux does after a sync that failed.) A length that isn't that of whole
+ * sectors is refused with S6 (BadGeometry).
  *
- * TEXT gets the line or the reply that the program `rlibreg` prints of the same: "ok\n", a listing,
- * or a refusal with its number and its names, as "refused B3 Missing libtwo.so libone.so\n". It
- * isn't ended by a byte 0. The answer's `text` has the length of the whole; where `text_room` is
- * less, the buffer has the beginning. It is empty of all that has a place of its own (an image,
- * bindings, a file, a digest, what is told of the whole, what is found), and with the statuses 1 to
- * 9, of which the program knows nothing. A text that was cut changes no status.
+ * Lengths are in bytes. So are the rooms of bytes, names, texts and plans. The rooms of objects,
+ * segments, entries and findings are numbers of them.
  *
- * MEMORY that is refused is answered S11: nothing was done then. S1 is never the answer.
+ * TEXT receives the line or the reply that the program `rlibreg` prints in the same case: "ok\n", a
+ * listing, or a refusal with its number and its names, such as "refused B3 Missing libtwo.so
+ * libone.so\n". No byte 0 follows it. The answer's `text` is the length of the whole text. If
+ * TEXT_ROOM is less, the buffer has the beginning, and the status is the same. The text is empty if
+ * the result has a place of its own: an image, bindings (also with B3 and B5), a file, a digest,
+ * information or findings. With the statuses 1 to 9, which the program doesn't know, it is empty
+ * too.
  *
- * Where another buffer is too small the status is RLIBREG_NO_ROOM, what the call's buffers hold is
- * open, and the answer has what is needed: ask again with that much. */
+ * If memory is refused, the call returns S11 (OutOfMemory), and nothing was done. No call returns
+ * S1 (Device).
+ *
+ * If another buffer is too small, the call returns RLIBREG_NO_ROOM. Then the contents of the call's
+ * buffers are unspecified, and the answer has the sizes that are needed: call again with these. */
 
-/* Binds the program whose file is PROGRAM at the address BASE, with the preloads and the libraries
- * of the registry. With the status 0 OBJECTS has the answer's `objects` objects in load order, the
- * program first; SEGMENTS has `count` segments, from low addresses to high ones, those of an object
- * in a row; and BYTES has the bytes of all segments in a row, and behind them the objects' names,
- * each with a byte 0 behind it, `bytes` in number. The program's name is "/program", a library's
- * its SONAME. Segments don't overlap; two of one object may share a page, two of different objects
+/* Binds a program at an address, with the preloads and the libraries of the registry. PROGRAM has
+ * the PROGRAM_LENGTH bytes of the program's file. BASE is the address, in bytes.
+ *
+ * With the status 0, OBJECTS has the answer's `objects` objects in load order, the program first.
+ * SEGMENTS has `count` segments, from low addresses to high ones; those of one object are in a row.
+ * BYTES has `bytes` bytes: the bytes of all segments in a row, and after them the objects' names,
+ * each followed by a byte 0. The program's name is "/program", a library's name is its SONAME.
+ * Segments don't overlap. Two segments of one object may share a page, but two of different objects
  * never do. Nothing of the registry is changed.
  *
  * Refusals: B1 to B5; S3, S5, S6, S11, S12. */
@@ -324,156 +384,186 @@ uint32_t rlibreg_bind(const uint8_t *disk, size_t disk_length, const uint8_t *pr
                       uint8_t *bytes, size_t bytes_room, char *text, size_t text_room,
                       rlibreg_answer *answer);
 
-/* Tells what the symbols of a program and of the libraries that it needs are bound to. The status
- * is the one that rlibreg_bind gives of this PROGRAM and BASE. With 0, B3 and B5 BYTES has the
- * text that `rlibreg-tool bindings` prints (docs/TOOL.md), the answer's `bytes` bytes, without a
- * byte 0 behind them: of each object in load order its base, the names that it needs, and each
- * symbol that a relocation names, with its address and the object that defines it; with B5 each
- * that is undefined. With B3 it has what was found, and each name that is missing with who needs
- * it. With every other status BYTES is left as it was.
+/* Says what the symbols of a program and of the libraries that it needs are bound to. PROGRAM has
+ * the PROGRAM_LENGTH bytes of the program's file, and BASE is the address at which it is bound. The
+ * status is the one that rlibreg_bind returns for this PROGRAM and BASE.
+ *
+ * With the statuses 0, B3 and B5, BYTES has the text that `rlibreg-tool bindings` prints
+ * (docs/TOOL.md): the answer's `bytes` bytes, without a byte 0 after them. For each object in load
+ * order, the text has the object's base, the names that it needs, and each symbol that a relocation
+ * names, with its address and the object that defines it. With B5 (Undefined) it also has each
+ * symbol that is undefined. With B3 (Missing) it has what was found, and each name that is missing,
+ * with the object that needs it. With every other status BYTES is left as it was.
  *
  * Refusals: B1 to B5; S3, S5, S6, S11, S12. */
 uint32_t rlibreg_bindings(const uint8_t *disk, size_t disk_length, const uint8_t *program,
                           size_t program_length, uint64_t base, char *bytes, size_t bytes_room,
                           char *text, size_t text_room, rlibreg_answer *answer);
 
-/* Makes a static executable file of a bound program. With the status 0 BYTES has the file, the
- * answer's `bytes` bytes, which loads just the image that rlibreg_bind gives of this PROGRAM and
- * BASE: Linux starts it without a loader and without the registry. `count` is how many program
- * headers it has: Linux before 6.17 starts none with more than 73. With another status BYTES is
- * left as it was. It takes the memory of the image, and up to five times that of its segments.
+/* Makes a static executable file of a bound program. PROGRAM has the PROGRAM_LENGTH bytes of the
+ * program's file, and BASE is the address at which it is bound.
  *
- * RLIBREG_NO_ENTRY, RLIBREG_STATIC_PIE, RLIBREG_PRE_INITIALIZERS, RLIBREG_INITIALIZERS,
- * RLIBREG_FINALIZERS, RLIBREG_TOO_MANY_HEADERS, RLIBREG_WRITABLE_CODE or RLIBREG_NO_PAGES where the
- * image has no such file, by the first that applies: TEXT has the line of `rlibreg-tool
- * executable`. Refusals: B1 to B5; S3, S5, S6, S11, S12. */
+ * With the status 0, BYTES has the file, the answer's `bytes` bytes. It loads exactly the image
+ * that rlibreg_bind returns for this PROGRAM and BASE: Linux starts it without a loader and without
+ * the registry. `count` is the number of its program headers. Linux before 6.17 starts no file with
+ * more than 73 headers. With another status BYTES is left as it was. The call allocates the memory
+ * of the image, and up to five times the memory of the image's segments.
+ *
+ * If the image has no such file, the status is the first of these that applies: RLIBREG_NO_ENTRY,
+ * RLIBREG_STATIC_PIE, RLIBREG_PRE_INITIALIZERS, RLIBREG_INITIALIZERS, RLIBREG_FINALIZERS,
+ * RLIBREG_TOO_MANY_HEADERS, RLIBREG_WRITABLE_CODE or RLIBREG_NO_PAGES. TEXT then has the line of
+ * `rlibreg-tool executable`.
+ *
+ * Refusals: B1 to B5; S3, S5, S6, S11, S12. */
 uint32_t rlibreg_executable(const uint8_t *disk, size_t disk_length, const uint8_t *program,
                             size_t program_length, uint64_t base, uint8_t *bytes,
                             size_t bytes_room, char *text, size_t text_room,
                             rlibreg_answer *answer);
 
-/* Lists the registry. With the status 0 ENTRIES has the answer's `count` libraries in the order of
- * their installation, and behind them `preloads` preloads in theirs; NAMES has all their names in a
- * row, each with a byte 0 behind it, `bytes` bytes in all; and `generation` counts the changes that
- * were made since the registry was formatted. 2,064 entries and 497,424 bytes are always enough.
+/* Lists the libraries and the preloads of the registry.
+ *
+ * With the status 0, ENTRIES has the answer's `count` libraries in the order of their installation,
+ * and after them the `preloads` preloads in their own order. NAMES has all their names in a row,
+ * each followed by a byte 0, `bytes` bytes in all. `generation` is the number of changes that were
+ * made since the registry was formatted. 2,064 entries and 497,424 bytes are always enough.
  *
  * Refusals: S3, S5, S6, S11, S12. */
 uint32_t rlibreg_list(const uint8_t *disk, size_t disk_length, rlibreg_entry *entries,
                       size_t entries_room, char *names, size_t names_room, char *text,
                       size_t text_room, rlibreg_answer *answer);
 
-/* Gives a library's file. With the status 0 BYTES has the bytes of the library of this name, which
- * has no byte 0 behind it, as they were installed, the answer's `bytes` of them. They alone are
- * read: what has become of another library's file doesn't matter. Whether they still are those of a
- * library isn't looked at.
+/* Returns the bytes of a library's file, as they were installed. NAME has the NAME_LENGTH bytes of
+ * the library's name, without a byte 0 after them.
+ *
+ * With the status 0, BYTES has the answer's `bytes` bytes of the file. Only this file is read: it
+ * doesn't matter if another library's file is damaged. It isn't tested whether the bytes still are
+ * those of a library.
  *
  * Refusals: C3; S3, S5, S6, S11, S12. */
 uint32_t rlibreg_file(const uint8_t *disk, size_t disk_length, const char *name, size_t name_length,
                       uint8_t *bytes, size_t bytes_room, char *text, size_t text_room,
                       rlibreg_answer *answer);
 
-/* Gives the SHA-256 (FIPS 180-4) of a library's file. With the status 0 DIGEST has that of the bytes
- * that rlibreg_file gives of this name, as sha256sum prints it in hexadecimal; with another one it is
- * left as it was.
+/* Returns the SHA-256 (FIPS 180-4) of a library's file. NAME has the NAME_LENGTH bytes of the
+ * library's name, without a byte 0 after them.
+ *
+ * With the status 0, DIGEST has the SHA-256 of the bytes that rlibreg_file returns for this name.
+ * It is the sum that sha256sum prints in hexadecimal. With another status DIGEST is left as it was.
  *
  * Refusals: C3; S3, S5, S6, S11, S12. */
-#define RLIBREG_DIGEST_BYTES 32 /* how many bytes it has */
+#define RLIBREG_DIGEST_BYTES 32 /* length of a digest */
 uint32_t rlibreg_digest(const uint8_t *disk, size_t disk_length, const char *name,
                         size_t name_length, uint8_t digest[RLIBREG_DIGEST_BYTES], char *text,
                         size_t text_room, rlibreg_answer *answer);
 
-/* Tells of the registry as a whole. With the status 0 INFORMATION is written, with another one it
- * is left as it was. No library's file is read.
+/* Returns information on the registry as a whole. No library's file is read.
  *
- * An installation under a new name of a file of at most `largest` bytes meets none of S7, S8, S9
- * and S10; that of a longer one meets one of them, or C1. Of the unused sectors one for every 64
- * libraries or part of 64 is kept back for catalogues; the others are free, as S7 counts them.
+ * With the status 0, INFORMATION is written. With another status it is left as it was.
+ *
+ * If a file of at most `largest` bytes is installed under a new name, none of S7 (Full), S8
+ * (Fragmented), S9 (TooMany) and S10 (GenerationEnd) refuses it. If the file is longer, one of them
+ * does, or C1 (BadFile). For every 64 libraries or part of 64, one of the unused sectors is kept
+ * back for catalogues. The other unused sectors are free, as S7 counts them.
  *
  * Refusals: S3, S5, S6, S11, S12. */
 uint32_t rlibreg_info(const uint8_t *disk, size_t disk_length, rlibreg_information *information,
                       char *text, size_t text_room, rlibreg_answer *answer);
 
-/* Looks at each library's file. With the status 0 FINDINGS has what is found of the answer's
- * `count` libraries, in the order of their installation, and NAMES their names in a row, each with
- * a byte 0 behind it, `bytes` bytes in all. The status is 0 whatever is found: a library that is
- * damaged keeps no other from being looked at. RLIBREG_SOUND is what an installation would accept
- * under this name, whether these bytes were installed or not.
+/* Tests each library's file.
  *
- * Each file is read once, one is in memory at a time, and none is read where a buffer is too small.
- * 2,048 findings and 493,568 bytes are always enough.
+ * With the status 0, FINDINGS has a finding on each of the answer's `count` libraries, in the order
+ * of their installation. NAMES has their names in a row, each followed by a byte 0, `bytes` bytes
+ * in all. The status is 0 whatever is found: a damaged library doesn't stop the test of the others.
+ * RLIBREG_SOUND means that an installation would accept the file under this name, whether these
+ * bytes were installed or not.
+ *
+ * Each file is read once, and one file at a time is in memory. If a buffer is too small, no file is
+ * read. 2,048 findings and 493,568 bytes are always enough.
  *
  * Refusals: S3, S5, S6, S11, S12. */
 uint32_t rlibreg_check(const uint8_t *disk, size_t disk_length, rlibreg_finding *findings,
                        size_t findings_room, char *names, size_t names_room, char *text,
                        size_t text_room, rlibreg_answer *answer);
 
-/* PLANS. With the status 0 PLAN has the answer's `count` steps, `bytes` bytes in all. A step is
+/* PLANS. With the status 0, PLAN has the answer's `count` steps, `bytes` bytes in all. A step is
+ * one of these:
  *
- *     the number of a sector, in four bytes, little endian, and the 512 bytes to write there; or
- *     RLIBREG_SYNC in four bytes: a sync, which brings all that was written before to the medium.
+ * - a write: the number of a sector, in four bytes, little endian, and the 512 bytes to write
+ *   there;
+ * - a sync: RLIBREG_SYNC in four bytes. It brings everything that was written before to the medium.
  *
- * Carry them out in their order, and begin none after a sync before that sync has succeeded.
- * Between two syncs neighbouring sectors may go in one write. A plan may write a sector more than
- * once between two syncs, as that of an update that installs a library and removes it again does.
- * The last of these writes counts, so don't sort them. If a write or a sync fails, stop: what the
- * disk holds is known again once it is read again, after a sync. A power cut at any moment leaves
- * the registry from before or the one after, and nothing else; after the last step, which is a sync,
- * the one after. The disk is the one that was given: nobody wrote to it in between.
+ * Carry the steps out in their order. After a sync, begin no step before the sync has succeeded.
+ * Between two syncs, neighbouring sectors may go in one write. A plan may write a sector more than
+ * once between two syncs, as the plan of an update does that installs a library and removes it
+ * again. The last of these writes counts, so don't sort them. If a write or a sync fails, stop.
+ * Then sync the disk and read it again to know what it holds.
  *
- * A plan takes 516 bytes for each sector and 4 for each sync: an installation or a replacement
- * those of the file's bytes, and at most 37 steps beside; every other plan but that of an update at
- * most 37 steps.
+ * A power cut at any moment leaves the registry from before the change or the one after it, and
+ * nothing else. After the last step, which is a sync, it leaves only the one after. This holds if
+ * the disk is the one that the call was given, and nobody wrote to it in between.
+ *
+ * A plan takes 516 bytes for each sector and 4 for each sync. An installation or a replacement
+ * writes the sectors of the file's bytes, and has at most 37 steps besides. Every other plan,
+ * except that of an update, has at most 37 steps.
  *
  * With another status there is nothing to carry out. */
 #define RLIBREG_SYNC 0xffffffffu
 
-/* An empty registry. The disk is one where none was ever made: S4 where a root sector looks like
- * one. Refusals: S4, S6, S11. */
+/* Plans an empty registry, on a disk where none was ever made. If a root sector looks like that of
+ * a registry, the status is S4 (AlreadyFormatted). Refusals: S4, S6, S11. */
 uint32_t rlibreg_plan_format(const uint8_t *disk, size_t disk_length, uint8_t *plan,
                              size_t plan_room, char *text, size_t text_room,
                              rlibreg_answer *answer);
 
-/* A registry of version 1 becomes one of version 2, with the same libraries and preloads. On a disk
- * of version 2 the plan writes nothing. Refusals: S3, S5, S6, S7, S10, S11. */
+/* Plans to turn a registry of version 1 into one of version 2, with the same libraries and
+ * preloads. On a disk of version 2 the plan writes nothing. Refusals: S3, S5, S6, S7, S10, S11. */
 uint32_t rlibreg_plan_upgrade(const uint8_t *disk, size_t disk_length, uint8_t *plan,
                               size_t plan_room, char *text, size_t text_room,
                               rlibreg_answer *answer);
 
-/* The library whose file is FILE is installed under its SONAME, behind the others.
- * Refusals: C1, C2, S9, S10, S7, S8; S3, S5, S6, S11, S12. */
+/* Plans to install a library under its SONAME, after the others. FILE has the FILE_LENGTH bytes of
+ * the library's file. Refusals: C1, C2, S9, S10, S7, S8; S3, S5, S6, S11, S12. */
 uint32_t rlibreg_plan_install(const uint8_t *disk, size_t disk_length, const uint8_t *file,
                               size_t file_length, uint8_t *plan, size_t plan_room, char *text,
                               size_t text_room, rlibreg_answer *answer);
 
-/* FILE takes the place of the library of its SONAME. The old file's sectors are unused after the
- * change alone, so there has to be room for both. Refusals: C1, C3, S10, S7, S8; S3, S5, S6, S11,
- * S12. */
+/* Plans to put a library in the place of the one that has its SONAME. FILE has the FILE_LENGTH
+ * bytes of the new file. The old file's sectors become unused only after the change, so there has
+ * to be room for both files. Refusals: C1, C3, S10, S7, S8; S3, S5, S6, S11, S12. */
 uint32_t rlibreg_plan_replace(const uint8_t *disk, size_t disk_length, const uint8_t *file,
                               size_t file_length, uint8_t *plan, size_t plan_room, char *text,
                               size_t text_room, rlibreg_answer *answer);
 
-/* The library of this name, which has no byte 0 behind it, is removed. Whether programs need it
- * isn't looked at. Refusals: C3, C4, S10; S3, S5, S6, S11, S12. */
+/* Plans to remove a library. NAME has the NAME_LENGTH bytes of its name, without a byte 0 after
+ * them. It isn't tested whether programs need the library. Refusals: C3, C4, S10; S3, S5, S6, S11,
+ * S12. */
 uint32_t rlibreg_plan_remove(const uint8_t *disk, size_t disk_length, const char *name,
                              size_t name_length, uint8_t *plan, size_t plan_room, char *text,
                              size_t text_room, rlibreg_answer *answer);
 
-/* The preloads are these names, in their order, each with a byte 0 behind it; of length 0 there are
- * none. RLIBREG_BAD_ARGUMENT where the last byte isn't 0.
- * Refusals: C6, C5, C3, S10; S3, S5, S6, S11, S12. */
+/* Plans to set the preloads, which every program is bound with. NAMES has NAMES_LENGTH bytes: the
+ * names of the preloads in their order, each followed by a byte 0. If the length is 0, there are no
+ * preloads. If the last byte isn't 0, the status is RLIBREG_BAD_ARGUMENT. Refusals: C6, C5, C3,
+ * S10; S3, S5, S6, S11, S12. */
 uint32_t rlibreg_plan_preload(const uint8_t *disk, size_t disk_length, const char *names,
                               size_t names_length, uint8_t *plan, size_t plan_room, char *text,
                               size_t text_room, rlibreg_answer *answer);
 
-/* An update: these changes, in their order, in one plan, which makes all of them or none. Each has
- * its bytes at its place in BYTES, as the plan of it alone has them, and is tested over the state
- * that those before it lead to. It is one change of the registry, and without changes the plan
- * writes nothing. Sectors that a library has now are unused after the update alone, so there has to
- * be room for both; those of one that is installed and removed again are free for what follows.
+/* Plans an update: several changes in one plan, which makes all of them or none. CHANGES has
+ * CHANGES_COUNT changes, which are planned in their order. BYTES has the BYTES_LENGTH bytes of all
+ * of them: each change has its bytes at its place there, in the form in which the plan of a single
+ * change has them. Each change is tested over the state that the changes before it lead to.
  *
- * Where one is refused the answer's `count` is how many come before it. RLIBREG_BAD_ARGUMENT, before
- * any is tested, where a kind is none of the four, a place isn't inside BYTES, or names don't end
- * with a byte 0. Refusals: those of the changes, C1 to C6, S7 to S10; S3, S5, S6, S11, S12. */
+ * The update is one change of the registry. Without changes the plan writes nothing. The sectors of
+ * a library that is installed now become unused only after the update, so there has to be room for
+ * its old and its new file. The sectors of a library that the update installs and removes again are
+ * free for the changes that follow.
+ *
+ * If a change is refused, the answer's `count` is the number of changes before it. The status is
+ * RLIBREG_BAD_ARGUMENT, before any change is tested, if a kind is none of the four, if a place
+ * isn't inside BYTES, or if names don't end with a byte 0.
+ *
+ * Refusals: those of the changes, C1 to C6, S7 to S10; S3, S5, S6, S11, S12. */
 uint32_t rlibreg_plan_update(const uint8_t *disk, size_t disk_length,
                              const rlibreg_change *changes, size_t changes_count,
                              const uint8_t *bytes, size_t bytes_length, uint8_t *plan,
@@ -482,186 +572,244 @@ uint32_t rlibreg_plan_update(const uint8_t *disk, size_t disk_length,
 
 /* ---- Layer 2: files
  *
- * A struct rlibreg is made by rlibreg_create, has its file from rlibreg_open or rlibreg_format on,
- * and is freed by rlibreg_close. It belongs to who made it. It holds the lock of its file, and a
- * map of it, until it is closed: keep it open for as long as the calls take, and no longer.
+ * A struct rlibreg is made by rlibreg_create, gets its file with rlibreg_open or rlibreg_format,
+ * and is freed by rlibreg_close. It belongs to the caller that made it. From the opening until
+ * rlibreg_close it holds the lock of its file, and a map of it. So keep it open for as long as the
+ * calls take, and no longer.
  *
- * A child of fork can only close what its parent opened: every other call of such a struct is
- * answered RLIBREG_BAD_ARGUMENT there.
+ * A child of fork can only close what its parent opened. Every other call of such a struct returns
+ * RLIBREG_BAD_ARGUMENT there.
  *
- * After a change has failed with S1 the struct answers S2 to everything. Close it, and open the
- * file again: it then holds the registry from before the change or the one after. To ask for the
- * same change again is safe. */
+ * After a change has failed with S1 (Device), the struct answers every call with S2 (Reopen). Close
+ * it, and open the file again: the file then holds the registry from before the change or the one
+ * after it. It is safe to ask for the same change again. */
 
 typedef struct rlibreg rlibreg;
 
-/* A struct without a file, or null where there is no memory. Without a file, every call but
- * rlibreg_open and rlibreg_format is answered S6, and a change RLIBREG_READ_ONLY. */
+/* Makes a struct without a file. Returns it, or null if there is no memory. The caller frees it
+ * with rlibreg_close. As long as it has no file, every call except rlibreg_open and rlibreg_format
+ * returns S6 (BadGeometry), and a change returns RLIBREG_READ_ONLY. */
 rlibreg *rlibreg_create(void);
 
-/* Gives the file back with its lock, and frees the struct. Null is let be. What the struct gave as
- * rlibreg_text is gone; images, listings and findings stay. In a child of fork the lock stays its
- * parent's. */
+/* Closes the file, releases its lock, and frees the struct. Does nothing if REGISTRY is null. The
+ * texts and answers that the struct returned are freed too; images, listings and findings stay. In
+ * a child of fork the parent keeps the lock. */
 void rlibreg_close(rlibreg *registry);
 
-/* What the last call of this struct was answered: the line or the reply of the program, ended by a
- * byte 0, and the answer. Both stay until the next call. And where it was answered RLIBREG_SYSTEM or
- * S1, errno as the call left it; else 0. */
+/* Returns the text of the last call of this struct. It is the line or the reply of the program,
+ * ended by a byte 0. The text belongs to the struct, and stays until its next call. */
 const char *rlibreg_text(const rlibreg *registry);
+
+/* Returns the answer of the last call of this struct. It belongs to the struct, and stays until its
+ * next call. */
 const rlibreg_answer *rlibreg_last(const rlibreg *registry);
+
+/* Returns errno as the last call of this struct left it. If that call returned neither
+ * RLIBREG_SYSTEM nor S1 (Device), the result is 0. */
 int rlibreg_errno(const rlibreg *registry);
 
-/* How a file is opened: for reading alone, with a lock that others share who read, and without
- * waiting for it; or with a sum of these. */
+/* How a file is opened. Without any of these it is opened for reading only, with a lock that other
+ * readers share, and without waiting for the lock. A sum of them changes that. */
 enum {
-    RLIBREG_CHANGES = 1, /* for changes too: the lock is held alone */
-    RLIBREG_WAIT = 2     /* where the file is held, wait (rlibreg_wait_limit) */
+    RLIBREG_CHANGES = 1, /* for changes too: the lock is exclusive */
+    RLIBREG_WAIT = 2     /* if the file is locked, wait (rlibreg_wait_limit) */
 };
 
-/* How long the calls behind it wait that are given RLIBREG_WAIT: so many milliseconds each, by
- * CLOCK_MONOTONIC, whatever signals come, and then they answer RLIBREG_HELD; or, where it is less than
- * 0, as at first, without end, but for a signal whose handler hasn't SA_RESTART (sigaction(2)). Other
- * processes are waited for, and other threads of this one. */
+/* Sets how long the following calls wait that are given RLIBREG_WAIT. Each waits up to
+ * MILLISECONDS, by CLOCK_MONOTONIC, whatever signals come, and then returns RLIBREG_HELD. If
+ * MILLISECONDS is less than 0, which is the setting of a new struct, a call waits without end,
+ * except that a signal ends the wait if its handler doesn't have SA_RESTART (sigaction(2)). A call
+ * waits for other processes, and for other threads of this one. */
 void rlibreg_wait_limit(rlibreg *registry, int milliseconds);
 
-/* The standard stream, 2, 1 or 0, that may be written and is the file of a path, or -1 where none
- * is. One that isn't open is opened, as CAVEATS says. Where it is 2, nothing can be said of it. */
+/* Returns the number of a standard stream that may be written and is the file of PATH. It is 2, 1
+ * or 0, or -1 if there is none. A stream that isn't open is opened, as STANDARD STREAMS says. If
+ * the result is 2, the caller can't report it on standard error. */
 int rlibreg_stream_of(const char *path);
 
-/* Opens the file of a registry, a regular file or a block device, locks it and syncs it, and maps
- * what the medium has of it. It isn't looked at what the file holds: the calls behind do that.
+/* Opens the file of a registry, locks and syncs it, and maps what the medium has of it. PATH names
+ * a regular file or a block device. FLAGS is 0 or a sum of RLIBREG_CHANGES and RLIBREG_WAIT. The
+ * call doesn't test what the file holds: the calls after it do.
  *
- * RLIBREG_HELD where another struct, of this process or another, holds the file, and RLIBREG_WAIT
- * isn't given, or its limit is over; with that at once where this thread would wait for itself: for a
- * struct that it used last, or for a thread that waits for one; and where the path named another file
- * each of 16 times.
- * RLIBREG_SYSTEM where a call of the system fails: errno says why, EINTR where a signal ended a wait
- * without limit, EINVAL where the path is neither of the two, EBUSY where a block device is in use,
- * ETXTBSY where it is a standard stream that may be written.
- * RLIBREG_BAD_ARGUMENT where the struct has a file already. */
+ * It returns 0 if the file is open, and otherwise one of these:
+ *
+ * - RLIBREG_HELD: another struct, of this process or another, has locked the file, and RLIBREG_WAIT
+ *   isn't given or its limit is over. With RLIBREG_WAIT the call returns this at once if this
+ *   thread would wait for itself: for a struct that it used last, or for a thread that waits for
+ *   one. It also returns this if the path named another file each of 16 times.
+ * - RLIBREG_SYSTEM: a call of the system failed, and errno says why. It is EINTR if a signal ended
+ *   a wait without limit, EINVAL if the path is neither a regular file nor a block device, EBUSY if
+ *   a block device is in use, and ETXTBSY if the file is a standard stream that may be written.
+ * - RLIBREG_BAD_ARGUMENT: the struct already has a file. */
 uint32_t rlibreg_open(rlibreg *registry, const char *path, unsigned flags);
 
-/* Makes an empty registry of so many sectors of 512 bytes, and leaves it open for changes. A file
- * or a block device that is there has to have that length, or the refusal is S6, and no registry,
- * or it is S4. FLAGS may have RLIBREG_WAIT: who is making the disk is waited for too.
+/* Makes an empty registry of SECTORS sectors of 512 bytes, and leaves it open for changes. If PATH
+ * names a file or a block device that exists, its length has to be SECTORS * 512 bytes, or the
+ * status is S6 (BadGeometry), and it has to hold no registry, or the status is S4
+ * (AlreadyFormatted). FLAGS is 0 or RLIBREG_WAIT, which also waits for another process that is
+ * making the disk.
  *
- * Where there is no file it is made under another name, `.NAME.rlibreg-new` in the same folder
- * (`.rlibreg-new` where that has more than 255 bytes), and gets its own, by a link that fails where
- * something stands, once all of it is on the medium. So a process that is killed, and a power cut,
- * leave no disk or a whole one. A regular file that has the other name and that nobody holds was
- * left so: its name is taken away, and it isn't written.
+ * If there is no file, it is made under another name in the same folder: `.NAME.rlibreg-new`, or
+ * `.rlibreg-new` if that has more than 255 bytes. Once all of it is on the medium, it gets its own
+ * name by a link, which fails if something has this name. So a process that is killed, and a power
+ * cut, leave no disk or a whole one. If a regular file has the other name and nobody has locked it,
+ * it was left in this way: the call removes the name and doesn't write the file. A new file is
+ * sparse: the space for it may be found missing later, which is then an S1 (Device).
  *
- * RLIBREG_BAD_ARGUMENT where SECTORS isn't 8 to 4,194,304. RLIBREG_HELD where the other name's file
- * is held, as the disk's. RLIBREG_SYSTEM with EINVAL where what has
- * that name is no regular file, and where what comes before the plan fails. Refusals: S1 where a
- * write or a sync of the plan fails, or behind the name that of the folder, or where the other name
- * can't be taken away, errno says why: of a file that stood there a registry was made or not; of a
- * new one there is nothing, or behind the name all of it. A file system without a journal (vfat, exfat,
- * ext2) is then to be mounted anew before anything is asked of the path again: S4, and changes that
- * were done, may else be of a name that a power cut takes away. Else as rlibreg_open and
- * rlibreg_plan_format.
- * After every other refusal the file is left as it is, and not open, and nothing was made. A file
- * that is made is sparse: the space for it may be found missing later, which is then an S1. */
+ * After a refusal or a failure the struct has no file. After every refusal except S1, nothing was
+ * made, and a file that existed is as it was.
+ *
+ * It returns 0 if the registry was made, and otherwise one of these:
+ *
+ * - RLIBREG_BAD_ARGUMENT: SECTORS isn't 8 to 4,194,304, or the struct already has a file.
+ * - RLIBREG_HELD: the disk or the file with the other name is locked.
+ * - RLIBREG_SYSTEM: something that comes before the plan failed. errno is EINVAL if the other name
+ *   isn't that of a regular file.
+ * - The other statuses are the same as rlibreg_open and rlibreg_plan_format return.
+ *
+ * Refusals: S1 if a write or a sync of the plan fails, if the sync of the folder fails after the
+ * file has its name, or if the other name can't be removed; errno says why. On a file that existed,
+ * a registry may or may not have been made. A new file doesn't exist, or is whole if it already has
+ * its name. On a file system without a journal (vfat, exfat, ext2), mount the file system again
+ * before you use the path again: otherwise S4, and changes that are done, may be those of a name
+ * that a power cut takes away. */
 uint32_t rlibreg_format(rlibreg *registry, const char *path, uint32_t sectors, unsigned flags);
 
-/* Changes: each is planned, carried out and synced when the call returns 0. Refusals: those of the
- * plan, which leave all as it was; S1 where a write or a sync failed: errno says why, and a change
- * was made or not; S2 after that. RLIBREG_READ_ONLY without RLIBREG_CHANGES. RLIBREG_SYSTEM with
- * ETXTBSY where the file has become a standard stream that may be written: nothing was done.
+/* ---- Layer 2: changes
  *
- * FILE, NAME and NAMES stay the caller's. NAMES may be null where COUNT is 0. */
+ * Each of these calls makes one change of the registry. When it returns 0, the change was planned,
+ * carried out and synced. A refusal of the plan leaves everything as it was. S1 (Device) means that
+ * a write or a sync failed, or that the path no longer names the file (LOCKS); errno says why. The
+ * change may or may not have been made, and the struct then answers S2 (Reopen).
+ *
+ * RLIBREG_READ_ONLY means that the file wasn't opened with RLIBREG_CHANGES. RLIBREG_SYSTEM with
+ * ETXTBSY means that the file has become a standard stream that may be written; nothing was done.
+ * RLIBREG_BAD_ARGUMENT means that the parent of this process opened the file.
+ *
+ * Memory that a call is given stays the caller's. */
+
+/* Turns a registry of version 1 into one of version 2. Refusals: those of the plan; S1, S2. */
 uint32_t rlibreg_upgrade(rlibreg *registry);
+
+/* Installs a library under its SONAME, after the others. FILE has the LENGTH bytes of its file.
+ * Refusals: those of the plan; S1, S2. */
 uint32_t rlibreg_install(rlibreg *registry, const void *file, size_t length);
+
+/* Puts a library in the place of the one that has its SONAME. FILE has the LENGTH bytes of the new
+ * file. Refusals: those of the plan; S1, S2. */
 uint32_t rlibreg_replace(rlibreg *registry, const void *file, size_t length);
+
+/* Removes a library. NAME is its name, ended by a byte 0. Refusals: those of the plan; S1, S2. */
 uint32_t rlibreg_remove(rlibreg *registry, const char *name);
+
+/* Sets the preloads. NAMES has the COUNT names in their order, each ended by a byte 0. It may be
+ * null if there are none. Refusals: those of the plan; S1, S2. */
 uint32_t rlibreg_preload(rlibreg *registry, const char *const *names, size_t count);
 
-/* An update, as rlibreg_plan_update plans it: these changes are one change, of which all are made
- * or none is, and what is said above of a change holds of it. Where one is refused, rlibreg_last has
- * in `count` how many come before it. CHANGES, and BYTES, which has the bytes of each, stay the
- * caller's; each may be null where it has none.
- *
- * Refusals: those of the plan; S1, S2. RLIBREG_READ_ONLY, RLIBREG_SYSTEM. */
+/* Makes an update, as rlibreg_plan_update plans it. CHANGES has COUNT changes, which are one change
+ * of the registry: all of them are made or none. BYTES has the LENGTH bytes of all changes. CHANGES
+ * may be null if there are none, and BYTES if it has no bytes. If a change is refused, rlibreg_last
+ * has in `count` the number of changes before it. Refusals: those of the plan; S1, S2. */
 uint32_t rlibreg_update(rlibreg *registry, const rlibreg_change *changes, size_t count,
                         const void *bytes, size_t length);
 
-/* A listing, as rlibreg_list gives it. It belongs to who asked, is written in every case, and is
- * freed by rlibreg_listing_free, which may be called twice. Beside its refusals: S1, S2. */
+/* ---- Layer 2: reading
+ *
+ * These calls change nothing, so the file may be open for reading only. They return S1 (Device) if
+ * the file's length isn't as it was, and S2 (Reopen) after an S1 of this struct.
+ * RLIBREG_BAD_ARGUMENT means that the parent of this process opened the file. */
+
+/* Lists the libraries and the preloads, as rlibreg_list does. LISTING is written in every case. The
+ * caller frees what it has with rlibreg_listing_free. Other refusals: S1, S2. */
 typedef struct rlibreg_listing {
-    uint64_t generation;
-    size_t libraries; /* how many: entries 0 to libraries - 1 */
-    size_t preloads;  /* how many: the entries behind these */
+    uint64_t generation; /* number of changes since the registry was formatted */
+    size_t libraries;    /* number of libraries: entries 0 to libraries - 1 */
+    size_t preloads;     /* number of preloads: the entries after those */
     rlibreg_entry *entries;
-    char *names; /* the name of an entry is names + entry.name, with a byte 0 behind it */
+    char *names; /* the name of an entry is names + entry.name, ended by a byte 0 */
 } rlibreg_listing;
 
 uint32_t rlibreg_listing_of(rlibreg *registry, rlibreg_listing *listing);
+
+/* Frees what a listing has, and empties it. It may be called again for the same listing. */
 void rlibreg_listing_free(rlibreg_listing *listing);
 
-/* A library's bytes, as rlibreg_file gives them. They belong to who asked, and are freed by free.
- * BYTES and LENGTH are written in every case: null and 0 where the status isn't 0. Beside its
- * refusals: S1, S2. */
+/* Returns a library's bytes, as rlibreg_file does. NAME ends with a byte 0. With the status 0,
+ * *BYTES has *LENGTH bytes, which the caller frees with free. With another status *LENGTH is 0, and
+ * *BYTES is null. Both are written in every case. Other refusals: S1, S2. */
 uint32_t rlibreg_file_of(rlibreg *registry, const char *name, void **bytes, size_t *length);
 
-/* The SHA-256 of a library's bytes, as rlibreg_digest gives it. DIGEST is left as it was where the
- * status isn't 0. Beside its refusals: S1, S2. */
+/* Returns the SHA-256 of a library's bytes, as rlibreg_digest does. NAME ends with a byte 0. DIGEST
+ * is left as it was if the status isn't 0. Other refusals: S1, S2. */
 uint32_t rlibreg_digest_of(rlibreg *registry, const char *name,
                            uint8_t digest[RLIBREG_DIGEST_BYTES]);
 
-/* What is told of the whole, as rlibreg_info tells it. Beside its refusals: S1, S2. */
+/* Returns information on the registry as a whole, as rlibreg_info does. INFORMATION is left as it
+ * was if the status isn't 0. Other refusals: S1, S2. */
 uint32_t rlibreg_info_of(rlibreg *registry, rlibreg_information *information);
 
-/* What is found of each library, as rlibreg_check tells it. It belongs to who asked, is written in
- * every case, and is freed by rlibreg_findings_free, which may be called twice. Beside its refusals:
- * S1, S2. */
+/* Tests each library's file, as rlibreg_check does. FINDINGS is written in every case. The caller
+ * frees what it has with rlibreg_findings_free. Other refusals: S1, S2. */
 typedef struct rlibreg_findings {
-    size_t count; /* how many libraries */
+    size_t count; /* number of libraries */
     rlibreg_finding *findings;
-    char *names; /* the name of a library is names + finding.name, with a byte 0 behind it */
+    char *names; /* the name of a library is names + finding.name, ended by a byte 0 */
 } rlibreg_findings;
 
 uint32_t rlibreg_findings_of(rlibreg *registry, rlibreg_findings *findings);
+
+/* Frees what findings have, and empties them. It may be called again for the same findings. */
 void rlibreg_findings_free(rlibreg_findings *findings);
 
-/* An image, as rlibreg_bind gives it. It belongs to who asked, is written in every case, and is
- * freed by rlibreg_image_free, which may be called twice. Beside its refusals: S1, S2. */
+/* Binds a program, as rlibreg_bind does. PROGRAM has the LENGTH bytes of the program's file, and
+ * BASE is the address. IMAGE is written in every case. The caller frees what it has with
+ * rlibreg_image_free. Other refusals: S1, S2. */
 typedef struct rlibreg_image {
-    size_t count;        /* how many segments */
-    size_t object_count; /* how many objects */
+    size_t count;        /* number of segments */
+    size_t object_count; /* number of objects */
     rlibreg_object *objects;
     rlibreg_segment *segments;
-    uint8_t *bytes; /* an object's name is bytes + object.name, with a byte 0 behind it */
+    uint8_t *bytes; /* the name of an object is bytes + object.name, ended by a byte 0 */
 } rlibreg_image;
 
 uint32_t rlibreg_image_of(rlibreg *registry, const void *program, size_t length, uint64_t base,
                           rlibreg_image *image);
+
+/* Frees what an image has, and empties it. It may be called again for the same image. */
 void rlibreg_image_free(rlibreg_image *image);
 
-/* The image that rlibreg_image_of would give after an update of these changes, so that it is known
- * before whether a program will be bound. Nothing is written, and the file may be open for reading
- * alone. A change that is refused is answered so here too; `count` is 0 where the bind is.
+/* Binds a program over the state after an update, and writes nothing. The result is the image that
+ * rlibreg_image_of would return after an update of these changes. So it is known before the update
+ * whether the program will be bound. PROGRAM has the PROGRAM_LENGTH bytes of the program's file,
+ * and BASE is the address. CHANGES, COUNT, BYTES and LENGTH are those of rlibreg_update. The file
+ * may be open for reading only. IMAGE is written in every case, and is freed with
+ * rlibreg_image_free.
  *
- * The file is mapped once more, privately, and the plan is carried out in that memory. It takes
- * memory for the plan, for the pages that are written, and for the image; where the process locks
- * its memory (mlockall), or what it may have is counted (RLIMIT_AS, RLIMIT_DATA,
- * vm.overcommit_memory 2), for the whole disk. Where that isn't given the answer is S11, which says
- * nothing of the update.
+ * If a change is refused, the call returns its refusal, and rlibreg_last has in `count` the number
+ * of changes before it. If the bind is refused, `count` is 0.
+ *
+ * The call maps the file once more, privately, and carries the plan out in that memory. It
+ * allocates memory for the plan, for the pages that are written, and for the image. It needs memory
+ * for the whole disk if the process locks its memory (mlockall), or if the system counts what the
+ * process may have (RLIMIT_AS, RLIMIT_DATA, vm.overcommit_memory 2). If that memory isn't given,
+ * the call returns S11 (OutOfMemory), which says nothing of the update.
  *
  * Refusals: B1 to B5; C1 to C6, S7 to S10; S1, S2, S3, S5, S6, S11, S12. */
 uint32_t rlibreg_update_image_of(rlibreg *registry, const rlibreg_change *changes, size_t count,
                                  const void *bytes, size_t length, const void *program,
                                  size_t program_length, uint64_t base, rlibreg_image *image);
 
-/* What symbols are bound to, as rlibreg_bindings tells it, ended by a byte 0: with the statuses 0,
- * B3 and B5. It belongs to who asked, and is freed by free. BINDINGS and BYTES, how many it has
- * without that byte, are written in every case: null and 0 with every other status. Beside its
- * refusals: S1, S2. */
+/* Says what symbols are bound to, as rlibreg_bindings does. PROGRAM has the LENGTH bytes of the
+ * program's file, and BASE is the address. With the statuses 0, B3 and B5, *BINDINGS is a text of
+ * *BYTES bytes, followed by a byte 0, which the caller frees with free. With every other status
+ * *BYTES is 0, and *BINDINGS is null. Both are written in every case. Other refusals: S1, S2. */
 uint32_t rlibreg_bindings_of(rlibreg *registry, const void *program, size_t length, uint64_t base,
                              char **bindings, size_t *bytes);
 
-/* The executable file of a program, as rlibreg_executable gives it. It belongs to who asked, and
- * is freed by free. FILE and BYTES, how many it has, are written in every case: null and 0 where
- * the status isn't 0. Beside its refusals: S1, S2. */
+/* Makes a static executable file of a bound program, as rlibreg_executable does. PROGRAM has the
+ * LENGTH bytes of the program's file, and BASE is the address. With the status 0, *FILE has *BYTES
+ * bytes, which the caller frees with free. With another status *BYTES is 0, and *FILE is null. Both
+ * are written in every case. Other refusals: S1, S2. */
 uint32_t rlibreg_executable_of(rlibreg *registry, const void *program, size_t length,
                                uint64_t base, void **file, size_t *bytes);
 

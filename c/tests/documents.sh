@@ -1,4 +1,5 @@
-# Tests docs/C.md: its two programs compile, and its commands print the lines below them.
+# Tests docs/C.md: its two programs compile, and its commands print the lines below them. The example of
+# rlibreg.h prints the libraries of a disk.
 
 page=$here/../../docs/C.md
 mkdir c
@@ -36,6 +37,11 @@ done < "$page"
 compare
 [ $count -gt 10 ] || { echo "docs/C.md has only $count commands" >&2; exit 1; }
 echo "documents: two programs and $count commands of docs/C.md: as written"
+
+# The example of rlibreg.h, over the disk that these commands have left.
+sed -n '/^ \* EXAMPLE$/,/^ \* LAYERS$/s/^ \*     //p' "$here/../rlibreg.h" > example.c
+gcc $checked -o example example.c "$built/librlibreg.a"
+want 'the example of rlibreg.h' libone.so "$(./example)"
 
 # Plugins and disks that the host can't read.
 truncate -s $((8192 * 512 + 1)) long

@@ -55,6 +55,13 @@ for name in $(grep -ohE '\brlibreg[a-z_.]*\(3\)' manual/rlibreg*.3.shown | sed '
     [ -f "manual/$name" ] || [ ! -f manual/rlibreg.1 ] || { echo "a page names $name" >&2; exit 1; }
 done
 
+# What is said of all calls, under its heads, and the example as the header has it.
+for head in EXAMPLE LAYERS LOCKS 'FAILED WRITES' 'STANDARD STREAMS' MEDIA 'THREADS AND MEMORY'; do
+    grep -qx "$head" manual/rlibreg.h.3.shown || { echo "rlibreg.h.3 has no head '$head'" >&2; exit 1; }
+done
+want 'the example of rlibreg.h.3' "$(sed -n '/^ \* EXAMPLE$/,/^ \* LAYERS$/s/^ \*     //p' "$here/../rlibreg.h")" \
+    "$(sed -n '/^EXAMPLE$/,/^LAYERS$/s/^ \{11\}//p' manual/rlibreg.h.3.shown)"
+
 # statuses PAGE NUMBER..: checks the numbers of the statuses on the page of a call.
 statuses() {
     want "the statuses of $1" "${*:2}" \
