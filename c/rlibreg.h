@@ -66,9 +66,9 @@
  *   too, until the process that opened the disk closes it. If that process ends without closing it,
  *   the disk stays locked as long as the child keeps the file open.
  * - Each call checks the file's length. Before and after a change, the call also checks that the
- *   path still names the file, or the same block device. If one of these has changed, the answer is
- *   S1 (RLIBREG_DEVICE), with errno ESTALE, or with the errno that says why the path can't be
- *   checked. So a change that nobody would see isn't answered 0.
+ *   path still names the file, or the same block device. If one of these has changed, the call
+ *   returns S1 (RLIBREG_DEVICE), with errno ESTALE, or with the errno that says why the path can't
+ *   be checked. So a call doesn't return 0 for a change that nobody would see.
  *
  * FAILED WRITES
  *
@@ -81,7 +81,7 @@
  *   Locked memory (mlockall) makes no difference.
  * - Encrypted and compressed files, loop devices without direct I/O, and file systems without
  *   O_DIRECT can't be read past the system's memory. There an opening for changes always writes the
- *   shown roots to the medium, and an opening for reading may show a change that was answered S1.
+ *   shown roots to the medium, and an opening for reading may show a change that returned S1.
  *
  * STANDARD STREAMS
  *
@@ -115,10 +115,9 @@
  *   two seconds there.
  * - Each call opens the registry again. It reads the roots, the catalogues (sectors that list the
  *   libraries) and one sector for each library. It reads only those libraries' files that a bind
- *   needs. So a library that is damaged or can't be read is met only by rlibreg_check and by a bind
- *   that needs it (S5, RLIBREG_DAMAGED; S1), and stops nothing else. The program `rlibreg` tests
- *   all of them at each command. rlibreg_plan_upgrade reads and tests each library once, as the
- *   program does.
+ *   needs. So a library that is damaged or can't be read affects only rlibreg_check and a bind that
+ *   needs it, which returns S5 (RLIBREG_DAMAGED) or S1. The program `rlibreg` tests all of them at
+ *   each command. rlibreg_plan_upgrade reads and tests each library once, as the program does.
  *
  * THREADS AND MEMORY
  *
@@ -654,7 +653,7 @@ uint32_t rlibreg_open(rlibreg *registry, const char *path, unsigned flags);
  * name by a link, which fails if something has this name. So a process that is killed, and a power
  * cut, leave no disk or a whole one. If a regular file has the other name and nobody has locked it,
  * it was left in this way: the call removes the name and doesn't write the file. A new file is
- * sparse: the space for it may be found missing later, which is then an S1 (Device).
+ * sparse. If the space for it turns out to be missing later, a change returns S1 (Device).
  *
  * After a refusal or a failure the struct has no file. After every refusal except S1, nothing was
  * made, and a file that existed is as it was.
