@@ -461,8 +461,8 @@ uint32_t rlibreg_digest(const uint8_t *disk, size_t disk_length, const char *nam
  *
  * If a file of at most `largest` bytes is installed under a new name, none of S7 (Full), S8
  * (Fragmented), S9 (TooMany) and S10 (GenerationEnd) refuses it. If the file is longer, one of them
- * does, or C1 (BadFile). For every 64 libraries or part of 64, one of the unused sectors is kept
- * back for catalogues. The other unused sectors are free, as S7 counts them.
+ * does, or C1 (the file is no library). For every 64 libraries or part of 64, one of the unused
+ * sectors is kept back for catalogues. The other unused sectors are free, as S7 counts them.
  *
  * Refusals: S3, S5, S6, S11, S12. */
 uint32_t rlibreg_info(const uint8_t *disk, size_t disk_length, rlibreg_information *information,
