@@ -1,10 +1,10 @@
 /* rlibreg.h: a registry of shared libraries that survives power cuts, and a binder of programs.
  *
  * A registry lies on a disk, which is a file or a block device. The disk's sectors of 512 bytes
- * hold ELF-64 shared objects for x86-64, each under its SONAME, and the names of the preloads,
- * which are libraries that every program is bound with. To bind a program is to find the libraries
- * that it needs, to place all of them in memory, and to apply their relocations. The result is an
- * image.
+ * hold ELF-64 shared objects for x86-64, each under its SONAME. They also hold the names of the
+ * preloads, which are libraries that every program is bound with. To bind a program is to find the
+ * libraries that it needs, to place all of them in memory, and to apply their relocations. The
+ * result is an image.
  *
  * docs/COMMANDS.md has the rules of both, every refusal by its number, and the limits. docs/C.md
  * has two whole programs, and says what is proved of this library.
@@ -35,9 +35,9 @@
  *    rlibreg_file, rlibreg_digest, rlibreg_info, rlibreg_check, rlibreg_plan_*). Each is proved to
  *    return, to do nothing undefined, and to return what is defined (docs/C.md). They do no input
  *    or output: the caller has the bytes of the disk in memory. It gets an image, the bindings of
- *    an image's symbols, an executable file, a listing, a library's bytes or their digest,
- *    information on the registry, a finding on each library, or a plan. A plan is the list of the
- *    writes and syncs that make a change.
+ *    an image's symbols, or an executable file; a listing, a library's bytes or their digest,
+ *    information on the registry, or a finding on each library; or a plan. A plan is the list of
+ *    the writes and syncs that make a change.
  * 2. Calls over a file (struct rlibreg and the calls after it). They are written in C over the
  *    first layer. They open, lock and map the file, and carry plans out. They are tested, not
  *    proved.
@@ -75,10 +75,10 @@
  * - After a failed write, Linux treats the pages as written, and shows them to every reader. So an
  *   opening syncs the file. Then it compares the registry's two roots, the sectors that lead to the
  *   current state, as the system shows them and as the medium has them. It reads the medium past
- *   the system's memory. If they differ, the system is made to forget its own. If that fails,
- *   because a process without the lock has the roots mapped, an opening for changes writes the
- *   shown roots to the medium, and an opening for reading is refused with RLIBREG_SYSTEM and EIO.
- *   Locked memory (mlockall) makes no difference.
+ *   the system's memory. If they differ, the system is made to forget its own. This fails if a
+ *   process without the lock has the roots mapped. Then an opening for changes writes the shown
+ *   roots to the medium, and an opening for reading is refused with RLIBREG_SYSTEM and EIO. Locked
+ *   memory (mlockall) makes no difference.
  * - Encrypted and compressed files, loop devices without direct I/O, and file systems without
  *   O_DIRECT can't be read past the system's memory. There an opening for changes always writes the
  *   shown roots to the medium, and an opening for reading may show a change that returned S1.
@@ -127,11 +127,11 @@
  * - Several threads may make calls at the same time, on different struct rlibreg. Only one thread
  *   at a time uses one struct. A signal handler makes no calls. Nor, in a process of several
  *   threads, does a child between fork and exec. A thread that makes calls needs 512 KiB of stack.
- * - A child is distinguished from its parent even if both have the same process number, such as
- *   process 1 of a container and process 1 of a process namespace that it makes. A child of vfork,
- *   or of clone(2) with CLONE_VM, shares its parent's memory, and makes no calls. If fork can't be
- *   watched for want of memory (pthread_atfork), nothing is opened: RLIBREG_SYSTEM, with errno
- *   ENOMEM.
+ * - A child is distinguished from its parent even if both have the same process number. For
+ *   example, both can be process 1, in a container and in a process namespace that it makes. A
+ *   child of vfork, or of clone(2) with CLONE_VM, shares its parent's memory, and makes no calls.
+ *   If fork can't be watched for want of memory (pthread_atfork), nothing is opened:
+ *   RLIBREG_SYSTEM, with errno ENOMEM.
  * - pthread_cancel ends no call that opens, changes or closes a file. The call returns first, and
  *   the thread ends at its next cancellation point. It keeps the lock until rlibreg_close, which a
  *   cleanup handler has to call (pthread_cleanup_push). A wait for a lock isn't cancelled either,
@@ -388,11 +388,12 @@ uint32_t rlibreg_bind(const uint8_t *disk, size_t disk_length, const uint8_t *pr
  * status is the one that rlibreg_bind returns for this PROGRAM and BASE.
  *
  * With the statuses 0, B3 and B5, BYTES has the text that `rlibreg-tool bindings` prints
- * (docs/TOOL.md): the answer's `bytes` bytes, without a byte 0 after them. For each object in load
- * order, the text has the object's base, the names that it needs, and each symbol that a relocation
- * names, with its address and the object that defines it. With B5 (Undefined) it also has each
- * symbol that is undefined. With B3 (Missing) it has what was found, and each name that is missing,
- * with the object that needs it. With every other status BYTES is left as it was.
+ * (docs/TOOL.md): the answer's `bytes` bytes, without a byte 0 after them. The text has the objects
+ * in load order. For each of them it has the object's base, the names that it needs, and each
+ * symbol that a relocation names, with the symbol's address and the object that defines it. With B5
+ * (Undefined) it also has each symbol that is undefined. With B3 (Missing) it has what was found,
+ * and each name that is missing, with the object that needs it. With every other status BYTES is
+ * left as it was.
  *
  * Refusals: B1 to B5; S3, S5, S6, S11, S12. */
 uint32_t rlibreg_bindings(const uint8_t *disk, size_t disk_length, const uint8_t *program,
@@ -616,9 +617,9 @@ enum {
 
 /* Sets how long the following calls wait that are given RLIBREG_WAIT. Each waits up to
  * MILLISECONDS, by CLOCK_MONOTONIC, whatever signals come, and then returns RLIBREG_HELD. If
- * MILLISECONDS is less than 0, which is the setting of a new struct, a call waits without end,
- * except that a signal ends the wait if its handler doesn't have SA_RESTART (sigaction(2)). A call
- * waits for other processes, and for other threads of this one. */
+ * MILLISECONDS is less than 0, a call waits without end, but a signal whose handler doesn't have
+ * SA_RESTART (sigaction(2)) ends the wait. A new struct has this setting. A call waits for other
+ * processes, and for other threads of this one. */
 void rlibreg_wait_limit(rlibreg *registry, int milliseconds);
 
 /* Returns the number of a standard stream that may be written and is the file of PATH. It is 2, 1
@@ -636,15 +637,15 @@ int rlibreg_stream_of(const char *path);
  *   isn't given or its limit is over. With RLIBREG_WAIT the call returns this at once if this
  *   thread would wait for itself: for a struct that it used last, or for a thread that waits for
  *   one. It also returns this if the path named another file each of 16 times.
- * - RLIBREG_SYSTEM: a call of the system failed, and errno says why. It is EINTR if a signal ended
- *   a wait without limit, EINVAL if the path is neither a regular file nor a block device, EBUSY if
- *   a block device is in use, and ETXTBSY if the file is a standard stream that may be written.
+ * - RLIBREG_SYSTEM: a call of the system failed, and errno says why. EINTR: a signal ended a wait
+ *   without limit. EINVAL: the path is neither a regular file nor a block device. EBUSY: a block
+ *   device is in use. ETXTBSY: the file is a standard stream that may be written.
  * - RLIBREG_BAD_ARGUMENT: the struct already has a file. */
 uint32_t rlibreg_open(rlibreg *registry, const char *path, unsigned flags);
 
 /* Makes an empty registry of SECTORS sectors of 512 bytes, and leaves it open for changes. If PATH
- * names a file or a block device that exists, its length has to be SECTORS * 512 bytes, or the
- * status is S6 (BadGeometry), and it has to hold no registry, or the status is S4
+ * names a file or a block device that exists, its length has to be SECTORS * 512 bytes; otherwise
+ * the call returns S6 (BadGeometry). If it holds a registry, the call returns S4
  * (AlreadyFormatted). FLAGS is 0 or RLIBREG_WAIT, which also waits for another process that is
  * making the disk.
  *
