@@ -83,7 +83,7 @@ module _ (start : List Sector) (planned : List PlannedStep) (idle idle' : CallCo
   }
 
   pub keeps : calls_made idle' ≡ calls_made idle + 1 → KeepsPast (facts_of start planned idle) (facts_of start planned idle')
-  keeps made = record { sectors = refl; later = omega (arith, made); past = λ u k c le. (λ left. left, λ left. left) }
+  keeps made = record { sectors = refl; later = omega (arith, made); marks = λ u le. refl; past = λ u k c le. (λ left. left, λ left. left) }
 
 -- what is left by one step more
 module _ (start : List Sector) (steps : List Step) (step : Step) where
@@ -143,6 +143,7 @@ module _ (start : List Sector) (planned : List PlannedStep) (idle idle' : CallCo
   keeps_more = record {
     sectors = refl;
     later = omega (arith, calls_for-push planned p, since);
+    marks = λ u le. refl;
     past = λ u k c le. (
       λ left. subst (λ steps. MayBeLeft start steps k c) (front u le) left,
       λ left. subst (λ steps. MayBeLeft start steps k c) (sym (front u le)) left,

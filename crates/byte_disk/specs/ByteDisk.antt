@@ -54,6 +54,7 @@ facts_of start planned idle = record {
   honest = true;
   sectors = length start;
   time = calls_for planned + calls_made idle;
+  marks = λ u. u;
   failures = failures_for planned + calls_failed idle;
   plans = [];
   log = map logged (plan_in planned);

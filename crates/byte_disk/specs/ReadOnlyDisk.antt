@@ -10,6 +10,7 @@ read_only_facts disk = record {
   honest = true;
   sectors = length disk.start.now;
   time = calls_made disk.calls;
+  marks = λ u. u;
   failures = calls_failed disk.calls;
   plans = [];
   log = replicate (calls_failed disk.calls) Wrote;

@@ -310,7 +310,7 @@ module _ {D : Type 0} (facts : D → DiskFacts) where
     steps = tt;
     last = refl;
     states = λ k. states_after facts k (point old s) [] [] tt;
-    past = record { sectors = refl; later = omega arith; past = λ u k c le. (λ x. x, λ x. x) };
+    past = record { sectors = refl; later = omega arith; marks = λ u le. refl; past = λ u k c le. (λ x. x, λ x. x) };
     any_moment = λ moment m since until mixture.
         let same : moment ≡ (facts old.disk).time = omega (arith, since, until) in (
           0,

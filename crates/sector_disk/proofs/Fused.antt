@@ -35,6 +35,7 @@ module _ (plan : Plan) (inner inner' : DiskFacts) (past past' : List Step) (step
   keeps_past keeps = record {
     sectors = keeps.sectors;
     later = omega (arith, ap length is_past, length-append past (step ∷ []));
+    marks = λ u le. ap inner'.marks (same_moment u le) ∙ keeps.marks (inner_moment inner.time past u) (omega arith);
     past = λ u k c le.
         let then : inner_moment inner.time past u ≤ inner.time = omega arith in
         let was = keeps.past (inner_moment inner.time past u) k c then in (

@@ -60,6 +60,7 @@ module _ (start : List Sector) (writes : List Written) (synced : ℕ) (past : Li
   keeps_past = record {
     sectors = refl;
     later = omega (arith, length-append past (moment ∷ []));
+    marks = λ u le. refl;
     past = λ u k c le. (
       λ left. subst (λ cs. Contains cs c) (same_choices u k le) left,
       λ left. subst (λ cs. Contains cs c) (sym (same_choices u k le)) left,
@@ -228,6 +229,7 @@ copied start start' writes writes' synced past past' starts writes_are pasts =
       honest = refl;
       sectors = refl;
       time = refl;
+      marks = λ u. refl;
       failures = refl;
       plans = refl;
       log = refl;

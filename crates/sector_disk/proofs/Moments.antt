@@ -16,6 +16,7 @@ pub keeps_past : {old mid new : DiskFacts} → KeepsPast old mid → KeepsPast m
 keeps_past {mid = mid} first second = record {
   sectors = second.sectors ∙ first.sectors;
   later = omega (arith, first.later, second.later);
+  marks = λ u le. second.marks u (omega (arith, le, first.later)) ∙ first.marks u le;
   past = λ u k c le.
       let le' : u ≤ mid.time = omega (arith, le, first.later) in
       (λ now. (first.past u k c le).0 ((second.past u k c le').0 now), λ was. (second.past u k c le').1 ((first.past u k c le).1 was));
@@ -49,7 +50,7 @@ weaken P Q to leaves = record { past = leaves.past; each = λ m left. to m (leav
 -- there is no call
 pub at_rest : (disk : DiskFacts) (P : List Sector → Type 0) → ((m : List Sector) → Mixture disk m → P m) → LeavesOnly disk disk P
 at_rest disk P now = record {
-  past = record { sectors = refl; later = omega arith; past = λ u k c le. (λ x. x, λ x. x) };
+  past = record { sectors = refl; later = omega arith; marks = λ u le. refl; past = λ u k c le. (λ x. x, λ x. x) };
   each = λ m left. let same : left.0 ≡ disk.time = omega (arith, left.1, left.2) in now m (subst (λ u. MixtureAt disk u m) same left.3);
 }
 

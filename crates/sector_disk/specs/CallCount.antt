@@ -17,6 +17,7 @@ unknown_disk sectors count = record {
   honest = false;
   sectors = sectors;
   time = calls_made count;
+  marks = λ u. u;
   failures = calls_failed count;
   plans = [];
   log = [];

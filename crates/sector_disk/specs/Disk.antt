@@ -31,6 +31,8 @@ pub record DiskFacts : Type 1 where
   pub honest : Bool
   pub sectors : ℕ
   pub time : ℕ
+  -- the mark of each moment: of a disk over a file the file's time then, of any other the moment itself
+  pub marks : ℕ → ℕ
   -- how many calls have failed
   pub failures : ℕ
   -- of each fuse that its calls go through, which of them fail
@@ -72,10 +74,11 @@ pub record HasWholeSectors (disk : DiskFacts) : Type 0 where
 pub record IsSynced (disk : DiskFacts) : Type 0 where
   pub each : (m : List Sector) → Mixture disk m → m ≡ disk.now
 
--- what might have been left at the moments of old stays as it was
+-- What might have been left at the moments of old stays as it was, and so does the mark of each.
 pub record KeepsPast (old new : DiskFacts) : Type 0 where
   pub sectors : new.sectors ≡ old.sectors
   pub later : old.time ≤ new.time
+  pub marks : (u : ℕ) → u ≤ old.time → new.marks u ≡ old.marks u
   pub past : (u k : ℕ) (c : Sector) → u ≤ old.time → new.may_leave u k c ↔ old.may_leave u k c
 
 -- reads give the same, a stop may leave the same, and the log is the same
@@ -201,6 +204,7 @@ IsMixtureOrSet disk at content m = Mixture disk m ⊎ ((m' : List Sector) × Mix
 pub record IsSameDisk (old new : DiskFacts) : Type 0 where
   pub honest : new.honest ≡ old.honest
   pub sectors : new.sectors ≡ old.sectors
+  pub mark : new.marks new.time ≡ old.marks old.time
   pub same : IsUnchanged old new
 
 -- nothing tells the one from the other: what is true of old at each of its moments is true of new
@@ -208,6 +212,7 @@ pub record IsCopy (old new : DiskFacts) : Type 0 where
   pub honest : new.honest ≡ old.honest
   pub sectors : new.sectors ≡ old.sectors
   pub time : new.time ≡ old.time
+  pub marks : (u : ℕ) → new.marks u ≡ old.marks u
   pub failures : new.failures ≡ old.failures
   pub plans : new.plans ≡ old.plans
   pub log : new.log ≡ old.log

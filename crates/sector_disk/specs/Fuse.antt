@@ -26,12 +26,13 @@ abbrev pub inner_moment : ℕ → List Step → ℕ → ℕ
 inner_moment time past u = time - reached (drop u past)
 
 -- What is said of the inner disk, but by the fuse's own clock, its own count of failures, and with
--- its plan.
+-- its plan. A moment's mark is that of the inner disk then.
 abbrev pub fused : Plan → DiskFacts → List Step → DiskFacts
 fused plan inner past = record {
   honest = inner.honest;
   sectors = inner.sectors;
   time = length past;
+  marks = λ u. inner.marks (inner_moment inner.time past u);
   failures = length (filter (λ step. step.failed) past);
   plans = plan ∷ inner.plans;
   log = inner.log;

@@ -15,6 +15,7 @@ facts_of start writes synced past = record {
   honest = true;
   sectors = length start;
   time = length past;
+  marks = λ u. u;
   failures = length (filter (λ moment. moment.failed) past);
   plans = [];
   log = [];
