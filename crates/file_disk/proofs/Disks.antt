@@ -21,8 +21,8 @@ use Rattle.file_disk.specs.Ahead.{ahead_at, KeepsOf}
 use Rattle.file_disk.specs.Buffered.{or_else, shown_at, Leaves}
 use Rattle.file_disk.specs.FileDisk.{file_facts, facts_below}
 use Rattle.file_disk.specs.Gathered.{gathered_at}
-use Rattle.file_disk.specs.Left.{LeftOf, shown_of}
-use Rattle.file_disk.specs.SectorFile.{FileFacts, MayHave, MediumAt, HoldsWhatIsRead}
+use Rattle.file_disk.specs.Left.{LeftOf, shown_of, time_at}
+use Rattle.file_disk.specs.SectorFile.{MayHave, MediumAt, HoldsWhatIsRead}
 use Rattle.file_disk.specs.inside.Buffered.{IsStill, IsPut, IsSettled}
 use Rattle.file_disk.specs.inside.FileDiskLaws.{read_of, left_now, now_left}
 use Rattle.file_disk.specs.inside.Transfer.{StaysWithin}
@@ -40,17 +40,25 @@ cases_content c d = cases_decided _ (bytes_eq-Decides c d)
 same_some : (o : Option Sector) (c d : Sector) → o ≡ Some c → o ≡ Some d → c ≡ d
 same_some o c d one other = let both : ◌≡◌ {A = Option Sector} (Some c) (Some d) = sym one ∙ other in cc
 
+-- a list, and what stands behind its end: one element more leaves both as they were
+pub before_push : {A : Type 0} (xs : List A) (x d : A) (v : ℕ) → v ≤ length xs → get_or (xs ++ x ∷ []) v d ≡ get_or xs v x
+before_push xs x d v le = ⊎_elim
+    (λ lt. get_or_append_left xs (x ∷ []) d v lt ∙ get_or_default xs v d x lt)
+    (λ ge. get_or_push xs x d v (omega (arith, le, ge)) ∙ sym (get_or_past xs v x ge))
+    (cases_lt v (length xs))
+
 module _ {F : Type 0} {g : Ghosts F} where
   -- what is said of a disk with these parts
-  abbrev pub facts_of : ℕ → CallCount → (latest since : Past (Buffered F g)) → Past (Past (Buffered F g)) → DiskFacts
-  facts_of sectors calls latest since past = record {
+  abbrev pub facts_of : Buffered F g → (files : Past (Buffered F g)) → CallCount → (latest since : Past (Buffered F g)) → Past (Past (Buffered F g)) → DiskFacts
+  facts_of b files calls latest since past = record {
     honest = g.is_honest;
-    sectors = sectors;
+    sectors = b.sectors;
     time = calls_made calls;
+    marks = time_at files.items b;
     failures = calls_failed calls;
     plans = [];
     log = [];
-    now = map (shown_of latest.items) (range_with_len 0 sectors);
+    now = map (shown_of latest.items) (range_with_len 0 b.sectors);
     may_leave = λ u k c. LeftOf (get_or past.items u since).items k c;
   }
 
@@ -101,11 +109,19 @@ module _ {F : Type 0} {g : Ghosts F} where
     held = λ k lt. left_at since b k (shown_at b k) is_among (shown_left b k (reads.each k (omega (arith, lt, b.size honest))));
   })
 
+  -- at one moment with nothing that waits, the medium's contents are left
+  left_below : (b : Buffered F g) → ((k : ℕ) → gathered_at b.gathered k ≡ None) → (k : ℕ) (c : Sector) (P : Sector → Type 0)
+      → ((d : Sector) → MayHave (g.facts b.file) k d → P d) → (s : Buffered F g) → Contains (b ∷ []) s → Leaves s k c → P c
+  left_below b waits k c P below s is_among left = ⊎_elim
+      (λ none. absurd (omega (arith, none.1)))
+      (λ is. ⊎_elim (λ waiting. absurd (none-some c (sym (waits k) ∙ waiting))) (λ has. below c has) (subst (λ moment. Leaves moment k c) (sym is) left))
+      (Contains-push_cases [] b s is_among)
+
   -- A disk starts: reads give what the file has, and a stop may leave what its medium may have.
-  module _ (b : Buffered F g) (calls : CallCount) (latest since : Past (Buffered F g)) (past : Past (Past (Buffered F g)))
+  module _ (b : Buffered F g) (files : Past (Buffered F g)) (calls : CallCount) (latest since : Past (Buffered F g)) (past : Past (Past (Buffered F g)))
       (waits : (k : ℕ) → gathered_at b.gathered k ≡ None) (latest_is : latest.items ≡ b ∷ []) (since_is : since.items ≡ b ∷ []) (none : past.items ≡ []) where
     pub starts_now : HoldsWhatIsRead (g.facts b.file) → b.sectors ≡ (g.facts b.file).sectors → (k : ℕ)
-        → sector (facts_of b.sectors calls latest since past).now k ≡ sector (g.facts b.file).now k
+        → sector (facts_of b files calls latest since past).now k ≡ sector (g.facts b.file).now k
     starts_now reads size k =
         ap (λ moments. sector (map (shown_of moments) (range_with_len 0 b.sectors)) k) latest_is
         ∙ ⊎_elim
@@ -114,10 +130,16 @@ module _ {F : Type 0} {g : Ghosts F} where
         ∙ sym (get_or_past (g.facts b.file).now k [] (omega (arith, ge, size, reads.size))))
         (cases_lt k b.sectors)
 
-    pub starts_left : (k : ℕ) (c : Sector) → MayHave (g.facts b.file) k c → MayLeave (facts_of b.sectors calls latest since past) k c
+    pub starts_left : (k : ℕ) (c : Sector) → MayHave (g.facts b.file) k c → MayLeave (facts_of b files calls latest since past) k c
     starts_left k c has =
         subst (λ moments. LeftOf (get_or moments (calls_made calls) since).items k c) (sym none)
         (subst (λ moments. LeftOf moments k c) (sym since_is) (left_at (b ∷ []) b k c (Contains-push [] b) (inr has)))
+
+    pub left_starts : (k : ℕ) (c : Sector) → MayLeave (facts_of b files calls latest since past) k c → ∥ MayHave (g.facts b.file) k c ∥₁
+    left_starts k c left = ∥∥₁_elim
+        (subst (λ moments. LeftOf moments k c) since_is (subst (λ moments. LeftOf (get_or moments (calls_made calls) since).items k c) none left))
+        ∥∥₁_prop
+        (λ found. left_below b waits k c (λ d. ∥ MayHave (g.facts b.file) k d ∥₁) (λ d has. ∣ has ∣₁) found.0 found.1 found.2)
 
   module _ (old new : Buffered F g) (latest since : List (Buffered F g)) (holds : Holds old latest since)
       (sectors : new.sectors ≡ old.sectors) (gathered : new.gathered ≡ old.gathered) (within : StaysWithin (Leaves old) (g.facts old.file) (g.facts new.file)) where
@@ -164,44 +186,46 @@ module _ {F : Type 0} {g : Ghosts F} where
       (cases_Bool old.failed)
 
   -- one call more of a disk
-  module _ (old : FileDisk F g) (sectors : ℕ) (calls : CallCount) (latest since : Past (Buffered F g)) (past : Past (Past (Buffered F g)))
-      (same : sectors ≡ old.buffered.sectors) (counted : calls_made calls ≡ calls_made old.calls + 1) (marked : past.items ≡ old.past.items ++ old.since ∷ []) where
-    -- a moment up to the old one is what it was
+  module _ (old : FileDisk F g) (b : Buffered F g) (files : Past (Buffered F g)) (calls : CallCount) (latest since : Past (Buffered F g)) (past : Past (Past (Buffered F g)))
+      (same : b.sectors ≡ old.buffered.sectors) (counted : calls_made calls ≡ calls_made old.calls + 1) (kept : files.items ≡ old.files.items ++ old.buffered ∷ [])
+      (marked : past.items ≡ old.past.items ++ old.since ∷ []) where
+    -- a moment up to the old one is what it was, and the file's time then is noted as before
     moment_stays : (u : ℕ) → u ≤ calls_made old.calls → get_or past.items u since ≡ get_or old.past.items u old.since
-    moment_stays u le =
-        ap (λ moments. get_or moments u since) marked ∙ ⊎_elim
-        (λ lt. get_or_append_left old.past.items (old.since ∷ []) since u lt ∙ get_or_default old.past.items u since old.since lt)
-        (λ ge. get_or_push old.past.items old.since since u (omega (arith, le, ge, old.counted)) ∙ sym (get_or_past old.past.items u old.since ge))
-        (cases_lt u (length old.past.items))
+    moment_stays u le = ap (λ moments. get_or moments u since) marked ∙ before_push old.past.items old.since since u (omega (arith, le, old.counted))
+
+    time_stays : (u : ℕ) → u ≤ calls_made old.calls → time_at files.items b u ≡ time_at old.files.items old.buffered u
+    time_stays u le =
+        ap (λ moments. time_at moments b u) kept ∙ ap (λ s. (g.facts s.file).time) (before_push old.files.items old.buffered b u (omega (arith, le, old.noted)))
 
     -- the moment now
     moment_now : get_or past.items (calls_made calls) since ≡ since
     moment_now = get_or_past past.items (calls_made calls) since (omega (arith, counted, old.counted, ap length marked, length_push old.past.items old.since))
 
-    pub keeps_past : KeepsPast (file_facts old) (facts_of sectors calls latest since past)
+    pub keeps_past : KeepsPast (file_facts old) (facts_of b files calls latest since past)
     keeps_past = record {
       sectors = same;
       later = omega (arith, counted);
+      marks = time_stays;
       past = λ u k c le. (
         λ left. subst (λ moment. LeftOf moment.items k c) (moment_stays u le) left,
         λ left. subst (λ moment. LeftOf moment.items k c) (sym (moment_stays u le)) left,
       );
     }
 
-    pub left_new : (k : ℕ) (c : Sector) → LeftOf since.items k c → MayLeave (facts_of sectors calls latest since past) k c
+    pub left_new : (k : ℕ) (c : Sector) → LeftOf since.items k c → MayLeave (facts_of b files calls latest since past) k c
     left_new k c left = subst (λ moment. LeftOf moment.items k c) (sym moment_now) left
 
-    pub new_left : (k : ℕ) (c : Sector) → MayLeave (facts_of sectors calls latest since past) k c → LeftOf since.items k c
+    pub new_left : (k : ℕ) (c : Sector) → MayLeave (facts_of b files calls latest since past) k c → LeftOf since.items k c
     new_left k c left = subst (λ moment. LeftOf moment.items k c) moment_now left
 
     -- where no more is left at the moments since the last sync
-    pub no_more : ((k : ℕ) (c : Sector) → LeftOf since.items k c → LeftOf old.since.items k c) → LeavesNoMore (file_facts old) (facts_of sectors calls latest since past)
+    pub no_more : ((k : ℕ) (c : Sector) → LeftOf since.items k c → LeftOf old.since.items k c) → LeavesNoMore (file_facts old) (facts_of b files calls latest since past)
     no_more fewer = record { each = λ k c left. left_now old k c (fewer k c (new_left k c left)) }
 
     -- where these moments are the same, and so is the last without a failure
-    pub unchanged : since ≡ old.since → latest ≡ old.latest → IsUnchanged (file_facts old) (facts_of sectors calls latest since past)
+    pub unchanged : since ≡ old.since → latest ≡ old.latest → IsUnchanged (file_facts old) (facts_of b files calls latest since past)
     unchanged since_is latest_is = record {
-      now = ap (λ moments. map (shown_of moments.items) (range_with_len 0 sectors)) latest_is ∙ ap (λ n. map (shown_of old.latest.items) (range_with_len 0 n)) same;
+      now = ap (λ moments. map (shown_of moments.items) (range_with_len 0 b.sectors)) latest_is ∙ ap (λ n. map (shown_of old.latest.items) (range_with_len 0 n)) same;
       log = refl;
       stop = λ k c. (
         λ left. left_now old k c (subst (λ moments. LeftOf moments.items k c) since_is (new_left k c left)),
@@ -210,9 +234,9 @@ module _ {F : Type 0} {g : Ghosts F} where
     }
 
     -- what the medium has meanwhile may be left of the disk
-    pub covered : (new : FileFacts) → IsTrue g.is_honest → StaysWithin (Leaves old.buffered) (facts_below old) new
-        → (u : ℕ) (m : List Sector) → (facts_below old).time ≤ u → u ≤ new.time → MediumAt new u m → LeftSince (facts_of sectors calls latest since past) (file_facts old).time m
-    covered new honest within u m low high medium = (
+    pub covered : IsTrue g.is_honest → StaysWithin (Leaves old.buffered) (facts_below old) (g.facts b.file) → (u : ℕ) (m : List Sector)
+        → (facts_below old).time ≤ u → u ≤ (g.facts b.file).time → MediumAt (g.facts b.file) u m → LeftSince (facts_of b files calls latest since past) (file_facts old).time m
+    covered honest within u m low high medium = (
       calls_made old.calls,
       omega arith,
       omega (arith, counted),
@@ -225,7 +249,7 @@ module _ {F : Type 0} {g : Ghosts F} where
     )
 
     -- The disk was written: b is its file behind the call.
-    module _ (b : Buffered F g) (honest : IsTrue g.is_honest) (fine : old.buffered.failed ≡ false) (at : ℕ) (content : Sector) (in_old : at < old.buffered.sectors)
+    module _ (honest : IsTrue g.is_honest) (fine : old.buffered.failed ≡ false) (at : ℕ) (content : Sector) (in_old : at < old.buffered.sectors)
         (put : IsPut at old.buffered b) (here : gathered_at b.gathered at ≡ Some content)
         (others : (k : ℕ) → k ≢ at → (gathered_at b.gathered k ≡ gathered_at old.buffered.gathered k) ⊎ (gathered_at b.gathered k ≡ None))
         (latest_is : latest.items ≡ b ∷ []) (since_is : since.items ≡ old.since.items ++ b ∷ []) where
@@ -254,7 +278,7 @@ module _ {F : Type 0} {g : Ghosts F} where
           (λ apart. inr (λ found. apart found.0))
           (cases_eq k at)
 
-      pub grows : GrowsBy (file_facts old) (facts_of sectors calls latest since past) at content
+      pub grows : GrowsBy (file_facts old) (facts_of b files calls latest since past) at content
       grows = record {
         each = λ k c. (
           λ left. ⊎_elim (λ is. inr is) (λ other. inl (left_now old k c (left_of_more k c other (new_left k c left)))) (cases_put k c),
@@ -267,11 +291,11 @@ module _ {F : Type 0} {g : Ghosts F} where
         );
       }
 
-      pub now_set : (facts_of sectors calls latest since past).now ≡ set (file_facts old).now at content
+      pub now_set : (facts_of b files calls latest since past).now ≡ set (file_facts old).now at content
       now_set =
           let reads = (file_facts old).now in
           let size : length reads ≡ old.buffered.sectors = length-map-range_with_len (shown_of old.latest.items) 0 old.buffered.sectors in
-          ap (λ moments. map (shown_of moments) (range_with_len 0 sectors)) latest_is
+          ap (λ moments. map (shown_of moments) (range_with_len 0 b.sectors)) latest_is
           ∙ ap (λ n. map (shown_at b) (range_with_len 0 n)) same
           ∙ sym (fill_by_all (shown_at b) (set reads at content) old.buffered.sectors [] (length-set reads at content ∙ size) (λ k lt. ⊎_elim
           (λ is. ap (λ j. sector (set reads at content) j) is ∙ get_or-set_same reads at content [] (omega (arith, in_old, size))
@@ -280,41 +304,34 @@ module _ {F : Type 0} {g : Ghosts F} where
           (cases_eq k at)))
 
     -- The disk was synced: b is its file behind the call.
-    module _ (b : Buffered F g) (honest : IsTrue g.is_honest) (fine : old.buffered.failed ≡ false) (settled : IsSettled old.buffered b) (waits : (k : ℕ) → gathered_at b.gathered k ≡ None)
+    module _ (honest : IsTrue g.is_honest) (fine : old.buffered.failed ≡ false) (settled : IsSettled old.buffered b) (waits : (k : ℕ) → gathered_at b.gathered k ≡ None)
         (held : HoldsWhatIsRead (g.facts b.file)) (latest_is : latest.items ≡ b ∷ []) (since_is : since.items ≡ b ∷ []) where
       shown_on : (k : ℕ) → shown_at b k ≡ shown_of old.latest.items k
       shown_on k = shown_none b k (waits k) ∙ settled.shown k ∙ old.shown honest fine k
 
-      -- of the one moment since, the medium's contents are left
-      left_below : (k : ℕ) (c : Sector) (P : Sector → Type 0) → ((d : Sector) → MayHave (g.facts b.file) k d → P d) → (s : Buffered F g) → Contains (b ∷ []) s → Leaves s k c → P c
-      left_below k c P below s is_among left = ⊎_elim
-          (λ none. absurd (omega (arith, none.1)))
-          (λ is. ⊎_elim (λ waiting. absurd (none-some c (sym (waits k) ∙ waiting))) (λ has. below c has) (subst (λ moment. Leaves moment k c) (sym is) left))
-          (Contains-push_cases [] b s is_among)
-
       pub fewer : (k : ℕ) (c : Sector) → LeftOf since.items k c → LeftOf old.since.items k c
       fewer k c left = ∥∥₁_elim (subst (λ moments. LeftOf moments k c) since_is left) ∥∥₁_prop
-          (λ found. left_below k c (LeftOf old.since.items k)
+          (λ found. left_below b waits k c (LeftOf old.since.items k)
           (λ d has. old.covered honest k d (settled.within.each (g.facts b.file).time k d settled.within.later (omega arith) has))
           found.0 found.1 found.2)
 
-      pub now_stays : (facts_of sectors calls latest since past).now ≡ (file_facts old).now
+      pub now_stays : (facts_of b files calls latest since past).now ≡ (file_facts old).now
       now_stays =
           let reads = (file_facts old).now in
-          ap (λ moments. map (shown_of moments) (range_with_len 0 sectors)) latest_is
+          ap (λ moments. map (shown_of moments) (range_with_len 0 b.sectors)) latest_is
           ∙ ap (λ n. map (shown_at b) (range_with_len 0 n)) same
           ∙ sym (fill_by_all (shown_at b) reads old.buffered.sectors [] (length-map-range_with_len (shown_of old.latest.items) 0 old.buffered.sectors)
           (λ k lt. read_of old k lt ∙ sym (shown_on k)))
 
-      pub alone : LeavesNowAlone (facts_of sectors calls latest since past)
+      pub alone : LeavesNowAlone (facts_of b files calls latest since past)
       alone =
-          let now = (facts_of sectors calls latest since past).now in
-          let reads : (k : ℕ) → k < sectors → sector now k ≡ shown_at b k =
+          let now = (facts_of b files calls latest since past).now in
+          let reads : (k : ℕ) → k < b.sectors → sector now k ≡ shown_at b k =
           λ k lt. ap (λ l. sector l k) now_stays ∙ read_of old k (omega (arith, lt, same)) ∙ sym (shown_on k) in
           record {
             each = λ k c lt. (
               λ left. ∥∥₁_elim (subst (λ moments. LeftOf moments k c) since_is (new_left k c left)) (hlevel props)
-                  (λ found. left_below k c (λ d. d ≡ sector now k)
+                  (λ found. left_below b waits k c (λ d. d ≡ sector now k)
                   (λ d has. settled.alone k d has ∙ sym (settled.shown k) ∙ sym (shown_none b k (waits k)) ∙ sym (reads k lt))
                   found.0 found.1 found.2),
               λ is. left_new k c (subst (λ moments. LeftOf moments k c) (sym since_is)

@@ -1,25 +1,19 @@
 -- A disk follows its file, and goes on to do so with each call.
 use Rattle.std.proofs.Common.{◌≡◌, ◌<◌, ◌≤◌, ◌+◌, ◌-◌, inr, ⊎_elim, ℕ, List, [], ◌∷◌, ◌++◌, length, get_or, zero, suc, sym, ◌∙◌, ap, subst, arith, IsTrue}
 use Rattle.std.proofs.lemmas.Bool.{cases_lt}
-use Rattle.std.proofs.lemmas.List.{get_or_append_left, get_or_default, get_or_past, get_or_push, length_push}
+use Rattle.std.proofs.lemmas.List.{get_or_past, length_push}
 use Rattle.sector_disk.specs.CallCount.{calls_made}
-use Rattle.sector_disk.specs.Disk.{Sector, sector, LeftSince}
+use Rattle.sector_disk.specs.Disk.{Sector, sector, MixtureAt}
 use Rattle.sector_disk.specs.declared.past.Past.{Past}
 use Rattle.file_disk.specs.declared.buffered.Buffered.{Buffered}
 use Rattle.file_disk.specs.declared.disk.FileDisk.{FileDisk}
 use Rattle.file_disk.specs.declared.sector_file.SectorFile.{Ghosts}
 use Rattle.file_disk.specs.Buffered.{Leaves}
-use Rattle.file_disk.specs.FileDisk.{file_facts, file_time, facts_below, FollowsTheFile}
+use Rattle.file_disk.specs.FileDisk.{file_facts, facts_below, IsMomentAt, FollowsTheFile, HoldsOfTheMedium}
 use Rattle.file_disk.specs.Left.{LeftOf, time_at, IsTimed, IsFollowed}
 use Rattle.file_disk.specs.SectorFile.{MediumAt}
 use Rattle.file_disk.specs.inside.Transfer.{StaysWithin}
-
--- a list, and what stands behind its end: one element more leaves both as they were
-before_push : {A : Type 0} (xs : List A) (x d : A) (v : ℕ) → v ≤ length xs → get_or (xs ++ x ∷ []) v d ≡ get_or xs v x
-before_push xs x d v le = ⊎_elim
-    (λ lt. get_or_append_left xs (x ∷ []) d v lt ∙ get_or_default xs v d x lt)
-    (λ ge. get_or_push xs x d v (omega (arith, le, ge)) ∙ sym (get_or_past xs v x ge))
-    (cases_lt v (length xs))
+use Rattle.file_disk.proofs.Disks.{before_push}
 
 module _ {F : Type 0} {g : Ghosts F} where
   -- as a disk starts
@@ -39,7 +33,7 @@ module _ {F : Type 0} {g : Ghosts F} where
       (counted : now ≡ calls_made old.calls + 1) (kept : files ≡ old.files.items ++ old.buffered ∷ []) (marked : past ≡ old.past.items ++ old.since ∷ [])
       (within : StaysWithin (Leaves old.buffered) (g.facts old.buffered.file) (g.facts b.file)) where
     -- the times of the moments before
-    pub time_stays : (v : ℕ) → v ≤ calls_made old.calls → time_at files b v ≡ time_at old.files.items old.buffered v
+    time_stays : (v : ℕ) → v ≤ calls_made old.calls → time_at files b v ≡ time_at old.files.items old.buffered v
     time_stays v le =
         ap (λ l. time_at l b v) kept ∙ ap (λ s. (g.facts s.file).time) (before_push old.files.items old.buffered b v (omega (arith, le, old.noted)))
 
@@ -78,33 +72,54 @@ module _ {F : Type 0} {g : Ghosts F} where
 
   -- The law. A moment of the file lies in the call behind one of the disk's moments.
   module _ (disk : FileDisk F g) (honest : IsTrue g.is_honest) where
-    time_is_now : (v : ℕ) → calls_made disk.calls ≤ v → file_time disk v ≡ (facts_below disk).time
-    time_is_now v le = ap (λ s. (g.facts s.file).time) (get_or_past disk.files.items v disk.buffered (omega (arith, le, disk.noted)))
+    abbrev mark : ℕ → ℕ
+    mark = (file_facts disk).marks
 
-    mixture_of : (v u : ℕ) (m : List Sector) → v ≤ calls_made disk.calls → file_time disk v ≤ u → u ≤ file_time disk (v + 1)
-        → MediumAt (facts_below disk) u m → LeftSince (file_facts disk) v m
-    mixture_of v u m le low high medium = (
-      v,
-      omega arith,
-      le,
-      record {
-        size = omega (arith, medium.size, disk.buffered.size honest);
-        each = λ k lt. disk.followed honest v u k (sector m k) le low high (medium.each k (omega (arith, lt, disk.buffered.size honest)));
-      },
-    )
+    mark_now : (v : ℕ) → calls_made disk.calls ≤ v → mark v ≡ (facts_below disk).time
+    mark_now v le = ap (λ s. (g.facts s.file).time) (get_or_past disk.files.items v disk.buffered (omega (arith, le, disk.noted)))
 
-    follows_from : (more v u : ℕ) (m : List Sector) → v + more ≡ calls_made disk.calls → file_time disk v ≤ u → u ≤ (facts_below disk).time
-        → MediumAt (facts_below disk) u m → LeftSince (file_facts disk) v m
-    follows_from zero v u m is low high medium =
-        mixture_of v u m (omega (arith, is)) low (omega (arith, high, time_is_now (v + 1) (omega (arith, is)))) medium
-    follows_from (suc more) v u m is low high medium = ⊎_elim
-        (λ later. let found = follows_from more (v + 1) u m (omega (arith, is)) (omega (arith, later)) high medium in
-        (found.0, omega (arith, found.1), found.2, found.3))
-        (λ here. mixture_of v u m (omega (arith, is)) low here medium)
-        (cases_lt (file_time disk (v + 1)) u)
+    mixture_of : (v u : ℕ) (m : List Sector) → IsMomentAt (file_facts disk) u v → u ≤ (facts_below disk).time → MediumAt (facts_below disk) u m → MixtureAt (file_facts disk) v m
+    mixture_of v u m is high medium =
+        let next : u ≤ mark (v + 1) = ⊎_elim
+        (λ lt. let past : u < mark (v + 1) = is.last (v + 1) (omega arith) (omega (arith, lt)) in omega (arith, past))
+        (λ ge. omega (arith, high, mark_now (v + 1) (omega (arith, ge))))
+        (cases_lt v (calls_made disk.calls)) in
+        record {
+          size = omega (arith, medium.size, disk.buffered.size honest);
+          each = λ k lt. disk.followed honest v u k (sector m k) is.up_to is.reached next (medium.each k (omega (arith, lt, disk.buffered.size honest)));
+        }
+
+    -- the last moment whose mark isn't past u, at most `more` behind `since`
+    moment_from : (more since u : ℕ) → mark since ≤ u → since + more ≤ calls_made disk.calls
+        → ((w : ℕ) → since + more < w → w ≤ calls_made disk.calls → u < mark w) → (v : ℕ) × IsMomentAt (file_facts disk) u v
+    moment_from zero since u low le last = (since, record { up_to = omega (arith, le); reached = low; last = λ w lt. last w (omega (arith, lt)) })
+    moment_from (suc more) since u low le last = ⊎_elim
+        (λ beyond. moment_from more since u low (omega (arith, le)) (λ w lt up_to. ⊎_elim
+        (λ later. last w later up_to)
+        (λ here. let is : since + suc more ≡ w = omega (arith, lt, here) in subst (λ n. u < mark n) is beyond)
+        (cases_lt (since + suc more) w)))
+        (λ reached. (since + suc more, record { up_to = le; reached = reached; last = last }))
+        (cases_lt u (mark (since + suc more)))
+
+    moment_at : (since u : ℕ) → since ≤ calls_made disk.calls → mark since ≤ u → (v : ℕ) × IsMomentAt (file_facts disk) u v
+    moment_at since u le low = moment_from (calls_made disk.calls - since) since u low (omega (arith, le)) (λ w lt up_to. absurd (omega (arith, lt, up_to)))
 
     pub follows : FollowsTheFile disk
     follows = record {
-      now = time_is_now (calls_made disk.calls) (omega arith);
-      each = λ v u m le low high medium. follows_from (calls_made disk.calls - v) v u m (omega (arith, le)) low high medium;
+      now = mark_now (calls_made disk.calls) (omega arith);
+      each = λ since u m le low high medium.
+          let found = moment_at since u le low in
+          (found.0, found.1, mixture_of found.0 u m found.1 high medium);
     }
+
+  -- What holds of all that a stop may leave holds of the medium.
+  pub holds_of_the_medium : (disk : FileDisk F g) → IsTrue g.is_honest → (P : List Sector → Type 0) → HoldsOfTheMedium disk P
+  holds_of_the_medium disk honest P old leaves u m low high medium =
+      let start = (file_facts old).time in
+      let mark : (file_facts disk).marks start ≡ (facts_below old).time = leaves.past.marks start (omega arith) ∙ (follows old honest).now in
+      let found = (follows disk honest).each start u m leaves.past.later (omega (arith, mark, low)) high medium in
+      let later : start ≤ found.0 = ⊎_elim
+      (λ before. absurd (omega (arith, found.1.last start before leaves.past.later, mark, low)))
+      (λ after. after)
+      (cases_lt found.0 start) in
+      leaves.each m (found.0, later, found.1.up_to, found.2)

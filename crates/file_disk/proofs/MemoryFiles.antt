@@ -1,16 +1,16 @@
 -- Calls of a file in memory are those of an honest file.
-use Rattle.std.proofs.Common.{◌≡◌, ◌<◌, ◌≤◌, ◌+◌, ◌-◌, ◌++◌, inl, inr, ⊎_elim, ℕ, Bool, true, false, List, [], ◌∷◌, length, get_or, Ok, Err, sym, ◌∙◌, ap, subst, arith, if◌then◌else◌}
+use Rattle.std.proofs.Common.{◌≡◌, ◌<◌, ◌≤◌, ◌+◌, ◌-◌, ◌++◌, inl, inr, ⊎_elim, ℕ, Bool, true, false, List, [], ◌∷◌, length, get_or, Ok, Err, refl, sym, ◌∙◌, ap, subst, arith, if◌then◌else◌}
 use Rattle.std.specs.Prelude.{◌==◌, nat_lt, Result, IfOk, is_err}
 use Rattle.std.proofs.lemmas.Bool.{cases_lt}
 use Rattle.std.proofs.lemmas.List.{length-append, get_or_past, get_or_default, get_or_push, get_or_append_left}
-use Rattle.sector_disk.specs.Disk.{Sector, sector, MayLeave, LeavesNoMore, LeavesNowAlone}
+use Rattle.sector_disk.specs.Disk.{Sector, sector, MayLeave, LeavesNoMore, LeavesNowAlone, StartsWith}
 use Rattle.sector_disk.specs.Memory.{memory_facts}
 use Rattle.sector_disk.specs.declared.memory.Memory.{Memory}
 use Rattle.file_disk.specs.declared.memory_file.MemoryFile.{MemoryFile}
 use Rattle.file_disk.specs.declared.memory_file.Turn.{Turn}
 use Rattle.file_disk.specs.Medium.{HasWritten, IsSameMedium}
-use Rattle.file_disk.specs.MemoryFile.{memory_file_facts, does_work}
-use Rattle.file_disk.specs.SectorFile.{MayHave, moved, IsFileCall, IsCounted, IsFileRead, IsFileWrite, IsFileSync}
+use Rattle.file_disk.specs.MemoryFile.{facts_over, memory_file_facts, does_work}
+use Rattle.file_disk.specs.SectorFile.{MayHave, moved, IsFileCall, IsCounted, IsFileRead, IsFileWrite, IsFileSync, IsFoundWith}
 
 -- what the medium may have now is what a stop of the disk may leave
 now_has : (file : MemoryFile) (k : ℕ) (c : Sector) → MayHave (memory_file_facts file) k c → (k < (memory_facts file.medium).sectors) × MayLeave (memory_facts file.medium) k c
@@ -18,6 +18,18 @@ now_has file k c has = (has.0, subst (λ m. MayLeave (memory_facts m) k c) (get_
 
 has_now : (file : MemoryFile) (k : ℕ) (c : Sector) → k < (memory_facts file.medium).sectors → MayLeave (memory_facts file.medium) k c → MayHave (memory_file_facts file) k c
 has_now file k c lt left = (lt, subst (λ m. MayLeave (memory_facts m) k c) (sym (get_or_past file.past.items (length file.past.items) file.medium (omega arith))) left)
+
+-- over a disk as it starts, the file is found with what the disk has
+pub found_with : (medium : Memory) (past : List Memory) (failures : ℕ) (contents : List Sector) → StartsWith (memory_facts medium) contents
+    → IsFoundWith (facts_over medium past failures false) contents
+found_with medium past failures contents starts = record {
+  sectors = starts.sectors;
+  now = starts.now;
+  alone = λ k c has.
+      let left = subst (λ m. MayLeave (memory_facts m) k c) (get_or_past past (length past) medium (omega arith)) has.1 in
+      (starts.alone.each k c has.0).0 left ∙ ap (λ l. sector l k) starts.now;
+  sync_failed = refl;
+}
 
 -- the moment that a call ends is past then
 at_past : (media : List Memory) (was new : Memory) (u : ℕ) → u ≤ length media → get_or (media ++ was ∷ []) u new ≡ get_or media u was

@@ -1,8 +1,8 @@
 -- What is said of a disk over a file.
-use Rattle.std.specs.Prelude.{◌≡◌, ◌≢◌, ◌⊎◌, ◌≤◌, ℕ, Bool, false, List, [], map, slice_index_or, Option, None, Some, Ok, Err}
+use Rattle.std.specs.Prelude.{◌≡◌, ◌≢◌, ◌⊎◌, ◌<◌, ◌≤◌, ℕ, Bool, false, List, [], map, slice_index_or, Option, None, Some, Ok, Err}
 use Rattle.std.specs.List.{range_with_len}
 use Rattle.sector_disk.specs.CallCount.{calls_made, calls_failed}
-use Rattle.sector_disk.specs.Disk.{Sector, sector, DiskFacts, MayLeave, LeftSince}
+use Rattle.sector_disk.specs.Disk.{Sector, sector, DiskFacts, MayLeave, MixtureAt, LeftSince, LeavesOnly, StartsWith}
 use Rattle.file_disk.specs.declared.disk.FileDisk.{FileDisk}
 use Rattle.file_disk.specs.declared.open.OpenFault.{OpenFault}
 use Rattle.file_disk.specs.declared.open.OpenFault.TheVariants.{OutOfMemory}
@@ -10,22 +10,29 @@ use Rattle.file_disk.specs.declared.sector_file.SectorFile.{Ghosts}
 use Rattle.file_disk.specs.Ahead.{ahead_at}
 use Rattle.file_disk.specs.Gathered.{gathered_at}
 use Rattle.file_disk.specs.Left.{LeftOf, shown_of, time_at}
-use Rattle.file_disk.specs.SectorFile.{FileFacts, MayHave, MediumAt, IsCounted}
+use Rattle.file_disk.specs.SectorFile.{FileFacts, MayHave, MediumAt, IsCounted, IsFoundWith}
 
 -- Why no disk is made over a file: memory was refused, or a count of the file's sectors failed and
 -- left the file as it is after.
 abbrev pub HasCause : {F : Type 0} → (F → FileFacts) → F → OpenFault → Type 0
 HasCause {F} facts file fault = (fault ≡ OutOfMemory) ⊎ ((after : F) × IsCounted {E = OpenFault} (facts file) (facts after) (Err fault))
 
+-- moment v of the disk is its moment at moment u of its file: the last one whose mark isn't past u
+pub record IsMomentAt (disk : DiskFacts) (u v : ℕ) : Type 0 where
+  pub up_to : v ≤ disk.time
+  pub reached : disk.marks v ≤ u
+  pub last : (w : ℕ) → v < w → w ≤ disk.time → u < disk.marks w
+
 module _ {F : Type 0} {g : Ghosts F} where
   -- Reads give what waits over what the file has, as at the last moment at which no write or sync
   -- had failed. A stop may leave what waited, or what the file's medium might have had, at the last
-  -- sync that succeeded or behind a write since.
+  -- sync that succeeded or behind a write since. The mark of a moment is the file's time then.
   abbrev pub file_facts : FileDisk F g → DiskFacts
   file_facts disk = record {
     honest = g.is_honest;
     sectors = disk.buffered.sectors;
     time = calls_made disk.calls;
+    marks = time_at disk.files.items disk.buffered;
     failures = calls_failed disk.calls;
     plans = [];
     log = [];
@@ -80,10 +87,11 @@ module _ {F : Type 0} {g : Ghosts F} where
     pub waits : WaitsNot disk
     pub kept : (k : ℕ) → kept disk k ≡ None
 
-  -- Reads give what the file has, and a stop may leave what its medium may have.
+  -- Reads give what the file has, and a stop may leave what its medium may have, and nothing else.
   pub record IsAsTheFile (disk : FileDisk F g) : Type 0 where
     pub now : (k : ℕ) → sector (file_facts disk).now k ≡ sector (facts_below disk).now k
     pub medium : (k : ℕ) (c : Sector) → MayHave (facts_below disk) k c → MayLeave (file_facts disk) k c
+    pub only : (k : ℕ) (c : Sector) → MayLeave (file_facts disk) k c → ∥ MayHave (facts_below disk) k c ∥₁
 
   -- A disk that was made over a file: the file's sectors were counted and nothing else was done with
   -- it. The disk has as many sectors, and reads give what the file had.
@@ -92,20 +100,26 @@ module _ {F : Type 0} {g : Ghosts F} where
     pub sectors : (file_facts disk).sectors ≡ (g.facts file).sectors
     pub now : (k : ℕ) → sector (file_facts disk).now k ≡ sector (g.facts file).now k
 
-  -- the file's time at a moment of the disk
-  abbrev pub file_time : FileDisk F g → ℕ → ℕ
-  file_time disk v = time_at disk.files.items disk.buffered v
+  -- a disk over a file that is found with some sectors starts with them
+  abbrev pub StartsAsFound : F → FileDisk F g → Type 0
+  StartsAsFound file disk = (contents : List Sector) → IsFoundWith (g.facts file) contents → StartsWith (file_facts disk) contents
 
   -- Whatever the file's medium may have at a moment of the file from old to new, a stop of the disk
-  -- might have left since the moment before. The file's time at each moment before stays noted.
+  -- might have left since the moment before.
   pub record IsCovered (old new : FileDisk F g) : Type 0 where
-    pub noted : (v : ℕ) → v ≤ (file_facts old).time → file_time new v ≡ file_time old v
     pub each : (u : ℕ) (m : List Sector) → (facts_below old).time ≤ u → u ≤ (facts_below new).time
         → MediumAt (facts_below new) u m → LeftSince (file_facts new) (file_facts old).time m
 
-  -- Whatever the file's medium may have had since a moment of the disk, at any moment of the file's
-  -- own time, a stop of the disk might have left since then.
+  -- The mark of the present moment is the file's time. Whatever the file's medium may have had at a
+  -- moment of the file that came after some moment of the disk, a stop of the disk might have left
+  -- at the disk's moment then.
   pub record FollowsTheFile (disk : FileDisk F g) : Type 0 where
-    pub now : file_time disk (file_facts disk).time ≡ (facts_below disk).time
-    pub each : (v u : ℕ) (m : List Sector) → v ≤ (file_facts disk).time → file_time disk v ≤ u → u ≤ (facts_below disk).time
-        → MediumAt (facts_below disk) u m → LeftSince (file_facts disk) v m
+    pub now : (file_facts disk).marks (file_facts disk).time ≡ (facts_below disk).time
+    pub each : (since u : ℕ) (m : List Sector) → since ≤ (file_facts disk).time → (file_facts disk).marks since ≤ u → u ≤ (facts_below disk).time
+        → MediumAt (facts_below disk) u m → (v : ℕ) × IsMomentAt (file_facts disk) u v × MixtureAt (file_facts disk) v m
+
+  -- If P holds of all that a stop of the disk may leave from an earlier moment to now, it holds of
+  -- whatever the file's medium may have had at each moment of the file between them.
+  abbrev pub HoldsOfTheMedium : FileDisk F g → (List Sector → Type 0) → Type 0
+  HoldsOfTheMedium new P = (old : FileDisk F g) → LeavesOnly (file_facts old) (file_facts new) P
+      → (u : ℕ) (m : List Sector) → (facts_below old).time ≤ u → u ≤ (facts_below new).time → MediumAt (facts_below new) u m → P m

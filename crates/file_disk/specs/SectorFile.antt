@@ -91,6 +91,14 @@ pub record HoldsWhatIsRead (file : FileFacts) : Type 0 where
   pub size : length file.now ≡ file.sectors
   pub each : (k : ℕ) → k < file.sectors → MayHave file k (sector file.now k)
 
+-- A file as it is found after a stop: reads give these sectors, its medium has them and nothing
+-- else, and no sync has failed since.
+pub record IsFoundWith (file : FileFacts) (contents : List Sector) : Type 0 where
+  pub sectors : file.sectors ≡ length contents
+  pub now : file.now ≡ contents
+  pub alone : (k : ℕ) (c : Sector) → MayHave file k c → c ≡ sector contents k
+  pub sync_failed : file.sync_failed ≡ false
+
 -- all that the medium may have are whole sectors
 pub record HasWholeContents (file : FileFacts) : Type 0 where
   pub each : (k : ℕ) (c : Sector) → MayHave file k c → IsWhole c

@@ -8,6 +8,7 @@ ghost use Rattle.file_disk.specs.Gathered.{gathered_at};
 ghost use Rattle.file_disk.specs.Left.{LeftOf, shown_of, IsTimed, IsFollowed};
 
 use crate::buffered::Buffered;
+use crate::property::Property;
 use crate::sector_file::SectorFile;
 use sector_disk::{CallCount, Disk, DiskFault, Past, SECTOR_BYTES};
 use std::alloc::{AllocError, Global};
@@ -78,12 +79,18 @@ impl<F: SectorFile + Drop> FileDisk<F> {
 }
 
 impl<F: SectorFile> FileDisk<F> {
-    ghost use Rattle.file_disk.specs.FileDisk.{file_of, FollowsTheFile};
+    ghost use Rattle.file_disk.specs.FileDisk.{file_of, FollowsTheFile, HoldsOfTheMedium};
 
-    /// A law: whatever the medium of an honest file may have had since a moment of the disk, within
-    /// its calls too, a stop of the disk might have left since then.
+    /// A law: whatever the medium of an honest file may have had at some moment, within the disk's
+    /// calls too, a stop of the disk might have left at its moment then.
     pub fn follows_its_file(&self)
         ensures { IsTrue F.is_honest → FollowsTheFile self.now }
+    {}
+
+    /// A law: a property that holds of all that a stop of the disk may leave, from an earlier moment
+    /// to now, holds of whatever the medium of an honest file may have had between them.
+    pub fn holds_of_its_medium<P: Property>(&self)
+        ensures { IsTrue F.is_honest → HoldsOfTheMedium self.now P.holds }
     {}
 
     /// The file. What waits is lost.

@@ -15,6 +15,7 @@ mod medium;
 mod memory_file;
 mod new_name;
 mod open;
+mod property;
 mod sector_file;
 mod transfer;
 
@@ -23,4 +24,5 @@ pub use disk_file::{Access, DiskFile};
 pub use memory_file::{FilePlan, MemoryFile, Turn};
 pub use new_name::{NameFault, NewName};
 pub use open::{Made, OpenFault};
+pub use property::Property;
 pub use sector_file::SectorFile;

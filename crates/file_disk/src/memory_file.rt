@@ -44,10 +44,12 @@ pub struct MemoryFile {
 }
 
 impl MemoryFile {
-    ghost use Rattle.std.specs.Prelude.{◌++◌, ◌∷◌, ◌+◌, ◌==◌, ◌≤◌, [], false, if◌then◌else◌, IfOk, is_err};
+    ghost use Rattle.std.specs.Prelude.{◌++◌, ◌∷◌, ◌+◌, ◌==◌, ◌≤◌, [], false, if◌then◌else◌, List, IfOk, is_err};
     ghost use Rattle.file_disk.specs.MemoryFile.{memory_file_facts, medium_of, plan_of};
     ghost use Rattle.file_disk.specs.MemoryFile.{next_turn, does_work};
-    ghost use Rattle.file_disk.specs.SectorFile.{moved};
+    ghost use Rattle.file_disk.specs.SectorFile.{moved, IsFoundWith};
+    ghost use Rattle.sector_disk.specs.Disk.{Sector, StartsWith};
+    ghost use Rattle.sector_disk.specs.Memory.{memory_facts};
 
     /// A file of what this disk has, with this plan of its calls.
     pub fn new(medium: Memory, plan: FilePlan) -> MemoryFile
@@ -56,6 +58,10 @@ impl MemoryFile {
         ensures time { (memory_file_facts result).time ≡ 0 }
         ensures failures { (memory_file_facts result).failures ≡ 0 }
         ensures sync_failed { (memory_file_facts result).sync_failed ≡ false }
+
+        // Over a medium that was stopped the file is found with what the stop left.
+        ensures reopen { (contents : List Sector) → StartsWith (memory_facts medium) contents
+            → IsFoundWith (memory_file_facts result) contents }
     {
         MemoryFile {
             medium,

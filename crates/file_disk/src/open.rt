@@ -2,6 +2,7 @@
 ghost use Rattle.std.specs.Prelude.{◌≡◌, ◌≢◌, ◌*◌, ◌<◌, ◌^◌, ℕ, IfOk, IfErr, IfSome, IfNone};
 ghost use Rattle.std.specs.Prelude.{false, IsTrue};
 ghost use Rattle.file_disk.specs.FileDisk.{file_facts, IsNew, IsAsTheFile, IsOver, HasCause};
+ghost use Rattle.file_disk.specs.FileDisk.{StartsAsFound};
 ghost use Rattle.file_disk.specs.declared.open.OpenFault.TheVariants.{OutOfMemory};
 
 use crate::disk::FileDisk;
@@ -87,6 +88,9 @@ impl<F: SectorFile + Drop> FileDisk<F> {
         ensures new { IfOk result (λ disk. IsNew disk) }
         ensures file { IsTrue F.is_honest → IfOk result (λ disk. IsOver file disk) }
         ensures starts { IsTrue F.is_honest → IfOk result (λ disk. IsAsTheFile disk) }
+
+        // Where the file is found after a stop the disk starts with what the medium had.
+        ensures reopen { IsTrue F.is_honest → IfOk result (λ disk. StartsAsFound file disk) }
 
         // It fails only if memory is refused or the file's sectors can't be counted.
         ensures cause { IsTrue F.is_honest → IfErr result (λ fault. HasCause F.facts file fault) }

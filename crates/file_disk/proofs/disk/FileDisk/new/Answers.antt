@@ -1,7 +1,7 @@
 use Rattle.std.proofs.Common.{◌≡◌, ◌∷◌, ◌++◌, [], IsTrue, length, ap, sym, subst, ◌∙◌}
 use Rattle.std.proofs.lemmas.List.Elements.{Contains-push}
 use Rattle.std.specs.List.{Contains}
-use Rattle.file_disk.proofs.Disks.{Holds, holds_from, starts_now, starts_left}
+use Rattle.file_disk.proofs.Disks.{Holds, holds_from, starts_now, starts_left, left_starts}
 use Rattle.file_disk.proofs.Followed.{timed_first, followed_first}
 use Rattle.file_disk.proofs.disk.FileDisk.new.Goals as goal
 
@@ -32,6 +32,7 @@ returns-clause-starts g c honest =
     let since_is = c.copy-since.ensures ∙ latest_is in
     let held = g.met.F.SectorFile.holds_now b.file honest in
     record {
-      now = starts_now b c.new-5.result _ c.copy-since.result c.new-3.result c.in_ok-buffered.ensures.waits latest_is since_is c.new-3.ensures held (sym (b.size honest));
-      medium = starts_left b c.new-5.result _ c.copy-since.result c.new-3.result c.in_ok-buffered.ensures.waits latest_is since_is c.new-3.ensures;
+      now = starts_now b c.new-4.result c.new-5.result _ c.copy-since.result c.new-3.result c.in_ok-buffered.ensures.waits latest_is since_is c.new-3.ensures held (sym (b.size honest));
+      medium = starts_left b c.new-4.result c.new-5.result _ c.copy-since.result c.new-3.result c.in_ok-buffered.ensures.waits latest_is since_is c.new-3.ensures;
+      only = left_starts b c.new-4.result c.new-5.result _ c.copy-since.result c.new-3.result c.in_ok-buffered.ensures.waits latest_is since_is c.new-3.ensures;
     }

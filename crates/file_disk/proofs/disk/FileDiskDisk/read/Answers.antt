@@ -5,7 +5,7 @@ use Rattle.file_disk.specs.Buffered.{Leaves}
 use Rattle.file_disk.specs.inside.FileDiskLaws.{read_of}
 use Rattle.file_disk.specs.inside.Transfer.{StaysWithin}
 use Rattle.file_disk.proofs.Disks.{Holds, holds_old, read_on, keeps_past, unchanged, covered}
-use Rattle.file_disk.proofs.Followed.{timed_on, followed_on, time_stays}
+use Rattle.file_disk.proofs.Followed.{timed_on, followed_on}
 use Rattle.file_disk.proofs.disk.FileDiskDisk.read.Goals as goal
 
 pub invariant_of-self : goal.invariant_of-self
@@ -35,11 +35,12 @@ returns-clause-honest g c honest =
     let b = c.fetch-reply.new.self in
     let fetched = c.fetch-reply.ensures in
     let calls = c.end_call.new.self in
+    let files = c.and-self.result in
     let past = c.and-self-2.result in
     let holds = read_on self.buffered b _ _ (holds_old self honest) honest fetched.sectors fetched.waits fetched.failed fetched.over (fetched.still honest) in
     record {
-      past = keeps_past self b.sectors calls self.latest self.since past fetched.sectors c.end_call.ensures.made c.and-self-2.ensures;
-      same = unchanged self b.sectors calls self.latest self.since past fetched.sectors c.end_call.ensures.made c.and-self-2.ensures refl refl;
+      past = keeps_past self b files calls self.latest self.since past fetched.sectors c.end_call.ensures.made c.and-self.ensures c.and-self-2.ensures;
+      same = unchanged self b files calls self.latest self.since past fetched.sectors c.end_call.ensures.made c.and-self.ensures c.and-self-2.ensures refl refl;
       ok = on_ok_weaker c.fetch-reply.result (λ given. ⊎_elim
           (λ waits. self.waits honest c.args.at c.fetch-reply.new.into waits ∙ sym (read_of self c.args.at c.requires))
           (λ kept. holds.kept c.args.at c.fetch-reply.new.into kept ∙ sym (read_of self c.args.at c.requires))
@@ -51,8 +52,7 @@ returns-clause-any_moment g c honest =
     let self = c.args.self.now in
     let b = c.fetch-reply.new.self in
     record {
-      noted = time_stays self honest b c.and-self.result.items c.and-self-2.result.items self.since _ c.end_call.ensures.made c.and-self.ensures c.and-self-2.ensures (c.fetch-reply.ensures.still honest).within;
       each =
-          covered self b.sectors c.end_call.new.self self.latest self.since c.and-self-2.result c.fetch-reply.ensures.sectors c.end_call.ensures.made c.and-self-2.ensures
-          (g.F.SectorFile.facts b.file) honest (c.fetch-reply.ensures.still honest).within;
+          covered self b c.and-self.result c.end_call.new.self self.latest self.since c.and-self-2.result c.fetch-reply.ensures.sectors c.end_call.ensures.made c.and-self.ensures c.and-self-2.ensures
+          honest (c.fetch-reply.ensures.still honest).within;
     }

@@ -7,7 +7,7 @@ use Rattle.file_disk.specs.Buffered.{Leaves}
 use Rattle.file_disk.specs.FileDisk.{file_facts}
 use Rattle.file_disk.specs.inside.Transfer.{StaysWithin}
 use Rattle.file_disk.proofs.Disks.{Holds, facts_of, holds_old, holds_from, holds_failed, keeps_past, unchanged, no_more, covered, fewer, now_stays, alone}
-use Rattle.file_disk.proofs.Followed.{timed_on, followed_on, time_stays}
+use Rattle.file_disk.proofs.Followed.{timed_on, followed_on}
 use Rattle.file_disk.proofs.Replies.{ok_of, at_ok, at_err, either_of, not_ok, ok_is, err_is, not_so}
 use Rattle.file_disk.proofs.disk.FileDiskDisk.sync.Goals as goal
 use Rattle.file_disk.proofs.disk.FileDiskDisk.sync.Goals.{then-is_ok, else-is_ok}
@@ -56,6 +56,7 @@ returns-clause-honest g c honest =
     let b = c.settle-reply.new.self in
     let settled = c.settle-reply.ensures in
     let calls = c.end_call.new.self in
+    let files = c.and-self.result in
     let past = c.and-self-2.result in
     let made = c.end_call.ensures.made in
     elim c.if-is_ok.branch [
@@ -69,19 +70,19 @@ returns-clause-honest g c honest =
           let done = at_ok reply ok (settled.ok honest) in
           let none = at_ok reply ok settled.waits in
           let held = g.met.F.SectorFile.holds_now b.file honest in
-          subst (λ s. IsSync (file_facts self) (facts_of s.1.0.sectors calls s.1.1.0 s.1.1.1.0 past) reply) (sym w.self-is) (record {
-            past = keeps_past self b.sectors calls latest since past settled.sectors made c.and-self-2.ensures;
-            now = now_stays self b.sectors calls latest since past settled.sectors made c.and-self-2.ensures b honest fine done none held latest_is since_is;
+          subst (λ s. IsSync (file_facts self) (facts_of s.1.0 files calls s.1.1.0 s.1.1.1.0 past) reply) (sym w.self-is) (record {
+            past = keeps_past self b files calls latest since past settled.sectors made c.and-self.ensures c.and-self-2.ensures;
+            now = now_stays self b files calls latest since past settled.sectors made c.and-self.ensures c.and-self-2.ensures honest fine done none held latest_is since_is;
             log = record { either = inl refl };
-            stop = no_more self b.sectors calls latest since past settled.sectors made c.and-self-2.ensures
-                (fewer self b.sectors calls latest since past settled.sectors made c.and-self-2.ensures b honest fine done none held latest_is since_is);
-            stop_ok = ok_of reply (alone self b.sectors calls latest since past settled.sectors made c.and-self-2.ensures b honest fine done none held latest_is since_is);
+            stop = no_more self b files calls latest since past settled.sectors made c.and-self.ensures c.and-self-2.ensures
+                (fewer self b files calls latest since past settled.sectors made c.and-self.ensures c.and-self-2.ensures honest fine done none held latest_is since_is);
+            stop_ok = ok_of reply (alone self b files calls latest since past settled.sectors made c.and-self.ensures c.and-self-2.ensures honest fine done none held latest_is since_is);
           })
       | else-is_ok w ↦
           let err : is_ok reply ≡ false = sym c.is_ok.ensures.value ∙ w.if-is_ok.false in
-          let same = unchanged self b.sectors calls self.latest self.since past settled.sectors made c.and-self-2.ensures refl refl in
-          subst (λ s. IsSync (file_facts self) (facts_of s.1.0.sectors calls s.1.1.0 s.1.1.1.0 past) reply) (sym w.self-is) (record {
-            past = keeps_past self b.sectors calls self.latest self.since past settled.sectors made c.and-self-2.ensures;
+          let same = unchanged self b files calls self.latest self.since past settled.sectors made c.and-self.ensures c.and-self-2.ensures refl refl in
+          subst (λ s. IsSync (file_facts self) (facts_of s.1.0 files calls s.1.1.0 s.1.1.1.0 past) reply) (sym w.self-is) (record {
+            past = keeps_past self b files calls self.latest self.since past settled.sectors made c.and-self.ensures c.and-self-2.ensures;
             now = same.now;
             log = record { either = inl refl };
             stop = record { each = λ k content left. (same.stop k content).0 left };
@@ -100,9 +101,8 @@ returns-clause-any_moment g c honest =
     either_of c.settle-reply.result (λ done. done.within) (λ refused. refused.within) (settled.ok honest) (settled.err honest) in
     let stays = subst (λ b. StaysWithin (Leaves self.buffered) (facts self.buffered.file) (facts b.file)) (sym b_is) within in
     record {
-      noted = time_stays self honest c.if-is_ok.self.1.0 c.and-self.result.items c.and-self-2.result.items c.if-is_ok.self.1.1.1.0 _ c.end_call.ensures.made c.and-self.ensures c.and-self-2.ensures stays;
       each =
-          covered self c.if-is_ok.self.1.0.sectors c.end_call.new.self c.if-is_ok.self.1.1.0 c.if-is_ok.self.1.1.1.0 c.and-self-2.result
-          (ap (λ b. b.sectors) b_is ∙ settled.sectors) c.end_call.ensures.made c.and-self-2.ensures
-          (facts c.if-is_ok.self.1.0.file) honest stays;
+          covered self c.if-is_ok.self.1.0 c.and-self.result c.end_call.new.self c.if-is_ok.self.1.1.0 c.if-is_ok.self.1.1.1.0 c.and-self-2.result
+          (ap (λ b. b.sectors) b_is ∙ settled.sectors) c.end_call.ensures.made c.and-self.ensures c.and-self-2.ensures
+          honest stays;
     }

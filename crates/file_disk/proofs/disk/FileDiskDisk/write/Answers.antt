@@ -7,7 +7,7 @@ use Rattle.file_disk.specs.Buffered.{Leaves}
 use Rattle.file_disk.specs.FileDisk.{file_facts}
 use Rattle.file_disk.specs.inside.Transfer.{StaysWithin}
 use Rattle.file_disk.proofs.Disks.{Holds, facts_of, holds_old, holds_from, holds_failed, keeps_past, unchanged, covered, grows, now_set}
-use Rattle.file_disk.proofs.Followed.{timed_on, followed_on, time_stays}
+use Rattle.file_disk.proofs.Followed.{timed_on, followed_on}
 use Rattle.file_disk.proofs.Replies.{ok_of, at_ok, at_err, either_of, not_err, not_ok, ok_is, err_is, not_so, err_of}
 use Rattle.file_disk.proofs.disk.FileDiskDisk.write.Goals as goal
 use Rattle.file_disk.proofs.disk.FileDiskDisk.write.Goals.{then-is_ok, else-is_ok}
@@ -56,6 +56,7 @@ returns-clause-honest g c honest =
     let b = c.gather-reply.new.self in
     let gathered = c.gather-reply.ensures in
     let calls = c.end_call.new.self in
+    let files = c.and-self.result in
     let past = c.and-self-2.result in
     let made = c.end_call.ensures.made in
     elim c.if-is_ok.branch [
@@ -66,12 +67,12 @@ returns-clause-honest g c honest =
           let latest_is = w.and-self-then-is_ok.ensures ∙ ap (λ moments. moments ++ b ∷ []) w.new.ensures in
           let fine = not_so self.buffered.failed _ (ok_is reply ok) gathered.stays in
           let put = at_ok reply ok (gathered.ok honest) in
-          let more : GrowsBy (file_facts self) (facts_of b.sectors calls latest since past) c.args.at c.args.from.now =
-          grows self b.sectors calls latest since past gathered.sectors made c.and-self-2.ensures b honest fine c.args.at c.args.from.now c.requires put
+          let more : GrowsBy (file_facts self) (facts_of b files calls latest since past) c.args.at c.args.from.now =
+          grows self b files calls latest since past gathered.sectors made c.and-self.ensures c.and-self-2.ensures honest fine c.args.at c.args.from.now c.requires put
           (at_ok reply ok gathered.here) (at_ok reply ok gathered.others) latest_is w.and-self-then-is_ok-2.ensures in
-          subst (λ s. IsWrite (file_facts self) (facts_of s.1.0.sectors calls s.1.1.0 s.1.1.1.0 past) c.args.at c.args.from.now reply) (sym w.self-is) (record {
-            past = keeps_past self b.sectors calls latest since past gathered.sectors made c.and-self-2.ensures;
-            ok = ok_of reply (now_set self b.sectors calls latest since past gathered.sectors made c.and-self-2.ensures b honest fine c.args.at c.args.from.now c.requires put
+          subst (λ s. IsWrite (file_facts self) (facts_of s.1.0 files calls s.1.1.0 s.1.1.1.0 past) c.args.at c.args.from.now reply) (sym w.self-is) (record {
+            past = keeps_past self b files calls latest since past gathered.sectors made c.and-self.ensures c.and-self-2.ensures;
+            ok = ok_of reply (now_set self b files calls latest since past gathered.sectors made c.and-self.ensures c.and-self-2.ensures honest fine c.args.at c.args.from.now c.requires put
                 (at_ok reply ok gathered.here) (at_ok reply ok gathered.others) latest_is w.and-self-then-is_ok-2.ensures);
             err = not_err _ reply ok;
             stop = record { each = λ k content. (more.each k content).0 };
@@ -79,9 +80,9 @@ returns-clause-honest g c honest =
           })
       | else-is_ok w ↦
           let err : is_ok reply ≡ false = sym c.is_ok.ensures.value ∙ w.if-is_ok.false in
-          let same = unchanged self b.sectors calls self.latest self.since past gathered.sectors made c.and-self-2.ensures refl refl in
-          subst (λ s. IsWrite (file_facts self) (facts_of s.1.0.sectors calls s.1.1.0 s.1.1.1.0 past) c.args.at c.args.from.now reply) (sym w.self-is) (record {
-            past = keeps_past self b.sectors calls self.latest self.since past gathered.sectors made c.and-self-2.ensures;
+          let same = unchanged self b files calls self.latest self.since past gathered.sectors made c.and-self.ensures c.and-self-2.ensures refl refl in
+          subst (λ s. IsWrite (file_facts self) (facts_of s.1.0 files calls s.1.1.0 s.1.1.1.0 past) c.args.at c.args.from.now reply) (sym w.self-is) (record {
+            past = keeps_past self b files calls self.latest self.since past gathered.sectors made c.and-self.ensures c.and-self-2.ensures;
             ok = not_ok _ reply err;
             err = err_of reply (inl same.now);
             stop = record { each = λ k content left. inl ((same.stop k content).0 left) };
@@ -100,9 +101,8 @@ returns-clause-any_moment g c honest =
     either_of c.gather-reply.result (λ put. put.within) (λ refused. refused.within) (gathered.ok honest) (gathered.err honest) in
     let stays = subst (λ b. StaysWithin (Leaves self.buffered) (facts self.buffered.file) (facts b.file)) (sym b_is) within in
     record {
-      noted = time_stays self honest c.if-is_ok.self.1.0 c.and-self.result.items c.and-self-2.result.items c.if-is_ok.self.1.1.1.0 _ c.end_call.ensures.made c.and-self.ensures c.and-self-2.ensures stays;
       each =
-          covered self c.if-is_ok.self.1.0.sectors c.end_call.new.self c.if-is_ok.self.1.1.0 c.if-is_ok.self.1.1.1.0 c.and-self-2.result
-          (ap (λ b. b.sectors) b_is ∙ gathered.sectors) c.end_call.ensures.made c.and-self-2.ensures
-          (facts c.if-is_ok.self.1.0.file) honest stays;
+          covered self c.if-is_ok.self.1.0 c.and-self.result c.end_call.new.self c.if-is_ok.self.1.1.0 c.if-is_ok.self.1.1.1.0 c.and-self-2.result
+          (ap (λ b. b.sectors) b_is ∙ gathered.sectors) c.end_call.ensures.made c.and-self.ensures c.and-self-2.ensures
+          honest stays;
     }
