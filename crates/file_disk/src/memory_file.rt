@@ -59,7 +59,7 @@ impl MemoryFile {
         ensures failures { (memory_file_facts result).failures ≡ 0 }
         ensures sync_failed { (memory_file_facts result).sync_failed ≡ false }
 
-        // Over a medium that was stopped the file is found with what the stop left.
+        // Over a disk as it starts, the file is found with the sectors of the disk.
         ensures reopen { (contents : List Sector) → StartsWith (memory_facts medium) contents
             → IsFoundWith (memory_file_facts result) contents }
     {

@@ -89,7 +89,7 @@ impl<F: SectorFile + Drop> FileDisk<F> {
         ensures file { IsTrue F.is_honest → IfOk result (λ disk. IsOver file disk) }
         ensures starts { IsTrue F.is_honest → IfOk result (λ disk. IsAsTheFile disk) }
 
-        // Where the file is found after a stop the disk starts with what the medium had.
+        // Over a file that is found after a stop, the disk starts with the sectors of its medium.
         ensures reopen { IsTrue F.is_honest → IfOk result (λ disk. StartsAsFound file disk) }
 
         // It fails only if memory is refused or the file's sectors can't be counted.

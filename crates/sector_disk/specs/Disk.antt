@@ -74,7 +74,7 @@ pub record HasWholeSectors (disk : DiskFacts) : Type 0 where
 pub record IsSynced (disk : DiskFacts) : Type 0 where
   pub each : (m : List Sector) → Mixture disk m → m ≡ disk.now
 
--- What might have been left at the moments of old stays as it was, and so does the mark of each.
+-- at each moment of old the sets of the sectors stay as they were, and so does the mark
 pub record KeepsPast (old new : DiskFacts) : Type 0 where
   pub sectors : new.sectors ≡ old.sectors
   pub later : old.time ≤ new.time
