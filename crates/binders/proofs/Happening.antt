@@ -1,12 +1,12 @@
 -- Events happen one after the other, and what a stop leaves of them.
-use Rattle.std.proofs.Common.{◌≡◌, List, [], ◌∷◌, ◌++◌, map, append-nil, append_assoc, None, IsTrue, ⊎_elim, sym, subst, ap}
+use Rattle.std.proofs.Common.{◌≡◌, List, [], ◌∷◌, ◌++◌, map, append-nil, append_assoc, IsTrue, ⊎_elim, sym, subst, ap}
 use Rattle.sector_disk.specs.Disk.{DiskFacts, Mixture, LeavesOnly}
 use Rattle.sector_disk.proofs.Moments.{at_rest}
 use Rattle.store.specs.Opened.{Opened}
 use Rattle.states.specs.State.{State}
 use Rattle.requests.specs.Runs.{Steps, Run, last_of}
 use Rattle.requests.specs.declared.reply.Reply.TheVariants.{Done, Listing, Bound, Refused}
-use Rattle.registry.specs.Acknowledged.{Exchange}
+use Rattle.registry.specs.Acknowledged.{Exchange, stepped}
 use Rattle.registry.specs.Ran.{RunsThrough}
 use Rattle.registry.proofs.RanSoFar.{RunsVia}
 use Rattle.registry.proofs.Running.{runs_none, runs_turn, runs_idle, runs_through}
@@ -26,13 +26,13 @@ module _ {D : Type 0} (facts : D → DiskFacts) where
     still_failed stays failed = subst IsTrue (sym stays.kept.2) failed
 
     -- no call of the disk was made
-    goes_unread : StaysAt facts mid new → new.registry.disk ≡ mid.registry.disk → GoesOn None
+    goes_unread : StaysAt facts mid new → new.registry.disk ≡ mid.registry.disk → GoesOn stepped
     goes_unread stays same = runs_idle facts old.registry mid.registry new.registry s xs registries so_far stays.same
         (λ honest. subst (λ (d : D). LeavesOnly (facts mid.registry.disk) (facts d) (Mixture (facts mid.registry.disk))) (sym same)
         (at_rest (facts mid.registry.disk) (Mixture (facts mid.registry.disk)) (λ m mixture. mixture)))
         (λ failed. (still_failed stays failed, same))
 
-    goes_advanced : (slot : _) (result : _) → AdvancesIn facts mid new slot result → GoesOn None
+    goes_advanced : (slot : _) (result : _) → AdvancesIn facts mid new slot result → GoesOn stepped
     goes_advanced slot result advances = runs_idle facts old.registry mid.registry new.registry s xs registries so_far advances.stays.same advances.any_moment
         (λ failed. (still_failed advances.stays failed, ap (λ (b : Slotted D). b.registry.disk) (advances.failed failed)))
 

@@ -1,9 +1,9 @@
 -- What a list of events does to a registry with binders, and what a stop leaves meanwhile (own).
-use Rattle.std.specs.Prelude.{◌≡◌, List, [], ◌∷◌, map, Some, None}
+use Rattle.std.specs.Prelude.{◌≡◌, List, [], ◌∷◌, map}
 use Rattle.sector_disk.specs.Disk.{DiskFacts}
 use Rattle.states.specs.State.{State}
 use Rattle.requests.specs.Runs.{Steps, last_of}
-use Rattle.registry.specs.Acknowledged.{Exchange}
+use Rattle.registry.specs.Acknowledged.{Exchange, answered, command, stepped}
 use Rattle.registry.specs.Opened.{IsAt}
 use Rattle.registry.specs.Ran.{RunsThrough}
 use Rattle.store.specs.Holds.{AreHolds}
@@ -14,8 +14,8 @@ use Rattle.binders.specs.declared.event.EventReply.TheVariants.{Replied}
 
 -- what an event and its reply are to the state: a command with its reply, or no change asked for
 abbrev pub exchange_of : Happening → EventReply → Exchange
-exchange_of (apply request) (Replied answer) = Some (request, answer)
-exchange_of happening reply = None
+exchange_of (apply request) (Replied answer) = answered (command request) answer
+exchange_of happening reply = stepped
 
 -- what events and their replies are to the state, one by one
 abbrev pub exchanges : List Happening → List EventReply → List Exchange

@@ -34,7 +34,7 @@ use Rattle.registry.specs.Drafting.{DraftStep, PlanStep, draft_phase}
 use Rattle.registry.specs.Stands.{Stands}
 use Rattle.registry.specs.Updating.{DraftAnswers, IsUpdate, Plans, asks_change, drafted_by, is_refusal, updated}
 use Rattle.registry.proofs.Untested.{each_accepted}
-use Rattle.registry.proofs.Updating.{accepted_step, begun_at, is_update, plans_moment, refuses}
+use Rattle.registry.proofs.Updating.{begun_at, each_next, is_update, plans_moment}
 use Rattle.byte_registry.specs.Plans.{Holds, LeadsTo, synced_plan}
 use Rattle.byte_registry.specs.Replies.{opened_on}
 use Rattle.byte_registry.specs.Updated.{AnswersUpdate, ArePlanned, IsCommitted, IsUnwritten, IsUpdateAsked, StopsAt}
@@ -42,45 +42,6 @@ use Rattle.byte_registry.specs.inside.Opening.{IsOpenedOn}
 use Rattle.byte_registry.specs.inside.Planning.{MakesUpdate}
 use Rattle.byte_registry.proofs.Asking.{holds, only, stands_by, leads_stored, leads_registry}
 use Rattle.byte_registry.proofs.Syncs.{few_synced}
-
--- a change that a draft accepted is refused by no test
-tested : (p p' : Phase) (request : Request) (answer : Reply) → PlanStep p request answer p' → is_refusal answer ≡ false → refusal_at p request ≡ None
-tested p p' request Done step is = step.1
-tested p p' request (Listing l) step is = step.1
-tested p p' request (Bound image) step is = step.1
-tested p p' request (Refused refusal) step is = absurd (refuses is)
-
--- so each file stays a library,
-each_drafted : (p p' : Phase) (request : Request) (answer : Reply) → DraftStep p request answer p' → is_refusal answer ≡ false
-    → All IsLibrary p.state.libraries → All IsLibrary (accepted p.state request).libraries
-each_drafted p p' (install bytes) answer step is all = each_accepted p (install bytes) (tested p p' (install bytes) answer step is) all
-each_drafted p p' (replace bytes) answer step is all = each_accepted p (replace bytes) (tested p p' (replace bytes) answer step is) all
-each_drafted p p' (remove name) answer step is all = each_accepted p (remove name) (tested p p' (remove name) answer step is) all
-each_drafted p p' (set_preloads names) answer step is all = all
-each_drafted p p' (bind program base) answer step is all = all
-each_drafted p p' list answer step is all = all
-
--- also after several,
-each_planned : (p : Phase) (requests : List Request) (answers : List Reply) (states : List Phase) → Steps DraftStep p requests answers states
-    → All (λ (answer : Reply). is_refusal answer ≡ false) answers → All IsLibrary p.state.libraries → All IsLibrary (drafted_by p.state requests).libraries
-each_planned p [] [] [] steps is all = all
-each_planned p (request ∷ requests) (answer ∷ answers) (t ∷ states) steps is all =
-    let accepts = All-head (λ (a : Reply). is_refusal a ≡ false) answer answers is in
-    let led = accepted_step p t request answer steps.0 accepts in
-    let after : All IsLibrary t.state.libraries =
-    subst (λ (e : State). All IsLibrary e.libraries) (sym led.1.state) (each_drafted p t request answer steps.0 accepts all) in
-    subst (λ (e : State). All IsLibrary (drafted_by e requests).libraries) led.1.state
-    (each_planned t requests answers states steps.1 (All-tail (λ (a : Reply). is_refusal a ≡ false) answer answers is) after)
-each_planned p [] [] (t ∷ states) steps is all = absurd steps
-each_planned p [] (answer ∷ answers) states steps is all = absurd steps
-each_planned p (request ∷ requests) [] states steps is all = absurd steps
-each_planned p (request ∷ requests) (answer ∷ answers) [] steps is all = absurd steps
-
--- and in what is committed
-each_next : (s d : State) (changes : Bool) → All IsLibrary s.libraries → All IsLibrary d.libraries
-    → All IsLibrary (if changes then next s d.libraries d.preloads else s).libraries
-each_next s d true before after = after
-each_next s d false before after = before
 
 -- a reply that is a refusal
 pub refused_in : (old new : Drafted ByteDisk) (request : Request) (answer : Reply) (result : Result (Unit {0}) Refusal) → DraftAnswers byte_facts old request answer new
@@ -240,8 +201,7 @@ module _ (bytes : List ℕ) (opened : Opened ByteDisk) (on : IsOpenedOn bytes op
         let all = held.stands.libraries in
         let planned = makes.table.planned in
         leads_registry bytes opened on (updated s requests) new.disk makes.any_moment (ends makes.ok)
-        (each_next s (drafted_by s requests) (list_any asks_change requests) all
-        (each_planned (draft_phase byte_facts (begun opened) s) requests planned.answers planned.update.run.0 planned.update.run.1 planned.plans.accepted all)) held
+        (each_next s (drafted_by s requests) (list_any asks_change requests) all (planned.update.libraries all)) held
     registry (Err refused) makes = tt
 
     pub update_asked : (answer : Result (Unit {0}) (ℕ × Refusal)) → MakesUpdate opened new s requests answer → (s : State) × IsUpdateAsked bytes s requests answer new.disk

@@ -6,6 +6,7 @@ use Rattle.std.proofs.lemmas.List.{take-append-le, take_all, length-append}
 use Rattle.std.proofs.lemmas.List.Sums.{fold-append}
 use Rattle.std.proofs.lemmas.Option.{none-some, same_Some}
 use Rattle.sector_disk.specs.Disk.{DiskFacts}
+use Rattle.states.specs.State.{State}
 use Rattle.requests.specs.Request.{Request, install, replace, remove, set_preloads, bind, list}
 use Rattle.requests.specs.Phase.{Phase}
 use Rattle.requests.specs.Runs.{last_of, after}
@@ -15,8 +16,9 @@ use Rattle.requests.specs.declared.reply.Reply.{Reply}
 use Rattle.requests.specs.declared.reply.Reply.TheVariants.{Done, Refused}
 use Rattle.requests.specs.declared.reply.Reply.TheVariants as reply
 use Rattle.requests.proofs.Runs.{last_more}
-use Rattle.registry.specs.Acknowledged.{Exchange, acknowledged, state_after, FailedAt}
+use Rattle.registry.specs.Acknowledged.{Transaction, command, update, Exchange, answered, given_up, stepped, acknowledged, outcome, state_after, FailedAt}
 use Rattle.registry.specs.Ran.{Point, disk_at, Goes, Moves, LeadsThrough}
+use Rattle.registry.specs.Updating.{updated}
 use Rattle.registry.specs.Phase.{phase_of}
 
 -- an item of a list is one of a longer list,
@@ -43,12 +45,13 @@ get_take [] k = refl
 get_take (x ∷ xs) zero = refl
 get_take (x ∷ xs) (suc k) = get_take xs k
 
--- a command that was answered S1 isn't among the acknowledged ones
-pub cut_unacknowledged : (xs : List Exchange) (k : ℕ) (q : Request) → FailedAt xs k q → acknowledged (take (suc k) xs) ≡ acknowledged (take k xs)
-cut_unacknowledged [] k q cut = absurd (none-some (Some (q, Refused refusal.Device)) cut)
-cut_unacknowledged (x ∷ xs) zero q cut = subst (λ y. acknowledged (y ∷ []) ≡ []) (sym (same_Some x (Some (q, Refused refusal.Device)) cut)) refl
-cut_unacknowledged (Some e ∷ xs) (suc k) q cut = ap (λ l. cond (is_acknowledged e.1) (e.0 ∷ l) l) (cut_unacknowledged xs k q cut)
-cut_unacknowledged (None ∷ xs) (suc k) q cut = cut_unacknowledged xs k q cut
+-- what was answered S1 isn't among the acknowledged ones
+pub cut_unacknowledged : (xs : List Exchange) (k : ℕ) (q : Transaction) → FailedAt xs k q → acknowledged (take (suc k) xs) ≡ acknowledged (take k xs)
+cut_unacknowledged [] k q cut = absurd (none-some (answered q (Refused refusal.Device)) cut)
+cut_unacknowledged (x ∷ xs) zero q cut = subst (λ y. acknowledged (y ∷ []) ≡ []) (sym (same_Some x (answered q (Refused refusal.Device)) cut)) refl
+cut_unacknowledged (answered asked answer ∷ xs) (suc k) q cut = ap (λ l. cond (is_acknowledged answer) (asked ∷ l) l) (cut_unacknowledged xs k q cut)
+cut_unacknowledged (given_up ∷ xs) (suc k) q cut = cut_unacknowledged xs k q cut
+cut_unacknowledged (stepped ∷ xs) (suc k) q cut = cut_unacknowledged xs k q cut
 
 -- what was on the way stays,
 pub after_before : {S : Type 0} (s : S) (ts : List S) (u : S) (k : ℕ) → k ≤ length ts → after s (ts ++ u ∷ []) k ≡ after s ts k
@@ -99,39 +102,55 @@ module _ {D : Type 0} (facts : D → DiskFacts) where
       (λ nothing. subst (λ y. p'.state ≡ cond (is_acknowledged y) (accepted p.state q) p.state) (sym (goes.did.reopen.1 nothing.0)) (ap (λ (x : Point D). x.state) nothing.1))
       goes.applied
 
+  -- what is acknowledged leads to its outcome, and nothing else changes the state
+  by_answer : (p : Point D) (asked : Transaction) (acknowledges : Bool) (t : State) → t ≡ cond acknowledges (outcome p.state asked) p.state
+      → t ≡ state_after p.state (cond acknowledges (asked ∷ []) [])
+  by_answer p asked true t same = same
+  by_answer p asked false t same = same
+
   moves_state : (p : Point D) (x : Exchange) (p' : Point D) → Moves facts p x p' → p'.state ≡ state_after p.state (acknowledged (x ∷ []))
-  moves_state p (Some e) p' goes = by (is_acknowledged e.1) (goes_state p e.0 e.1 p' goes)
-    where
-      by : (b : Bool) → p'.state ≡ cond b (accepted p.state e.0) p.state → p'.state ≡ state_after p.state (cond b (e.0 ∷ []) [])
-      by true same = same
-      by false same = same
-  moves_state p None p' idles = idles.same
+  moves_state p (answered (command q) answer) p' goes = by_answer p (command q) (is_acknowledged answer) p'.state (goes_state p q answer p' goes)
+  moves_state p (answered (update qs) answer) p' updates = by_answer p (update qs) (is_acknowledged answer) p'.state (⊎_elim
+      (λ at. ⊎_elim
+      (λ done. subst (λ (r : Reply). p'.state ≡ cond (is_acknowledged r) (updated p.state qs) p.state) (sym done.0) done.1)
+      (λ failed. subst (λ (r : Reply). p'.state ≡ cond (is_acknowledged r) (updated p.state qs) p.state) (sym failed.0) failed.1)
+      at.ends)
+      (λ nothing. subst (λ (r : Reply). p'.state ≡ cond (is_acknowledged r) (updated p.state qs) p.state) (sym nothing.1) (ap (λ (x : Point D). x.state) nothing.2))
+      updates)
+  moves_state p given_up p' gives_up = gives_up.same
+  moves_state p stepped p' idles = idles.same
 
   acknowledged_more : (x : Exchange) (xs : List Exchange) → acknowledged (x ∷ xs) ≡ acknowledged (x ∷ []) ++ acknowledged xs
-  acknowledged_more (Some e) xs = by (is_acknowledged e.1)
+  acknowledged_more (answered asked answer) xs = by (is_acknowledged answer)
     where
-      by : (b : Bool) → cond b (e.0 ∷ acknowledged xs) (acknowledged xs) ≡ cond b (e.0 ∷ []) [] ++ acknowledged xs
+      by : (b : Bool) → cond b (asked ∷ acknowledged xs) (acknowledged xs) ≡ cond b (asked ∷ []) [] ++ acknowledged xs
       by true = refl
       by false = refl
-  acknowledged_more None xs = refl
+  acknowledged_more given_up xs = refl
+  acknowledged_more stepped xs = refl
 
   -- the state after the first k is the one after the acknowledged commands among them
   pub states_after : (k : ℕ) (p : Point D) (xs : List Exchange) (ts : List (Point D)) → LeadsThrough facts p xs ts → (after p ts k).state ≡ state_after p.state (acknowledged (take k xs))
   states_after zero p xs ts h = refl
   states_after (suc k) p [] [] h = refl
   states_after (suc k) p (x ∷ xs) (t ∷ ts) h =
-      let first : List Request = acknowledged (x ∷ []) in
+      let first : List Transaction = acknowledged (x ∷ []) in
       states_after k t xs ts h.1
       ∙ ap (λ s. state_after s (acknowledged (take k xs))) (moves_state p x t h.0)
-      ∙ sym (fold-append accepted p.state first (acknowledged (take k xs)))
+      ∙ sym (fold-append outcome p.state first (acknowledged (take k xs)))
       ∙ ap (state_after p.state) (sym (acknowledged_more x (take k xs)))
   states_after (suc k) p [] (t ∷ ts) h = absurd h
   states_after (suc k) p (x ∷ xs) [] h = absurd h
 
   -- time doesn't go back
   moves_time : (p : Point D) (x : Exchange) (p' : Point D) → Moves facts p x p' → (disk_at facts p).time ≤ (disk_at facts p').time
-  moves_time p (Some e) p' goes = goes.did.calls.later
-  moves_time p None p' idles = ⊎_elim
+  moves_time p (answered (command q) answer) p' goes = goes.did.calls.later
+  moves_time p (answered (update qs) answer) p' updates = ⊎_elim
+      (λ at. at.any_moment.past.later)
+      (λ nothing. subst (λ (y : Point D). (disk_at facts p).time ≤ (disk_at facts y).time) (sym nothing.2) (omega arith))
+      updates
+  moves_time p given_up p' gives_up = gives_up.any_moment.past.later
+  moves_time p stepped p' idles = ⊎_elim
       (λ stays. stays.any_moment.past.later)
       (λ failed. subst (λ (d : D). (disk_at facts p).time ≤ (facts d).time) (sym failed.2) (omega arith))
       idles.stays
@@ -163,3 +182,11 @@ module _ {D : Type 0} (facts : D → DiskFacts) where
   leads_more p u x (y ∷ xs) (t ∷ ts) h moves = (h.0, leads_more t u x xs ts h.1 moves)
   leads_more p u x [] (t ∷ ts) h moves = absurd h
   leads_more p u x (y ∷ xs) [] h moves = absurd h
+
+  -- and those that come after
+  pub leads_on : (p : Point D) (xs : List Exchange) (ts : List (Point D)) (ys : List Exchange) (us : List (Point D)) → LeadsThrough facts p xs ts → LeadsThrough facts (last_of p ts) ys us
+      → LeadsThrough facts p (xs ++ ys) (ts ++ us)
+  leads_on p [] [] ys us h rest = rest
+  leads_on p (x ∷ xs) (t ∷ ts) ys us h rest = (h.0, leads_on t xs ts ys us h.1 rest)
+  leads_on p [] (t ∷ ts) ys us h rest = absurd h
+  leads_on p (x ∷ xs) [] ys us h rest = absurd h

@@ -26,6 +26,7 @@ pub mod Bindings
 pub mod Bounds
 pub mod Untested
 pub mod Updating
+pub mod Committing
 pub mod Upgrades
 pub mod Owned
 pub mod Closed

@@ -1,20 +1,28 @@
 -- What is kept of a run from one thing to the next: which one a failing write or sync cut off.
 use Rattle.std.proofs.Common.{◌≡◌, ◌⊎◌, ◌+◌, ◌≤◌, ℕ, IsTrue, List, length, take, map}
-use Rattle.sector_disk.specs.Disk.{Sector, DiskFacts, MixtureAt, Mixture, KeepsPast}
+use Rattle.sector_disk.specs.Disk.{Sector, DiskFacts, MixtureAt, Mixture, KeepsPast, LeavesOnly}
 use Rattle.store.specs.Opened.{Opened}
 use Rattle.states.specs.State.{State}
-use Rattle.requests.specs.Request.{Request}
 use Rattle.requests.specs.Runs.{last_of, after}
-use Rattle.requests.specs.Step.{accepted}
+use Rattle.requests.specs.declared.refusal.Refusal.TheVariants.{Device}
+use Rattle.requests.specs.declared.reply.Reply.{Reply}
+use Rattle.requests.specs.declared.reply.Reply.TheVariants.{Refused}
 use Rattle.registry.specs.Stands.{Stands}
 use Rattle.registry.specs.Opened.{IsAt}
-use Rattle.registry.specs.Acknowledged.{Exchange, acknowledged, state_after, FailedAt}
-use Rattle.registry.specs.Ran.{Point, point, disk_at, LeadsThrough, HoldsAcknowledged, HasBegun}
+use Rattle.registry.specs.Acknowledged.{Transaction, Exchange, answered, acknowledged, outcome, state_after, FailedAt}
+use Rattle.registry.specs.Ran.{Point, point, disk_at, Moves, LeadsThrough, HoldsAcknowledged, HasBegun}
+
+-- Something was answered over a registry at a state, and led to this point: what a stop leaves of it,
+-- and how it ends. Only what was answered S1 and broke the registry may be found done.
+pub record Turns {D : Type 0} (facts : D → DiskFacts) (mid : Opened D) (s : State) (asked : Transaction) (answer : Reply) (u : Point D) : Type 0 where
+  pub moves : Moves facts (point mid s) (answered asked answer) u
+  pub any_moment : LeavesOnly (facts mid.disk) (disk_at facts u) (λ m. Stands m s ⊎ (Stands m u.state ⊎ ((answer ≡ Refused Device) × IsTrue u.registry.failed × Stands m (outcome s asked))))
+  pub kept : IsAt facts u.registry u.state ⊎ (IsTrue u.registry.failed × (u.state ≡ s))
 
 module _ {D : Type 0} (facts : D → DiskFacts) (start : Point D) (exchanges : List Exchange) (points : List (Point D)) where
-  -- Command number k was answered S1 by a failing write or sync, and is found done.
+  -- Number k was answered S1 by a failing write or sync, and is found done.
   abbrev pub IsFoundDone : ℕ → List Sector → Type 0
-  IsFoundDone k m = (request : Request) × FailedAt exchanges k request × IsTrue (after start points (k + 1)).registry.failed × Stands m (accepted (after start points k).state request)
+  IsFoundDone k m = (asked : Transaction) × FailedAt exchanges k asked × IsTrue (after start points (k + 1)).registry.failed × Stands m (outcome (after start points k).state asked)
 
   -- What a stop at a moment leaves: the state after the first k, all begun by then, which hold every command acknowledged by then; or what the next one, begun too, had in flight.
   abbrev pub LeavesPrefix : ℕ → List Sector → Type 0
@@ -31,7 +39,7 @@ module _ {D : Type 0} (facts : D → DiskFacts) (start : Point D) (exchanges : L
     pub any_moment : (moment : ℕ) (m : List Sector) → (disk_at facts start).time ≤ moment → moment ≤ (disk_at facts end).time → MixtureAt (disk_at facts end) moment m → LeavesPrefix moment m
     pub kept : IsAt facts end.registry end.state ⊎ IsTrue end.registry.failed
     pub found : (m : List Sector) → Mixture (disk_at facts end) m
-        → Stands m end.state ⊎ (IsTrue end.registry.failed × (k : ℕ) × (request : Request) × FailedAt exchanges k request × Stands m (accepted end.state request))
+        → Stands m end.state ⊎ (IsTrue end.registry.failed × (k : ℕ) × (asked : Transaction) × FailedAt exchanges k asked × Stands m (outcome end.state asked))
 
 -- the same, through these registries
 abbrev pub RunsVia : {D : Type 0} → (D → DiskFacts) → Opened D → List (Opened D) → Opened D → State → List Exchange → Type 0

@@ -1,5 +1,5 @@
 -- For callers: requests to the draft of what stands, of which none is refused, are an update.
-use Rattle.std.proofs.Common.{◌≡◌, ◌≢◌, ℕ, List, [], ◌∷◌, Bool, true, false, ◌||◌, if◌then◌else◌, refl, sym, ap, subst, ◌∙◌, ⊎_elim}
+use Rattle.std.proofs.Common.{◌≡◌, ◌≢◌, ℕ, List, [], ◌∷◌, Bool, true, false, None, ◌||◌, if◌then◌else◌, refl, sym, ap, subst, ◌∙◌, ⊎_elim}
 use Rattle.std.specs.Prelude.{All, IsFalse, IsTrue, ◌↔◌}
 use Rattle.std.specs.List.{list_any}
 use Rattle.std.proofs.lemmas.List.Elements.{All-head, All-tail}
@@ -16,13 +16,15 @@ use Rattle.store.specs.declared.draft.Touched.TheVariants.{Nothing, Preloads, Li
 use Rattle.requests.specs.Phase.{Phase}
 use Rattle.requests.specs.Request.{Request, install, replace, remove, set_preloads, bind, list}
 use Rattle.requests.specs.Runs.{Run, Steps, last_of}
-use Rattle.requests.specs.Step.{Leads, accepted}
+use Rattle.requests.specs.Library.{IsLibrary}
+use Rattle.requests.specs.Step.{Leads, accepted, refusal_at}
 use Rattle.requests.specs.declared.refusal.Refusal.{Refusal}
 use Rattle.requests.specs.declared.reply.Reply.{Reply}
 use Rattle.requests.specs.declared.reply.Reply.TheVariants.{Done, Listing, Bound, Refused}
 use Rattle.registry.specs.Answered.{IsChangeAnswer}
 use Rattle.registry.specs.Drafting.{AnsweredDraft, DraftStep, LeavesDraft, PlanStep, draft_phase}
 use Rattle.registry.specs.Updating.{DraftAnswers, IsUpdate, Plans, asks_change, drafted_by, is_refusal, updated}
+use Rattle.registry.proofs.Untested.{each_accepted}
 
 -- no write failed before the step nor in it, and it led to the state after the request
 abbrev pub IsAcceptedStep : Phase → Request → Phase → Type 0
@@ -121,6 +123,45 @@ makes s d Preloads false h = absurd (apart_preloads (h.1 refl))
 makes s d Listed true h = refl
 makes s d Listed false h = absurd (apart_listed (h.1 refl))
 
+-- a change that a draft accepted is refused by no test
+tested : (p p' : Phase) (request : Request) (answer : Reply) → PlanStep p request answer p' → is_refusal answer ≡ false → refusal_at p request ≡ None
+tested p p' request Done step is = step.1
+tested p p' request (Listing l) step is = step.1
+tested p p' request (Bound image) step is = step.1
+tested p p' request (Refused refusal) step is = absurd (refuses is)
+
+-- so each file stays a library,
+each_drafted : (p p' : Phase) (request : Request) (answer : Reply) → DraftStep p request answer p' → is_refusal answer ≡ false
+    → All IsLibrary p.state.libraries → All IsLibrary (accepted p.state request).libraries
+each_drafted p p' (install bytes) answer step is all = each_accepted p (install bytes) (tested p p' (install bytes) answer step is) all
+each_drafted p p' (replace bytes) answer step is all = each_accepted p (replace bytes) (tested p p' (replace bytes) answer step is) all
+each_drafted p p' (remove name) answer step is all = each_accepted p (remove name) (tested p p' (remove name) answer step is) all
+each_drafted p p' (set_preloads names) answer step is all = all
+each_drafted p p' (bind program base) answer step is all = all
+each_drafted p p' list answer step is all = all
+
+-- also after several,
+each_planned : (p : Phase) (requests : List Request) (answers : List Reply) (states : List Phase) → Steps DraftStep p requests answers states
+    → All (λ (answer : Reply). is_refusal answer ≡ false) answers → All IsLibrary p.state.libraries → All IsLibrary (drafted_by p.state requests).libraries
+each_planned p [] [] [] steps is all = all
+each_planned p (request ∷ requests) (answer ∷ answers) (t ∷ states) steps is all =
+    let accepts = All-head (λ (a : Reply). is_refusal a ≡ false) answer answers is in
+    let led = accepted_step p t request answer steps.0 accepts in
+    let after : All IsLibrary t.state.libraries =
+    subst (λ (e : State). All IsLibrary e.libraries) (sym led.1.state) (each_drafted p t request answer steps.0 accepts all) in
+    subst (λ (e : State). All IsLibrary (drafted_by e requests).libraries) led.1.state
+    (each_planned t requests answers states steps.1 (All-tail (λ (a : Reply). is_refusal a ≡ false) answer answers is) after)
+each_planned p [] [] (t ∷ states) steps is all = absurd steps
+each_planned p [] (answer ∷ answers) states steps is all = absurd steps
+each_planned p (request ∷ requests) [] states steps is all = absurd steps
+each_planned p (request ∷ requests) (answer ∷ answers) [] steps is all = absurd steps
+
+-- and in what is committed
+pub each_next : (s d : State) (changes : Bool) → All IsLibrary s.libraries → All IsLibrary d.libraries
+    → All IsLibrary (if changes then next s d.libraries d.preloads else s).libraries
+each_next s d true before after = after
+each_next s d false before after = before
+
 module _ {D : Type 0} (facts : D → DiskFacts) (s : State) where
   -- the draft of which nothing was changed is at what stands
   pub begun_at : (store : Opened D) → (IsTrue (facts store.disk).honest → HoldsNow (facts store.disk)) → IsAt facts store s → IsDraftedAt facts (begun store) s s
@@ -189,5 +230,6 @@ module _ {D : Type 0} (facts : D → DiskFacts) (s : State) where
       let is = sym plans.run.2 in record {
         run = subst (λ (k : Drafted D). Run DraftStep (draft_phase facts old s) requests answers (draft_phase facts k (drafted_by s requests))) is so.0;
         at = subst (λ (k : Drafted D). IsDraftedAt facts k s (drafted_by s requests)) is so.1;
+        libraries = each_planned (draft_phase facts old s) requests answers so.0.0 so.0.1 plans.accepted;
         made = makes s (drafted_by s requests) new.touched (list_any asks_change requests) (is_changed facts old new requests answers none plans);
       }

@@ -1,41 +1,57 @@
 -- What of all that was asked and answered was acknowledged, and what was accepted (own).
-use Rattle.std.specs.Prelude.{◌≡◌, ◌⊎◌, ℕ, List, [], ◌∷◌, ◌++◌, Option, Some, None, slice_get, fold, if◌then◌else◌}
+use Rattle.std.specs.Prelude.{◌≡◌, ◌⊎◌, ℕ, List, [], ◌∷◌, ◌++◌, Some, slice_get, fold, if◌then◌else◌}
 use Rattle.states.specs.State.{State}
 use Rattle.requests.specs.Request.{Request}
 use Rattle.requests.specs.Step.{accepted, is_acknowledged}
 use Rattle.requests.specs.declared.refusal.Refusal.TheVariants.{Device}
 use Rattle.requests.specs.declared.reply.Reply.{Reply}
 use Rattle.requests.specs.declared.reply.Reply.TheVariants.{Done, Refused}
+use Rattle.registry.specs.Updating.{updated}
 
--- what was asked and answered: a command and its reply, or none where no change of the state was
--- asked for, as by a step of a binder
-abbrev pub Exchange : Type 0
-Exchange = Option (Request × Reply)
+-- what is made as a whole or not at all: a command, or an update with all of its requests
+pub data Transaction : Type 0 where
+  command : Request → Transaction
+  update : List Request → Transaction
+
+-- one request to a registry, and its answer
+pub data Exchange : Type 0 where
+  -- a command with its reply, or an update with the answer to its commit
+  answered : Transaction → Reply → Exchange
+  -- an update that ended before its commit
+  given_up : Exchange
+  -- no change of the state was asked for, as by a step of a binder
+  stepped : Exchange
 
 -- commands with their replies
 abbrev pub commanded : List Request → List Reply → List Exchange
-commanded (request ∷ requests) (answer ∷ answers) = Some (request, answer) ∷ commanded requests answers
+commanded (request ∷ requests) (answer ∷ answers) = answered (command request) answer ∷ commanded requests answers
 commanded requests answers = []
 
--- the acknowledged commands, in their order: those that were answered Done
-abbrev pub acknowledged : List Exchange → List Request
-acknowledged (Some e ∷ exchanges) = if is_acknowledged e.1 then e.0 ∷ acknowledged exchanges else acknowledged exchanges
-acknowledged (None ∷ exchanges) = acknowledged exchanges
+-- the acknowledged commands and updates, in their order: those that were answered Done
+abbrev pub acknowledged : List Exchange → List Transaction
+acknowledged (answered asked answer ∷ exchanges) = if is_acknowledged answer then asked ∷ acknowledged exchanges else acknowledged exchanges
+acknowledged (given_up ∷ exchanges) = acknowledged exchanges
+acknowledged (stepped ∷ exchanges) = acknowledged exchanges
 acknowledged [] = []
 
--- the state after these commands are accepted, one after the other
-abbrev pub state_after : State → List Request → State
-state_after s requests = fold accepted s requests
+-- the state after a command, or all of an update, is accepted
+abbrev pub outcome : State → Transaction → State
+outcome s (command request) = accepted s request
+outcome s (update requests) = updated s requests
 
--- number k, counted from 0, is a command that was acknowledged
+-- the state after these are accepted, one after the other
+abbrev pub state_after : State → List Transaction → State
+state_after s asked = fold outcome s asked
+
+-- number k, counted from 0, is a command or an update that was acknowledged
 abbrev pub IsAcknowledgedAt : List Exchange → ℕ → Type 0
-IsAcknowledgedAt exchanges k = (request : Request) × (slice_get exchanges k ≡ Some (Some (request, Done)))
+IsAcknowledgedAt exchanges k = (asked : Transaction) × (slice_get exchanges k ≡ Some (answered asked Done))
 
--- number k is this command, and was answered S1
-abbrev pub FailedAt : List Exchange → ℕ → Request → Type 0
-FailedAt exchanges k request = slice_get exchanges k ≡ Some (Some (request, Refused Device))
+-- number k is this one, and was answered S1
+abbrev pub FailedAt : List Exchange → ℕ → Transaction → Type 0
+FailedAt exchanges k asked = slice_get exchanges k ≡ Some (answered asked (Refused Device))
 
--- the accepted commands: the acknowledged ones, and perhaps, after them, one that was answered S1
-abbrev pub AreAccepted : List Exchange → List Request → Type 0
-AreAccepted exchanges commands = (commands ≡ acknowledged exchanges)
-    ⊎ ((k : ℕ) × (request : Request) × FailedAt exchanges k request × (commands ≡ acknowledged exchanges ++ request ∷ []))
+-- the accepted ones: the acknowledged ones, and perhaps, after them, one that was answered S1
+abbrev pub AreAccepted : List Exchange → List Transaction → Type 0
+AreAccepted exchanges taken = (taken ≡ acknowledged exchanges)
+    ⊎ ((k : ℕ) × (asked : Transaction) × FailedAt exchanges k asked × (taken ≡ acknowledged exchanges ++ asked ∷ []))

@@ -1,17 +1,21 @@
 -- What is done to a registry on a disk, one thing after the other (own).
-use Rattle.std.specs.Prelude.{◌≡◌, ◌⊎◌, ◌+◌, ◌<◌, ◌≤◌, ℕ, IsTrue, List, [], ◌∷◌, length, take, map, Some, None}
+use Rattle.std.specs.Prelude.{◌≡◌, ◌⊎◌, ◌+◌, ◌<◌, ◌≤◌, ℕ, IsTrue, List, [], ◌∷◌, length, take, map}
 use Rattle.sector_disk.specs.Disk.{Sector, DiskFacts, MixtureAt, Mixture, LeavesOnly, KeepsPast, AreCallsExactly}
+use Rattle.store.specs.Draft.{Drafted, begun}
 use Rattle.store.specs.Opened.{Opened}
 use Rattle.states.specs.State.{State}
 use Rattle.requests.specs.Request.{Request}
 use Rattle.requests.specs.Runs.{last_of, after}
+use Rattle.requests.specs.declared.refusal.Refusal.TheVariants.{Device, Reopen}
 use Rattle.requests.specs.declared.reply.Reply.{Reply}
+use Rattle.requests.specs.declared.reply.Reply.TheVariants.{Done, Refused}
 use Rattle.registry.specs.Stands.{Stands}
 use Rattle.registry.specs.Opened.{IsAt}
 use Rattle.registry.specs.Applied.{Applied}
 use Rattle.registry.specs.Answered.{Did}
 use Rattle.registry.specs.Calls.{IfAccepted, calls_of}
-use Rattle.registry.specs.Acknowledged.{Exchange, commanded, acknowledged, state_after, AreAccepted, IsAcknowledgedAt}
+use Rattle.registry.specs.Updating.{IsUpdate, updated}
+use Rattle.registry.specs.Acknowledged.{Transaction, command, update, Exchange, answered, given_up, stepped, commanded, acknowledged, state_after, AreAccepted, IsAcknowledgedAt}
 
 -- a registry between two commands, and its state; after a failed write or sync, the state before
 pub record Point (D : Type 0) : Type 0 where
@@ -48,10 +52,36 @@ pub record Idles {D : Type 0} (facts : D → DiskFacts) (p p' : Point D) : Type 
   pub same : p'.state ≡ p.state
   pub stays : IdlesAt facts p p' ⊎ (IsTrue p.registry.failed × IsTrue p'.registry.failed × (p'.registry.disk ≡ p.registry.disk))
 
+-- An update is made of a registry at its state: these requests were planned in a draft by the step
+-- table, one after the other, and its commit was answered so.
+pub record UpdatesAt {D : Type 0} (facts : D → DiskFacts) (p : Point D) (requests : List Request) (answer : Reply) (p' : Point D) : Type 0 where
+  pub at : IsAt facts p.registry p.state
+  pub draft : Drafted D
+  pub answers : List Reply
+  pub planned : IsUpdate facts (begun p.registry) draft p.state requests answers
+  -- a stop at any moment leaves the state before, or the one after all of the requests
+  pub any_moment : LeavesOnly (disk_at facts p) (disk_at facts p') (λ m. Stands m p.state ⊎ Stands m (updated p.state requests))
+  -- it is acknowledged, and made; or a write or a sync failed, and this is the state before
+  pub ends : ((answer ≡ Done) × (p'.state ≡ updated p.state requests) × IsAt facts p'.registry p'.state)
+      ⊎ ((answer ≡ Refused Device) × (p'.state ≡ p.state) × IsTrue p'.registry.failed)
+
+-- one update of a run: it is made; or a write or a sync has failed before, and nothing is done
+abbrev pub Updates : {D : Type 0} → (D → DiskFacts) → Point D → List Request → Reply → Point D → Type 0
+Updates facts p requests answer p' = UpdatesAt facts p requests answer p' ⊎ (IsTrue p.registry.failed × (answer ≡ Refused Reopen) × (p' ≡ p))
+
+-- An update is given up: the state stays, even if a write of its draft failed.
+pub record GivesUp {D : Type 0} (facts : D → DiskFacts) (p p' : Point D) : Type 0 where
+  pub at : IsAt facts p.registry p.state
+  pub same : p'.state ≡ p.state
+  pub any_moment : LeavesOnly (disk_at facts p) (disk_at facts p') (λ m. Stands m p.state)
+  pub kept : IsAt facts p'.registry p.state ⊎ IsTrue p'.registry.failed
+
 -- what was asked and answered did this
 abbrev pub Moves : {D : Type 0} → (D → DiskFacts) → Point D → Exchange → Point D → Type 0
-Moves facts p (Some e) p' = Goes facts p e.0 e.1 p'
-Moves facts p None p' = Idles facts p p'
+Moves facts p (answered (command request) answer) p' = Goes facts p request answer p'
+Moves facts p (answered (update requests) answer) p' = Updates facts p requests answer p'
+Moves facts p given_up p' = GivesUp facts p p'
+Moves facts p stepped p' = Idles facts p p'
 
 -- One thing after the other was asked and answered, and led through these points, one after each.
 abbrev pub LeadsThrough : {D : Type 0} → (D → DiskFacts) → Point D → List Exchange → List (Point D) → Type 0
@@ -59,26 +89,26 @@ LeadsThrough facts p [] [] = Unit {0}
 LeadsThrough facts p (x ∷ xs) (t ∷ ts) = Moves facts p x t × LeadsThrough facts t xs ts
 LeadsThrough facts p xs ts = ⊥
 
--- after commands from a state, whatever a stop leaves holds the state after the accepted ones
+-- after all of these from a state, whatever a stop leaves holds the state after the accepted ones
 abbrev pub FindsAccepted : {D : Type 0} → (D → DiskFacts) → Opened D → State → List Exchange → Type 0
 FindsAccepted facts new s exchanges = (m : List Sector) → Mixture (facts new.disk) m
-    → (commands : List Request) × AreAccepted exchanges commands × Stands m (state_after s commands)
+    → (taken : List Transaction) × AreAccepted exchanges taken × Stands m (state_after s taken)
 
 module _ {D : Type 0} (facts : D → DiskFacts) (start : Point D) (exchanges : List Exchange) (points : List (Point D)) where
   -- the last of the first k has begun by this moment
   abbrev pub HasBegun : ℕ → ℕ → Type 0
   HasBegun k moment = (i : ℕ) → i + 1 ≡ k → (disk_at facts (after start points i)).time ≤ moment
 
-  -- every command acknowledged by this moment is among the first k: a later one ends later
+  -- every command and update acknowledged by this moment is among the first k: a later one ends later
   abbrev pub HoldsAcknowledged : ℕ → ℕ → Type 0
   HoldsAcknowledged k moment = (i : ℕ) → k ≤ i → IsAcknowledgedAt exchanges i → moment < (disk_at facts (after start points (i + 1))).time
 
   -- a stop at a moment leaves the state after accepted ones of the first k, k as above
   abbrev pub LeavesAccepted : ℕ → List Sector → Type 0
   LeavesAccepted moment m = (k : ℕ) × (k ≤ length exchanges) × HasBegun k moment × HoldsAcknowledged k moment
-      × (commands : List Request) × AreAccepted (take k exchanges) commands × Stands m (state_after start.state commands)
+      × (taken : List Transaction) × AreAccepted (take k exchanges) taken × Stands m (state_after start.state taken)
 
-  -- Commands were answered so, with other things between, and led to these registries, one each.
+  -- Commands and updates were answered so, with other things between, and led to these registries, one each.
   pub record Ran (end : Point D) : Type 0 where
     pub steps : LeadsThrough facts start exchanges points
     pub last : end ≡ last_of start points

@@ -18,7 +18,7 @@ use Rattle.registry.specs.Stands.{Stands}
 use Rattle.registry.specs.Opened.{IsAt}
 use Rattle.registry.specs.Opening.{opening_calls}
 use Rattle.registry.specs.Ran.{RunsOver}
-use Rattle.registry.specs.Acknowledged.{commanded, AreAccepted, state_after}
+use Rattle.registry.specs.Acknowledged.{Transaction, commanded, AreAccepted, state_after}
 
 -- whatever a stop leaves of the disk holds the state
 abbrev pub AlwaysStands : Memory → State → Type 0
@@ -89,7 +89,7 @@ pub record WasNotRun (first last : Fuse Memory) (refusal : StoreRefusal) : Type 
 -- why it wasn't run, and keeps the state.
 abbrev pub RoundTells : Fuse Memory → Fuse Memory → State → List Request → RoundReplies → State → Type 0
 RoundTells first last s requests (Ran replies) s' = WasRun first last s requests replies.items
-    × (commands : List Request) × AreAccepted (commanded requests replies.items) commands × (s' ≡ state_after s commands)
+    × (taken : List Transaction) × AreAccepted (commanded requests replies.items) taken × (s' ≡ state_after s taken)
 RoundTells first last s requests (NotRun refusal) s' = WasNotRun first last refusal × (s' ≡ s)
 
 -- A round leads from a disk and its state to the next: behind its fuse the disk is opened and takes

@@ -5,6 +5,7 @@ use Rattle.sector_disk.specs.Disk.{DiskFacts}
 use Rattle.states.specs.Changes.{next}
 use Rattle.states.specs.State.{State}
 use Rattle.store.specs.Draft.{Drafted, IsDraftedAt, committed, drafted}
+use Rattle.requests.specs.Library.{IsLibrary}
 use Rattle.requests.specs.Request.{Request, bind, list}
 use Rattle.requests.specs.Runs.{Run}
 use Rattle.requests.specs.Step.{accepted}
@@ -49,5 +50,7 @@ pub record Plans {D : Type 0} (facts : D → DiskFacts) (old new : Drafted D) (r
 pub record IsUpdate {D : Type 0} (facts : D → DiskFacts) (old new : Drafted D) (s : State) (requests : List Request) (answers : List Reply) : Type 0 where
   pub run : Run DraftStep (draft_phase facts old s) requests answers (draft_phase facts new (drafted_by s requests))
   pub at : IsDraftedAt facts new s (drafted_by s requests)
+  -- each file of it is a library where each that stands is one
+  pub libraries : All IsLibrary s.libraries → All IsLibrary (drafted_by s requests).libraries
   -- what a commit makes of it
   pub made : committed new.touched s (drafted_by s requests) ≡ updated s requests

@@ -51,15 +51,22 @@ impl<D: Disk> Registry<D> {
 }
 
 impl<D: Disk> Update<D> {
-    ghost use Rattle.std.specs.Prelude.{◌≡◌, ◌⊎◌, IfErr, OnErr, OnOk, length};
+    ghost use Rattle.std.specs.Prelude.{◌≡◌, ◌⊎◌, IfErr, List, OnErr, OnOk, length};
     ghost use Rattle.sector_disk.specs.Disk.{LeavesOnly};
     ghost use Rattle.states.specs.State.{State};
     ghost use Rattle.store.specs.Changed.{Changed};
-    ghost use Rattle.store.specs.Draft.{IsDraftedAt, commit_calls, committed};
+    ghost use Rattle.store.specs.Draft.{IsDraftedAt, begun, commit_calls, committed};
     ghost use Rattle.store.specs.Holds.{KeepsHeld};
-    ghost use Rattle.store.specs.Opened.{IsAt};
+    ghost use Rattle.store.specs.Opened.{IsAt, Opened};
     ghost use Rattle.store.specs.Stands.{Stands};
     ghost use Rattle.store.specs.declared.draft.Touched.TheVariants.{Nothing};
+    ghost use Rattle.requests.specs.Request.{Request};
+    ghost use Rattle.requests.specs.Runs.{Run};
+    ghost use Rattle.requests.specs.Step.{answer_of};
+    ghost use Rattle.requests.specs.declared.reply.Reply.{Reply};
+    ghost use Rattle.registry.specs.Opened as registry;
+    ghost use Rattle.registry.specs.Ran.{GivesUp, UpdatesAt, point};
+    ghost use Rattle.registry.specs.Updating.{DraftAnswers, Plans};
 
     /// Whether a write of the update failed. Then each command of it answers S2.
     pub fn has_failed(&self) -> bool
@@ -78,6 +85,14 @@ impl<D: Disk> Update<D> {
             (λ m. Stands m s ⊎ Stands m (committed self.touched s d)) }
         ensures ok { (s d : State) → IsDraftedAt D.facts self s d → OnOk result.0
             (IsAt D.facts result.1 (committed self.touched s d)) }
+
+        // If the update was begun on a registry at a state, where each file is a library, and these
+        // requests were planned: the same of a registry. It is one exchange of a run, all or
+        // nothing, and every file is a library after it.
+        ensures made { (old : Opened D) (s : State) (requests : List Request)
+            (answers : List Reply) → registry.IsAt D.facts old s
+            → Plans D.facts (begun old) self requests answers → (s' : State)
+            × UpdatesAt D.facts (point old s) requests (answer_of result.0) (point result.1 s') }
 
         // What somebody holds stays as it was.
         ensures held { KeepsHeld D.facts self.store result.1 }
@@ -101,7 +116,14 @@ impl<D: Disk> Update<D> {
     /// Gives the update up: the registry is as it was before it. It makes no call of the disk, also
     /// after S2.
     pub fn give_up(self) -> Registry<D>
-        ensures { result ≡ self.store }
+        ensures same { result ≡ self.store }
+
+        // If it was begun on a registry at a state: whatever was asked of it, the registry stays at
+        // that state, even if a write failed.
+        ensures given_up { (old : Opened D) (s : State) (requests : List Request)
+            (answers : List Reply) → registry.IsAt D.facts old s
+            → Run (DraftAnswers D.facts) (begun old) requests answers self
+            → GivesUp D.facts (point old s) (point result s) }
     {
         let Update { alloc, draft } = self;
         let store = draft.give_up();

@@ -1,6 +1,6 @@
 -- A registry that was given the requests of a dump, and each was done.
-use Rattle.std.proofs.Common.{◌≡◌, ◌≤◌, ◌+◌, List, [], ◌∷◌, length, map, Some, IsFalse, refl, sym, ap, subst, ◌∙◌, arith, ⊎_elim}
-use Rattle.std.specs.Prelude.{All}
+use Rattle.std.proofs.Common.{◌≡◌, ◌≤◌, ◌+◌, List, [], ◌∷◌, length, map, IsFalse, refl, sym, ap, subst, ◌∙◌, arith, ⊎_elim}
+use Rattle.std.specs.Prelude.{All, fold}
 use Rattle.std.proofs.lemmas.Bool.{false≢true}
 use Rattle.std.proofs.lemmas.List.{length-map, take_all}
 use Rattle.std.proofs.lemmas.List.Elements.{All-head, All-tail}
@@ -10,9 +10,10 @@ use Rattle.store.specs.Opened.{Opened}
 use Rattle.requests.specs.Library.{IsLibrary}
 use Rattle.requests.specs.Request.{Request, install, replace, remove, set_preloads, bind, list}
 use Rattle.requests.specs.Runs.{last_of}
+use Rattle.requests.specs.Step.{accepted}
 use Rattle.requests.specs.declared.reply.Reply.{Reply}
 use Rattle.requests.specs.declared.reply.Reply.TheVariants.{Done}
-use Rattle.registry.specs.Acknowledged.{Exchange, acknowledged, commanded, state_after}
+use Rattle.registry.specs.Acknowledged.{Exchange, acknowledged, answered, command, commanded, state_after}
 use Rattle.registry.specs.Answered.{Leaves}
 use Rattle.registry.specs.Opened.{IsAt}
 use Rattle.registry.specs.Ran.{LeadsThrough, Point, Ran, RunsOver, RunsThrough, point}
@@ -23,11 +24,16 @@ use Rattle.replays.proofs.States.{leads}
 
 -- a request that was done
 abbrev pub done : Request → Exchange
-done request = Some (request, Done)
+done request = answered (command request) Done
 
-all_acknowledged : (requests : List Request) → acknowledged (map done requests) ≡ requests
+all_acknowledged : (requests : List Request) → acknowledged (map done requests) ≡ map command requests
 all_acknowledged [] = refl
-all_acknowledged (r ∷ requests) = ap (λ rs. r ∷ rs) (all_acknowledged requests)
+all_acknowledged (r ∷ requests) = ap (λ rs. command r ∷ rs) (all_acknowledged requests)
+
+-- the state after commands alone
+after_commands : (s : State) (requests : List Request) → state_after s (map command requests) ≡ fold accepted s requests
+after_commands s [] = refl
+after_commands s (r ∷ requests) = after_commands (accepted s r) requests
 
 -- where each was answered Done
 pub all_done : (requests : List Request) (answers : List Reply) → length answers ≡ length requests → All (λ answer. answer ≡ Done) answers → commanded requests answers ≡ map done requests
@@ -35,7 +41,7 @@ all_done [] [] same all = refl
 all_done [] (a ∷ answers) same all = refl
 all_done (r ∷ requests) [] same all = absurd (omega (arith, same))
 all_done (r ∷ requests) (a ∷ answers) same all =
-    ap (λ (reply : Reply). Some (r, reply) ∷ commanded requests answers) (All-head (λ answer. answer ≡ Done) a answers all)
+    ap (λ (reply : Reply). answered (command r) reply ∷ commanded requests answers) (All-head (λ answer. answer ≡ Done) a answers all)
     ∙ ap (λ (xs : List Exchange). done r ∷ xs) (all_done requests answers (omega (arith, same)) (All-tail (λ answer. answer ≡ Done) a answers all))
 
 module _ {D : Type 0} (facts : D → DiskFacts) where
@@ -58,7 +64,7 @@ module _ {D : Type 0} (facts : D → DiskFacts) where
       (usable_behind start.registry t.registry r (All-head IsChange r requests changes) led.0.did.leaves)
 
   module _ (old new : Opened D) (s s' : State) (requests : List Request) (points : List (Point D)) (ran : Ran facts (point old s) (map done requests) points (point new s')) where
-    state_is : s' ≡ state_after s requests
+    state_is : s' ≡ fold accepted s requests
     state_is =
         let k = length requests + length points in
         let all_requests : length (map done requests) ≤ k = omega (arith, length-map requests done) in
@@ -67,8 +73,9 @@ module _ {D : Type 0} (facts : D → DiskFacts) where
         ∙ ran.states k
         ∙ ap (λ xs. state_after s (acknowledged xs)) (take_all k (map done requests) all_requests)
         ∙ ap (state_after s) (all_acknowledged requests)
+        ∙ after_commands s requests
 
-    at_end : All IsChange requests → IsFalse old.failed → IsAt facts new (state_after s requests)
+    at_end : All IsChange requests → IsFalse old.failed → IsAt facts new (fold accepted s requests)
     at_end changes usable = ⊎_elim
         (λ at. subst (IsAt facts new) state_is at)
         (λ failed. absurd (false≢true (sym (subst (λ (p : Point D). IsFalse p.registry.failed) (sym ran.last) (usable_at_last requests (point old s) points ran.steps changes usable)) ∙ failed)))

@@ -13,7 +13,7 @@ use Rattle.requests.specs.Request.{Request, install, replace, remove, set_preloa
 use Rattle.requests.specs.Runs.{Steps}
 use Rattle.requests.specs.declared.reply.Reply.{Reply}
 use Rattle.requests.specs.declared.reply.Reply.TheVariants.{Done, Listing, Bound, Refused}
-use Rattle.registry.specs.Acknowledged.{Exchange}
+use Rattle.registry.specs.Acknowledged.{Exchange, answered, command}
 use Rattle.registry.specs.Answered.{IsAnswerTo}
 use Rattle.registry.specs.Opened.{IsAt}
 use Rattle.registry.specs.Ran.{RunsThrough}
@@ -96,7 +96,7 @@ change_done list reply change is fine = absurd change
 module _ {D : Type 0} (facts : D → DiskFacts) where
   exchange_done : (old new : Slotted D) (r : Request) (reply : EventReply) → Happens facts old new (apply r) reply → IsChange r → is_accepted reply → exchange_of (apply r) reply ≡ done r
   exchange_done old new r (event.Replied reply) happens change fine =
-      ap (λ (a : Reply). let e : Exchange = Some (r, a) in e) (change_done r reply change happens.on_any_disk.answers fine)
+      ap (λ (a : Reply). let e : Exchange = answered (command r) a in e) (change_done r reply change happens.on_any_disk.answers fine)
   exchange_done old new r (event.Slot slot) happens change fine = absurd happens
   exchange_done old new r event.Going happens change fine = absurd happens
 

@@ -263,7 +263,7 @@ module _ {D O : Type 0} (facts : D → DiskFacts) (contents : O → Option (List
     )
     by_answer all (Err why) new refusals at back (inl told) = inr (inr (inl (answers, all, why, faulty why refusals, told.0, told.1)))
 
-    pub committed : EndsInCommit facts disk contents io lines answers u ends left → IsMade ⊎ Hindered
+    pub committed : EndsInCommit facts disk contents io lines answers is.old u ends left → IsMade ⊎ Hindered
     committed it =
         by_answer (all_planned [] (sym (asked it.read) ∙ sym (append-nil (requests_of lines)))) it.answer it.new it.commit.on_any_disk.refusals
         (subst (λ (t : State). OnOk it.answer (store.IsAt facts it.new t)) (made it.read) (it.ok honest empty_state empty)) it.back it.told
@@ -312,7 +312,7 @@ module _ {D O : Type 0} (facts : D → DiskFacts) (contents : O → Option (List
         absurd (uncommitted (lines_of s) [] so.0)
     by_refusal (Refused why) last refused told = told_refusal why (refused_line why last refused.0 refused.1 refused.2 refused.3) told
 
-    pub refused : EndsRefused facts disk io lines answers u ends left → Hindered
+    pub refused : EndsRefused facts disk io lines answers is.old u ends left → Hindered
     refused it = by_refusal it.refusal it.last it.refused it.told
 
     -- ---- a fault
@@ -324,7 +324,7 @@ module _ {D O : Type 0} (facts : D → DiskFacts) (contents : O → Option (List
     by_fault all OutOfMemory (inl told) = inr (inr (inl (answers, all, OutOfMemory, told.0, told.1, told.2)))
     by_fault all OutOfMemory (inr cannot) = inl cannot
 
-    pub broken : EndsBroken facts disk io lines answers u ends left → Hindered
+    pub broken : EndsBroken facts disk io lines answers is.old u ends left → Hindered
     broken it =
         let first = asked_first s h lines is.planned.whole it.part uncommitted (read_in it.part it.read) in
         by_fault (all_planned first.0 first.1) it.fault it.told
@@ -357,8 +357,8 @@ module _ {D O : Type 0} (facts : D → DiskFacts) (contents : O → Option (List
       weaken _ MayBeLeft all_or_nothing
       (subst (λ (t : State). LeavesOnly (facts disk) (facts left) (λ m. Mixture (facts disk) m ⊎ (sectors.Stands m empty_state ⊎ sectors.Stands m t))) (made lines answers u is it.read)
       (it.any_moment honest empty_state empty))
-  program_leaves (inl (lines, answers, u, is, inr (inl it))) = weaken _ MayBeLeft nothing_new (it.any_moment honest empty_state empty)
-  program_leaves (inl (lines, answers, u, is, inr (inr it))) = weaken _ MayBeLeft nothing_new (it.any_moment honest empty_state empty)
+  program_leaves (inl (lines, answers, u, is, inr (inl it))) = weaken _ MayBeLeft nothing_new (it.any_moment.0 honest empty_state empty)
+  program_leaves (inl (lines, answers, u, is, inr (inr it))) = weaken _ MayBeLeft nothing_new (it.any_moment.0 honest empty_state empty)
   program_leaves (inr (why, opens, said)) = weaken _ MayBeLeft (λ m mixture. inl mixture) (opens.opened.any_moment honest)
 
 -- ---- a dump that was cut
@@ -398,5 +398,8 @@ module _ {D O : Type 0} (facts : D → DiskFacts) (contents : O → Option (List
   cut_changes_nothing (inl (lines, answers, u, is, inr (inr it))) = (not_broken it.fault ends _ io it.told, it.any_moment)
   cut_changes_nothing (inr (why, opens, said)) = (
     λ is. not_done why (sym is ∙ said.0),
-    λ honest t stands. weaken _ (λ m. Mixture (facts disk) m ⊎ sectors.Stands m t) (λ m mixture. inl mixture) (opens.opened.any_moment honest),
+    (
+      λ honest t stands. weaken _ (λ m. Mixture (facts disk) m ⊎ sectors.Stands m t) (λ m mixture. inl mixture) (opens.opened.any_moment honest),
+      λ honest t stands. weaken _ (λ m. Mixture (facts disk) m ⊎ Stands m t) (λ m mixture. inl mixture) (opens.opened.any_moment honest),
+    ),
   )

@@ -33,7 +33,7 @@ module _ {D : Type 0} (facts : D → DiskFacts) where
   asked old (line ∷ lines) [] drafts steps = absurd steps
   asked old (line ∷ lines) (answer ∷ answers) [] steps = absurd steps
 
-  plans : (old new : Drafted D) (lines : List (List ℕ)) (answers : List Reply) → ArePlanned facts old new lines answers → Plans facts old new (requests_of lines) answers
+  pub plans : (old new : Drafted D) (lines : List (List ℕ)) (answers : List Reply) → ArePlanned facts old new lines answers → Plans facts old new (requests_of lines) answers
   plans old new lines answers planned = record {
     run = (planned.run.0, asked old lines answers planned.run.0 planned.run.1, planned.run.2);
     accepted = planned.accepted;

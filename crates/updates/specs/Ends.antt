@@ -1,9 +1,9 @@
 -- What an update ends with on the disk that it is given: what it did there, and what it told (own).
-use Rattle.std.specs.Prelude.{◌≡◌, ◌⊎◌, ◌↔◌, ◌++◌, ℕ, List, Option, Result, Ok, Err, OnOk, IsTrue, false}
+use Rattle.std.specs.Prelude.{◌≡◌, ◌⊎◌, ◌↔◌, ◌++◌, ℕ, List, [], ◌∷◌, Option, Result, Ok, Err, OnOk, IsTrue, false}
 use Rattle.std.specs.Io.{StopsAt}
 use Rattle.std.specs.Io.KnownBytes.{Appends}
 use Rattle.std.specs.List.{list_any}
-use Rattle.sector_disk.specs.Disk.{DiskFacts, Mixture, LeavesOnly}
+use Rattle.sector_disk.specs.Disk.{Sector, DiskFacts, Mixture, LeavesOnly}
 use Rattle.states.specs.State.{State}
 use Rattle.store.specs.Draft.{Drafted, begun}
 use Rattle.store.specs.Opened.{Opened, IsAt}
@@ -11,6 +11,7 @@ use Rattle.store.specs.Opens.{OpensByEntries}
 use Rattle.store.specs.Stands.{Stands}
 use Rattle.store.specs.declared.draft.Touched.TheVariants.{Nothing}
 use Rattle.store.specs.declared.refusal.StoreRefusal.{StoreRefusal}
+use Rattle.requests.specs.Request.{Request}
 use Rattle.requests.specs.Step.{answer_of}
 use Rattle.requests.specs.declared.refusal.Refusal.{Refusal}
 use Rattle.requests.specs.declared.reply.Reply.{Reply}
@@ -26,6 +27,10 @@ use Rattle.tool_parts.specs.Said.{refusal_line}
 use Rattle.updates.specs.Status.{update_status}
 use Rattle.program_parts.specs.Streams.{Streams}
 use Rattle.updates.specs.Streams.{BreaksOff, SaysOnly, TellsOnly}
+use Rattle.registry.specs.Acknowledged.{Exchange, answered, given_up, update}
+use Rattle.registry.specs.Opened as at
+use Rattle.registry.specs.Ran.{RunsThrough}
+use Rattle.registry.specs.Stands as registry
 use Rattle.registry.specs.Updating.{IsUpdate, asks_change, updated}
 use Rattle.updates.specs.Update.{requests_of}
 use Rattle.updates.specs.declared.answer.UpdateRefusal.{UpdateRefusal}
@@ -43,13 +48,29 @@ module _ {D : Type 0} (facts : D → DiskFacts) (disk : D) where
     -- on an honest disk that is an update of the state that it holds
     pub update : IsTrue (facts disk).honest → (s : State) → Stands (facts disk).now s → IsUpdate facts (begun old) u s (requests_of lines) answers
 
-  -- a stop at any moment leaves what it could leave before, or the state that the disk holds
+  -- a stop at any moment leaves what it could leave before, or the state that the disk holds, in the words
+  -- of what sectors hold a state
+  abbrev pub LeavesStandingBy : (List Sector → State → Type 0) → D → Type 0
+  LeavesStandingBy Holds left = IsTrue (facts disk).honest → (s : State) → Holds (facts disk).now s
+      → LeavesOnly (facts disk) (facts left) (λ m. Mixture (facts disk) m ⊎ Holds m s)
+
+  -- of byte strings, whatever they are, and of a registry, whose files are libraries
   abbrev pub LeavesStanding : D → Type 0
-  LeavesStanding left = IsTrue (facts disk).honest → (s : State) → Stands (facts disk).now s
-      → LeavesOnly (facts disk) (facts left) (λ m. Mixture (facts disk) m ⊎ Stands m s)
+  LeavesStanding left = LeavesStandingBy Stands left × LeavesStandingBy registry.Stands left
+
+  -- a stop at any moment leaves what it could leave before, the state that the disk holds, or what an
+  -- update makes of it
+  abbrev pub LeavesUpdated : (List Sector → State → Type 0) → List Request → D → Type 0
+  LeavesUpdated Holds requests left = IsTrue (facts disk).honest → (s : State) → Holds (facts disk).now s
+      → LeavesOnly (facts disk) (facts left) (λ m. Mixture (facts disk) m ⊎ (Holds m s ⊎ Holds m (updated s requests)))
+
+  -- If the disk held a registry, this is one exchange of a run, from the registry that was opened.
+  abbrev pub IsExchange : Opened D → Exchange → Opened D → Type 0
+  IsExchange old exchange new = IsTrue (facts disk).honest → (s : State) → registry.Stands (facts disk).now s
+      → at.IsAt facts old s × RunsThrough facts old (new ∷ []) new s (exchange ∷ [])
 
   -- what an output holds, where that is known
-  module _ {O : Type 0} (contents : O → Option (List ℕ)) (io : Streams) (lines : List (List ℕ)) (answers : List Reply) (u : Drafted D) (status : Status) (left : D) where
+  module _ {O : Type 0} (contents : O → Option (List ℕ)) (io : Streams) (lines : List (List ℕ)) (answers : List Reply) (old : Opened D) (u : Drafted D) (status : Status) (left : D) where
     -- Behind the lines came `commit`: the answers to them and to it were told, or the output failed.
     pub record EndsInCommit : Type 0 where
       pub read : BeginsWith io.unread lines (ended commit_line)
@@ -59,22 +80,25 @@ module _ {D : Type 0} (facts : D → DiskFacts) (disk : D) where
       pub answer : Result (Unit {0}) Refusal
       pub new : Opened D
       pub commit : Commits facts u answer new
-      -- a stop at any moment leaves what it could leave before, the state that the disk holds, or what the
-      -- update makes of it
-      pub any_moment : IsTrue (facts disk).honest → (s : State) → Stands (facts disk).now s
-          → LeavesOnly (facts disk) (facts left) (λ m. Mixture (facts disk) m ⊎ (Stands m s ⊎ Stands m (updated s (requests_of lines))))
+      pub any_moment : LeavesUpdated Stands (requests_of lines) left
       -- once the commit is acknowledged that is on the disk
       pub ok : IsTrue (facts disk).honest → (s : State) → Stands (facts disk).now s → OnOk answer (IsAt facts new (updated s (requests_of lines)))
+      -- the same of a registry: each file of what is left is a library
+      pub registry_moment : LeavesUpdated registry.Stands (requests_of lines) left
+      pub registry_ok : IsTrue (facts disk).honest → (s : State) → registry.Stands (facts disk).now s → OnOk answer (at.IsAt facts new (updated s (requests_of lines)))
+      -- so this was an update, as one exchange of a run
+      pub ran : IsExchange old (answered (update (requests_of lines)) (answer_of answer)) new
       pub told : TellsOnly (reply_status (answer_of answer)) (plan_texts answers ++ reply_text (answer_of answer)) io status
       pub back : left ≡ new.disk
 
-  module _ (io : Streams) (lines : List (List ℕ)) (answers : List Reply) (u : Drafted D) (status : Status) (left : D) where
+  module _ (io : Streams) (lines : List (List ℕ)) (answers : List Reply) (old : Opened D) (u : Drafted D) (status : Status) (left : D) where
     -- Behind the lines came what refuses the update, and that was told behind the answers, or the output failed.
     pub record EndsRefused : Type 0 where
       pub refusal : UpdateRefusal
       pub last : Drafted D
       pub refused : IsRefusedAt facts io.unread lines u last refusal
       pub any_moment : LeavesStanding left
+      pub ran : IsExchange old given_up last.store
       pub told : TellsOnly (update_status refusal) (plan_texts answers ++ update_refusal_text refusal) io status
       pub back : left ≡ last.store.disk
 
@@ -86,14 +110,16 @@ module _ {D : Type 0} (facts : D → DiskFacts) (disk : D) where
       pub one_at_most : StopsAt part 10
       pub read : BeginsWith io.unread lines part
       pub any_moment : LeavesStanding left
+      pub ran : IsExchange old given_up u.store
       pub told : BreaksOff fault (plan_texts answers) io status
       pub back : left ≡ u.store.disk
 
   module _ {O : Type 0} (contents : O → Option (List ℕ)) where
     -- the registry was opened, and lines led to a draft, behind which came one of these
     abbrev pub IsRun : Streams → Status → D → Type 0
-    IsRun io status left = (lines : List (List ℕ)) × (answers : List Reply) × (u : Drafted D) × IsBegun lines answers u
-        × (EndsInCommit contents io lines answers u status left ⊎ (EndsRefused io lines answers u status left ⊎ EndsBroken io lines answers u status left))
+    IsRun io status left = (lines : List (List ℕ)) × (answers : List Reply) × (u : Drafted D) × (begins : IsBegun lines answers u)
+        × (EndsInCommit contents io lines answers begins.old u status left
+        ⊎ (EndsRefused io lines answers begins.old u status left ⊎ EndsBroken io lines answers begins.old u status left))
 
     -- an update was run over the disk; or the disk was refused and handed back, which is said
     abbrev pub UpdateEnds : Streams → Status → D → Type 0

@@ -42,6 +42,6 @@ returns-in-Err-plan_all c s at =
     let requests = map request_of c.args.commands.now in
     let u = c.plan_all.new.update in
     let refused = c.in-Err-plan_all.refused in
-    subst (λ (r : Opened ByteDisk). MakesUpdate c.args.registry r s requests (Err refused)) (sym c.give_up.ensures)
+    subst (λ (r : Opened ByteDisk). MakesUpdate c.args.registry r s requests (Err refused)) (sym c.give_up.ensures.same)
     (is_stopped c.args.registry s at requests u refused
     (subst (λ (old : Drafted ByteDisk). StopsAt old u requests refused.0 refused.1) c.in-Ok.ensures.begun c.in-Err-plan_all.ensures))

@@ -46,7 +46,7 @@ returns-in-Ok-Refused g c =
     (all text (w c.args.output.now) (w told.new.output) (e c.args.errors.now) (e told.new.errors) told.result) told.result c.give_up.result in
     begins ends c.in-Ok-update.update (begun c.args.registry) pages (g.I.Read.remaining c.args.input.now) c.in-Ok-update.ensures.begun unread
     (by_refusal pages (w c.args.output.now) (w told.new.output) (e c.args.errors.now) (e told.new.errors) told.result g.D.Disk.facts w c.in-Ok-update.update c.answer_lines.new.update c.give_up.result
-    c.give_up.ensures (w c.answer_lines.new.output) c.in-Ok-Refused.refusal (rw c.in-Ok-Refused.field-0-is at c.in-Ok-Refused.ensures.ok) told.ensures)
+    c.give_up.ensures.same (w c.answer_lines.new.output) c.in-Ok-Refused.refusal (rw c.in-Ok-Refused.field-0-is at c.in-Ok-Refused.ensures.ok) told.ensures)
 
 pub returns : goal.returns
 returns g c =
@@ -60,4 +60,4 @@ returns g c =
     (all text (w c.args.output.now) (w c.answer_lines.new.output) (e c.args.errors.now) (e said.new.errors) said.result) said.result left.result in
     begins ends c.in-Ok-update.update (begun c.args.registry) pages (g.I.Read.remaining c.args.input.now) c.in-Ok-update.ensures.begun unread
     (by_fault pages (w c.args.output.now) (w c.answer_lines.new.output) (e c.args.errors.now) (e said.new.errors) said.result g.D.Disk.facts w c.in-Ok-update.update c.answer_lines.new.update left.result
-    left.ensures c.in-Err-answer_lines.fault said.ensures.status said.ensures.said c.in-Err-answer_lines.ensures.err)
+    left.ensures.same c.in-Err-answer_lines.fault said.ensures.status said.ensures.said c.in-Err-answer_lines.ensures.err)

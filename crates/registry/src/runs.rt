@@ -1,0 +1,25 @@
+// The laws of runs.
+ghost use Rattle.std.specs.Prelude.{List, ◌++◌};
+ghost use Rattle.requests.specs.Runs.{last_of};
+ghost use Rattle.registry.specs.Acknowledged.{Exchange};
+ghost use Rattle.registry.specs.Opened.{IsAt};
+ghost use Rattle.registry.specs.Ran.{LeadsThrough, Point, Ran};
+
+use sector_disk::Disk;
+
+/// Does nothing: its clauses are the laws of runs, for the disks of a type. The clauses of
+/// `Registry::apply`, `Update::commit` and `Update::give_up` have the steps.
+pub fn runs_join<D: Disk>()
+    // Commands, updates and other things that were asked of a registry at a state, one after the
+    // other, are a run, also where calls of the disk failed.
+    ensures ran { (start : Point D) (exchanges : List Exchange) (points : List (Point D))
+        → IsAt D.facts start.registry start.state
+        → LeadsThrough D.facts start exchanges points
+        → Ran D.facts start exchanges points (last_of start points) }
+
+    // A run that goes on where another ended makes one run with it.
+    ensures joined { (start mid end : Point D) (first second : List Exchange)
+        (points later : List (Point D)) → IsAt D.facts start.registry start.state
+        → Ran D.facts start first points mid → Ran D.facts mid second later end
+        → Ran D.facts start (first ++ second) (points ++ later) end }
+{}
