@@ -35,9 +35,9 @@ listed : (m : List Sector) (s : State) → All IsLibrary s.libraries → sectors
 listed m s libraries stands = record { stored = stands; libraries = libraries }
 
 -- what the store answers to a commit, in the registry's words
-pub ok_in_words : {P : Type 0} (answer : Result (Unit {0}) StoreRefusal) → OnOk answer P → OnOk (in_words answer) P
-ok_in_words (Ok done) h = h
-ok_in_words (Err refusal) h = tt
+pub ok_in_words : (P : Type 0) (answer : Result (Unit {0}) StoreRefusal) → OnOk answer P → OnOk (in_words answer) P
+ok_in_words P (Ok done) h = h
+ok_in_words P (Err refusal) h = tt
 
 commit_may : (refusal : StoreRefusal) → (refusal ≡ e.Device) ⊎ (refusal ≡ e.Reopen) → (refusal_of refusal ≡ Device) ⊎ (refusal_of refusal ≡ Reopen)
 commit_may refusal (inl is) = inl (ap refusal_of is)

@@ -19,9 +19,8 @@ returns-clause-made g c old s requests answers at plans =
     let facts = g.D.Disk.facts in
     let u = c.self.inside.draft in
     let here : Plans facts (begun old) u requests answers = subst (λ (v : Drafted g.row.D.Denot). Plans facts (begun old) v requests answers) (sym c.self.view_is) plans in
-    let holds = λ honest. g.met.D.Disk.holds_now _ honest in
-    let there = (planned facts old s at holds requests answers u here).at in
+    let there = (planned facts old s at (λ honest. g.met.D.Disk.holds_now _ honest) requests answers u here).at in
     let made = c.commit-made in
     rw c.in_words.ensures
-    (commit_made facts old s at holds requests answers u here made.result.1 (made.ensures.any_moment s _ there) (commit_calls u.touched (length u.entries)) (in_words made.result.0)
-    (ok_in_words made.result.0 (made.ensures.ok s _ there)) (committed_in_words facts made.result.0 made.ensures.on_any_disk))
+    (commit_made facts old s at (λ honest. g.met.D.Disk.holds_now _ honest) requests answers u here made.result.1 (made.ensures.any_moment s _ there) (commit_calls u.touched (length u.entries)) (in_words made.result.0)
+    (ok_in_words _ made.result.0 (made.ensures.ok s _ there)) (committed_in_words facts made.result.0 made.ensures.on_any_disk))
