@@ -1,10 +1,10 @@
 -- From what an update of an opened registry does to what is said of the bytes and of the plan.
-use Rattle.std.proofs.Common.{◌≡◌, ◌⊎◌, inl, inr, ⊎_elim, ℕ, ◌+◌, ◌<◌, List, [], ◌∷◌, ◌++◌, length, map, take, drop, get_or, All, Bool, true, false, if◌then◌else◌, Ok, Err, None, IsTrue, refl, sym, ◌∙◌, ap, subst, append_assoc, arith}
+use Rattle.std.proofs.Common.{◌≡◌, ◌⊎◌, inl, inr, ⊎_elim, ℕ, ◌+◌, ◌<◌, List, [], ◌∷◌, ◌++◌, length, map, take, drop, get_or, Bool, false, Ok, Err, IsTrue, refl, sym, ◌∙◌, ap, subst, append_assoc, arith}
 use Rattle.std.specs.Prelude.{Result, MatchResult, IfErr, OnOk}
 use Rattle.std.specs.List.{list_any}
 use Rattle.std.proofs.lemmas.Bool.{both_ways}
 use Rattle.std.proofs.lemmas.List.{take-append-drop, take_more, map-append, length-map, length-take-le}
-use Rattle.std.proofs.lemmas.List.Elements.{All-nil, All-push, All-head, All-tail}
+use Rattle.std.proofs.lemmas.List.Elements.{All-nil, All-push}
 use Rattle.sector_disk.specs.Disk.{Sector, LeavesOnly, MayAddSync, Mixture}
 use Rattle.sector_disk.proofs.Moments.{goes_on, weaken}
 use Rattle.byte_disk.specs.declared.disk.ByteDisk.{ByteDisk}
@@ -12,28 +12,21 @@ use Rattle.byte_disk.specs.Bytes.{sectors_in}
 use Rattle.byte_disk.specs.ByteDisk.{byte_facts, plan_of}
 use Rattle.byte_disk.specs.inside.Laws.{byte_holds}
 use Rattle.byte_disk.proofs.Plans.{same_given}
-use Rattle.states.specs.Changes.{next}
 use Rattle.states.specs.State.{State}
 use Rattle.store.specs.Changed.{Changed}
 use Rattle.store.specs.Draft.{Drafted, IsDraftedAt, begun, committed}
 use Rattle.store.specs.Opened.{Opened, IsAt}
 use Rattle.store.specs.Stands as sectors
 use Rattle.store.specs.declared.holds.HeldRow.{HeldRow}
-use Rattle.requests.specs.Library.{IsLibrary}
-use Rattle.requests.specs.Phase.{Phase}
-use Rattle.requests.specs.Request.{Request, install, replace, remove, set_preloads, bind, list, request_of}
-use Rattle.requests.specs.Runs.{Steps}
-use Rattle.requests.specs.Step.{accepted, refusal_at}
+use Rattle.requests.specs.Request.{Request, request_of}
 use Rattle.requests.specs.declared.command.Command.{Command}
 use Rattle.requests.specs.declared.refusal.Refusal.{Refusal}
 use Rattle.requests.specs.declared.refusal.Refusal.TheVariants.{Device, OutOfMemory, Reopen}
 use Rattle.requests.specs.declared.reply.Reply.{Reply}
-use Rattle.requests.specs.declared.reply.Reply.TheVariants.{Done, Listing, Bound, Refused}
+use Rattle.requests.specs.declared.reply.Reply.TheVariants.{Refused}
 use Rattle.requests.proofs.Runs.{run_more}
-use Rattle.registry.specs.Drafting.{DraftStep, PlanStep, draft_phase}
 use Rattle.registry.specs.Stands.{Stands}
 use Rattle.registry.specs.Updating.{DraftAnswers, IsUpdate, Plans, asks_change, drafted_by, is_refusal, updated}
-use Rattle.registry.proofs.Untested.{each_accepted}
 use Rattle.registry.proofs.Updating.{begun_at, each_next, is_update, plans_moment}
 use Rattle.byte_registry.specs.Plans.{Holds, LeadsTo, synced_plan}
 use Rattle.byte_registry.specs.Replies.{opened_on}

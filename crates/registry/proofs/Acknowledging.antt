@@ -1,5 +1,5 @@
 -- The state after the acknowledged commands, and lists that grow by one.
-use Rattle.std.proofs.Common.{◌≡◌, ◌⊎◌, inl, inr, ⊎_elim, ◌<◌, ◌≤◌, ℕ, Bool, suc, zero, true, false, cond, List, [], ◌∷◌, ◌++◌, length, take, Some, None, IsFalse, refl, sym, ap, subst, ◌∙◌, arith}
+use Rattle.std.proofs.Common.{◌≡◌, ◌⊎◌, inl, inr, ⊎_elim, ◌<◌, ◌≤◌, ℕ, Bool, suc, zero, true, false, cond, List, [], ◌∷◌, ◌++◌, length, take, Some, IsFalse, refl, sym, ap, subst, ◌∙◌, arith}
 use Rattle.std.specs.Prelude.{slice_get}
 use Rattle.std.proofs.lemmas.Bool.{false≢true}
 use Rattle.std.proofs.lemmas.List.{take-append-le, take_all, length-append}

@@ -1,9 +1,7 @@
 use Rattle.std.proofs.Common.{sym, subst, ◌∙◌, ap}
-use Rattle.requests.specs.Runs.{Run}
-use Rattle.store.specs.Draft.{Drafted, begun}
+use Rattle.store.specs.Draft.{Drafted}
 use Rattle.store.specs.Opened.{Opened}
 use Rattle.registry.specs.Ran.{GivesUp, point}
-use Rattle.registry.specs.Updating.{DraftAnswers}
 use Rattle.registry.proofs.Committing.{gives_up}
 use Rattle.registry.proofs.update.Update.give_up.Goals as goal
 
