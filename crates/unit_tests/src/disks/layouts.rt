@@ -5,7 +5,7 @@ use std::alloc::AllocError;
 
 // Whether so many sectors are given as these extents, each with its first sector and its count.
 fn gives(layout: &mut Layout, need: u32, wanted: &[(u32, u32)]) -> bool {
-    let Ok(given) = layout.take(need) else {
+    let Ok(given) = Layout::take(layout, need) else {
         return false;
     };
     for (i, (start, count)) in wanted.iter().enumerate() {
@@ -24,7 +24,7 @@ fn gives(layout: &mut Layout, need: u32, wanted: &[(u32, u32)]) -> bool {
 fn claim_odd(layout: &mut Layout, sectors: u32) {
     for half in 1..sectors / 2 {
         let start = half.saturating_mul(2).saturating_add(1);
-        let _ = layout.claim(Extent { start, count: 1 });
+        let _ = Layout::claim(layout, Extent { start, count: 1 });
     }
 }
 
@@ -42,9 +42,29 @@ fn even_sectors() -> [(u32, u32); MOST_EXTENTS] {
 fn lays_out_the_largest_scattered_disk(rt: HostRuntime) -> Result<(), AllocError> {
     let mut layout = Layout::new(rt.alloc(), 4_194_304)?;
     claim_odd(&mut layout, MOST_SECTORS);
-    let free = layout.free_count();
-    let fragmented = layout.take(33).err() == Some(TakeRefusal::Fragmented);
+    let free = Layout::free_count(&layout);
+    let fragmented = Layout::take(&mut layout, 33).err() == Some(TakeRefusal::Fragmented);
     let taken = gives(&mut layout, 32, &even_sectors());
-    assert!(rt; free == 2_097_151 && fragmented && taken && layout.take_one() == Ok(66));
+    let next = Layout::take_one(&mut layout);
+    assert!(rt; free == 2_097_151 && fragmented && taken && next == Ok(66));
+    Ok(())
+}
+
+// Whether a layout of 8 sectors gives out what was claimed and released.
+fn gives_again(layout: &mut Layout) -> bool {
+    let extent = Extent { start: 3, count: 2 };
+    match Layout::claim(layout, extent) {
+        Ok(()) => {}
+        Err(_) => return false,
+    }
+    let claimed = Layout::free_count(layout);
+    Layout::release(layout, extent);
+    claimed == 4 && Layout::free_count(layout) == 6 && gives(layout, 6, &[(2, 6)])
+}
+
+#[test]
+fn gives_out_what_was_released(rt: HostRuntime) -> Result<(), AllocError> {
+    let mut layout = Layout::new(rt.alloc(), 8)?;
+    assert!(rt; gives_again(&mut layout));
     Ok(())
 }

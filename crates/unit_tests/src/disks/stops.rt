@@ -6,7 +6,7 @@ use std::test::Fail;
 
 /// Fills a sector with a byte: whether there is one and it was written.
 pub(crate) fn write<D: Disk>(disk: &mut D, at: u32, content: u8) -> bool {
-    at < disk.sectors() && disk.write(at, &[content; SECTOR_BYTES]).is_ok()
+    at < Disk::sectors(disk) && Disk::write(disk, at, &[content; SECTOR_BYTES]).is_ok()
 }
 
 /// The value that all bytes have, if there is one.
@@ -24,7 +24,7 @@ pub(crate) fn value_of(bytes: &[u8]) -> Option<u8> {
 /// differ.
 pub(crate) fn read<D: Disk>(disk: &mut D, at: u32) -> Option<u8> {
     let mut sector = [99; SECTOR_BYTES];
-    if at >= disk.sectors() || disk.read(at, &mut sector).is_err() {
+    if at >= Disk::sectors(disk) || Disk::read(disk, at, &mut sector).is_err() {
         return None;
     }
     value_of(&sector)
@@ -53,7 +53,7 @@ pub(crate) fn is_filled<D: Disk>(disk: &mut D) -> bool {
 // How many choices a stop has for a sector, or 0 where there is none.
 fn choices(disk: &Memory, at: u32) -> usize {
     if at < disk.sectors() {
-        disk.choices(at)
+        Memory::choices(disk, at)
     } else {
         0
     }
@@ -61,12 +61,12 @@ fn choices(disk: &Memory, at: u32) -> usize {
 
 // The disk behind a stop that picks the same number everywhere.
 fn stopped(disk: Memory, pick: usize) -> Memory {
-    disk.stop(|_, _| pick)
+    Memory::stop(disk, |_, _| pick)
 }
 
 // What this sector holds after a stop that picks the same number everywhere. Then all is synced.
 fn left(disk: &Memory, at: u32, pick: usize) -> Option<u8> {
-    let mut stopped = stopped(disk.copy().ok()?, pick);
+    let mut stopped = stopped(Memory::copy(disk).ok()?, pick);
     if stopped.sectors() == disk.sectors() && choices(&stopped, at) == 1 {
         read(&mut stopped, at)
     } else {
@@ -110,7 +110,7 @@ fn a_count_of_calls_has_no_bytes(rt: HostRuntime) {
 // was read.
 fn four_calls<D: Disk>(disk: &mut D) -> ([bool; 4], Option<u8>) {
     let first = write(disk, 0, 1);
-    let synced = disk.sync().is_ok();
+    let synced = Disk::sync(disk).is_ok();
     let second = write(disk, 0, 2);
     let content = read(disk, 0);
     ([first, synced, second, content.is_some()], content)
@@ -157,7 +157,7 @@ fn is_row(alloc: Global, row: Row) -> bool {
     let mut fuse = Fuse::new(disk, call, forever, late);
     let two = fuse.sectors() == 2;
     let done = four_calls(&mut fuse);
-    two && done == (succeed, content) && leaves(&fuse.into_inner(), 0, left_inside)
+    two && done == (succeed, content) && leaves(&Fuse::into_inner(fuse), 0, left_inside)
 }
 
 // The first fuse that isn't as its row says.

@@ -131,6 +131,9 @@ fn is_bound(alloc: Global, file: &[u8], own: &[u8]) -> bool {
         return false;
     };
     let libraries = [Library { name: b"a", object }];
+    let [library] = &libraries;
+    let is_a = Library::name(library) == b"a".as_slice()
+        && Object::symbol_count(Library::object(library).object()) == 1;
     let needs = Object::needed_count(program.object()) == 1
         && Object::needed(program.object(), 0) == b"a".as_slice();
     let placed = match load_order(alloc, &program, &libraries, &[0]) {
@@ -138,7 +141,7 @@ fn is_bound(alloc: Global, file: &[u8], own: &[u8]) -> bool {
         Err(_) => false,
     };
     match bind_program(alloc, file, BASE, &libraries, &[]) {
-        Ok(image) => needs && placed && has_file_at(alloc, &image, 0x11000, TEXT),
+        Ok(image) => is_a && needs && placed && has_file_at(alloc, &image, 0x11000, TEXT),
         Err(_) => false,
     }
 }

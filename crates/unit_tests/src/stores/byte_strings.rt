@@ -20,14 +20,14 @@ pub(crate) fn opened<D: Disk + Drop>(rt: &(impl Abort + AllocGlobal), disk: D) -
     }
 }
 
-/// Puts bytes under a name of one letter behind the others.
+/// Puts bytes under a name of one letter: in the place of those that it has, or behind the others.
 pub(crate) fn put(rt: &impl Abort, store: &mut Store<Memory>, letter: u8, bytes: &[u8]) {
     assert!(rt; letter > b'/' && letter < 127);
     assert!(rt; bytes.len() >= 64 && bytes.len() <= 16_777_216);
     let name = [letter];
     let is_put = match store.position(&name) {
-        Some(_) => false,
-        None => store.put_new(&name, bytes).is_ok(),
+        Some(_) => Store::put_over(store, &name, bytes).is_ok(),
+        None => Store::put_new(store, &name, bytes).is_ok(),
     };
     assert!(rt; is_put);
 }
