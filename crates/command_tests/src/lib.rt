@@ -3,6 +3,8 @@
 #![tactic(auto)]
 
 #[cfg(test)]
+mod each_call;
+#[cfg(test)]
 mod every_line;
 #[cfg(test)]
 mod harms;
