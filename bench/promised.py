@@ -1,7 +1,10 @@
-"""Checks that the crates' sources have the names of docs/PROMISED_CALLS.txt.
+"""Checks that the crates' sources have the names of docs/PROMISED_CALLS.txt, and that tests call the calls among them.
 
 A crate exports a name if its lib.rt has it in a `pub use`. Of a type it exports the `pub fn`s of its `impl` blocks, the
 functions of a trait, the variants of an enum, and the `pub` fields of a struct.
+
+A test calls a function by its path if a file of a crate with tests brings the path's first name in from the crate that
+exports it, and has a call such as `Layout::take(..)` or `choose(..)`. No call of the list is without one.
 """
 
 import re
@@ -14,6 +17,8 @@ ROOT = Path(__file__).resolve().parent.parent
 LIST = ROOT / 'docs' / 'PROMISED_CALLS.txt'
 USED = re.compile(r'^pub use (\w+)::([^;]*);', re.M)
 TYPE = re.compile(r'^pub (enum|struct|trait|type) (\w+)')
+BROUGHT = re.compile(r'^use (\w+)::(?:\{([^}]*)\}|(\w+));', re.M)
+COMMENT = re.compile(r'//.*')
 MEMBER = {'enum': re.compile(r'    ([A-Z]\w*)(?=[,({ ]|$)'), 'struct': re.compile(r'    pub (\w+):')}
 
 
@@ -59,6 +64,42 @@ def names_in(crate):
     return names
 
 
+@cache
+def calls_of(crate):
+    """The public functions of a crate's source, `Type::name` for those of a type or trait."""
+    files = sorted((ROOT / 'crates' / crate / 'src').rglob('*.rt'))
+    return {name for path in files for name, *_ in clauses.calls_in(path, exports_of(crate))}
+
+
+@cache
+def tests():
+    """Each file of a crate with tests: its names with the crates that they are brought in from, and its text."""
+    found = []
+    for source in sorted(ROOT.glob('crates/*/src')):
+        texts = [COMMENT.sub('', path.read_text()) for path in sorted(source.rglob('*.rt'))]
+        if any('#[test]' in text for text in texts):
+            found += [(brought_in(text), text) for text in texts]
+    return found
+
+
+def brought_in(text):
+    """The names that a file's `use` lines bring in, each with its crate."""
+    return {(crate, name) for crate, several, one in BROUGHT.findall(text) for name in re.findall(r'\w+', several or one)}
+
+
+def is_tested(promise):
+    """Whether a test calls a promised call by its path."""
+    crate, name = promise.split('::', 1)
+    call = re.compile(rf'(?<![\w.:]){name}\(')
+    return any((crate, name.split('::')[0]) in names and call.search(text) for names, text in tests())
+
+
+def is_call(promise):
+    """Whether a promised name is a function."""
+    crate, name = promise.split('::', 1)
+    return name in calls_of(exports_of(crate).get(name.split('::')[0], crate))
+
+
 def is_exported(promise):
     """Returns whether the crate of a promised name exports it."""
     crate, name = promise.split('::', 1)
@@ -74,5 +115,7 @@ def broken():
             yield f'{LIST.relative_to(ROOT)} has {name} more than once'
         if not is_exported(name):
             yield f'{LIST.relative_to(ROOT)} promises {name}, which its crate doesn\'t export'
+        elif is_call(name) and not is_tested(name):
+            yield f'{LIST.relative_to(ROOT)} promises {name}, which no test calls by its path'
     if not names:
         yield f'{LIST.relative_to(ROOT)} has no names'
