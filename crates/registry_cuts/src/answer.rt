@@ -2,12 +2,17 @@
 
 use anyhow::{Result, bail};
 use binders::EventReply;
-use requests::Reply;
+use requests::{Refusal, Reply};
 use std::alloc::Global;
 use std::io::Write;
 
 /// What a reply to a change says that was made.
 pub(crate) const DONE: &[u8] = b"done";
+
+/// The text of the refusal if a call of the disk fails, and if one failed before.
+pub(crate) const DEVICE: &[u8] = b"Device";
+
+pub(crate) const REOPEN: &[u8] = b"Reopen";
 
 // Puts what the reply to a command says.
 fn put_answer(text: &mut Vec<u8>, reply: &Reply) -> Result<()> {
@@ -37,6 +42,21 @@ pub(crate) fn answers(alloc: Global, replies: &[Reply]) -> Result<Vec<Vec<u8>>> 
     for reply in replies {
         answers.push(answer(alloc, reply)?)?;
     }
+    Ok(answers)
+}
+
+/// The answers to the lines of an update, followed by the answer to its commit.
+pub(crate) fn with_commit(
+    alloc: Global,
+    answers: Vec<Vec<u8>>,
+    made: std::result::Result<(), Refusal>,
+) -> Result<Vec<Vec<u8>>> {
+    let mut answers = answers;
+    let reply = match made {
+        Ok(()) => Reply::Done,
+        Err(refusal) => Reply::Refused(refusal),
+    };
+    answers.push(answer(alloc, &reply)?)?;
     Ok(answers)
 }
 

@@ -4,6 +4,7 @@
 //! The words of the command line name the files of its rows; its README has their form.
 #![tactic(auto)]
 
+mod allowed;
 mod answer;
 mod course;
 mod cut;
@@ -16,6 +17,8 @@ mod run;
 mod seen;
 mod sides;
 mod tally;
+mod task;
+mod trial;
 mod upgrades;
 mod wanted;
 

@@ -5,6 +5,8 @@ use crate::event::Event;
 use crate::rounds::play_rounds;
 use crate::run::{Beginning, disk_after};
 use crate::tally::Tally;
+use crate::task::Asked;
+use crate::trial::cut_task;
 use crate::upgrades::cut_making;
 use anyhow::{Context, Result, bail};
 use std::fs;
@@ -30,6 +32,11 @@ fn run_course(
     start: &[Rc<Event>],
     events: &[Rc<Event>],
 ) -> Result<()> {
+    match word {
+        "file" => return cut_task(tally, Asked::Commands, sectors, start, events),
+        "update" => return cut_task(tally, Asked::Update, sectors, start, events),
+        _ => {}
+    }
     let alloc = tally.rt.alloc();
     let disk = disk_after(alloc, sectors, start)?;
     let course = Course::on(
@@ -84,7 +91,9 @@ fn run_word(
         "full" => cut_making(tally, Beginning::Full, disk, start),
         "newer" => cut_making(tally, Beginning::Newer, disk, start),
         "rounds" => play_rounds(tally, disk.parse::<u32>()?, start, rest),
-        "list" | "follow" | "binders" => run_events(tally, word, disk, start, rest),
+        "list" | "follow" | "binders" | "file" | "update" => run_events(
+            tally, word, disk, start, rest,
+        ),
         "lists" => run_lists(tally, disk, start, rest),
         _ => bail!("the word {word}"),
     }

@@ -9,7 +9,7 @@ use plain_registry::PlainRegistry;
 use registry::Registry;
 use requests::{Command, Reply};
 use samples::{SIZE, padded, program};
-use sector_disk::Memory;
+use sector_disk::{Disk, Memory};
 use std::alloc::Global;
 use std::rc::Rc;
 use store::StoreRefusal;
@@ -90,9 +90,9 @@ fn make(plain: &mut PlainRegistry, changes: &[Rc<Event>]) -> Result<()> {
 }
 
 // Asks a registry, if there is one.
-fn ask(
+fn ask<D: Disk + Drop>(
     alloc: Global,
-    made: std::result::Result<Registry<Powered>, (StoreRefusal, Powered)>,
+    made: std::result::Result<Registry<D>, (StoreRefusal, D)>,
     looks: &[Command<'_>],
 ) -> Result<Seen> {
     match made {
@@ -121,6 +121,12 @@ pub(crate) fn look_behind(alloc: Global, disk: Powered, probe: &Probe) -> Result
         }
         made => ask(alloc, made, &looks),
     }
+}
+
+/// Opens a disk of version 2, whatever it stands on, and asks.
+pub(crate) fn look_on<D: Disk + Drop>(alloc: Global, disk: D, probe: &Probe) -> Result<Seen> {
+    let looks = probe.looks(alloc)?;
+    ask(alloc, Registry::open(alloc, disk), &looks)
 }
 
 /// Opens a disk and asks.

@@ -1,0 +1,61 @@
+// The states that a disk may have after some answers.
+
+use crate::answer::{DEVICE, DONE, REOPEN};
+use crate::run::Told;
+use crate::task::{Asked, Task};
+use store::StoreRefusal;
+
+/// The range of the states that a disk may have, by their numbers, and whether the answers are
+/// right.
+#[derive(Clone, Copy)]
+pub(crate) struct Allowed {
+    pub(crate) least: usize,
+    pub(crate) most: usize,
+    pub(crate) right: bool,
+}
+
+impl Allowed {
+    // Notes that a change was acknowledged. No change is acknowledged after one that failed.
+    fn acknowledge(&mut self) {
+        self.right = self.right && self.least == self.most;
+        self.least = self.least.saturating_add(1);
+        self.most = self.least;
+    }
+
+    // Notes an answer that isn't the wanted one. A disk may have a change that failed, or not.
+    fn refuse(&mut self, answer: &[u8], is_change: bool) {
+        self.right = self.right && (answer == DEVICE || answer == REOPEN);
+        if is_change && answer == DEVICE {
+            self.most = self.least.saturating_add(1);
+        }
+    }
+
+    /// The states that a disk may have after these answers to a task.
+    pub(crate) fn by(task: &Task, told: &Told) -> Allowed {
+        let mut allowed = Allowed {
+            least: 0,
+            most: 0,
+            right: true,
+        };
+        let answers = match told {
+            Ok(answers) => answers,
+            Err(refusal) => {
+                allowed.right = *refusal == StoreRefusal::Device;
+                return allowed;
+            }
+        };
+        let count = task.wanted.len();
+        allowed.right = answers.len() == count;
+        for (number, (answer, wanted)) in answers.iter().zip(&task.wanted).enumerate() {
+            let is_commit = number.saturating_add(1) == count;
+            let is_counted = task.asked == Asked::Commands || is_commit;
+            let is_change = is_counted && wanted.as_slice() == DONE;
+            if answer != wanted {
+                allowed.refuse(answer, is_change);
+            } else if is_change {
+                allowed.acknowledge();
+            }
+        }
+        allowed
+    }
+}
