@@ -1,8 +1,9 @@
 -- Where a text ends.
-use Rattle.std.proofs.Common.{◌≡◌, ◌≢◌, ℕ, List, [], ◌∷◌, ◌++◌, length, ◌==◌, false, inr, refl, sym, ap, ◌∙◌, append_assoc}
+use Rattle.std.proofs.Common.{◌≡◌, ◌≢◌, ℕ, List, [], ◌∷◌, ◌++◌, length, ◌==◌, false, inl, inr, Option, refl, sym, ap, ◌∙◌, append_assoc, arith}
 use Rattle.std.proofs.lemmas.Bool.{false≢true}
 use Rattle.std.proofs.lemmas.List.Elements.{All-head, All-tail}
-use Rattle.text_output.specs.Pieces.{EndsWithinLine, IsWithinLine}
+use Rattle.std.proofs.KnownBytes.{Appends-nil}
+use Rattle.text_output.specs.Pieces.{EndsWithinLine, GetsFrontPiece, IsWithinLine}
 
 -- the last byte of a text without a newline
 last_of : (b : ℕ) (text : List ℕ) → IsWithinLine (b ∷ text) → (front : List ℕ) × (last : ℕ) × (last ≢ 10) × (b ∷ text ≡ front ++ last ∷ [])
@@ -17,3 +18,7 @@ ends_behind waiting [] some line = absurd (false≢true (sym some))
 ends_behind waiting (b ∷ text) some line =
     let it = last_of b text line in
     inr (waiting ++ it.0, it.1, it.2, ap (λ l. waiting ++ l) it.3 ∙ sym (append_assoc waiting it.0 (it.1 ∷ [])))
+
+-- a writer that gets nothing
+pub gets_none : (held : Option (List ℕ)) → GetsFrontPiece held held
+gets_none held = ([], record { size = omega arith; within = inl refl }, Appends-nil held)

@@ -1,5 +1,6 @@
 -- The pieces in which lines are given to their writer (own; what a pipe takes whole or not at all: PIPE_BUF, pipe(7)).
-use Rattle.std.specs.Prelude.{◌≡◌, ◌≢◌, ◌⊎◌, ◌≤◌, ℕ, List, [], ◌∷◌, ◌++◌, All, length}
+use Rattle.std.specs.Prelude.{◌≡◌, ◌≢◌, ◌⊎◌, ◌≤◌, ℕ, List, [], ◌∷◌, ◌++◌, All, length, Option}
+use Rattle.std.specs.Io.KnownBytes.{Appends}
 
 -- the most bytes of a piece
 abbrev pub most_piece : ℕ
@@ -17,3 +18,7 @@ EndsWithinLine text = (text ≡ []) ⊎ ((front : List ℕ) × (last : ℕ) × (
 pub record IsFrontPiece (piece : List ℕ) : Type 0 where
   pub size : length piece ≤ most_piece
   pub within : EndsWithinLine piece
+
+-- A writer gets such a piece, or nothing: a piece of no bytes.
+abbrev pub GetsFrontPiece : Option (List ℕ) → Option (List ℕ) → Type 0
+GetsFrontPiece held holds = (piece : List ℕ) × IsFrontPiece piece × Appends held holds piece

@@ -4,7 +4,8 @@ ghost use Rattle.std.specs.Prelude.{◌≡◌, ◌⊎◌, ◌++◌, ◌<◌, ◌
 ghost use Rattle.std.specs.Prelude.{OnErr, OnOk, false, true};
 ghost use Rattle.std.specs.Io.KnownBytes.{Appends};
 ghost use Rattle.text_output.specs.Sends.{Sends};
-ghost use Rattle.text_output.specs.Pieces.{EndsWithinLine, IsFrontPiece, IsWithinLine};
+ghost use Rattle.text_output.specs.Pieces.{EndsWithinLine, GetsFrontPiece, IsFrontPiece};
+ghost use Rattle.text_output.specs.Pieces.{IsWithinLine};
 
 use crate::buffer::OutputBuffer;
 use crate::fault::WriteFault;
@@ -30,9 +31,9 @@ pub struct PieceBuffer {
 }
 
 impl Model for PieceBuffer {
-    ghost use Rattle.std.specs.Prelude.{◌++◌, codes, [], if◌then◌else◌};
+    ghost use Rattle.std.specs.Prelude.{◌++◌, ◌<◌, codes, [], if◌then◌else◌, length};
     ghost use Rattle.text_output.specs.Sends.{Buffered};
-    ghost use Rattle.text_output.specs.Pieces.{EndsWithinLine};
+    ghost use Rattle.text_output.specs.Pieces.{EndsWithinLine, most_piece};
 
     ghost Value = { Buffered };
 
@@ -41,7 +42,8 @@ impl Model for PieceBuffer {
       failed = s.piece.failed;
     } };
 
-    ghost invariant = { λ s. EndsWithinLine s.piece.waiting };
+    ghost invariant = { λ s. EndsWithinLine s.piece.waiting
+        × (length s.piece.waiting < most_piece) };
 }
 
 /// Gives a piece to the writer, with one call of `write_all`, behind which another one comes.
@@ -67,7 +69,8 @@ impl PieceBuffer {
         }
     }
 
-    /// Puts a part of a line behind what waits.
+    /// Puts a part of a line after the bytes that wait. If there is no room for it and for a
+    /// newline, these are given to the writer first, as one piece.
     pub fn put<W: Write>(&mut self, out: &mut W, text: &[u8]) -> Result<(), WriteFault>
         requires short { length text.now ≤ LONGEST }
         requires line { IsWithinLine text.now }
@@ -75,11 +78,15 @@ impl PieceBuffer {
             text.now) }
         ensures within { OnOk result ((EndsWithinLine self.old.waiting ⊎ (0 < length text.now))
             → EndsWithinLine self.new.waiting) }
+
+        // The writer gets nothing, or a piece that ends within a line.
+        ensures piece { OnOk result
+            (GetsFrontPiece (W.contents out.old) (W.contents out.new)) }
     {
         if text.is_empty() {
             return Ok(());
         }
-        if self.piece.room() <= text.len() {
+        if self.piece.room() <= text.len() + 1 {
             give(&mut self.piece, out)?;
         }
         if self.line_is_ended {
@@ -98,15 +105,12 @@ impl PieceBuffer {
         self.line_is_ended = true;
     }
 
-    /// Gives all that waits to the writer: the last piece.
+    /// Gives all bytes that wait to the writer: the last piece.
     pub fn finish<W: Write>(self, out: &mut W) -> Result<(), WriteFault>
         ensures { OnOk result (Appends (W.contents out.old) (W.contents out.new) self.waiting) }
     {
         let mut piece = self.piece;
         if self.line_is_ended {
-            if piece.room() == 0 {
-                give(&mut piece, out)?;
-            }
             piece.append(b"\n");
         }
         piece.send(out)
