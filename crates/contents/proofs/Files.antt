@@ -1,10 +1,12 @@
 -- A library of a state, by its position and by its name.
 use Rattle.std.proofs.Common.{◌≡◌, ◌≢◌, ◌↔◌, ℕ, ◌<◌, List, length, get_or, All, Option, Some, None, Result, Ok, Err, refl, sym, ap, subst, ◌∙◌}
-use Rattle.std.specs.Prelude.{IfOk, OnOk}
+use Rattle.std.specs.Prelude.{Contains, IfOk, OnOk}
 use Rattle.std.specs.Global.{Vec}
 use Rattle.std.proofs.lemmas.List.{get_or_default}
+use Rattle.store.specs.declared.placed_entry.PlacedEntry.{PlacedEntry}
 use Rattle.states.specs.State.{Library, State}
-use Rattle.store.specs.Stands.{no_library}
+use Rattle.store.specs.Stands.{HaveOwnNames, name_of, no_library}
+use Rattle.store.proofs.Drafts.{same_name}
 use Rattle.contents.specs.File.{HasFile}
 
 -- what the position of a name is, by the store's contract
@@ -47,3 +49,12 @@ pub of_length : {E : Type 0} (P : ℕ → Type 0) (size : ℕ) (result : Result 
     → IfOk result (λ bytes. length bytes.items ≡ size) → IfOk result (λ bytes. P (length bytes.items))
 of_length P size (Err e) holds is = tt
 of_length P size (Ok bytes) holds is = subst P (sym is) holds
+
+-- the entry at a name's position is the one that has the name
+pub entry_at : (entries : List PlacedEntry) (name : List ℕ) (position : ℕ) (placed : PlacedEntry) → HaveOwnNames entries
+    → (position < length entries) × ((d : PlacedEntry) → name_of (get_or entries position d).entry ≡ name)
+    → Contains entries placed × (name_of placed.entry ≡ name) → get_or entries position placed ≡ placed
+entry_at entries name position placed own at has =
+    let k : ℕ = has.0.0 in
+    let named : name_of (get_or entries position placed).entry ≡ name_of (get_or entries k placed).entry = at.1 placed ∙ sym has.1 ∙ ap (λ (p : PlacedEntry). name_of p.entry) (sym has.0.2) in
+    ap (λ i. get_or entries i placed) (same_name entries own position k placed at.0 has.0.1 named) ∙ has.0.2

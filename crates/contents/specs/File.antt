@@ -1,7 +1,14 @@
 -- The bytes of a library (own).
-use Rattle.std.specs.Prelude.{ℕ, List, Contains}
+use Rattle.std.specs.Prelude.{◌≡◌, ℕ, List, Contains}
 use Rattle.states.specs.State.{State}
+use Rattle.store.specs.Opened.{Opened}
+use Rattle.store.specs.Stands.{name_of}
+use Rattle.store.specs.declared.placed_entry.PlacedEntry.{PlacedEntry}
 
 -- a library of this name is installed, and these are its bytes
 abbrev pub HasFile : State → (name bytes : List ℕ) → Type 0
 HasFile s name bytes = Contains s.libraries (record { name = name; bytes = bytes })
+
+-- the store lists this entry, which has this name
+abbrev pub HasEntry : {D : Type 0} → Opened D → (name : List ℕ) → PlacedEntry → Type 0
+HasEntry store name placed = Contains store.entries placed × (name_of placed.entry ≡ name)

@@ -1,7 +1,7 @@
 // The digests of installed libraries.
 ghost use Rattle.std.specs.Prelude.{◌≡◌, ◌≢◌, ◌+◌, ◌<◌, ◌≤◌, ◌↔◌, ℕ, List, All, Err, IfErr, IfOk};
-ghost use Rattle.std.specs.Prelude.{None, Option, count_by, is_none, length, slice_index_or};
-ghost use Rattle.std.specs.Prelude.{sum_by};
+ghost use Rattle.std.specs.Prelude.{None, OnOk, Option, count_by, is_none, length};
+ghost use Rattle.std.specs.Prelude.{slice_index_or, sum_by};
 ghost use Rattle.sector_disk.specs.Disk.{AreCallsExactly, AreCallsAtMost};
 ghost use Rattle.sha2.specs.Sha256.{sha256};
 ghost use Rattle.states.specs.State.{State};
@@ -10,7 +10,7 @@ ghost use Rattle.store.specs.IsRead.{IsRead, file_sectors};
 ghost use Rattle.store.specs.Opened.{IsAt};
 ghost use Rattle.store.specs.Stands.{no_library};
 ghost use Rattle.contents.specs.Digest.{IsDigest, IsDigestOfSome};
-ghost use Rattle.contents.specs.File.{HasFile};
+ghost use Rattle.contents.specs.File.{HasEntry, HasFile};
 
 use crate::contents::Contents;
 use crate::unread::Unread;
@@ -75,7 +75,8 @@ impl<D: Disk> Contents<D> {
         Ok(digests)
     }
 
-    /// The SHA-256 of the bytes of the library of this name, which are read as `file` reads them.
+    /// The SHA-256 of the bytes of the library of this name. It reads each of their sectors once, as
+    /// `file` does, and nothing if no library has the name.
     pub fn digest(&mut self, alloc: Global, name: &[u8]) -> Result<[u8; 32], Unread>
         ensures read { IsRead D.facts self.old self.new }
 
@@ -93,6 +94,12 @@ impl<D: Disk> Contents<D> {
         ensures device { IfErr result (λ e. e ≡ Unread.Unreadable
             → (D.facts self.old.disk).failures < (D.facts self.new.disk).failures) }
         ensures untouched { IfErr result (λ e. e ≢ Unread.Unreadable → self.new ≡ self.old) }
+        ensures calls { (placed : PlacedEntry) → HasEntry self.old name.now placed
+            → AreCallsAtMost (file_sectors placed)
+            (D.facts self.old.disk) (D.facts self.new.disk) }
+        ensures all_calls { (placed : PlacedEntry) → HasEntry self.old name.now placed
+            → OnOk result (AreCallsExactly (file_sectors placed)
+            (D.facts self.old.disk) (D.facts self.new.disk)) }
     {
         match self.file(alloc, name) {
             Ok(bytes) => Ok(Sha256::digest(&bytes)),

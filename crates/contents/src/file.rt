@@ -8,7 +8,7 @@ ghost use Rattle.store.specs.declared.placed_entry.PlacedEntry.{PlacedEntry};
 ghost use Rattle.store.specs.IsRead.{IsRead, file_sectors};
 ghost use Rattle.store.specs.Opened.{IsAt};
 ghost use Rattle.store.specs.Stands.{no_library};
-ghost use Rattle.contents.specs.File.{HasFile};
+ghost use Rattle.contents.specs.File.{HasEntry, HasFile};
 
 use crate::contents::Contents;
 use crate::unread::Unread;
@@ -67,6 +67,11 @@ impl<D: Disk> Contents<D> {
         ensures all_calls { IfOk result (λ bytes. AreCallsExactly
             (div_ceil (length bytes.items) sector_bytes)
             (D.facts self.old.disk) (D.facts self.new.disk)) }
+        ensures calls { (placed : PlacedEntry) → HasEntry self.old name.now placed
+            → AreCallsAtMost (file_sectors placed)
+            (D.facts self.old.disk) (D.facts self.new.disk) }
+        ensures length { (placed : PlacedEntry) → HasEntry self.old name.now placed
+            → IfOk result (λ bytes. length bytes.items ≡ placed.entry.file_length) }
     {
         match self.store.position(name) {
             Some(position) => self.read(alloc, position),

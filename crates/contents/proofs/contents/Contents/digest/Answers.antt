@@ -1,4 +1,6 @@
-use Rattle.std.proofs.Common.{◌≡◌, Result, Ok, Err, sym, ap, ◌∙◌}
+use Rattle.std.proofs.Common.{◌≡◌, Result, Ok, Err, sym, ap, subst, ◌∙◌}
+use Rattle.std.specs.Int.{div_ceil}
+use Rattle.sector_disk.specs.Disk.{AreCallsExactly}
 use Rattle.sha2.specs.Sha256.{sha256}
 use Rattle.contents.proofs.contents.Contents.digest.Goals as goal
 
@@ -22,3 +24,7 @@ pub returns-in-Err-clause-not_installed : goal.returns-in-Err-clause-not_install
 returns-in-Err-clause-not_installed g c s at =
     let same = c.in-Err.ensures.not_installed s at in
     (λ is. same.0 (again _ _ is), λ none. again _ _ (same.1 none))
+
+pub returns-in-Ok-clause-all_calls : goal.returns-in-Ok-clause-all_calls
+returns-in-Ok-clause-all_calls g c placed has =
+    subst (λ n. AreCallsExactly (div_ceil n 512) (g.D.Disk.facts c.args.self.now.disk) (g.D.Disk.facts c.file.new.self.disk)) (c.in-Ok.ensures.length placed has) c.in-Ok.ensures.all_calls
