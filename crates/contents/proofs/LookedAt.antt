@@ -51,6 +51,16 @@ module _ {T : Type 0} (Is : Library → T → Type 0) (is_unread : T → Bool) {
     calls = exactly_at_most (exactly_none (facts start.disk)) (omega arith);
   }
 
+  -- the calls up to one more
+  pub more_calls : {start mid : Opened D} {position : ℕ} {seen : List T} (new : Opened D) → position < length start.entries → SeenSoFar Is is_unread facts start mid position seen
+      → ((d : PlacedEntry) → AreCallsAtMost (file_sectors (get_or mid.entries position d)) (facts mid.disk) (facts new.disk))
+      → AreCallsAtMost (sum_by file_sectors (take (position + 1) start.entries)) (facts start.disk) (facts new.disk)
+  more_calls {start = start} {position = position} new lt so_far calls = at_most_sum so_far.calls (calls no_entry) (omega (
+    arith,
+    ap (λ entries. file_sectors (get_or entries position no_entry)) so_far.read.entries,
+    sum_by_more file_sectors start.entries position no_entry lt,
+  ))
+
   -- one library more
   pub one_seen : {start mid new : Opened D} {position : ℕ} {seen : List T} (x : T) → position < length start.entries
       → SeenSoFar Is is_unread facts start mid position seen → IsRead facts mid new
@@ -67,11 +77,7 @@ module _ {T : Type 0} (Is : Library → T → Type 0) (is_unread : T → Bool) {
       sum_by_push (λ (y : T). cond (is_unread y) 1 0) seen x,
       counted (is_unread x) ((facts start.disk).failures + count_by is_unread seen) (facts mid.disk).failures (facts new.disk).failures failed read.calls.failures so_far.failures,
     );
-    calls = at_most_sum so_far.calls (calls no_entry) (omega (
-      arith,
-      ap (λ entries. file_sectors (get_or entries position no_entry)) so_far.read.entries,
-      sum_by_more file_sectors start.entries position no_entry lt,
-    ));
+    calls = more_calls new lt so_far calls;
   }
 
   -- The calls up to one more are some of those for all.

@@ -1,7 +1,12 @@
 -- What is found of an installed library (own).
-use Rattle.std.specs.Prelude.{◌≡◌, ◌≢◌, Bool, true, false, Some, None}
+use Rattle.std.specs.Prelude.{◌≡◌, ◌≢◌, ◌⊎◌, ◌+◌, ◌<◌, ℕ, Bool, true, false, List, length, slice_index_or, sum_by, take, Some, None}
+use Rattle.sector_disk.specs.Disk.{AreCallsAtMost, AreCallsExactly, DiskFacts}
 use Rattle.elf_dynamic.specs.Strings.{soname}
-use Rattle.states.specs.State.{Library}
+use Rattle.hash_check.specs.FileRefusal.{ReadNeedsMemory}
+use Rattle.states.specs.State.{Library, State}
+use Rattle.store.specs.IsRead.{file_sectors}
+use Rattle.store.specs.Stands.{no_library}
+use Rattle.store.specs.declared.placed_entry.PlacedEntry.{PlacedEntry}
 use Rattle.requests.specs.Library.{IsLibrary, library_refusal}
 use Rattle.contents.specs.declared.finding.Finding.{Finding}
 use Rattle.contents.specs.declared.finding.Finding.TheVariants.{Sound, Refused, OtherName, Unreadable}
@@ -17,3 +22,15 @@ IsFinding l Unreadable = Unit {0}
 abbrev pub is_unreadable : Finding → Bool
 is_unreadable Unreadable = true
 is_unreadable other = false
+
+-- Memory was refused at the library at position k: for its bytes, before any of its sectors was read; or
+-- for a test, which takes some.
+abbrev pub StopsAt : (old new : DiskFacts) → List PlacedEntry → State → (k : ℕ) → Type 0
+StopsAt old new entries s k =
+    AreCallsAtMost (sum_by file_sectors (take k entries)) old new
+    ⊎ (ReadNeedsMemory (slice_index_or s.libraries k no_library).bytes × AreCallsAtMost (sum_by file_sectors (take (k + 1) entries)) old new)
+
+-- why a look at the libraries, which have these entries, ended early: memory was refused before any call
+-- of the disk, or at one of them
+abbrev pub LacksMemory : (old new : DiskFacts) → List PlacedEntry → State → Type 0
+LacksMemory old new entries s = AreCallsExactly 0 old new ⊎ ((k : ℕ) × (k < length s.libraries) × StopsAt old new entries s k)

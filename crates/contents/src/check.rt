@@ -1,5 +1,5 @@
 // Whether installed libraries are libraries.
-ghost use Rattle.std.specs.Prelude.{◌≡◌, ◌≢◌, ◌+◌, ◌<◌, ◌≤◌, ℕ, All, IfOk, OnErr, length};
+ghost use Rattle.std.specs.Prelude.{◌≡◌, ◌≢◌, ◌⊎◌, ◌+◌, ◌<◌, ◌≤◌, ℕ, All, IfOk, OnErr, length};
 ghost use Rattle.std.specs.Prelude.{count_by, slice_index_or, sum_by};
 ghost use Rattle.sector_disk.specs.Disk.{AreCallsExactly, AreCallsAtMost};
 ghost use Rattle.states.specs.State.{State};
@@ -8,7 +8,8 @@ ghost use Rattle.store.specs.IsRead.{IsRead, file_sectors};
 ghost use Rattle.store.specs.Opened.{IsAt};
 ghost use Rattle.store.specs.Stands.{no_library};
 ghost use Rattle.contents.specs.declared.finding.Finding.{Finding};
-ghost use Rattle.contents.specs.Finding.{IsFinding, is_unreadable};
+ghost use Rattle.contents.specs.Finding.{IsFinding, LacksMemory, is_unreadable};
+ghost use Rattle.hash_check.specs.FileRefusal.{ReadNeedsMemory};
 
 use crate::contents::Contents;
 use crate::finding::Finding;
@@ -17,10 +18,13 @@ use requests::{Refusal, library_name};
 use sector_disk::Disk;
 use std::alloc::{AllocError, Global};
 
-/// What is found of a file under this name. It fails for want of memory alone.
+/// What is found of a file under this name. It fails only if memory is refused for a test that
+/// takes some.
 pub fn finding_of(alloc: Global, name: &[u8], file: &[u8]) -> Result<Finding, AllocError>
     ensures finding { IfOk result (IsFinding (record { name = name.now; bytes = file.now })) }
     ensures read { IfOk result (λ finding. finding ≢ Finding.Unreadable) }
+    // A file that a test without memory refuses is always told of.
+    ensures memory { OnErr result (ReadNeedsMemory file.now) }
 {
     match library_name(alloc, file) {
         Ok(soname) => Ok(if soname == name {
@@ -35,7 +39,7 @@ pub fn finding_of(alloc: Global, name: &[u8], file: &[u8]) -> Result<Finding, Al
 
 impl<D: Disk> Contents<D> {
     /// Reads the library at this position, each of its sectors once, and tells what is found of it.
-    /// It fails for want of memory alone.
+    /// It fails only if memory is refused, for the bytes or for a test.
     pub fn check_at(&mut self, alloc: Global, position: usize) -> Result<Finding, AllocError>
         requires { position < length self.old.entries }
         ensures read { IsRead D.facts self.old self.new }
@@ -50,6 +54,11 @@ impl<D: Disk> Contents<D> {
             finding ≢ Finding.Unreadable → AreCallsExactly
             (file_sectors (slice_index_or self.old.entries position d))
             (D.facts self.old.disk) (D.facts self.new.disk)) }
+
+        // It fails before the library is read, or a test of it takes memory.
+        ensures memory { (s : State) → IsAt D.facts self.old s → OnErr result
+            ((self.new ≡ self.old)
+            ⊎ ReadNeedsMemory (slice_index_or s.libraries position no_library).bytes) }
     {
         match self.read(alloc, position) {
             Ok(bytes) => finding_of(alloc, self.store.name(position), &bytes),
@@ -75,6 +84,10 @@ impl<D: Disk> Contents<D> {
             + count_by is_unreadable findings.items ≤ (D.facts self.new.disk).failures) }
         ensures calls { AreCallsAtMost (sum_by file_sectors self.old.entries)
             (D.facts self.old.disk) (D.facts self.new.disk) }
+
+        // It ends early before a library is read, or at one of which a test takes memory.
+        ensures memory { (s : State) → IsAt D.facts self.old s → OnErr result
+            (LacksMemory (D.facts self.old.disk) (D.facts self.new.disk) self.old.entries s) }
     {
         let mut findings = Vec::with_capacity(alloc, self.store.count())?;
         for position in 0..self.store.count() {

@@ -1,9 +1,12 @@
-use Rattle.std.proofs.Common.{◌≡◌, ◌<◌, ◌≤◌, ◌+◌, length, sym, subst, arith}
+use Rattle.std.proofs.Common.{◌≡◌, ◌<◌, ◌≤◌, ◌+◌, length, take, sum_by, inl, inr, sym, subst, arith, ⊎_elim}
+use Rattle.std.proofs.lemmas.Result.{err_from_is_err_and}
+use Rattle.sector_disk.specs.Disk.{AreCallsAtMost}
+use Rattle.store.specs.IsRead.{file_sectors}
 use Rattle.sector_disk.proofs.Moments.{exactly_none, exactly_at_most}
 use Rattle.store.specs.Opened.{IsAt}
 use Rattle.store.proofs.IsReadLemmas.{read_none, read_more}
 use Rattle.contents.specs.Finding.{IsFinding, is_unreadable}
-use Rattle.contents.proofs.LookedAt.{SeenSoFar, none_seen, one_seen, some_calls, all_counted, all_calls}
+use Rattle.contents.proofs.LookedAt.{SeenSoFar, none_seen, more_calls, one_seen, some_calls, all_counted, all_calls}
 use Rattle.contents.proofs.Unseen.{no_finding}
 use Rattle.contents.proofs.contents.Contents.check.Goals as goal
 
@@ -61,3 +64,24 @@ returns-clause-read g c = c.loop-position.invariant.0.read
 
 pub returns-clause-device : goal.returns-clause-device
 returns-clause-device g c = c.loop-position.invariant.0.failures
+
+pub returns-in_err-findings-clause-memory : goal.returns-in_err-findings-clause-memory
+returns-in_err-findings-clause-memory g c s at =
+    rw (err_from_is_err_and c.from_residual.result c.from_residual.ensures.1).1 (inl (exactly_none (g.D.Disk.facts c.args.self.now.disk)))
+
+pub returns-in_err-finding-clause-memory : goal.returns-in_err-finding-clause-memory
+returns-in_err-finding-clause-memory g c s at =
+    let so_far = c.loop-position.invariant.0 in
+    let here = subst (λ store. IsAt g.D.Disk.facts store s) (sym c.self.view_is) at in
+    let start = g.D.Disk.facts c.args.self.now.disk in
+    let lt : c.loop-position.position < length c.args.self.now.entries =
+    subst (λ store. c.loop-position.position < length store.entries) c.self.view_is
+    (omega (arith, c.loop-position-test.true, c.count-position-end.ensures.value)) in
+    rw (err_from_is_err_and c.from_residual-in_err-finding.result c.from_residual-in_err-finding.ensures.1).1 (inr (
+      c.loop-position.position,
+      omega (arith, c.loop-position-test.true, c.count-position-end.ensures.state s here),
+      ⊎_elim
+          (λ same. inl (subst (λ store. AreCallsAtMost (sum_by file_sectors (take c.loop-position.position c.args.self.now.entries)) start (g.D.Disk.facts store.disk)) (sym same) so_far.calls))
+          (λ needs. inr (needs, more_calls IsFinding is_unreadable c.check_at.new.self lt so_far c.check_at.ensures.calls))
+          (c.in_err-finding.ensures.memory s (so_far.read.same s at)),
+    ))
