@@ -1,7 +1,6 @@
 -- What a bind answers by what its walk has found.
 use Rattle.std.proofs.Common.{◌≡◌, ℕ, ◌+◌, ◌<◌, IsFalse, IsTrue, List, [], ◌∷◌, map, drop, sum_by, Option, Some, None, inl, refl, sym, ap, subst, ◌∙◌}
 use Rattle.std.specs.Option.{option_map}
-use Rattle.std.proofs.lemmas.List.Sums.{sum_by-cons}
 use Rattle.elf_file.specs.FirstOf.{first_of}
 use Rattle.sector_disk.specs.Disk.{DiskFacts, Mixture}
 use Rattle.sector_disk.proofs.Moments.{weaken}
@@ -34,6 +33,7 @@ use Rattle.registry.specs.Phase.{phase_of}
 use Rattle.store.specs.IsRead.{IsRead}
 use Rattle.registry.specs.inside.Reading.{IsReadRefusalIf, refusal_of_read}
 use Rattle.registry.specs.inside.Walked.{walked_objects, walked_refusal}
+use Rattle.registry.proofs.FilesRead.{all_fit}
 
 module _ (s : State) (program : List ℕ) (base : ℕ) (files : List Library) (lacks : Option Need) (taken : program_refusal program base ≡ None)
     (is : load_order program (objects s) (preload_numbers s) ≡ available program (map object_of files)) (lacking : missing program (objects s) (preload_numbers s) ≡ lacks) where
@@ -57,12 +57,7 @@ module _ (s : State) (program : List ℕ) (base : ℕ) (files : List Library) (l
 
   -- and how many sectors were read
   pub sectors_read : sum_by (λ f. data_sectors f.bytes) files ≡ bind_sectors s program
-  sectors_read = by files ∙ ap (λ (os : List Named). sum_by (λ (o : Named). data_sectors o.file) (drop 1 os)) (sym is)
-    where
-      by : (ls : List Library) → sum_by (λ f. data_sectors f.bytes) ls ≡ sum_by (λ o. data_sectors o.file) (map object_of ls)
-      by [] = refl
-      by (l ∷ ls) = sum_by-cons (λ (f : Library). data_sectors f.bytes) l ls ∙ ap (λ n. data_sectors l.bytes + n) (by ls)
-          ∙ sym (sum_by-cons (λ (o : Named). data_sectors o.file) (object_of l) (map object_of ls))
+  sectors_read = all_fit program s files is
 
 -- A bind that led from one phase to another of the same state.
 module _ (p p' : Phase) (usable : IsFalse p.failed) (leads : Leads p p.state p') (program : List ℕ) (base : ℕ) where

@@ -1,5 +1,5 @@
 -- Files that are read one after the other as the queue of a load order is walked.
-use Rattle.std.proofs.Common.{◌≡◌, ℕ, zero, suc, ◌+◌, ◌-◌, ◌<◌, ◌≤◌, List, [], ◌∷◌, ◌++◌, length, map, take, drop, get_or, nat_eq, Option, None}
+use Rattle.std.proofs.Common.{◌≡◌, ℕ, zero, suc, ◌+◌, ◌-◌, ◌<◌, ◌≤◌, List, [], ◌∷◌, ◌++◌, length, map, take, drop, get_or, nat_eq, sum_by, Option, None}
 use Rattle.std.proofs.Common.{refl, sym, ap, subst, ◌∙◌, arith, false, append-nil}
 use Rattle.std.specs.Prelude.{All}
 use Rattle.std.specs.List.{IsDistinct, filter_map, flat_map, find}
@@ -10,6 +10,7 @@ use Rattle.std.proofs.lemmas.Grind.{flat_map-append}
 use Rattle.std.proofs.lemmas.List.{length-map, length-take, get_or-map, map-append, map_push, take_more, length_push}
 use Rattle.std.proofs.lemmas.List.Elements.{All-get_or, All-nil, All-cons, All-head, All-tail}
 use Rattle.std.proofs.lemmas.List.Folds.{find-append}
+use Rattle.std.proofs.lemmas.List.Sums.{sum_by-append, sum_by-cons}
 use Rattle.std.proofs.lemmas.Map.Keys.{apart_from_distinct}
 use Rattle.elf_dynamic.specs.Strings.{needed}
 use Rattle.scope.specs.LoadOrder.{Need, available, needs_of, level_0, object_at, place_of, load_order, load_places, missing, names_of, needed_by, is_missing}
@@ -26,6 +27,7 @@ use Rattle.store.specs.Stands.{no_library}
 use Rattle.requests.specs.Binding.{object_of, objects, preload_numbers}
 use Rattle.requests.specs.Library.{IsLibrary}
 use Rattle.states.specs.State.{Library, State}
+use Rattle.registry.specs.Binding.{bind_sectors, data_sectors}
 use Rattle.registry.specs.Untested.{ReadsLibraries}
 use Rattle.registry.specs.inside.Walked.{more_needs, walked, next_place, IsWalked}
 use Rattle.registry.specs.declared.needs.Needs.{Needs}
@@ -95,6 +97,22 @@ one_behind P (y ∷ ys) x more all = one_behind P ys x more (All-tail P y (ys ++
 one_of : {X : Type 0} (P : X → Type 0) (front : List X) (x : X) (more : List X) → 0 < length front → All P (drop 1 (front ++ x ∷ more)) → P x
 one_of P [] x more some all = absurd (omega (arith, some))
 one_of P (y ∷ ys) x more some all = one_behind P ys x more all
+
+-- what stands behind the first of a list
+behind_first : {X : Type 0} (front : List X) (x : X) (more : List X) → 0 < length front → drop 1 (front ++ x ∷ more) ≡ drop 1 front ++ x ∷ more
+behind_first [] x more some = absurd (omega (arith, some))
+behind_first (y ∷ ys) x more some = refl
+
+map_behind : {X Y : Type 0} (f : X → Y) (xs : List X) → drop 1 (map f xs) ≡ map f (drop 1 xs)
+map_behind f [] = refl
+map_behind f (x ∷ xs) = refl
+
+-- the sectors of files are those of the objects that they are
+sectors_of : (files : List Library) → sum_by (λ f. data_sectors f.bytes) files ≡ sum_by (λ o. data_sectors o.file) (map object_of files)
+sectors_of [] = refl
+sectors_of (f ∷ files) =
+    sum_by-cons (λ (f : Library). data_sectors f.bytes) f files ∙ ap (λ n. data_sectors f.bytes + n) (sectors_of files)
+    ∙ sym (sum_by-cons (λ (o : Named). data_sectors o.file) (object_of f) (map object_of files))
 
 module _ (program : List ℕ) (s : State) where
   abbrev pub libraries : List Named
@@ -216,6 +234,39 @@ module _ (program : List ℕ) (s : State) where
       one_of (λ o. IsLibrary (record { name = o.name; bytes = o.file })) front (object p) ordered.0 some
       (subst (λ os. All (λ o. IsLibrary (record { name = o.name; bytes = o.file })) (drop 1 os)) ordered.1 all) in
       subst (λ (o : Named). IsLibrary (record { name = o.name; bytes = o.file })) (sym (library-at p l above below refl)) its
+
+  -- the sectors of the files that were read and of the next one are at most those of a bind
+  pub next_fits : {needs : Needs} {files : List Library} → IsWalked program s needs files
+      → AreApart (length s.libraries + 1) needs.places.places → length files + 1 < length needs.places.places
+      → sum_by (λ (f : Library). data_sectors f.bytes) files + data_sectors (get_or s.libraries (next_place needs files - 1) no_library).bytes ≤ bind_sectors s program
+  next_fits {needs = needs} {files = files} so_far apart lt =
+      let n : ℕ = length files in
+      let places : List ℕ = needs.places.places in
+      let p : ℕ = get_or places (n + 1) 0 in
+      let l : Library = get_or s.libraries (p - 1) no_library in
+      let object = object_at (available program libraries) in
+      let below : p < length s.libraries + 1 = All-get_or (λ q. q < length s.libraries + 1) places (n + 1) 0 lt apart.below in
+      let above : 0 < p = place-above places n so_far.among.places.first apart.distinct lt in
+      let fits : length places ≤ length (available program libraries) = omega (arith, few (length s.libraries + 1) places apart, limit_is) in
+      let ordered = order-at program libraries (preload_numbers s) places (n + 1) so_far.reached lt fits in
+      let front : List Named = map object (take (n + 1) places) in
+      let some : 0 < length front = omega (arith, length-map (take (n + 1) places) object, length-take (n + 1) places, lt) in
+      let whole : drop 1 (load_order program libraries (preload_numbers s)) ≡ map object_of files ++ object p ∷ ordered.0 =
+      ap (drop 1) ordered.1 ∙ behind_first front (object p) ordered.0 some
+      ∙ ap (λ (os : List Named). os ++ object p ∷ ordered.0) (map_behind object (take (n + 1) places) ∙ sym so_far.each) in
+      omega (
+        arith,
+        sectors_of files,
+        ap (sum_by (λ (o : Named). data_sectors o.file)) whole,
+        sum_by-append (λ (o : Named). data_sectors o.file) (map object_of files) (object p ∷ ordered.0),
+        sum_by-cons (λ (o : Named). data_sectors o.file) (object p) ordered.0,
+        ap (λ (o : Named). data_sectors o.file) (library-at p l above below refl),
+      )
+
+  -- where the files are the load order, they have the sectors of a bind
+  pub all_fit : (files : List Library) → load_order program libraries (preload_numbers s) ≡ available program (map object_of files)
+      → sum_by (λ f. data_sectors f.bytes) files ≡ bind_sectors s program
+  all_fit files is = sectors_of files ∙ ap (λ (os : List Named). sum_by (λ (o : Named). data_sectors o.file) (drop 1 os)) (sym is)
 
   whole-walked : (places : List ℕ) (n : ℕ) → n < length places → length places ≤ n + 1 → walked places n ≡ drop 1 places
   whole-walked places n inside outside =

@@ -1,5 +1,5 @@
 -- What is found for a program (own).
-use Rattle.std.specs.Prelude.{◌≡◌, ◌<◌, ℕ, List, All, map, Option, IsTrue}
+use Rattle.std.specs.Prelude.{◌≡◌, ◌<◌, ℕ, List, All, map, sum_by, Option, IsTrue}
 use Rattle.sector_disk.specs.Disk.{DiskFacts}
 use Rattle.scope.specs.LoadOrder.{Need, available, is_missing, load_order, missing, names_of, needed_by}
 use Rattle.states.specs.State.{Library, State}
@@ -7,12 +7,17 @@ use Rattle.store.specs.Opened.{Opened}
 use Rattle.requests.specs.Binding.{object_of, objects, preload_numbers}
 use Rattle.requests.specs.declared.refusal.Refusal.{Refusal}
 use Rattle.requests.specs.declared.refusal.Refusal.TheVariants.{Device, Reopen, Damaged, OutOfMemory}
+use Rattle.registry.specs.Binding.{data_sectors}
 use Rattle.registry.specs.Untested.{ReadsLibraries}
 
 -- libraries, and a needed name that isn't installed
 pub record Found : Type 0 where
   pub libraries : List Library
   pub missing : Option Need
+
+-- how many sectors the libraries take that were found
+abbrev pub found_sectors : Found → ℕ
+found_sectors found = sum_by (λ library. data_sectors library.bytes) found.libraries
 
 -- a need is missing among those that are installed exactly where it is among these
 abbrev pub IsKnown : State → List Library → Need → Type 0

@@ -63,7 +63,9 @@ impl<D: Disk> Registry<D> {
     ghost use Rattle.states.specs.State.{State};
     ghost use Rattle.store.specs.IsRead.{IsRead};
     ghost use Rattle.store.specs.Opened.{IsAt};
-    ghost use Rattle.registry.specs.Found.{IsFindRefusal, IsFoundFor};
+    ghost use Rattle.registry.specs.Binding.{bind_sectors};
+    ghost use Rattle.registry.specs.Found.{IsFindRefusal, IsFoundFor, found_sectors};
+    ghost use Rattle.sector_disk.specs.Disk.{AreCallsExactly};
     ghost use Rattle.registry.specs.Untested.{ReadsLibraries};
 
     /// Finds the libraries of a program that is admitted: it reads the files of its load order as
@@ -75,8 +77,15 @@ impl<D: Disk> Registry<D> {
         ensures damaged { (s : State) → IsAt D.facts self.old s → IfErr result (λ e.
             e ≡ Refusal.Damaged → ReadsLibraries s program.now → ⊥) }
 
-        // On any disk
+        // It makes exactly the calls of a bind.
+        ensures all_calls { (s : State) → IsAt D.facts self.old s → OnOk result
+            (AreCallsExactly (bind_sectors s program.now)
+            (D.facts self.old.disk) (D.facts self.new.disk)) }
+
+        // On any disk. Each library that it finds was read once, and no other.
         ensures refusals { IfErr result (IsFindRefusal D.facts self.old self.new) }
+        ensures calls { IfOk result (λ found. AreCallsExactly (found_sectors found)
+            (D.facts self.old.disk) (D.facts self.new.disk)) }
     {
         let walk = match read_needed(self.alloc, &mut self.store, program) {
             Ok(walk) => walk,

@@ -1,14 +1,18 @@
 use Rattle.std.proofs.Common.{◌≡◌, length, map, sym, subst, ◌∙◌}
-use Rattle.std.specs.Prelude.{All}
+use Rattle.std.specs.Prelude.{All, sum_by}
+use Rattle.sector_disk.specs.Disk.{AreCallsExactly}
+use Rattle.states.specs.State.{Library}
 use Rattle.requests.specs.Binding.{object_of, objects, preload_numbers}
 use Rattle.scope.specs.LoadOrder.{available, load_order}
 use Rattle.roots.specs.Root.{listed_preloads}
 use Rattle.store.specs.IsRead.{IsRead}
 use Rattle.store.specs.Opened.{IsAt}
-use Rattle.registry.specs.Found.{IsFindRefusal, IsFoundFor}
+use Rattle.registry.specs.Binding.{data_sectors}
+use Rattle.registry.specs.Found.{Found, IsFindRefusal, IsFoundFor, found_sectors}
 use Rattle.registry.specs.declared.walk.Walk.{Walk}
 use Rattle.registry.specs.inside.Reading.{IsReadRefusal}
 use Rattle.registry.proofs.Closed.{all-known}
+use Rattle.registry.proofs.FilesRead.{all_fit}
 use Rattle.registry.proofs.FindRefusals.{find_refused, read_damaged}
 use Rattle.registry.proofs.StateNames.{numbers_are, object_count}
 use Rattle.registry.proofs.States.{own_names, preloads_listed, preloads_once}
@@ -54,3 +58,17 @@ returns-clause-ok g c s at =
       are = c.in-Ok.ensures.libraries s here;
       known = all-known c.args.program.now (objects s) (preload_numbers s) low once (map object_of walk.files.items) ordered;
     })
+
+pub returns-clause-calls : goal.returns-clause-calls
+returns-clause-calls g c =
+    subst (λ (found : Found). AreCallsExactly (found_sectors found) (g.D.Disk.facts c.args.self.now.disk) (g.D.Disk.facts c.read_needed.new.store.disk)) (sym c.of.ensures)
+    (subst (λ k. AreCallsExactly (sum_by (λ (f : Library). data_sectors f.bytes) c.in-Ok.walk.files.items) (g.D.Disk.facts k.disk) (g.D.Disk.facts c.read_needed.new.store.disk)) c.self.view_is
+    c.in-Ok.ensures.all_calls)
+
+pub returns-clause-all_calls : goal.returns-clause-all_calls
+returns-clause-all_calls g c s at =
+    let here : IsAt g.D.Disk.facts c.self.inside.store s = subst (λ k. IsAt g.D.Disk.facts k s) (sym c.self.view_is) at in
+    subst (λ n. AreCallsExactly n (g.D.Disk.facts c.args.self.now.disk) (g.D.Disk.facts c.read_needed.new.store.disk))
+    (all_fit c.args.program.now s c.in-Ok.walk.files.items (c.in-Ok.ensures.ok s here))
+    (subst (λ k. AreCallsExactly (sum_by (λ (f : Library). data_sectors f.bytes) c.in-Ok.walk.files.items) (g.D.Disk.facts k.disk) (g.D.Disk.facts c.read_needed.new.store.disk)) c.self.view_is
+    c.in-Ok.ensures.all_calls)
