@@ -19,11 +19,11 @@ use sector_disk::Disk;
 use std::alloc::{AllocError, Global};
 
 /// What is found of a file under this name. It fails only if memory is refused for a test that
-/// takes some.
+/// allocates.
 pub fn finding_of(alloc: Global, name: &[u8], file: &[u8]) -> Result<Finding, AllocError>
     ensures finding { IfOk result (IsFinding (record { name = name.now; bytes = file.now })) }
     ensures read { IfOk result (λ finding. finding ≢ Finding.Unreadable) }
-    // A file that a test without memory refuses is always told of.
+    // A file that another test refuses is always reported.
     ensures memory { OnErr result (ReadNeedsMemory file.now) }
 {
     match library_name(alloc, file) {
@@ -55,7 +55,7 @@ impl<D: Disk> Contents<D> {
             (file_sectors (slice_index_or self.old.entries position d))
             (D.facts self.old.disk) (D.facts self.new.disk)) }
 
-        // It fails before the library is read, or a test of it takes memory.
+        // It fails before the library is read, or at a test that allocates.
         ensures memory { (s : State) → IsAt D.facts self.old s → OnErr result
             ((self.new ≡ self.old)
             ⊎ ReadNeedsMemory (slice_index_or s.libraries position no_library).bytes) }
@@ -85,7 +85,7 @@ impl<D: Disk> Contents<D> {
         ensures calls { AreCallsAtMost (sum_by file_sectors self.old.entries)
             (D.facts self.old.disk) (D.facts self.new.disk) }
 
-        // It ends early before a library is read, or at one of which a test takes memory.
+        // It ends early before a library is read, or at a test that allocates.
         ensures memory { (s : State) → IsAt D.facts self.old s → OnErr result
             (LacksMemory (D.facts self.old.disk) (D.facts self.new.disk) self.old.entries s) }
     {

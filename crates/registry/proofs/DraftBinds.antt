@@ -1,8 +1,9 @@
 -- The files of a draft, as a bind reads them.
-use Rattle.std.proofs.Common.{◌≡◌, inl, ℕ, List, length, map, Result, Ok, Err, refl, sym, ap, subst, ◌∙◌, ⊎_elim}
+use Rattle.std.proofs.Common.{◌≡◌, inl, ℕ, List, length, get_or, map, sum_by, Result, Ok, Err, refl, sym, ap, subst, ◌∙◌, ⊎_elim}
 use Rattle.std.specs.Prelude.{All, IfErr}
 use Rattle.std.specs.Global.{Vec}
-use Rattle.sector_disk.specs.Disk.{DiskFacts, Mixture, Sector}
+use Rattle.std.specs.Int.{div_ceil}
+use Rattle.sector_disk.specs.Disk.{AreCallsAtMost, AreCallsExactly, DiskFacts, Mixture, Sector, sector_bytes}
 use Rattle.sector_disk.proofs.Moments.{weaken}
 use Rattle.roots.specs.declared.version.Version.TheVariants.{Two}
 use Rattle.states.specs.State.{Library, State}
@@ -13,10 +14,12 @@ use Rattle.store.specs.Stands.{HaveOwnNames, Stands, library_of}
 use Rattle.store.specs.declared.refusal.StoreRefusal.{StoreRefusal}
 use Rattle.store.proofs.DraftReads.{preloads_drafted}
 use Rattle.store.proofs.IsReadLemmas.{read_more, read_none, read_one}
+use Rattle.store.proofs.UsedAlone.{no_entry}
 use Rattle.requests.specs.Library.{IsLibrary}
 use Rattle.requests.specs.Request.{bind}
 use Rattle.requests.specs.Step.{Leads}
 use Rattle.requests.specs.declared.reply.Reply.{Reply}
+use Rattle.registry.specs.Binding.{data_sectors}
 use Rattle.registry.specs.Drafting.{AppliesDraft, DraftStep, draft_phase}
 use Rattle.registry.specs.declared.needs.Needs.{Needs}
 use Rattle.registry.specs.inside.Drafting.{IsDraftReadRefusal, ReadsBeside}
@@ -48,6 +51,11 @@ module _ {D : Type 0} {facts : D → DiskFacts} where
   -- a byte string,
   pub reads_one : {old new : Drafted D} {position : ℕ} {result : Result (Vec ℕ) StoreRefusal} → ReadsDraft facts old new position result → ReadsBeside facts old new
   reads_one reads = record { read = read_one reads.read; same = reads.same; stands = reads.stands; draft = reads.draft }
+
+  -- by at most a call for each of its sectors,
+  pub one_most : {old new : Drafted D} {position : ℕ} {result : Result (Vec ℕ) StoreRefusal} → ReadsDraft facts old new position result → (size : ℕ)
+      → (get_or old.entries position no_entry).entry.file_length ≡ size → AreCallsAtMost (div_ceil size sector_bytes) (facts old.store.disk) (facts new.store.disk)
+  one_most {old = old} {new = new} reads size is = subst (λ n. AreCallsAtMost (div_ceil n sector_bytes) (facts old.store.disk) (facts new.store.disk)) is (reads.read.calls no_entry)
 
   -- and then more.
   pub reads_more : {start mid new : Drafted D} → ReadsBeside facts start mid → ReadsBeside facts mid new → ReadsBeside facts start new
@@ -107,3 +115,4 @@ pub record HasComeBeside {D : Type 0} (facts : D → DiskFacts) (program : List 
   pub libraries : All IsLibrary files
   pub own : HaveOwnNames start.entries
   pub read : ReadsBeside facts start now
+  pub calls : AreCallsExactly (sum_by (λ file. data_sectors file.bytes) files) (facts start.store.disk) (facts now.store.disk)

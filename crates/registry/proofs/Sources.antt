@@ -79,6 +79,11 @@ module _ {D : Type 0} (facts : D → DiskFacts) where
       files = files_read source s offers.files;
     }
 
+-- the sectors of files and of one more
+pub one_more : (files : List Library) (file : Library) → sum_by (λ l. data_sectors l.bytes) files + data_sectors file.bytes ≡ sum_by (λ l. data_sectors l.bytes) (files ++ file ∷ [])
+one_more files file =
+    omega (arith, sum_by-append (λ (l : Library). data_sectors l.bytes) files (file ∷ []), sum_by-cons (λ (l : Library). data_sectors l.bytes) file [])
+
 -- How far a bind's walk through the files of a store has come.
 pub record HasCome {D : Type 0} (facts : D → DiskFacts) (program : List ℕ) (start now : Opened D) (needs : Needs) (files : List Library) : Type 0 where
   pub among : IsAmong (length start.entries) needs files
@@ -103,13 +108,8 @@ module _ {D : Type 0} (facts : D → DiskFacts) {program : List ℕ} {start : Op
     libraries = libraries;
     own = come.own;
     read = read_more come.read read;
-    calls = exactly_sum come.calls calls (sym (sum_by-append (λ (l : Library). data_sectors l.bytes) files (file ∷ []) ∙ one-sum));
+    calls = exactly_sum come.calls calls (one_more files file);
   }
-    where
-      one-sum : sum_by (λ l. data_sectors l.bytes) files + sum_by (λ l. data_sectors l.bytes) (file ∷ []) ≡ sum_by (λ l. data_sectors l.bytes) files + data_sectors file.bytes
-      one-sum = ap (λ k. sum_by (λ (l : Library). data_sectors l.bytes) files + k)
-          (let e : sum_by (λ (l : Library). data_sectors l.bytes) (file ∷ []) ≡ data_sectors file.bytes =
-          omega (arith, sum_by-cons (λ (l : Library). data_sectors l.bytes) file []) in e)
 
 -- what is said of a length that is known
 pub sized : {E : Type 0} (P : ℕ → Type 0) (n : ℕ) (result : Result (Vec ℕ) E) → IfOk result (λ bytes. length bytes.items ≡ n) → OnOk result (P n) → IfOk result (λ bytes. P (length bytes.items))

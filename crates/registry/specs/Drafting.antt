@@ -1,7 +1,7 @@
 -- What the commands of an update do to its draft: the state as it will be, which nothing on the disk
 -- holds before the commit (own).
-use Rattle.std.specs.Prelude.{◌≡◌, ◌≢◌, ◌⊎◌, ◌<◌, ◌↔◌, IsTrue, IsFalse, None}
-use Rattle.sector_disk.specs.Disk.{DiskFacts, AreCalls, LeavesOnly}
+use Rattle.std.specs.Prelude.{◌≡◌, ◌≢◌, ◌⊎◌, ◌<◌, ◌↔◌, ℕ, List, IsTrue, IsFalse, None}
+use Rattle.sector_disk.specs.Disk.{DiskFacts, AreCalls, AreCallsAtMost, AreCallsExactly, IsUnchanged, LeavesOnly}
 use Rattle.states.specs.State.{State}
 use Rattle.store.specs.Draft.{Drafted, IsDraftedAt, IsSameDraft, StaysBeside, beside, drafted, longest_drafted}
 use Rattle.store.specs.Stands.{Stands}
@@ -13,6 +13,7 @@ use Rattle.requests.specs.declared.refusal.Refusal.TheVariants.{Device, Reopen}
 use Rattle.requests.specs.declared.reply.Reply.{Reply}
 use Rattle.requests.specs.declared.reply.Reply.TheVariants.{Done, Refused}
 use Rattle.registry.specs.Answered.{IsAnswerTo}
+use Rattle.registry.specs.Binding.{IfBound, bind_sectors}
 use Rattle.registry.specs.Untested.{UntestedStep}
 
 -- Where a draft stands, in the words of the step table: beside its state are the sectors of what stands
@@ -60,6 +61,18 @@ pub record AppliedDraft {D : Type 0} (facts : D → DiskFacts) (old new : Drafte
 -- the same, with the state after it
 abbrev pub AppliesDraft : {D : Type 0} → (D → DiskFacts) → Drafted D → Drafted D → State → State → Request → Reply → Type 0
 AppliesDraft facts old new s d request answer = (d' : State) × AppliedDraft facts old new s d d' request answer
+
+-- A program was bound with a draft of this state: each library that it needs was read once at most, and
+-- exactly once for an image; no other was, and nothing was written.
+pub record ReadsForBind {D : Type 0} (facts : D → DiskFacts) (old new : Drafted D) (d : State) (program : List ℕ) (answer : Reply) : Type 0 where
+  pub unchanged : IsUnchanged (facts old.store.disk) (facts new.store.disk)
+  pub most_calls : AreCallsAtMost (bind_sectors d program) (facts old.store.disk) (facts new.store.disk)
+  pub all_calls : IfBound answer (AreCallsExactly (bind_sectors d program) (facts old.store.disk) (facts new.store.disk))
+
+-- this holds if the request is a bind
+abbrev pub IsBoundBeside : {D : Type 0} → (D → DiskFacts) → Drafted D → Drafted D → State → Request → Reply → Type 0
+IsBoundBeside facts old new d (bind program base) answer = ReadsForBind facts old new d program answer
+IsBoundBeside facts old new d request answer = Unit {0}
 
 -- What an answer leaves of a draft: a refusal leaves it as it was, and so do a bind and a listing;
 -- of a change that is planned the draft counts as changed.

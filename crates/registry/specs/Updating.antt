@@ -11,7 +11,7 @@ use Rattle.requests.specs.Runs.{Run}
 use Rattle.requests.specs.Step.{accepted}
 use Rattle.requests.specs.declared.reply.Reply.{Reply}
 use Rattle.requests.specs.declared.reply.Reply.TheVariants.{Refused}
-use Rattle.registry.specs.Drafting.{AnsweredDraft, AppliesDraft, DraftStep, draft_phase}
+use Rattle.registry.specs.Drafting.{AnsweredDraft, AppliesDraft, DraftStep, IsBoundBeside, draft_phase}
 
 -- a request asks for a change
 abbrev pub asks_change : Request → Bool
@@ -39,6 +39,8 @@ updated s requests = if list_any asks_change requests then next s (drafted_by s 
 pub record DraftAnswers {D : Type 0} (facts : D → DiskFacts) (old : Drafted D) (request : Request) (answer : Reply) (new : Drafted D) : Type 0 where
   pub applied : (s d : State) → IsDraftedAt facts old s d → AppliesDraft facts old new s d request answer
   pub on_any_disk : AnsweredDraft facts old new request answer
+  -- a bind makes at most the calls of a bind, and writes nothing
+  pub bound : (s d : State) → IsDraftedAt facts old s d → IsBoundBeside facts old new d request answer
 
 -- Requests were answered one after the other, none was refused, and they led from one draft to another.
 pub record Plans {D : Type 0} (facts : D → DiskFacts) (old new : Drafted D) (requests : List Request) (answers : List Reply) : Type 0 where

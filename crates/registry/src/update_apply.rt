@@ -11,7 +11,7 @@ impl<D: Disk> Update<D> {
     ghost use Rattle.store.specs.Draft.{IsDraftedAt};
     ghost use Rattle.requests.specs.Request.{list, request_of};
     ghost use Rattle.registry.specs.Answered.{IsListAnswer};
-    ghost use Rattle.registry.specs.Drafting.{AnsweredDraft, AppliesDraft};
+    ghost use Rattle.registry.specs.Drafting.{AnsweredDraft, AppliesDraft, IsBoundBeside};
 
     /// The reply to `List`: the draft's libraries and preloads.
     fn list(&self) -> Reply
@@ -40,6 +40,10 @@ impl<D: Disk> Update<D> {
             → AppliesDraft D.facts self.old self.new s d (request_of command.now) result }
         ensures on_any_disk { AnsweredDraft D.facts self.old self.new
             (request_of command.now) result }
+
+        // A bind makes at most the calls of a bind, and writes nothing.
+        ensures bound { (s d : State) → IsDraftedAt D.facts self.old s d → IsBoundBeside
+            D.facts self.old self.new d (request_of command.now) result }
     {
         match command {
             Command::Install(bytes) => reply(self.install(bytes)),

@@ -6,8 +6,10 @@ ghost use Rattle.store.specs.Draft.{IsDraftedAt};
 ghost use Rattle.store.specs.Stands.{no_library};
 ghost use Rattle.requests.specs.Binding.{object_of, objects, preload_numbers};
 ghost use Rattle.requests.specs.Library.{IsLibrary};
+ghost use Rattle.registry.specs.Binding.{bind_sectors, data_sectors};
 ghost use Rattle.registry.specs.Untested.{ReadsLibraries};
 ghost use Rattle.registry.specs.inside.Drafting.{IsDraftReadRefusal, ReadsBeside};
+ghost use Rattle.sector_disk.specs.Disk.{AreCallsAtMost, AreCallsExactly};
 
 use crate::bind::refusal_of_read;
 use crate::bound::bind_found;
@@ -21,7 +23,8 @@ use sector_disk::Disk;
 use std::alloc::Global;
 use store::StoreRefusal;
 
-/// Reads the file at this position of a draft, and sees that it is a library of its name.
+/// Reads the file at this position of a draft, each of its sectors once, and sees that it is a
+/// library of its name.
 fn read_drafted<D: Disk>(
     alloc: Global,
     draft: &mut store::Update<D>,
@@ -36,12 +39,20 @@ fn read_drafted<D: Disk>(
         → IfErr result (λ e. e ≡ StoreRefusal.Damaged
         → IsLibrary (slice_index_or d.libraries position no_library) → ⊥) }
     ensures refusals { IfErr result (IsDraftReadRefusal D.facts draft.old draft.new) }
+    ensures calls { (s d : State) → IsDraftedAt D.facts draft.old s d → AreCallsAtMost
+        (data_sectors (slice_index_or d.libraries position no_library).bytes)
+        (D.facts draft.old.store.disk) (D.facts draft.new.store.disk) }
+    ensures all_calls { IfOk result (λ file. AreCallsExactly (data_sectors file.bytes)
+        (D.facts draft.old.store.disk) (D.facts draft.new.store.disk)) }
 {
+    // Its entry has the length of the file.
+    draft.length(position);
     let bytes = draft.read_blob(alloc, position)?;
     LibraryFile::new(alloc, draft.name(position), bytes)
 }
 
-/// Reads the files that a program needs of a draft, in load order, as a bind of what stands does.
+/// Reads the files that a program needs of a draft, in load order, as a bind of the current list
+/// does: each once, and no other.
 fn read_needed_of<D: Disk>(
     alloc: Global,
     draft: &mut store::Update<D>,
@@ -58,6 +69,12 @@ fn read_needed_of<D: Disk>(
     ensures damaged { (s d : State) → IsDraftedAt D.facts draft.old s d → IfErr result (λ e.
         e ≡ StoreRefusal.Damaged → ReadsLibraries d program.now → ⊥) }
     ensures refusals { IfErr result (IsDraftReadRefusal D.facts draft.old draft.new) }
+    ensures calls { (s d : State) → IsDraftedAt D.facts draft.old s d → AreCallsAtMost
+        (bind_sectors d program.now)
+        (D.facts draft.old.store.disk) (D.facts draft.new.store.disk) }
+    ensures all_calls { (s d : State) → IsDraftedAt D.facts draft.old s d → OnOk result
+        (AreCallsExactly (bind_sectors d program.now)
+        (D.facts draft.old.store.disk) (D.facts draft.new.store.disk)) }
 {
     // No two files have one name.
     draft.entries_are_sound();
@@ -70,14 +87,15 @@ fn read_needed_of<D: Disk>(
 }
 
 impl<D: Disk> Update<D> {
-    ghost use Rattle.std.specs.Prelude.{◌≡◌, ◌≢◌, ◌<◌, Err, None, IsTrue, IfErr};
+    ghost use Rattle.std.specs.Prelude.{◌≡◌, ◌≢◌, ◌<◌, Err, None, IsTrue, IfErr, OnOk};
     ghost use Rattle.image.specs.Refusal.{program_refusal};
     ghost use Rattle.states.specs.State.{State};
     ghost use Rattle.store.specs.Draft.{IsDraftedAt};
     ghost use Rattle.requests.specs.Request.{bind};
     ghost use Rattle.registry.specs.Answered.{IsBindAnswer, IsBindRefusal};
     ghost use Rattle.registry.specs.Binding.{bound_answer};
-    ghost use Rattle.registry.specs.Drafting.{AppliesDraft, DraftStep, draft_phase};
+    ghost use Rattle.registry.specs.Drafting.{AppliesDraft, DraftStep, IsBoundBeside};
+    ghost use Rattle.registry.specs.Drafting.{draft_phase};
     ghost use Rattle.registry.specs.inside.Drafting.{ReadsBeside};
 
     /// The image of a program that is admitted at a base that is good for it, or a refusal: S1, S5
@@ -92,6 +110,12 @@ impl<D: Disk> Update<D> {
         ensures reopen { result ≡ Err Refusal.Reopen → IsTrue self.old.store.failed }
         ensures device { result ≡ Err Refusal.Device
             → (D.facts self.old.store.disk).failures < (D.facts self.new.store.disk).failures }
+        ensures calls { (s d : State) → IsDraftedAt D.facts self.old s d → AreCallsAtMost
+            (bind_sectors d program.now)
+            (D.facts self.old.store.disk) (D.facts self.new.store.disk) }
+        ensures all_calls { (s d : State) → IsDraftedAt D.facts self.old s d → OnOk result
+            (AreCallsExactly (bind_sectors d program.now)
+            (D.facts self.old.store.disk) (D.facts self.new.store.disk)) }
     {
         let walk = match read_needed_of(self.alloc, &mut self.draft, program) {
             Ok(walk) => walk,
@@ -115,6 +139,12 @@ impl<D: Disk> Update<D> {
         ensures device { result ≡ Err Refusal.Device
             → (D.facts self.old.store.disk).failures < (D.facts self.new.store.disk).failures }
         ensures alone { program_refusal file.now base ≢ None → self.new ≡ self.old }
+        ensures calls { (s d : State) → IsDraftedAt D.facts self.old s d → AreCallsAtMost
+            (bind_sectors d file.now)
+            (D.facts self.old.store.disk) (D.facts self.new.store.disk) }
+        ensures all_calls { (s d : State) → IsDraftedAt D.facts self.old s d → OnOk result
+            (AreCallsExactly (bind_sectors d file.now)
+            (D.facts self.old.store.disk) (D.facts self.new.store.disk)) }
     {
         if self.draft.has_failed() {
             return Err(Refusal::Reopen);
@@ -127,6 +157,10 @@ impl<D: Disk> Update<D> {
     pub(crate) fn bind(&mut self, program: &[u8], base: u64) -> Reply
         ensures applied { (s d : State) → IsDraftedAt D.facts self.old s d
             → AppliesDraft D.facts self.old self.new s d (bind program.now base) result }
+
+        // It makes at most the calls of a bind, and writes nothing.
+        ensures bound { (s d : State) → IsDraftedAt D.facts self.old s d
+            → IsBoundBeside D.facts self.old self.new d (bind program.now base) result }
 
         // On any disk
         ensures read { ReadsBeside D.facts self.old self.new }

@@ -6,4 +6,4 @@ pub returns-clause-err : goal.returns-clause-err
 returns-clause-err c =
     let did = c.apply-reply.ensures in
     refused_in c.args.update.now c.apply-reply.new.self (request_of c.args.command.now) c.apply-reply.result c.refusal_in.result
-    (record { applied = did.applied; on_any_disk = did.on_any_disk }) c.refusal_in.ensures
+    (record { applied = did.applied; on_any_disk = did.on_any_disk; bound = did.bound }) c.refusal_in.ensures

@@ -1,14 +1,19 @@
-use Rattle.std.proofs.Common.{◌≡◌, ◌+◌, ◌∙◌, ℕ, All, length, get_or, refl, sym, ap, subst, arith}
+use Rattle.std.proofs.Common.{◌≡◌, ◌+◌, ◌-◌, ◌∙◌, ℕ, All, List, length, sum_by, get_or, refl, sym, ap, subst, arith}
 use Rattle.std.proofs.lemmas.List.{length_push}
 use Rattle.std.proofs.lemmas.List.Elements.{All-nil, All-push}
 use Rattle.std.proofs.lemmas.Result.{err_from_is_err_and}
 use Rattle.scope.specs.Queue.{AreApart}
+use Rattle.sector_disk.specs.Disk.{AreCallsAtMost, AreCallsExactly}
+use Rattle.sector_disk.proofs.Moments.{at_most_sum, exactly_at_most, exactly_none, exactly_sum}
+use Rattle.states.specs.State.{Library}
 use Rattle.store.specs.Stands.{HaveOwnNames, no_library}
 use Rattle.requests.specs.Library.{IsLibrary}
 use Rattle.registry.specs.inside.Drafting.{IsDraftReadRefusal, ReadsBeside}
+use Rattle.registry.specs.Binding.{bind_sectors, data_sectors}
 use Rattle.registry.specs.inside.Walked.{IsAmong}
+use Rattle.registry.proofs.Sources.{one_more}
 use Rattle.registry.proofs.DraftBinds.{draft_names, reads_more, reads_none, reads_refused}
-use Rattle.registry.proofs.FilesRead.{all_read, libraries_read, missing_read, next_is_library}
+use Rattle.registry.proofs.FilesRead.{all_fit, all_read, libraries_read, missing_read, next_fits, next_is_library}
 use Rattle.registry.proofs.update_bind.read_needed_of.Goals as goal
 
 pub loop-alloc-init : goal.loop-alloc-init
@@ -21,6 +26,8 @@ loop-alloc-init g c =
       libraries = subst (All IsLibrary) (sym none) (All-nil IsLibrary);
       own = c.entries_are_sound.ensures;
       read = reads_none start;
+      calls = subst (λ (files : List Library). AreCallsExactly (sum_by (λ (f : Library). data_sectors f.bytes) files) (g.D.Disk.facts start.store.disk) (g.D.Disk.facts start.store.disk)) (sym none)
+          (exactly_none (g.D.Disk.facts start.store.disk));
     }
 
 pub next_position-requires-clause-next : goal.next_position-requires-clause-next
@@ -59,6 +66,8 @@ loop-alloc-preserved g c =
       libraries = subst (All IsLibrary) (sym c.in_ok-take.ensures.behind) (All-push IsLibrary c.loop-alloc.walk.files.items c.in_ok-file.file come.libraries c.in_ok-file.ensures.library);
       own = come.own;
       read = reads;
+      calls = subst (λ (files : List Library). AreCallsExactly (sum_by (λ (f : Library). data_sectors f.bytes) files) (facts start.store.disk) (facts mid.store.disk)) (sym c.in_ok-take.ensures.behind)
+          (exactly_sum come.calls c.in_ok-file.ensures.all_calls (one_more c.loop-alloc.walk.files.items c.in_ok-file.file));
     }
 
 pub loop-alloc-smaller : goal.loop-alloc-smaller
@@ -104,3 +113,43 @@ returns-clause-missing g c s d at = missing_read c.args.program.now d (c.loop-al
 
 pub returns-clause-read : goal.returns-clause-read
 returns-clause-read g c = c.loop-alloc.invariant.read
+
+pub returns-in_err-walk-clause-calls : goal.returns-in_err-walk-clause-calls
+returns-in_err-walk-clause-calls g c s d at = exactly_at_most (exactly_none (g.D.Disk.facts c.args.draft.now.store.disk)) (omega arith)
+
+pub returns-in_err-file-clause-calls : goal.returns-in_err-file-clause-calls
+returns-in_err-file-clause-calls g c s d at =
+    let come = c.loop-alloc.invariant in
+    let walked = come.walked s d at in
+    let apart : AreApart (length d.libraries + 1) c.loop-alloc.walk.needs.places.places =
+    subst (λ k. AreApart k c.loop-alloc.walk.needs.places.places) walked.among.places.limit c.loop-alloc-test.ensures.apart in
+    at_most_sum (exactly_at_most {most = sum_by (λ (f : Library). data_sectors f.bytes) c.loop-alloc.walk.files.items} come.calls (omega arith))
+    (c.read_drafted.ensures.calls s d (come.read.same s d at))
+    (omega (
+      arith,
+      next_fits c.args.program.now d walked apart (c.loop-alloc-test.ensures.yes refl),
+      ap (λ (k : ℕ). data_sectors (get_or d.libraries k no_library).bytes) c.next_position.ensures.next,
+    ))
+
+pub returns-in_err-take-clause-calls : goal.returns-in_err-take-clause-calls
+returns-in_err-take-clause-calls g c s d at =
+    let come = c.loop-alloc.invariant in
+    let walked = come.walked s d at in
+    let apart : AreApart (length d.libraries + 1) c.loop-alloc.walk.needs.places.places =
+    subst (λ k. AreApart k c.loop-alloc.walk.needs.places.places) walked.among.places.limit c.loop-alloc-test.ensures.apart in
+    at_most_sum (exactly_at_most {most = sum_by (λ (f : Library). data_sectors f.bytes) c.loop-alloc.walk.files.items} come.calls (omega arith))
+    (c.read_drafted.ensures.calls s d (come.read.same s d at))
+    (omega (
+      arith,
+      next_fits c.args.program.now d walked apart (c.loop-alloc-test.ensures.yes refl),
+      ap (λ (k : ℕ). data_sectors (get_or d.libraries k no_library).bytes) c.next_position.ensures.next,
+    ))
+
+pub returns-clause-all_calls : goal.returns-clause-all_calls
+returns-clause-all_calls g c s d at =
+    let come = c.loop-alloc.invariant in
+    subst (λ n. AreCallsExactly n (g.D.Disk.facts c.args.draft.now.store.disk) (g.D.Disk.facts c.loop-alloc.draft.store.disk))
+    (all_fit c.args.program.now d c.loop-alloc.walk.files.items (all_read c.args.program.now d (come.walked s d at) (c.loop-alloc-test.ensures.no refl))) come.calls
+
+pub returns-clause-calls : goal.returns-clause-calls
+returns-clause-calls g c s d at = exactly_at_most (returns-clause-all_calls g c s d at) (omega arith)

@@ -2,7 +2,7 @@ use Rattle.std.proofs.Common.{map, refl, sym, ap, subst}
 use Rattle.sector_disk.proofs.Moments.{no_calls}
 use Rattle.requests.specs.Request.{install, remove, replace, request_of, set_preloads}
 use Rattle.registry.specs.Answered.{IsInstallRefusal, IsPreloadsRefusal, IsRemoveRefusal, IsReplaceRefusal}
-use Rattle.registry.specs.Drafting.{AnsweredDraft}
+use Rattle.registry.specs.Drafting.{AnsweredDraft, IsBoundBeside}
 use Rattle.registry.proofs.Changed.{change_answers}
 use Rattle.registry.proofs.DraftBinds.{reads_beside}
 use Rattle.registry.proofs.Planning.{applies_draft_as, beside_same, bind_leaves, list_leaves, plan_answered_as, plan_leaves}
@@ -75,3 +75,21 @@ returns-in-List-clause-on_any_disk g c =
       leaves = list_leaves g.D.Disk.facts now c.list.result;
       calls = no_calls (g.D.Disk.facts now.store.disk);
     })
+
+pub returns-in-Install-clause-bound : goal.returns-in-Install-clause-bound
+returns-in-Install-clause-bound g c s d at = subst (λ q. IsBoundBeside g.D.Disk.facts c.args.self.now c.install.new.self d q c.reply.result) (sym (ap request_of c.in-Install.is)) tt
+
+pub returns-in-Replace-clause-bound : goal.returns-in-Replace-clause-bound
+returns-in-Replace-clause-bound g c s d at = subst (λ q. IsBoundBeside g.D.Disk.facts c.args.self.now c.replace.new.self d q c.reply-in-Replace.result) (sym (ap request_of c.in-Replace.is)) tt
+
+pub returns-in-Remove-clause-bound : goal.returns-in-Remove-clause-bound
+returns-in-Remove-clause-bound g c s d at = subst (λ q. IsBoundBeside g.D.Disk.facts c.args.self.now c.remove.new.self d q c.reply-in-Remove.result) (sym (ap request_of c.in-Remove.is)) tt
+
+pub returns-in-SetPreloads-clause-bound : goal.returns-in-SetPreloads-clause-bound
+returns-in-SetPreloads-clause-bound g c s d at = subst (λ q. IsBoundBeside g.D.Disk.facts c.args.self.now c.set_preloads.new.self d q c.reply-in-SetPreloads.result) (sym (ap request_of c.in-SetPreloads.is)) tt
+
+pub returns-in-List-clause-bound : goal.returns-in-List-clause-bound
+returns-in-List-clause-bound g c s d at = subst (λ q. IsBoundBeside g.D.Disk.facts c.args.self.now c.args.self.now d q c.list.result) (sym (ap request_of c.in-List.is)) tt
+
+pub returns-in-Bind-clause-bound : goal.returns-in-Bind-clause-bound
+returns-in-Bind-clause-bound g c s d at = subst (λ q. IsBoundBeside g.D.Disk.facts c.args.self.now c.bind.new.self d q c.bind.result) (sym (ap request_of c.in-Bind.is)) (c.bind.ensures.bound s d at)

@@ -13,3 +13,9 @@ returns-in-Ok-clause-read g c = c.image.ensures.read
 
 pub returns-in-Err-clause-read : goal.returns-in-Err-clause-read
 returns-in-Err-clause-read g c = c.image.ensures.read
+
+pub returns-in-Err-clause-bound : goal.returns-in-Err-clause-bound
+returns-in-Err-clause-bound g c s d at = record { unchanged = c.image.ensures.read.read.unchanged at.stands.honest; most_calls = c.image.ensures.calls s d at; all_calls = tt }
+
+pub returns-in-Ok-clause-bound : goal.returns-in-Ok-clause-bound
+returns-in-Ok-clause-bound g c s d at = record { unchanged = c.image.ensures.read.read.unchanged at.stands.honest; most_calls = c.image.ensures.calls s d at; all_calls = c.in-Ok.ensures.all_calls s d at }

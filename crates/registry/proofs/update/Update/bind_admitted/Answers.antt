@@ -3,9 +3,11 @@ use Rattle.std.proofs.lemmas.Result.{err_from_is_err_and}
 use Rattle.image.proofs.Answering.{program-based}
 use Rattle.image.specs.Byte.{byte_of}
 use Rattle.image.specs.Image.{image_of}
+use Rattle.sector_disk.specs.Disk.{AreCallsAtMost, AreCallsExactly}
 use Rattle.store.specs.Draft.{IsDraftedAt}
 use Rattle.requests.specs.Request.{bind}
 use Rattle.requests.specs.declared.reply.Reply.TheVariants.{Refused}
+use Rattle.registry.specs.Binding.{bind_sectors}
 use Rattle.registry.specs.Drafting.{DraftStep, draft_phase}
 use Rattle.registry.specs.declared.walk.Walk.{Walk}
 use Rattle.registry.specs.inside.Drafting.{IsDraftReadRefusal, ReadsBeside}
@@ -64,3 +66,27 @@ returns-in_err-image-clause-read g c = subst (λ u. ReadsBeside g.D.Disk.facts u
 
 pub returns-clause-read : goal.returns-clause-read
 returns-clause-read g c = subst (λ u. ReadsBeside g.D.Disk.facts u c.read_needed_of.new.draft) c.self.view_is c.read_needed_of.ensures.read
+
+pub returns-in-Err-clause-calls : goal.returns-in-Err-clause-calls
+returns-in-Err-clause-calls g c s d at =
+    let new = c.read_needed_of.new.draft in
+    subst (λ u. AreCallsAtMost (bind_sectors d c.args.program.now) (g.D.Disk.facts u.store.disk) (g.D.Disk.facts new.store.disk)) c.self.view_is
+    (c.read_needed_of.ensures.calls s d (subst (λ u. IsDraftedAt g.D.Disk.facts u s d) (sym c.self.view_is) at))
+
+pub returns-in_err-image-clause-calls : goal.returns-in_err-image-clause-calls
+returns-in_err-image-clause-calls g c s d at =
+    let new = c.read_needed_of.new.draft in
+    subst (λ u. AreCallsAtMost (bind_sectors d c.args.program.now) (g.D.Disk.facts u.store.disk) (g.D.Disk.facts new.store.disk)) c.self.view_is
+    (c.read_needed_of.ensures.calls s d (subst (λ u. IsDraftedAt g.D.Disk.facts u s d) (sym c.self.view_is) at))
+
+pub returns-clause-calls : goal.returns-clause-calls
+returns-clause-calls g c s d at =
+    let new = c.read_needed_of.new.draft in
+    subst (λ u. AreCallsAtMost (bind_sectors d c.args.program.now) (g.D.Disk.facts u.store.disk) (g.D.Disk.facts new.store.disk)) c.self.view_is
+    (c.read_needed_of.ensures.calls s d (subst (λ u. IsDraftedAt g.D.Disk.facts u s d) (sym c.self.view_is) at))
+
+pub returns-clause-all_calls : goal.returns-clause-all_calls
+returns-clause-all_calls g c s d at =
+    let new = c.read_needed_of.new.draft in
+    subst (λ u. AreCallsExactly (bind_sectors d c.args.program.now) (g.D.Disk.facts u.store.disk) (g.D.Disk.facts new.store.disk)) c.self.view_is
+    (c.in-Ok.ensures.all_calls s d (subst (λ u. IsDraftedAt g.D.Disk.facts u s d) (sym c.self.view_is) at))

@@ -1,9 +1,12 @@
-use Rattle.std.proofs.Common.{subst}
+use Rattle.std.proofs.Common.{subst, arith}
+use Rattle.std.specs.Prelude.{OnOk}
+use Rattle.sector_disk.specs.Disk.{AreCallsAtMost, AreCallsExactly}
+use Rattle.sector_disk.proofs.Moments.{exactly_at_most, exactly_none}
 use Rattle.std.proofs.lemmas.Result.{err_from_is_err_and}
 use Rattle.image.proofs.Answering.{program-answer}
 use Rattle.requests.specs.Binding.{objects, preload_numbers}
 use Rattle.requests.specs.Request.{bind}
-use Rattle.registry.specs.Binding.{bound_answer}
+use Rattle.registry.specs.Binding.{bind_sectors, bound_answer}
 use Rattle.registry.specs.Drafting.{DraftStep, draft_phase}
 use Rattle.registry.proofs.Applying.{leads_same}
 use Rattle.registry.proofs.Bindings.{alone, refused}
@@ -43,3 +46,19 @@ returns-clause-refusals g c = c.bind_admitted.ensures.refusals
 
 pub returns-clause-alone : goal.returns-clause-alone
 returns-clause-alone g c refused = absurd (refused c.in_ok-program.ensures.accepted)
+
+pub returns-then-has_failed-clause-calls : goal.returns-then-has_failed-clause-calls
+returns-then-has_failed-clause-calls g c s d at = exactly_at_most (exactly_none (g.D.Disk.facts c.args.self.now.store.disk)) (omega arith)
+
+pub returns-in_err-program-clause-calls : goal.returns-in_err-program-clause-calls
+returns-in_err-program-clause-calls g c s d at = exactly_at_most (exactly_none (g.D.Disk.facts c.args.self.now.store.disk)) (omega arith)
+
+pub returns-clause-calls : goal.returns-clause-calls
+returns-clause-calls g c s d at =
+    subst (λ f. AreCallsAtMost (bind_sectors d f) (g.D.Disk.facts c.args.self.now.store.disk) (g.D.Disk.facts c.bind_admitted.new.self.store.disk))
+    c.in_ok-program.ensures.same (c.bind_admitted.ensures.calls s d at)
+
+pub returns-clause-all_calls : goal.returns-clause-all_calls
+returns-clause-all_calls g c s d at =
+    subst (λ f. OnOk c.bind_admitted.result (AreCallsExactly (bind_sectors d f) (g.D.Disk.facts c.args.self.now.store.disk) (g.D.Disk.facts c.bind_admitted.new.self.store.disk)))
+    c.in_ok-program.ensures.same (c.bind_admitted.ensures.all_calls s d at)
