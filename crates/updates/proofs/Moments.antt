@@ -115,10 +115,12 @@ module _ {D : Type 0} (facts : D → DiskFacts) (disk : D) (old : Opened D) (ope
   gives_up_from requests replies last run honest s stands =
       let here = starts_at honest s stands in (
         here,
-        s,
-        point last.store s ∷ [],
-        refl,
-        steps_ran facts (point old s) (given_up ∷ []) (point last.store s ∷ []) here (gives_up facts old s here holds requests replies last run, tt),
+        (
+          s,
+          point last.store s ∷ [],
+          refl,
+          steps_ran facts (point old s) (given_up ∷ []) (point last.store s ∷ []) here (gives_up facts old s here holds requests replies last run, tt),
+        ),
       )
 
   pub given_up_here : IsExchange facts disk old given_up u.store
@@ -141,10 +143,12 @@ module _ {D : Type 0} (facts : D → DiskFacts) (disk : D) (old : Opened D) (ope
       let here = starts_at honest s stands in
       let made = commit.made old s (requests_of lines) answers here asked in (
         here,
-        made.0,
-        point new made.0 ∷ [],
-        refl,
-        steps_ran facts (point old s) (answered (update (requests_of lines)) (answer_of answer) ∷ []) (point new made.0 ∷ []) here (inl made.1, tt),
+        (
+          made.0,
+          point new made.0 ∷ [],
+          refl,
+          steps_ran facts (point old s) (answered (update (requests_of lines)) (answer_of answer) ∷ []) (point new made.0 ∷ []) here (inl made.1, tt),
+        ),
       )
 
   module _ (answer : Result (Unit {0}) Refusal) (new : Opened D) (commit : Commits facts u answer new) (honest : IsTrue (facts disk).honest) (s : State) (stands : Stands (facts disk).now s) where
@@ -181,6 +185,7 @@ module _ {D O : Type 0} (facts : D → DiskFacts) (contents : O → Option (List
   is_run_by : (lines : List (List ℕ)) (answers : List Reply) (u : Drafted D) → ArePlanned facts (begun old) u lines answers
       → IsCommitted facts contents io lines answers u status new ⊎ (IsRefused facts contents io lines answers u status new ⊎ IsBroken facts contents io lines answers u status new)
       → IsRun facts disk contents io status left
+  unfolding is_begun
   is_run_by lines answers u planned (inl h) = (
     lines,
     answers,
