@@ -74,7 +74,7 @@ READING = [
     ('8. Files of sectors', 'What each call does to an honest file, what its medium may have (POSIX; what kernels do), and a disk over it (own).', [
         'file_disk/SectorFile: FileFacts MediumAt IsFileCall IsFileRead IsFileWrite IsFileSync IsFoundWith',
         'file_disk/FileDisk: file_facts IsCovered IsMomentAt FollowsTheFile HoldsOfTheMedium IsOver IsAsTheFile StartsAsFound HasCause']),
-    ('9. Crash safety', 'What a stop leaves at each moment of one command, of an update, of many, of a script and of rounds (own).', [
+    ('9. Crash safety', 'The state that a stop leaves at each moment of a command, an update, a run of these, a script, and rounds (own).', [
         'registry/Opened: IsAt', 'registry/Applied: MayLeaveBy AppliedBy', 'registry/Untested: UntestedStep',
         'registry/Acknowledged: Transaction Exchange acknowledged AreAccepted',
         'registry/Updating: updated', 'registry/Ran: UpdatesAt GivesUp Idles HasBegun HoldsAcknowledged LeavesAccepted FindsAccepted Ran',
