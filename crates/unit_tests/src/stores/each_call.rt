@@ -1,12 +1,6 @@
 // Each call of a store of either version, and of the sectors that have a format, once by its path
 // and with ample memory. Some of them no crate here makes: they are for those who keep byte strings
 // without the rest.
-ghost use Rattle.std.specs.Prelude.{◌≡◌, ◌≢◌, IsTrue, slice_index_or};
-ghost use Rattle.store.specs.declared.placed_entry.PlacedEntry.{PlacedEntry};
-ghost use Rattle.store.specs.Names.{IsNoPreload};
-ghost use Rattle.store.specs.Stands.{name_of};
-
-use crate::stores::byte_strings::{formatted, put};
 use crate::stores::disks::{write_entry, write_root};
 use crate::stores::sectors::memory;
 use crate::stores::seen::given;
@@ -116,56 +110,6 @@ fn a_store_of_version_1_is_upgraded(rt: HostRuntime) {
         Ok(store) => assert!(rt; is_whole(&rt, store)),
         Err(_) => panic!(rt; "refused"),
     }
-}
-
-// Whether the byte string at a position has another name.
-fn is_other(store: &Store<Memory>, position: u16, name: &[u8]) -> bool
-    ensures { IsTrue result → (d : PlacedEntry)
-        → name_of (slice_index_or store.now.entries position d).entry ≢ name.now }
-{
-    let position = usize::from(position);
-    position < store.count() && store.name(position) != name
-}
-
-fn is_no_preload(store: &Store<Memory>, name: &[u8]) -> bool
-    ensures { IsTrue result → IsNoPreload store.now name.now }
-{
-    store
-        .preloads()
-        .iter()
-        .all(|position| is_other(store, *position, name))
-}
-
-// Takes a byte string out, which is no preload.
-fn take_out(store: &mut Store<Memory>, name: &[u8]) -> bool {
-    if !is_no_preload(store, name) {
-        return false;
-    }
-    match Store::position(store, name) {
-        Some(_) => Store::delete(store, name).is_ok(),
-        None => false,
-    }
-}
-
-// Whether b is the only byte string of a store, and has these bytes.
-fn has_b_alone(alloc: Global, store: &mut Store<Memory>) -> bool {
-    if Store::count(store) != 1 {
-        return false;
-    }
-    let is_b = Store::name(store, 0) == b"b".as_slice();
-    is_b && given(Store::read_blob(store, alloc, 0)) == Ok((600, Some(3)))
-}
-
-#[test]
-fn byte_strings_are_put_and_taken_out(rt: HostRuntime) {
-    let mut store = formatted(&rt, 16);
-    put(&rt, &mut store, b'a', &[1; 344]);
-    put(&rt, &mut store, b'b', &[2; 64]);
-    put(&rt, &mut store, b'b', &[3; 600]);
-    let is_out = take_out(&mut store, b"a");
-    let is_left = has_b_alone(rt.alloc(), &mut store);
-    let _ = Store::into_disk(store);
-    assert!(rt; is_out && is_left);
 }
 
 #[test]
