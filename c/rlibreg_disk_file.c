@@ -1,4 +1,5 @@
-/* Opening the file of a disk: its lock, its sync and its map. */
+/* Opens, locks, syncs and maps the file of a disk. The calls over a file (rlibreg_file.c,
+ * rlibreg_new_disk.c) call this. */
 #define _GNU_SOURCE
 #include "rlibreg_disk_file.h"
 #include "rlibreg_turn.h"
@@ -12,10 +13,10 @@
 #include <sys/mount.h>
 #include <unistd.h>
 
-/* ---- The locks of this process, those that it waits for among them */
+/* ---- The locks of this process, including those that it waits for */
 
 static struct disk_file *enlisted;
-static pthread_mutex_t guard = PTHREAD_MUTEX_INITIALIZER; /* of the list */
+static pthread_mutex_t guard = PTHREAD_MUTEX_INITIALIZER; /* protects the list */
 
 static void hold_list(void) {
     pthread_mutex_lock(&guard);
@@ -25,9 +26,9 @@ static void free_list(void) {
     pthread_mutex_unlock(&guard);
 }
 
-/* A child of fork begins without any, whatever another thread was doing in its parent. The files for
- * which that thread waits are closed in the child: otherwise the thread's marks would stay with them
- * (rlibreg_turn.h). */
+/* Empties the list in a child of fork, whatever another thread was doing in the parent. Closes the
+ * files whose locks such a thread was waiting for: otherwise the thread's marks would stay with
+ * these files (rlibreg_turn.h). */
 static void empty_list(void) {
     rlibreg_process_end();
     for (struct disk_file *it = enlisted; it; it = it->next) {
@@ -40,17 +41,18 @@ static void empty_list(void) {
     free_list();
 }
 
-/* Why forks aren't watched yet, or 0. A process of which a fork could go unseen opens no disk. */
-static int why_unwatched; /* under the guard, after the first call */
+/* The error because of which forks aren't watched, or 0. A process whose forks could go unnoticed
+ * opens no disk. */
+static int why_unwatched; /* protected by `guard` after the first call */
 
 static void watch_forks(void) {
     why_unwatched = pthread_atfork(hold_list, free_list, empty_list);
     rlibreg_process_begin();
 }
 
-/* A number of the thread, which no other has. */
+/* Returns the number of the calling thread, which no other thread has. */
 static uint64_t this_thread(void) {
-    static uint64_t last; /* under the guard */
+    static uint64_t last; /* protected by `guard` */
     static _Thread_local uint64_t number;
     if (!number) number = ++last;
     return number;
@@ -61,7 +63,8 @@ static int excludes(const struct disk_file *one, const struct disk_file *other) 
            (one->is_alone || other->is_alone);
 }
 
-/* What a thread waits for, or null; each is given once in a search. */
+/* Returns a file whose lock `thread` waits for, or null. In one search, which has the number
+ * `search`, it returns each file only once. */
 static struct disk_file *waiting(uint64_t thread, unsigned search) {
     struct disk_file *it = enlisted;
     while (it && !(it->is_waiting && it->thread == thread && it->search != search)) it = it->next;
@@ -69,7 +72,8 @@ static struct disk_file *waiting(uint64_t thread, unsigned search) {
     return it;
 }
 
-/* Whether who waits for a lock waits for a thread: it has the lock, or waits for one who has. */
+/* Returns whether a wait for the lock of `wanted` is a wait for `thread`: either `thread` has the
+ * lock, or the thread that has it waits for `thread` in turn. */
 static int waits_for(const struct disk_file *wanted, uint64_t thread, unsigned search) {
     for (struct disk_file *it = enlisted; it; it = it->next) {
         if (it->is_waiting || !excludes(wanted, it)) continue;
@@ -80,7 +84,8 @@ static int waits_for(const struct disk_file *wanted, uint64_t thread, unsigned s
     return 0;
 }
 
-/* Puts a file into the list, under the guard. Doesn't if the thread would wait for itself. */
+/* Puts a file into the list. The caller has locked `guard`. If the thread would wait for itself,
+ * leaves the list as it is and returns RLIBREG_HELD. */
 static uint32_t put_into_list(struct disk_file *it, const struct stat *found, unsigned flags,
                               int is_waiting) {
     static unsigned searches;
@@ -148,8 +153,9 @@ int rlibreg_flock(int fd, int kind) {
     return flock(fd, kind);
 }
 
-/* Locks a file. The system's udev holds a lock of a device for a moment after each writer has closed
- * it, so there a change that doesn't wait tries for a moment. */
+/* Locks a file. Returns 0, or -1 with errno. The system's udev locks a device for a moment after
+ * each writer has closed it. So a change to a device tries for a moment, even if it isn't to
+ * wait. */
 static int lock(const struct disk_file *it, int is_device, unsigned flags) {
     int64_t until = flags & RLIBREG_WAIT ? it->until : 0;
     if (!(flags & RLIBREG_CHANGES)) return rlibreg_lock_shared(it->fd, until);
@@ -166,7 +172,7 @@ uint32_t rlibreg_disk_file_lock(struct disk_file *it, const struct stat *found, 
     return errno == EWOULDBLOCK ? RLIBREG_HELD : RLIBREG_SYSTEM;
 }
 
-/* Opens a file and locks it. */
+/* Opens the file of `path`, checks it and locks it. Returns a status. */
 static uint32_t open_and_lock(struct disk_file *it, const char *path, unsigned flags,
                               struct stat *found) {
     it->fd = rlibreg_open_apart(AT_FDCWD, path, open_flags(flags));
@@ -180,14 +186,16 @@ static uint32_t open_and_lock(struct disk_file *it, const char *path, unsigned f
     return rlibreg_disk_file_lock(it, found, flags);
 }
 
-/* Whether the path still names the file that was locked: it may have been replaced meanwhile. */
+/* Returns whether `path` still names the file that was locked: another may have replaced it
+ * meanwhile. */
 static int is_still_there(const char *path, const struct stat *locked) {
     struct stat now;
     return !stat(path, &now) && now.st_dev == locked->st_dev && now.st_ino == locked->st_ino;
 }
 
-/* A device that is changed is opened once more, alone: that is refused where it is mounted, or in
- * use in another way. It comes behind the lock, so no other user of the registry is refused. */
+/* Opens a device once more for a change, exclusively. The system refuses this if the device is
+ * mounted, or in use in another way. The lock is taken before, so users of the registry don't
+ * refuse each other here. Returns a status. */
 static uint32_t claim(struct disk_file *it, const char *path, unsigned flags,
                       const struct stat *locked) {
     struct stat found;
@@ -195,13 +203,15 @@ static uint32_t claim(struct disk_file *it, const char *path, unsigned flags,
     if (!(flags & RLIBREG_CHANGES) || !S_ISBLK(locked->st_mode)) return RLIBREG_DONE;
     it->claim = rlibreg_open_apart(AT_FDCWD, path, open_flags(flags) | O_EXCL);
     if (it->claim < 0 || fstat(it->claim, &found)) return RLIBREG_SYSTEM;
-    ioctl(it->claim, BLKROGET, &is_read_only); /* such a device can be opened, but not written */
+    ioctl(it->claim, BLKROGET, &is_read_only); /* a read-only device can be opened for writing,
+                                                * but not written */
     if (!S_ISBLK(found.st_mode) || found.st_rdev != locked->st_rdev) return RLIBREG_HELD;
     errno = EROFS;
     return is_read_only ? RLIBREG_SYSTEM : RLIBREG_DONE;
 }
 
-/* Opens the file of a path and locks it. A path that names another file each time is in use. */
+/* Opens the file of `path` and locks it. Returns a status: if the path names another file at each
+ * try, RLIBREG_HELD. */
 static uint32_t open_locked(struct disk_file *it, const char *path, unsigned flags) {
     for (int tries = 0; tries < MOST_TRIES; tries++) {
         struct stat found;
@@ -214,9 +224,10 @@ static uint32_t open_locked(struct disk_file *it, const char *path, unsigned fla
     return RLIBREG_HELD;
 }
 
-/* Syncs a file, and has the medium and the system agree on its roots. Where it is open for reading
- * alone, and its file system has no syncs since it can't be written, there is nothing to sync. One
- * that a failure has made read-only answers EROFS: it has pages that the medium hasn't got. */
+/* Syncs a file, and makes the medium and the system agree on its roots. Returns 0, or -1 with
+ * errno. If the file is open only for reading, and its file system has no syncs because it can't be
+ * written (EINVAL), there is nothing to sync. A file system that a failure has made read-only
+ * returns EROFS: it has pages that the medium doesn't have. */
 static int sync_file(int fd, unsigned flags) {
     if (!fsync(fd)) return rlibreg_meet_front(fd, fsync);
     return !(flags & RLIBREG_CHANGES) && errno == EINVAL ? 0 : -1;
@@ -224,9 +235,9 @@ static int sync_file(int fd, unsigned flags) {
 
 uint32_t rlibreg_disk_file_map(struct disk_file *it, unsigned flags) {
     if (sync_file(it->fd, flags)) return RLIBREG_SYSTEM;
-    off_t length = lseek(it->fd, 0, SEEK_END); /* what fstat says of a device isn't its length */
+    off_t length = lseek(it->fd, 0, SEEK_END); /* fstat doesn't report the length of a device */
     if (length < 0) return RLIBREG_SYSTEM;
-    if (!length) return RLIBREG_DONE; /* a disk without bytes: each call is answered S6 */
+    if (!length) return RLIBREG_DONE; /* a disk without bytes: each call returns S6 (BadGeometry) */
     void *map = mmap(NULL, (size_t)length, PROT_READ, MAP_SHARED, it->fd, 0);
     if (map == MAP_FAILED) return RLIBREG_SYSTEM;
     it->bytes = map;

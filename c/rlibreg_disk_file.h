@@ -1,4 +1,5 @@
-/* The file of a disk, for the calls over a file (rlibreg_file.c). Nothing here is for users. */
+/* The file of a disk, for the calls over a file (rlibreg_file.c). The programs and the loader use
+ * parts of it. Nothing here is for users. */
 #ifndef RLIBREG_DISK_FILE_H
 #define RLIBREG_DISK_FILE_H
 
@@ -9,48 +10,53 @@
 #include <sys/stat.h>
 #include <sys/types.h>
 
-/* A file, or a block device, that is open and locked. It stays where it is as long as it is open:
- * it is in a list. */
+/* A file or a block device that is open and locked. It stays at its address while it is open,
+ * because it is in a list. */
 struct disk_file {
-    int fd;               /* with its lock, or -1 */
-    int claim;            /* a device is open once more, so that nothing else uses it; or -1 */
-    const uint8_t *bytes; /* its map, or null */
+    int fd;               /* descriptor that has the lock, or -1 */
+    int claim;            /* descriptor by which a device is open exclusively, so that nothing
+                           * else uses it; or -1 */
+    const uint8_t *bytes; /* map of the file, or null */
     size_t length;
 
-    struct process owner; /* the process that asked for the lock, or none */
+    struct process owner; /* process that asked for the lock, or none */
     dev_t device;
     ino_t number;
-    int is_alone;           /* whether the lock is held alone */
-    int is_waiting;         /* whether it isn't held yet */
-    uint64_t thread;        /* the one that uses the file */
-    unsigned search;        /* the last in which it was met */
-    struct disk_file *next; /* in the list of those whose lock was asked for */
-    int64_t until;          /* so long the lock is waited for; stays when the file is closed */
+    int is_alone;           /* whether the lock is exclusive */
+    int is_waiting;         /* whether the lock is still being waited for */
+    uint64_t thread;        /* number of the thread that uses the file */
+    unsigned search;        /* number of the last search that found the file */
+    struct disk_file *next; /* next file whose lock this process asked for */
+    int64_t until;          /* moment until which to wait for the lock; kept when the file is
+                             * closed */
 };
 
 #define NO_DISK_FILE ((struct disk_file){ .fd = -1, .claim = -1 })
 
-/* How often a name is tried anew that others give to other files meanwhile. */
+/* The most times that a name is tried, if other processes give it to other files meanwhile. */
 enum { MOST_TRIES = 16 };
 
-/* Opens a file of a folder, as openat, once the standard streams are open, and never as one of them
- * (rlibreg_streams.c). */
+/* Opens a file of a folder as openat does, but opens the standard streams first if they aren't
+ * open. The file's descriptor is never that of a standard stream (rlibreg_streams.c). Returns it,
+ * or -1 with errno. */
 int rlibreg_open_apart(int folder, const char *path, int flags);
 
-/* The last of the standard streams that may be written and is this file, with errno ETXTBSY, or
- * that can't be asked; -1 where none is. */
+/* Returns the number of a standard stream that may be written and is the file `file`, with errno
+ * ETXTBSY, or that the system doesn't report on. If there are several, returns the last. Returns -1
+ * if there is none. */
 int rlibreg_stream_of_file(const struct stat *file);
 
-/* Opens and locks the file of a path, and maps what the medium has of it. Gives a status. */
+/* Opens and locks the file of `path`, and maps its bytes as the medium has them. Returns a
+ * status. */
 uint32_t rlibreg_disk_file_open(struct disk_file *it, const char *path, unsigned flags);
 
-/* Maps what the medium has of a file that is open and locked. */
+/* Maps the bytes of a file that is open and locked, as the medium has them. Returns a status. */
 uint32_t rlibreg_disk_file_map(struct disk_file *it, unsigned flags);
 
-/* Behind a sync of an opening that succeeded, and before any map: whether the medium has the roots
- * that the system shows (rlibreg_front.c). Where it hasn't, the system is made to forget them. Where
- * it can't, the medium is to take them, by a write and SYNC, if the file is open for changes. 0, or
- * -1 with errno, EIO where the two differ still. */
+/* Checks whether the medium has the roots that the system shows (rlibreg_front.c). Called after a
+ * successful sync of an opening, and before any map. If the medium doesn't have them, makes the
+ * system forget them. If that fails, and the file is open for changes, writes them to the medium
+ * and calls `sync`. Returns 0, or -1 with errno, which is EIO if the two still differ. */
 int rlibreg_meet_front(int fd, int (*sync)(int));
 
 /* Locks a file that is open, and puts it into the list of the locks of this process. Returns a
@@ -61,73 +67,78 @@ uint32_t rlibreg_disk_file_lock(struct disk_file *it, const struct stat *found, 
 /* Puts a file that is locked exclusively into that list. Returns a status, as the call above. */
 uint32_t rlibreg_disk_file_enlist(struct disk_file *it, const struct stat *found);
 
-/* This thread is the one that uses the file. */
+/* Records that the calling thread uses the file. */
 void rlibreg_disk_file_use(struct disk_file *it);
 
-/* Closes what is open, and leaves errno as it is. The lock goes where the process is the one that
- * asked for it: a child of fork has the same lock. */
+/* Closes what is open, and leaves errno as it is. Releases the lock only if this process asked for
+ * it: a child of fork shares its parent's lock. */
 void rlibreg_disk_file_close(struct disk_file *it);
 
-/* An image, as rlibreg_image_of gives it, with so much room for its bytes at first, 16 MiB or more
- * (rlibreg_file.c). */
+/* Binds a program as rlibreg_image_of does. At first the image's bytes have room for `first_bytes`
+ * bytes, which are 16 MiB or more (rlibreg_file.c). Returns a status. */
 uint32_t rlibreg_image_in(rlibreg *registry, const void *program, size_t length, uint64_t base,
                           rlibreg_image *image, size_t first_bytes);
 
-/* The descriptor of the file that a struct has open, or -1 (rlibreg_file.c). */
+/* Returns the descriptor of the file that `registry` has open, or -1 (rlibreg_file.c). */
 int rlibreg_descriptor(const rlibreg *registry);
 
-/* ---- Where it is (rlibreg_place.c) */
+/* ---- The path of the file (rlibreg_place.c) */
 
 struct place {
-    int folder;          /* from which the path leads, where it doesn't begin at the root; or -1 */
-    char path[PATH_MAX]; /* empty where the file has no name yet */
+    int folder;          /* folder from which a relative path leads; otherwise below 0 */
+    char path[PATH_MAX]; /* empty if the file has no name yet */
 };
 
-/* Keeps the path of a file; and lets it go, and leaves errno as it is. */
+/* rlibreg_place_take keeps the path of a file, and returns 0, or -1 with errno. rlibreg_place_end
+ * drops the path, and leaves errno as it is. */
 int rlibreg_place_take(struct place *it, const char *path);
 void rlibreg_place_end(struct place *it);
 
-/* Whether a file has the length with which it was mapped, and whether the path names it too. Else
- * errno says why: ESTALE. */
+/* rlibreg_has_length returns whether a file still has the length with which it was mapped.
+ * rlibreg_is_in_place returns whether, in addition, the path still names the file. If the result is
+ * 0, errno says why: ESTALE if the length or the file has changed. */
 int rlibreg_has_length(const struct disk_file *file);
 int rlibreg_is_in_place(const struct place *it, const struct disk_file *file);
 
-/* ---- Making one where there is none (rlibreg_new_disk.c)
+/* ---- Making the file of a disk (rlibreg_new_disk.c)
  *
- * The file is made under another name in the same folder. Who gives or takes away that name holds
- * the lock of the file that it names. */
+ * The file is made under another name in the same folder. A process that gives a file this name, or
+ * removes the name, has the lock of that file. */
 
 struct new_disk {
-    int folder;               /* in which the disk is made, or -1 */
-    const char *name;         /* of the disk in it */
-    char other[NAME_MAX + 1]; /* the name it has until it is whole */
+    int folder;               /* folder in which the disk is made, or -1 */
+    const char *name;         /* name of the disk in the folder */
+    char other[NAME_MAX + 1]; /* name that the file has until it is whole */
 };
 
-/* Makes a file of zeros under the other name, and maps it. Gives a status, as the next one does;
- * rlibreg_new_disk_end is called in every case. With RLIBREG_WAIT another process that is making the
- * disk is waited for. */
+/* Makes a file of zeros under the other name, locks it and maps it. Returns a status. With
+ * RLIBREG_WAIT it waits for another process that is making the disk. The caller calls
+ * rlibreg_new_disk_end in every case. */
 uint32_t rlibreg_new_disk_make(struct new_disk *it, const char *path, size_t length,
                                struct disk_file *file, unsigned flags);
 
-/* Gives the file its name. RLIBREG_SYSTEM: it hasn't got it, with EEXIST where something has it;
- * RLIBREG_DEVICE: it has, but a power cut may still take it. */
+/* Gives the file its own name. Returns a status. RLIBREG_SYSTEM: the file doesn't have the name;
+ * errno is EEXIST if something else has it. RLIBREG_DEVICE: the file has the name, but a power cut
+ * may still undo that. */
 uint32_t rlibreg_new_disk_name(const struct new_disk *it, const struct disk_file *file);
 
-/* Takes the other name away where the file still has it, and leaves errno as it is. */
+/* Removes the other name if the file still has it, and leaves errno as it is. */
 void rlibreg_new_disk_end(const struct new_disk *it, const struct disk_file *file);
 
-/* Syncs the folder in which a path's file is, and has its names on the medium. */
+/* Syncs the folder that has the file of `path`, and makes sure that its names are on the medium.
+ * Returns 0, or -1 with errno. */
 int rlibreg_sync_folder(const char *path);
 
-/* Whether two files are one: the same inode, or the same block device by whichever node. */
+/* Returns whether two files are the same: the same inode, or the same block device, whichever nodes
+ * name it. */
 int rlibreg_is_same_file(const struct stat *one, const struct stat *other);
 
-/* Whether a path, relative to a folder, names a file. If it doesn't, errno says why: ESTALE if it
- * names another file (rlibreg_names.c). */
+/* Returns whether `path`, relative to `folder`, names the file `file`. If it doesn't, errno says
+ * why: ESTALE if it names another file (rlibreg_names.c). */
 int rlibreg_path_names(int folder, const char *path, const struct stat *file);
 
-/* Behind a sync of a folder that succeeded: whether the medium has its names (rlibreg_names.c). 0,
- * also where nobody can tell, or -1 with errno. */
+/* Checks, after a successful sync of a folder, whether its names are on the medium
+ * (rlibreg_names.c). Returns 0, also if this can't be found out, or -1 with errno. */
 int rlibreg_names_last(int folder);
 
 #endif

@@ -1,4 +1,4 @@
-/* The registry over a file: C over the calls on bytes. rlibreg.h is the manual. */
+/* The calls over a file, in C over the calls over bytes. rlibreg.h is their manual. */
 #define _GNU_SOURCE
 #include "rlibreg_disk_file.h"
 #include "rlibreg_turn.h"
@@ -12,29 +12,29 @@
 
 enum { SECTOR = 512, STEP_NUMBER = 4, SMALL_PLAN = 40, FIRST_TEXT = 4096, FIRST_FILE = 1 << 16 };
 
-/* Room for most images: what isn't used of it isn't touched, and where it is too small a program is
- * bound twice. */
+/* Room for most images. The part that an image doesn't use is never touched. If the room is too
+ * small, a program is bound twice. */
 enum { FIRST_OBJECTS = 1024, FIRST_SEGMENTS = 4096, FIRST_BYTES = 16 << 20 };
 
 struct rlibreg {
     struct disk_file file;
-    struct place place; /* of the file, where it was opened for changes */
-    int may_change; /* whether it was opened for changes */
+    struct place place; /* path of the file, if it was opened for changes */
+    int may_change; /* whether the file was opened for changes */
     int has_failed; /* whether a write or a sync failed */
-    int limit;      /* how many milliseconds a lock is waited for, or less than 0: without end */
-    char *text;     /* of the last answer, ended by a byte 0 */
+    int limit;      /* milliseconds to wait for a lock; less than 0: without a limit */
+    char *text;     /* text of the last answer, followed by a byte 0 */
     size_t text_room;
     rlibreg_answer answer;
-    int why; /* errno as the last answer without the first layer left it */
+    int why; /* errno at the last answer that no call over bytes made */
 };
 
 /* ---- Cancellation
  *
- * A thread isn't cancelled within a call that opens, changes or closes a file. It would keep the lock
- * there, and after a part of a change nobody could go on: of the current root, which is written last,
- * it isn't known whether the medium has it. */
+ * A thread isn't cancelled within a call that opens, changes or closes a file. Otherwise it would
+ * keep the lock. After a part of a change nobody could go on: the current root is written last, and
+ * nobody would know whether the medium has it. */
 
-/* A call begins. Returns how cancellation was set, for end_call. */
+/* Begins a call: disables cancellation. Returns the state before, for end_call. */
 static int begin_call(void) {
     int before;
     pthread_setcancelstate(PTHREAD_CANCEL_DISABLE, &before);
@@ -47,7 +47,8 @@ static void end_call(int before) {
 
 /* ---- Answers */
 
-/* Answers without the first layer, with this text. */
+/* Makes the answer of a call, with `status` and `text`, without the calls over bytes. Returns
+ * `status`. */
 static uint32_t say(rlibreg *it, uint32_t status, const char *text) {
     it->answer = (rlibreg_answer){ .status = status, .text = strlen(text) };
     it->why = errno;
@@ -63,8 +64,9 @@ static uint32_t say_memory(rlibreg *it) {
     return say(it, RLIBREG_OUT_OF_MEMORY, "refused S11 OutOfMemory\n");
 }
 
-/* Ends the text of the last call by a byte 0. Where it was cut the buffer is made larger, and the
- * call is to be made again; without memory for that the text stays cut. */
+/* Ends the text of the last call with a byte 0. If the text was cut, makes the buffer larger and
+ * returns 1: the call has to be made again. Without memory for a larger buffer the text stays
+ * cut. */
 static int text_was_cut(rlibreg *it) {
     size_t whole = it->answer.text;
     if (whole < it->text_room) {
@@ -78,7 +80,8 @@ static int text_was_cut(rlibreg *it) {
     }
     it->text = larger;
     it->text_room = whole + 1;
-    free(before); /* the last: a child that another thread forks just then can close the struct */
+    free(before); /* the last step: a child that another thread forks just then can close the
+                   * struct */
     return 1;
 }
 
@@ -134,7 +137,7 @@ int rlibreg_errno(const rlibreg *it) {
 
 /* ---- The file */
 
-/* Whether another process opened the file, of which this one is a child. */
+/* Returns whether another process opened the file, of which this process is a child. */
 static int is_inherited(const rlibreg *it) {
     return it->file.fd >= 0 && !rlibreg_is_this_process(&it->file.owner);
 }
@@ -143,7 +146,7 @@ void rlibreg_wait_limit(rlibreg *it, int milliseconds) {
     it->limit = milliseconds;
 }
 
-/* The wait of a call begins. */
+/* Sets the moment until which a call waits for a lock. */
 static void begin_waiting(rlibreg *it) {
     it->file.until = it->limit < 0 ? RLIBREG_NO_END : rlibreg_moment_in(it->limit);
 }
@@ -166,14 +169,14 @@ uint32_t rlibreg_open(rlibreg *it, const char *path, unsigned flags) {
     return status;
 }
 
-/* A write, a sync or a look at the file has failed. */
+/* Records that a write, a sync or a check of the file has failed. Returns RLIBREG_DEVICE. */
 static uint32_t fail(rlibreg *it) {
     it->has_failed = 1;
     return say(it, RLIBREG_DEVICE, "refused S1 Device\n");
 }
 
-/* Why nothing can be asked of the file by this struct, or 0. Of one that was cut the map can't be
- * read: that would end the process. */
+/* Returns the status with which each call on this struct is refused, or 0. If the file was
+ * shortened, its map can't be read: that would end the process. */
 static uint32_t refuse(rlibreg *it) {
     if (is_inherited(it)) return say(it, RLIBREG_BAD_ARGUMENT, "");
     if (it->has_failed) return say(it, RLIBREG_REOPEN, "refused S2 Reopen\n");
@@ -203,9 +206,9 @@ static int write_all(int fd, const uint8_t *from, size_t length, off_t at) {
     return 0;
 }
 
-/* Writes the sector of the step at the front of a plan, and with the same write those of the steps
- * behind it that write the sectors next to it: their bytes are moved together for that. Gives how
- * many bytes of the plan these steps are, or 0 where the write fails. */
+/* Writes the sector of the step at the front of a plan. The same write includes the sectors of the
+ * following steps, as long as each follows the sector before it: their bytes are moved together for
+ * that. Returns the number of bytes that these steps have in the plan, or 0 if the write fails. */
 static size_t write_run(int fd, uint8_t *plan, size_t length) {
     uint32_t first = number_at(plan), next = first + 1;
     size_t at = STEP_NUMBER + SECTOR, bytes = SECTOR;
@@ -217,9 +220,9 @@ static size_t write_run(int fd, uint8_t *plan, size_t length) {
     return write_all(fd, plan + STEP_NUMBER, bytes, (off_t)first * SECTOR) ? 0 : at;
 }
 
-/* Makes the writes and syncs of a plan, in their order, up to the first that fails. The file's
- * length is looked at before each: a write behind the end of one that was cut would hide that. The
- * plan isn't to be used again. */
+/* Makes the writes and syncs of a plan in their order, up to the first that fails. Returns 0, or -1
+ * with errno. Checks the file's length before each step: a write past the end of a shortened file
+ * would hide that it was shortened. The plan must not be used again. */
 static int carry_out(const struct disk_file *file, uint8_t *plan, size_t length) {
     for (size_t at = 0; at < length;) {
         size_t done = STEP_NUMBER;
@@ -237,12 +240,13 @@ static int carry_out(const struct disk_file *file, uint8_t *plan, size_t length)
 
 /* ---- Changes */
 
-/* A call that plans what is asked, into a buffer. */
+/* A call that plans the change `asked`, of `length` bytes, into the buffer `plan` of `room`
+ * bytes. */
 typedef uint32_t plan_call(rlibreg *it, const void *asked, size_t length, uint8_t *plan,
                            size_t room);
 
-/* It reads the roots alone, of a copy that is given: a hole that is read through the map, on a full
- * tmpfs, would end the process. */
+/* Plans a format. Reads only the roots, from the copy `copy`: on a full tmpfs, reading a hole
+ * through the map would end the process. */
 static uint32_t plan_format(rlibreg *it, const void *copy, size_t length, uint8_t *plan,
                             size_t room) {
     (void)length;
@@ -281,8 +285,8 @@ static uint32_t plan_preload(rlibreg *it, const void *asked, size_t length, uint
                                 it->text, it->text_room, &it->answer);
 }
 
-/* Has a change planned, with as much room as it needs. The plan is the caller's to free; null where
- * the status isn't 0. */
+/* Plans a change, with as large a buffer as it needs. Returns a status. The caller frees the plan,
+ * which is null if the status isn't 0. */
 static uint32_t make_plan(rlibreg *it, plan_call *call, const void *asked, size_t length,
                           uint8_t **plan) {
     size_t room = (length / SECTOR + 1 + SMALL_PLAN) * (STEP_NUMBER + SECTOR);
@@ -299,14 +303,15 @@ static uint32_t make_plan(rlibreg *it, plan_call *call, const void *asked, size_
     }
 }
 
-/* Whether the file has become a standard stream since it was opened. */
+/* Returns whether the file has become a standard stream since it was opened, or can't be
+ * examined. */
 static int is_stream(const rlibreg *it) {
     struct stat found;
     return fstat(it->file.fd, &found) || rlibreg_stream_of_file(&found) >= 0;
 }
 
-/* Plans a change and carries it out. The file is looked at before and behind it: it may have been
- * cut, or another have been put in its place. */
+/* Plans a change and carries it out. Returns a status. Checks the file before and after the change:
+ * it may have been shortened, or another file may have taken its place. */
 static uint32_t change_file(rlibreg *it, plan_call *call, const void *asked, size_t length) {
     uint8_t *plan;
     uint32_t status = refuse(it);
@@ -363,7 +368,7 @@ uint32_t rlibreg_preload(rlibreg *it, const char *const *names, size_t count) {
     return status;
 }
 
-/* The changes of an update, with the bytes of all. */
+/* The changes of an update, and the bytes of all of them. */
 struct update {
     const rlibreg_change *changes;
     size_t count;
@@ -380,8 +385,8 @@ static uint32_t plan_update(rlibreg *it, const void *asked, size_t length, uint8
                                &it->answer);
 }
 
-/* How much an update writes at most, but for what each plan has room for: of each change its bytes,
- * the rest of their last sector, and an entry. */
+/* Returns the most bytes that an update writes, beyond those for which each plan has room: for each
+ * change its bytes, the rest of their last sector, and an entry. */
 static size_t written_by(const struct update *it) {
     return it->length + it->count * 2 * SECTOR;
 }
@@ -394,7 +399,7 @@ uint32_t rlibreg_update(rlibreg *it, const rlibreg_change *changes, size_t count
 
 /* ---- Making a registry */
 
-/* Makes a registry on the file that is open, where it has none. */
+/* Makes a registry on the open file, if the file has none. Returns a status. */
 static uint32_t make_registry(rlibreg *it) {
     const size_t length = it->file.length, front = 4096;
     const int kind = MAP_PRIVATE | MAP_ANONYMOUS | MAP_NORESERVE;
@@ -410,7 +415,7 @@ static uint32_t make_registry(rlibreg *it) {
     return status;
 }
 
-/* Makes a registry on the file that stands there. */
+/* Makes a registry on a file that exists. Returns a status. */
 static uint32_t format_file(rlibreg *it, const char *path, size_t length, unsigned flags) {
     uint32_t status = open_file(it, path, flags);
     if (status) return status;
@@ -419,7 +424,8 @@ static uint32_t format_file(rlibreg *it, const char *path, size_t length, unsign
     return make_registry(it);
 }
 
-/* Makes a registry on a new file, which gets its name once all of it is on the medium. */
+/* Makes a registry on a new file, which gets its name once all of it is on the medium. Returns a
+ * status. */
 static uint32_t format_new(rlibreg *it, const char *path, size_t length, unsigned flags) {
     struct new_disk new = { .folder = -1 };
     struct place place;
@@ -466,9 +472,10 @@ uint32_t rlibreg_format(rlibreg *it, const char *path, uint32_t sectors, unsigne
     return status;
 }
 
-/* ---- Looking */
+/* ---- Reading */
 
-/* A listing with so much room for entries and names. */
+/* Lists the registry into new buffers, for `entries` entries and `names` bytes of names. Returns a
+ * status. */
 static uint32_t list(rlibreg *it, rlibreg_listing *out, size_t entries, size_t names) {
     out->entries = malloc(entries * sizeof *out->entries);
     out->names = malloc(names);
@@ -504,24 +511,25 @@ void rlibreg_listing_free(rlibreg_listing *it) {
     *it = (rlibreg_listing){ 0 };
 }
 
-/* What is asked for: a library by its name, or a program at an address. */
+/* A request: for a library by its name, or for a program that is bound at `base`. */
 struct asked {
     const void *bytes;
     size_t length;
     uint64_t base;
 };
 
-/* A call that puts what is asked for into one buffer. */
+/* A call that puts the result of a request into the buffer `out` of `room` bytes. */
 typedef uint32_t give_call(rlibreg *it, const struct asked *what, void *out, size_t room);
 
-/* A block that is given back but for its first bytes. */
+/* Frees a block except for its first `bytes` bytes. Returns its address, which may have changed. */
 static void *fitting(void *block, size_t bytes) {
     void *it = realloc(block, bytes ? bytes : 1);
     return it ? it : block;
 }
 
-/* Gives what is asked for, which is never empty, with a byte 0 behind it. At first there is so much
- * room; where that isn't given, as much as for a small file. */
+/* Makes a request, whose result is never empty. Returns a status, and the result in `bytes`,
+ * followed by a byte 0. The first buffer has room for `first` bytes. If that much memory is
+ * refused, it has room for a small file. */
 static uint32_t give(rlibreg *it, give_call *call, struct asked what, size_t first, void **bytes,
                      size_t *length) {
     *bytes = NULL;
@@ -603,7 +611,8 @@ uint32_t rlibreg_info_of(rlibreg *it, rlibreg_information *out) {
     return status;
 }
 
-/* What is found, with so much room for libraries and names. */
+/* Checks the libraries into new buffers, for `libraries` findings and `names` bytes of names.
+ * Returns a status. */
 static uint32_t check(rlibreg *it, rlibreg_findings *out, size_t libraries, size_t names) {
     out->findings = malloc(libraries * sizeof *out->findings);
     out->names = malloc(names);
@@ -637,13 +646,13 @@ void rlibreg_findings_free(rlibreg_findings *it) {
     *it = (rlibreg_findings){ 0 };
 }
 
-/* How much room an image has. */
+/* The sizes of an image's buffers: numbers of objects, of segments and of bytes. */
 struct room {
     size_t objects, segments, bytes;
 };
 
-/* Has the system give large pages to much room, which is faster where most of it is used; but none
- * to its beginning, so that a small image takes little. */
+/* Asks the system for large pages if there is much room: they are faster if most of it is used. The
+ * beginning gets none, so that a small image needs little memory. */
 static void ask_for_large_pages(uint8_t *bytes, size_t room) {
     const uintptr_t large = 2 << 20, small_image = 4 << 20, much = 32 << 20;
     uintptr_t from = ((uintptr_t)bytes + small_image) / large * large;
@@ -662,14 +671,15 @@ static int make_room(rlibreg_image *out, struct room room) {
     return 0;
 }
 
-/* Where so many bytes aren't given it is a quarter of them, and again, down to FIRST_BYTES. */
+/* Allocates the first buffers of an image. If `room->bytes` bytes are refused, tries a quarter of
+ * them, and so on, down to FIRST_BYTES. Returns whether there are buffers. */
 static int make_first_room(rlibreg_image *out, struct room *room) {
     for (; room->bytes >= FIRST_BYTES; room->bytes /= 4)
         if (make_room(out, *room)) return 1;
     return 0;
 }
 
-/* Gives back the room that an image doesn't take. */
+/* Frees the parts of the buffers that an image doesn't use. */
 static void give_room_back(rlibreg_image *it, size_t bytes) {
     it->objects = fitting(it->objects, it->object_count * sizeof *it->objects);
     it->segments = fitting(it->segments, it->count * sizeof *it->segments);
@@ -683,11 +693,12 @@ static uint32_t bind_into(rlibreg *it, const uint8_t *disk, const struct asked *
                         it->text, it->text_room, &it->answer);
 }
 
-/* Binds a program over the bytes of a disk. At first an image's bytes have so much room. */
+/* Binds a program against the bytes of a disk. At first there is room for `first_bytes` bytes of
+ * the image. Returns a status. */
 static uint32_t bind_over(rlibreg *it, const uint8_t *disk, const struct asked *what,
                           rlibreg_image *out, size_t first_bytes) {
     struct room room = { FIRST_OBJECTS, FIRST_SEGMENTS, first_bytes };
-    if (!make_first_room(out, &room)) room = (struct room){ 0 }; /* and so it is asked what it takes */
+    if (!make_first_room(out, &room)) room = (struct room){ 0 }; /* the bind reports the sizes */
     for (;;) {
         uint32_t status = bind_into(it, disk, what, out, room);
         int again = text_was_cut(it) || status == RLIBREG_NO_ROOM;
@@ -720,8 +731,8 @@ uint32_t rlibreg_image_in(rlibreg *it, const void *program, size_t length, uint6
     return status ? status : bind_over(it, it->file.bytes, &what, out, first_bytes);
 }
 
-/* The bytes of the disk as they are after a plan, or null where there is no memory for them. Of a
- * private map the system copies the pages that are written, and nothing of it comes to the file. */
+/* Returns the bytes of the disk as they are after a plan, or null if memory is refused. The map is
+ * private: the system copies the pages that are written, and writes nothing to the file. */
 static uint8_t *copy_after(const struct disk_file *file, const uint8_t *plan, size_t length) {
     const int kind = MAP_PRIVATE | MAP_NORESERVE;
     uint8_t *copy = mmap(NULL, file->length, PROT_READ | PROT_WRITE, kind, file->fd, 0);

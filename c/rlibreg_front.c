@@ -1,9 +1,11 @@
-/* Whether the medium has the roots that the system shows: the first 1,024 bytes of a disk.
+/* Compares the roots that the system shows, which are the first 1,024 bytes of a disk, with those
+ * on the medium. The calls over a file and the programs call this when they open a disk.
  *
- * A page that couldn't be written back the system takes for written, and shows. So behind the sync
- * of an opening, and before any map, the roots are read twice: from the system's memory and past it
- * (O_DIRECT). Where they are equal nothing else is done: as long as the lock is held, nobody who
- * asks for it can make them differ, whatever memory drops and reads again. */
+ * Linux treats a page that it couldn't write back as written, and shows it. So the roots are read
+ * twice, after the sync of an opening and before any map: from the system's memory and past it
+ * (O_DIRECT). If the two are equal, nothing else is done. As long as the lock is held, no process
+ * that asks for it can make them differ, whatever the system drops from its memory and reads
+ * again. */
 #define _GNU_SOURCE
 #include "rlibreg_disk_file.h"
 
@@ -22,29 +24,32 @@
 #include <linux/stat.h>
 #endif
 
-/* What the system keeps of a file is in pieces of a page to 2 MiB, and it lets a piece go only
- * where that lies whole in what is to go. What is read past it is a block of 4,096 bytes, since
- * there are devices of such sectors. */
+/* The system keeps a file in memory in pieces of a page to 2 MiB. It drops a piece only if all of
+ * it lies in the range to drop. A read past the system's memory is a block of 4,096 bytes, because
+ * there are devices with sectors of this size. */
 enum { SECTOR = 512, ROOTS = 2 * SECTOR, BLOCK = 4096, GREATEST_PIECE = 2 << 20 };
 
-/* How often a front is to be forgotten that others are using, five milliseconds apart. */
+/* The most times that the system is made to forget the roots, if other processes use them. The
+ * tries are five milliseconds apart. */
 enum { FORGET_TRIES = 40 };
 
 enum comparison {
     EQUAL,
     DIFFERENT,
-    UNKNOWN, /* nothing can be read past the system's memory, or what is read is of some memory */
+    UNKNOWN, /* reads past the system's memory fail, or return some memory's bytes too */
     FAILED   /* errno says why */
 };
 
 struct front {
     int fd, flags;
-    int is_blind; /* reads past the system's memory succeed, and are of some memory all the same */
-    alignas(BLOCK) uint8_t kept[BLOCK];   /* as the system shows it */
-    alignas(BLOCK) uint8_t medium[BLOCK]; /* as it is read past the system's memory */
+    int is_blind; /* whether reads past the system's memory succeed, but still return some
+                   * memory's bytes */
+    alignas(BLOCK) uint8_t kept[BLOCK];   /* first block, as the system shows it */
+    alignas(BLOCK) uint8_t medium[BLOCK]; /* first block, as it is read past the system's memory */
 };
 
-/* A loop device whose reads and writes are those of its file in the system's memory. */
+/* Returns whether `fd` is a loop device that reads and writes its file through the system's
+ * memory. */
 static int is_loop_over_memory(int fd) {
     struct loop_info64 info;
     return !ioctl(fd, LOOP_GET_STATUS64, &info) && !(info.lo_flags & LO_FLAGS_DIRECT_IO);
@@ -57,9 +62,10 @@ static int is_encoded(int fd) {
            found.stx_attributes & encoded;
 }
 
-/* Reads past the system's memory, by the file's own description: neither its path, which may be
- * another file's by now, nor /proc is needed. Into pages that nothing was written to yet btrfs reads
- * from its memory. */
+/* Reads the first block past the system's memory, through the file's own descriptor. So it needs
+ * neither the file's path, which may name another file by now, nor /proc. Writes to the buffer
+ * first: into pages that were never written, btrfs reads from its memory. Returns EQUAL if the
+ * roots were read. */
 static enum comparison read_medium(struct front *it) {
     memset(it->medium, 0, BLOCK);
     if (fcntl(it->fd, F_SETFL, it->flags | O_DIRECT)) return UNKNOWN;
@@ -80,15 +86,15 @@ static enum comparison compare(struct front *it) {
     return is == EQUAL && it->is_blind ? UNKNOWN : is;
 }
 
-/* Whether the system may keep the first page of a map. mincore says that it does, where the user
- * neither owns the file nor may write it. */
+/* Returns whether the system may keep the first page of a map. mincore reports that it does if the
+ * user neither owns the file nor may write it. */
 static int may_be_kept(void *map) {
     unsigned char kept;
     return map == MAP_FAILED || mincore(map, 1, &kept) || kept & 1;
 }
 
-/* Has the system forget more and more of the front, until its first page is gone. The map allows no
- * access, so that it holds no page, in a process that locks its memory neither. */
+/* Makes the system forget a growing part of the file's front, until its first page is gone. The map
+ * allows no access, so it holds no page, even in a process that locks its memory. */
 static void forget(int fd) {
     void *map = mmap(NULL, 1, PROT_NONE, MAP_SHARED, fd, 0);
     for (off_t size = BLOCK; size <= GREATEST_PIECE; size *= 2) {
@@ -98,7 +104,8 @@ static void forget(int fd) {
     if (map != MAP_FAILED) munmap(map, 1);
 }
 
-/* Has the system forget a front that the medium hasn't got, until it shows what the medium has. */
+/* Makes the system forget roots that the medium doesn't have, until it shows those of the medium.
+ * Returns the result of the last comparison. */
 static enum comparison forget_and_compare(struct front *it) {
     const struct timespec moment = { .tv_nsec = 5 * 1000 * 1000 };
     enum comparison is = DIFFERENT;
@@ -114,9 +121,9 @@ static int is_root(const uint8_t *sector) {
     return !memcmp(sector, "RLIBREG1", 8) || !memcmp(sector, "RLIBREG2", 8);
 }
 
-/* Has the medium take the roots that the system shows, and compares again. All that they name was
- * synced with success before they were written. A device that can only be read (EPERM) is changed by
- * nothing behind. */
+/* Writes the roots that the system shows to the medium, and compares again. All that these roots
+ * name was synced successfully before they were written. Nothing changes a device that can only be
+ * read (EPERM) without the system's knowledge. */
 static enum comparison take_kept(struct front *it, enum comparison is, int (*sync)(int)) {
     if (!is_root(it->kept) && !is_root(it->kept + SECTOR)) return is;
     ssize_t length = pwrite(it->fd, it->kept, ROOTS, 0);

@@ -1,10 +1,11 @@
-/* Whether a path names a file, and whether the medium has the names of a folder.
+/* Finds out whether a path names a file, and whether the medium has the names of a folder.
  *
- * ext4's sync of a folder succeeds where the system couldn't write the journal before, and a power
- * cut takes the names. But no change begins over such a journal (EROFS), not even the removal of an
- * attribute that isn't there. Over another one that is ENODATA, and writes nothing. Other answers
- * tell nothing: there are no attributes, or no permission. syncfs(2) tells of the journal too, but
- * once, and waits for what all programs have written. */
+ * ext4's sync of a folder succeeds even if the system couldn't write the journal before, and then a
+ * power cut undoes the names. But no change begins on such a journal (EROFS), not even the removal
+ * of an attribute that doesn't exist. On any other journal this removal returns ENODATA, and writes
+ * nothing. Other errors say nothing about the journal: there are no attributes, or no permission.
+ * syncfs(2) reports the journal's failure too, but only once, and it waits for everything that all
+ * programs have written. */
 #define _GNU_SOURCE
 #include "rlibreg_disk_file.h"
 

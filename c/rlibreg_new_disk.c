@@ -1,4 +1,5 @@
-/* Making the file of a disk where there is none: under another name, until it is whole. */
+/* Makes the file of a disk that doesn't exist yet, under another name until it is whole.
+ * rlibreg_format calls this (rlibreg_file.c). */
 #define _GNU_SOURCE
 #include "rlibreg_disk_file.h"
 
@@ -17,7 +18,7 @@ static const char *name_in(const char *path) {
     return slash ? slash + 1 : path;
 }
 
-/* Opens the folder in which a path's file is. */
+/* Opens the folder that has the file of `path`. Returns its descriptor, or -1 with errno. */
 static int open_folder(const char *path) {
     char folder[PATH_MAX];
     size_t length = (size_t)(name_in(path) - path);
@@ -53,14 +54,14 @@ static int look_at(const struct new_disk *it, const char *name, struct stat *fou
     return fstatat(it->folder, name, found, AT_SYMLINK_NOFOLLOW);
 }
 
-/* Whether the other name is that of an open file. */
+/* Returns whether the other name is that of the open file `fd`. */
 static int is_other_of(const struct new_disk *it, int fd) {
     struct stat named, opened;
     return !look_at(it, it->other, &named) && !fstat(fd, &opened) && S_ISREG(named.st_mode) &&
            named.st_dev == opened.st_dev && named.st_ino == opened.st_ino;
 }
 
-/* Takes the other name away from a file, where it has it. */
+/* Removes the other name if it is that of the file `fd`. Returns 0, or -1 with errno. */
 static int take_other(const struct new_disk *it, int fd) {
     return is_other_of(it, fd) ? unlinkat(it->folder, it->other, 0) : 0;
 }
@@ -70,9 +71,9 @@ static uint32_t lock_alone(int fd) {
     return errno == EWOULDBLOCK ? RLIBREG_HELD : RLIBREG_SYSTEM;
 }
 
-/* Takes away the other name that a process left which is gone; one that is making the disk may be
- * waited for, until a moment. The file isn't written: it may be a finished registry, which has a name
- * of its own beside. */
+/* Removes the other name if a process that has ended left it. With RLIBREG_WAIT it waits, until the
+ * moment `until`, for a process that is making the disk. Returns a status. Doesn't write the file:
+ * it may be a finished registry, which has its own name too. */
 static uint32_t take_leftover(const struct new_disk *it, unsigned flags, int64_t until) {
     struct disk_file left = NO_DISK_FILE;
     struct stat found;
@@ -92,14 +93,14 @@ static uint32_t take_leftover(const struct new_disk *it, unsigned flags, int64_t
     return status;
 }
 
-/* Locks a file that was just made. It is closed where another process took it for one that was
- * left, or where it can't be locked. */
+/* Locks a file that was just made. Closes it if another process took it for a file that was left,
+ * or if it can't be locked. Returns a status. */
 static uint32_t lock_made(const struct new_disk *it, int *fd) {
     uint32_t status = lock_alone(*fd);
     if (!status && is_other_of(it, *fd)) return RLIBREG_DONE;
     if (status == RLIBREG_SYSTEM) {
         int why = errno;
-        take_other(it, *fd); /* nobody can hold it here */
+        take_other(it, *fd); /* no process can have its lock */
         errno = why;
     }
     close_quietly(*fd);
@@ -107,7 +108,8 @@ static uint32_t lock_made(const struct new_disk *it, int *fd) {
     return status == RLIBREG_HELD ? RLIBREG_DONE : status;
 }
 
-/* Whether the disk is there by now: another process has made it. */
+/* Refuses a disk that exists by now, because another process has made it: RLIBREG_SYSTEM with
+ * EEXIST. */
 static uint32_t refuse_made(const struct new_disk *it) {
     struct stat found;
     if (look_at(it, it->name, &found)) return RLIBREG_DONE;
@@ -115,7 +117,8 @@ static uint32_t refuse_made(const struct new_disk *it) {
     return RLIBREG_SYSTEM;
 }
 
-/* Makes an empty file under the other name, always anew, and locks it. */
+/* Makes a new empty file under the other name, and never uses an existing one. Locks the file.
+ * Returns a status. */
 static uint32_t make_locked(const struct new_disk *it, struct disk_file *file, unsigned flags) {
     int *fd = &file->fd;
     for (int tries = 0; tries < MOST_TRIES; tries++) {
@@ -131,8 +134,8 @@ static uint32_t make_locked(const struct new_disk *it, struct disk_file *file, u
     return RLIBREG_HELD;
 }
 
-/* Gives a file its length, and the block with the roots its bytes: on a full tmpfs a hole that is
- * read through the map would end the process. */
+/* Gives a file its length, and writes the block with the roots: on a full tmpfs, reading a hole
+ * through the map would end the process. Returns 0, or -1 with errno. */
 static int fill(int fd, size_t length) {
     static const uint8_t zeros[4096];
     if (ftruncate(fd, (off_t)length)) return -1;
@@ -165,14 +168,15 @@ void rlibreg_new_disk_end(const struct new_disk *it, const struct disk_file *fil
     close_quietly(it->folder);
 }
 
-/* ---- Its own name */
+/* ---- The disk's own name */
 
-/* Whether a link was refused since the file system has none. */
+/* Returns whether a link was refused because the file system has no links. */
 static int lacks_links(void) {
     return errno == EPERM || errno == EOPNOTSUPP || errno == ENOSYS || errno == EMLINK;
 }
 
-/* Changes the other name for the file's own, where nothing has that. */
+/* Renames the file from the other name to its own, if nothing has that name. Returns 0, or -1 with
+ * errno. */
 static int rename_file(const struct new_disk *it) {
     struct stat found;
     const long no_replace = 1; /* musl has neither the call nor its flag */
@@ -187,7 +191,7 @@ static int rename_file(const struct new_disk *it) {
 
 uint32_t rlibreg_new_disk_name(const struct new_disk *it, const struct disk_file *file) {
     if (!is_other_of(it, file->fd)) {
-        errno = EAGAIN; /* somebody took it away who doesn't ask for the lock */
+        errno = EAGAIN; /* a process that doesn't ask for the lock has removed the name */
         return RLIBREG_SYSTEM;
     }
     if (!linkat(it->folder, it->other, it->folder, it->name, 0)) {

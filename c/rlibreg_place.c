@@ -1,4 +1,5 @@
-/* Where a file that is changed is: whether its path still names it, and whether it has its length. */
+/* Checks whether the path of a file that is changed still names it, and whether the file still has
+ * its length. rlibreg_file.c calls this before and after each change. */
 #define _GNU_SOURCE
 #include "rlibreg_disk_file.h"
 
@@ -38,7 +39,7 @@ int rlibreg_has_length(const struct disk_file *file) {
 int rlibreg_is_in_place(const struct place *it, const struct disk_file *file) {
     struct stat opened;
     if (!rlibreg_has_length(file)) return 0;
-    if (!it->path[0]) return 1; /* it has no name yet */
+    if (!it->path[0]) return 1; /* the file has no name yet */
     if (fstat(file->fd, &opened)) return 0;
     return rlibreg_path_names(it->folder, it->path, &opened);
 }

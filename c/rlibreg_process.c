@@ -1,17 +1,18 @@
-/* Which process this is.
+/* Finds out which process this is.
  *
- * The process number alone doesn't tell: process 1 of a container that makes another process
+ * The process number alone doesn't show it: process 1 of a container that makes another process
  * namespace and forks has a child that is process 1, too. So each process also draws a number, when
- * it is first asked for one, and a child has to draw another. Three things see to that, because each
- * of them misses some children:
+ * it is first asked for one, and a child has to draw another. Three things make sure of that,
+ * because each of them misses some children:
  *
- * - The kernel fills the page of the drawn number with zeros in a child (MADV_WIPEONFORK). It does so
- *   for clone(2) as well, which runs no handlers, but not before Linux 4.14, and an emulator may only
- *   say that it does.
+ * - The kernel fills the page of the drawn number with zeros in a child (MADV_WIPEONFORK). It does
+ *   so for clone(2) as well, which runs no handlers, but not before Linux 4.14, and an emulator may
+ *   only say that it does.
  * - The handler of fork calls rlibreg_process_end in the child (rlibreg_disk_file.c).
  * - The process number is compared, too.
  *
- * Only a child that shares its parent's memory (vfork, CLONE_VM) and its process number is missed. */
+ * Only a child that shares its parent's memory (vfork, CLONE_VM) and its process number is
+ * missed. */
 #define _GNU_SOURCE
 #include "rlibreg_process.h"
 
@@ -22,8 +23,8 @@
 
 #define PAGE 4096
 
-/* The number that this process drew, or 0. It has a page of its own, which the program's file has no
- * bytes for: only such a page is filled with zeros. */
+/* The number that this process drew, or 0. It has a page of its own, which the program's file has
+ * no bytes for: only such a page is filled with zeros. */
 static union {
     alignas(PAGE) _Atomic uint64_t number;
     uint8_t page[PAGE];
@@ -40,7 +41,7 @@ static uint64_t draw(void) {
 }
 
 void rlibreg_process_begin(void) {
-    madvise(&drawn, sizeof drawn, MADV_WIPEONFORK); /* the others see most children without it */
+    madvise(&drawn, sizeof drawn, MADV_WIPEONFORK); /* the other two see most children without it */
 }
 
 void rlibreg_process_end(void) {

@@ -1,4 +1,4 @@
-/* Which process opened a disk, and whether it is this one. Nothing here is for users. */
+/* Finds out which process opened a disk, and whether it is this one. Nothing here is for users. */
 #ifndef RLIBREG_PROCESS_H
 #define RLIBREG_PROCESS_H
 
@@ -11,10 +11,11 @@ struct process {
     uint64_t drawn; /* differs from that of each process from which this one descends */
 };
 
-/* Asks the kernel to see children. Called before the first of the calls below. */
+/* Asks the kernel to clear the drawn number in children. Called before the first of the calls
+ * below. */
 void rlibreg_process_begin(void);
 
-/* Called in a child of fork: the child isn't the process that its parent is. */
+/* Records in a child of fork that the child isn't the process that its parent is. */
 void rlibreg_process_end(void);
 
 struct process rlibreg_this_process(void);

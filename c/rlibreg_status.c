@@ -1,4 +1,4 @@
-/* The version, and the names of statuses and of tests of a file. */
+/* The version of the library, and the names of statuses and of tests of a file. */
 #include "rlibreg.h"
 
 uint32_t rlibreg_version(void) {

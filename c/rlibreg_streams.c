@@ -1,4 +1,5 @@
-/* The standard streams of the process: a disk is none of them. */
+/* Keeps a disk from being a standard stream of the process. The calls over a file and the loader
+ * call this. */
 #define _GNU_SOURCE
 #include "rlibreg_disk_file.h"
 
@@ -6,17 +7,18 @@
 #include <fcntl.h>
 #include <unistd.h>
 
-/* The numbers of the standard streams are those below. */
+/* The standard streams have the numbers below this one. */
 enum { STREAMS = 3 };
 
-/* Opens what nothing can be written to. Where a system begins there may be no devices yet. */
+/* Opens a file to which nothing can be written. Early in a system's start there may be no devices
+ * yet. */
 static int open_nothing(void) {
     int fd = open("/dev/null", O_RDONLY | O_NOCTTY);
     return fd < 0 ? open("/", O_RDONLY | O_DIRECTORY) : fd;
 }
 
-/* Opens each stream that isn't open. Fails if the system doesn't say whether one is: a filter of
- * system calls (seccomp) can refuse fcntl. */
+/* Opens each stream that isn't open. Returns 0, or -1 if the system doesn't report whether one is
+ * open: a filter of system calls (seccomp) can refuse fcntl. */
 static int fill_streams(void) {
     for (int number = 0; number < STREAMS; number++)
         while (fcntl(number, F_GETFD) < 0) {
@@ -27,7 +29,8 @@ static int fill_streams(void) {
     return 0;
 }
 
-/* Moves a file that is open as a stream, since another thread has closed that meanwhile. */
+/* Moves a file that was opened as a stream, because another thread had closed that stream
+ * meanwhile. Returns its new descriptor, or -1 with errno. */
 static int move_up(int stream) {
     int fd = fcntl(stream, F_DUPFD_CLOEXEC, STREAMS), nothing = open_nothing();
     if (nothing < 0 || dup2(nothing, stream) < 0) close(stream);
@@ -43,7 +46,7 @@ int rlibreg_open_apart(int folder, const char *path, int flags) {
 
 int rlibreg_stream_of_file(const struct stat *file) {
     struct stat found;
-    /* A stream of which the system doesn't say how it is open may be written. */
+    /* If the system doesn't report how a stream is open, it may be open for writing. */
     for (int number = STREAMS - 1; number >= 0; number--) {
         int how = fcntl(number, F_GETFL);
         if (how < 0 ? errno == EBADF : (how & O_ACCMODE) == O_RDONLY) continue;
@@ -56,6 +59,6 @@ int rlibreg_stream_of_file(const struct stat *file) {
 
 int rlibreg_stream_of(const char *path) {
     struct stat found;
-    fill_streams(); /* or what is printed goes nowhere */
+    fill_streams(); /* if this fails, output goes nowhere */
     return stat(path, &found) ? -1 : rlibreg_stream_of_file(&found);
 }

@@ -1,4 +1,4 @@
-/* Taking turns at the lock of a disk. */
+/* Takes turns at the lock of a disk. */
 #define _GNU_SOURCE
 #include "rlibreg_turn.h"
 
@@ -22,7 +22,8 @@ int64_t rlibreg_moment_in(int64_t milliseconds) {
     return now() + milliseconds * MILLISECOND;
 }
 
-/* Lets a moment pass, but no more than is left. A signal may end it: who called looks at the clock. */
+/* Sleeps for a moment, but not past `until`. A signal may end the sleep: the caller looks at the
+ * clock. */
 static void nap(int64_t until) {
     int64_t left = until - now();
     struct timespec it = { .tv_nsec = left < 0 ? 0 : left < PAUSE ? left : PAUSE };
@@ -31,7 +32,8 @@ static void nap(int64_t until) {
 
 /* ---- Marks */
 
-/* Who waits for the lock alone has the first, and who has that lock the second. No disk is so long. */
+/* A process that waits for the exclusive lock has set the first mark, and a process that has the
+ * lock has set the second. The marks lie past the end of any disk. */
 enum mark { WAITS, CHANGES, MARKS };
 #define FIRST_MARK ((off_t)1 << 62)
 
@@ -41,14 +43,14 @@ static int over_mark(int fd, int command, enum mark which, struct flock *it) {
     return fcntl(fd, command, it);
 }
 
-/* Sets a mark that no other file has set, or with F_OFD_SETLKW waits until that is so. Only who may
- * write the file can. */
+/* Sets a mark that no other open file has set, or, with F_OFD_SETLKW, waits until that is so.
+ * Returns 0, or -1 with errno. Only a process that may write the file can set a mark. */
 static int set(int fd, int command, enum mark which) {
     struct flock it = { .l_type = F_WRLCK, .l_len = 1 };
     return over_mark(fd, command, which, &it);
 }
 
-/* Takes marks away, from one on, and leaves errno as it is. */
+/* Removes `count` marks from `first` on, and leaves errno as it is. */
 static void clear(int fd, enum mark first, int count) {
     int why = errno;
     struct flock it = { .l_type = F_UNLCK, .l_len = count };
@@ -56,15 +58,16 @@ static void clear(int fd, enum mark first, int count) {
     errno = why;
 }
 
-/* Whether another has set a mark. Who may only read the file can lock its byte as readers do: that
- * is none. */
+/* Returns whether another open file has set a mark. A process that may only read the file can lock
+ * the mark's byte as readers do, but that doesn't set the mark. */
 static int is_set(int fd, enum mark which) {
     struct flock it = { .l_type = F_RDLCK, .l_len = 1 };
     return !over_mark(fd, F_OFD_GETLK, which, &it) && it.l_type == F_WRLCK;
 }
 
-/* Whether a file can be marked. Where the file system makes a lock of flock out of one of all bytes,
- * as NFS, SMB, 9p, AFS and Lustre do, the two would exclude each other. */
+/* Returns whether a file can be marked. Some file systems make a lock of flock out of a lock of all
+ * bytes, as NFS, SMB, 9p, AFS and Lustre do. There the lock and the marks would exclude each
+ * other. */
 static int has_marks(int fd) {
     static const uint32_t without[] = { 0x6969,     0x517b,     0xff534d42, 0xfe534d42,
                                         0x01021997, 0x5346414f, 0x6b414653, 0x0bd00bd0 };
@@ -77,12 +80,13 @@ static int has_marks(int fd) {
 
 /* ---- The lock */
 
-/* Whether a lock was refused that may be had later. */
+/* Returns whether a lock was refused that may be free later. */
 static int may_be_had(void) {
     return errno == EWOULDBLOCK || errno == EINTR;
 }
 
-/* Tries for a lock until a moment, through signals, or waits for it. */
+/* Tries for a lock until the moment `until`, even if signals come. With RLIBREG_NO_END the system
+ * waits for it. Returns 0, or -1 with errno. */
 static int try_until(int fd, int kind, int64_t until) {
     if (until == RLIBREG_NO_END) return rlibreg_flock(fd, kind);
     while (rlibreg_flock(fd, kind | LOCK_NB)) {
@@ -92,8 +96,8 @@ static int try_until(int fd, int kind, int64_t until) {
     return 0;
 }
 
-/* Gives way, until a moment, to one who waits for those that read the file to end. To one who has it
- * alone nobody has to. */
+/* Gives way, until the moment `until`, to a process that waits for the file's readers to end.
+ * Nobody has to give way to a process that has the exclusive lock. Returns whether it gave way. */
 static int give_way(int fd, int64_t until) {
     int gave_way = 0;
     for (; is_set(fd, WAITS) && !is_set(fd, CHANGES) && now() < until; gave_way = 1) nap(until);
@@ -103,12 +107,13 @@ static int give_way(int fd, int64_t until) {
 int rlibreg_lock_shared(int fd, int64_t until) {
     int64_t end = rlibreg_moment_in(RLIBREG_A_TURN);
     if (until && until < end) end = until;
-    if (has_marks(fd) && give_way(fd, end) && !until) until = end; /* it isn't refused for that */
+    if (has_marks(fd) && give_way(fd, end) && !until) until = end; /* giving way doesn't get it
+                                                                    * refused */
     return try_until(fd, LOCK_SH, until);
 }
 
-/* Waits behind those who wait to have a file alone, where it can be marked, and then for those who
- * have it. */
+/* Waits for the exclusive lock: if the file can be marked, first after the processes that wait for
+ * it already, then for those that have it. Returns 0, or -1 with errno. */
 static int queue(int fd) {
     if (set(fd, F_OFD_SETLK, WAITS) && errno == EAGAIN && is_set(fd, WAITS) &&
         set(fd, F_OFD_SETLKW, WAITS) && errno == EINTR)
@@ -116,7 +121,8 @@ static int queue(int fd) {
     return rlibreg_flock(fd, LOCK_EX);
 }
 
-/* Tries until a moment, with the mark as soon as no other has it. */
+/* Tries for the exclusive lock until the moment `until`, with the mark as soon as no other open
+ * file has it. Returns 0, or -1 with errno. */
 static int try_marked(int fd, int64_t until) {
     while (now() < until) {
         set(fd, F_OFD_SETLK, WAITS);
