@@ -1,8 +1,9 @@
-/* The entry of the loader and the programs, before that of the C library. The start of a static C
- * library takes memory: where it gets none it ends by a signal, or with a status of its own. So the
- * system is asked first. There is no C library yet, and nothing is relocated: no address is kept in
- * data, and no function has an array or a structure on its stack. build.sh says what OUT_OF_MEMORY,
- * STREAM and MESSAGE are, and that the loader STARTS_EARLY, where it can. */
+/* The entry of the loader and the programs, which runs before the entry of the C library. The start
+ * of a static C library allocates memory. If memory is refused, it ends the process by a signal, or
+ * with a status of its own. So this entry asks the system for memory first. At this point there is
+ * no C library, and nothing is relocated: no address is kept in data, and no function has an array
+ * or a structure on its stack. build.sh defines OUT_OF_MEMORY, STREAM and MESSAGE, and STARTS_EARLY
+ * for a loader that can start a program early. */
 #define _GNU_SOURCE
 #include "rlibreg_disk_file.h"
 #include "rlibreg_stack.h"
@@ -17,12 +18,12 @@
 #include <sys/stat.h>
 #include <sys/syscall.h>
 
-/* More than a start takes: some 150 KiB. */
+/* Number of bytes to ask for: more than a start needs, which is some 150 KiB. */
 enum { MEMORY = 512 << 10 };
 
 void rlibreg_begin(int64_t *stack);
 
-/* The words and rdx are for the C library's own entry. */
+/* Keeps the arguments, to which rsp points, and rdx for the C library's own entry. */
 __asm__(".globl rlibreg_entry\n"
         "rlibreg_entry:\n"
         "  mov %rsp, %rbp\n"
@@ -57,7 +58,8 @@ int rlibreg_names_stream(int stream, char **words) {
     return 0;
 }
 
-/* Prints the message. A pipe without a reader ends nothing: its signal stays blocked. */
+/* Prints the message and ends the process. A pipe without a reader doesn't end it earlier, because
+ * SIGPIPE stays blocked. */
 static void refuse(char **words) {
     static const char message[] = MESSAGE;
     static const uint64_t pipe_signal = (uint64_t)1 << (SIGPIPE - 1);
@@ -75,7 +77,7 @@ static void ask_for_memory(char **words) {
     ask(SYS_munmap, (void *)map, (void *)MEMORY, 0, 0);
 }
 
-/* The words stand behind their number. */
+/* Called by the entry. The number of arguments is at `stack`, and the arguments follow it. */
 __attribute__((used)) void rlibreg_begin(int64_t *stack) {
     char **words = (char **)(stack + 1);
 #ifdef STARTS_EARLY

@@ -1,26 +1,26 @@
-/* What a program does before its language begins: linked over its `main` by build.sh, which says what
- * OUT_OF_MEMORY, STREAM and MESSAGE are. */
+/* Makes the stack of a program large enough before its `main` begins. build.sh links this over the
+ * program's `main`, and defines OUT_OF_MEMORY, STREAM and MESSAGE. */
 #define _GNU_SOURCE
 #include "rlibreg_stack.h"
 
 #include <sys/syscall.h>
 #include <unistd.h>
 
-/* Commands take up to some 210 KiB. */
+/* Number of bytes of stack: commands need up to some 210 KiB. */
 enum { STACK = 384 << 10 };
 
 int __real_main(int argc, char **argv, char **environment);
 int __wrap_main(int argc, char **argv, char **environment);
 
 #ifndef __GLIBC__
-/* What the language calls, and musl before 1.2.5 hasn't got. */
+/* The program's language calls statx, which musl before 1.2.5 doesn't have. */
 int statx(int folder, const char *path, int flags, unsigned mask, void *found);
 
 int statx(int folder, const char *path, int flags, unsigned mask, void *found) {
     return (int)syscall(SYS_statx, folder, path, flags, mask, found);
 }
 
-/* The language keeps the words in an initializer, which glibc alone gives them. */
+/* The program's language keeps the arguments in an initializer, to which only glibc passes them. */
 typedef void initializer(int argc, char **argv, char **environment);
 extern initializer *__init_array_start[], *__init_array_end[];
 

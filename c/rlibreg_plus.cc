@@ -1,5 +1,6 @@
-/* What g++ asks of C++'s library for code without exceptions: memory, guards of local statics, and the
- * end of a call of nothing. rlibreg-g++ links what is needed of it. */
+/* The functions of C++'s library that g++ uses for code without exceptions: memory, guards of local
+ * statics, and what ends the process if a pure or deleted virtual function is called. rlibreg-g++
+ * links those that a program needs. */
 typedef decltype(sizeof 0) size;
 extern "C" {
 void *malloc(size);
@@ -19,14 +20,14 @@ const nothrow_t nothrow{};
 using std::align_val_t;
 using std::nothrow_t;
 
-/* Memory, or the end. */
+/* Returns `memory`, or ends the process if it is null. */
 static void *or_abort(void *memory) {
     if (!memory) abort();
     return memory;
 }
-/* A block has at least one byte, so its address is its own. The size isn't rounded up to a multiple of
- * `unit`, which could wrap: musl asks for none. It returns null if size and unit exceed the address
- * space. */
+/* Allocates a block of at least one byte, so that its address is its own. The size isn't rounded up
+ * to a multiple of `unit`: the sum could wrap, and musl doesn't require it. Returns null if size
+ * and unit exceed the address space. */
 static void *block(size bytes) { return malloc(bytes ? bytes : 1); }
 static void *block(size bytes, align_val_t unit) {
     return aligned_alloc(size(unit), bytes ? bytes : 1);
@@ -60,7 +61,8 @@ void operator delete(void *memory, align_val_t, const nothrow_t &) noexcept { fr
 void operator delete[](void *memory, align_val_t, const nothrow_t &) noexcept { free(memory); }
 
 extern "C" {
-/* A guard's first byte says that the object is made, its second that a thread makes it. */
+/* A guard's first byte says that the object is made, and its second byte says that a thread makes
+ * it. */
 int __cxa_guard_acquire(char *guard) {
     while (!__atomic_load_n(guard, __ATOMIC_ACQUIRE)) {
         if (!__atomic_exchange_n(guard + 1, 1, __ATOMIC_ACQ_REL)) return 1;

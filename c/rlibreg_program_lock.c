@@ -1,5 +1,5 @@
-/* What the programs do with the lock of a disk beside what their language has: linked over their
- * flock by build.sh. See rlibreg_disk_file.c, which does the same for the calls over a file. */
+/* Locks a disk for the programs, in place of their language's flock, over which build.sh links it.
+ * rlibreg_disk_file.c does the same for the calls over a file. */
 #define _GNU_SOURCE
 #include "rlibreg_turn.h"
 
@@ -15,7 +15,8 @@ int rlibreg_flock(int fd, int kind) {
     return __real_flock(fd, kind);
 }
 
-/* Why nothing could be written of what waited to be, or 0: the next sync tells it. */
+/* The errno of a failed write before the lock (rlibreg_write_out), or 0. The next sync reports
+ * it. */
 static int early_fault;
 
 int rlibreg_take_early_fault(void) {
@@ -24,8 +25,9 @@ int rlibreg_take_early_fault(void) {
     return why;
 }
 
-/* A program opens its disk once, so its changes try for the lock in two seconds all together. The
- * language tries for that of a device by itself, and is told that there is an end to it. */
+/* Locks a file exclusively. Returns 0, or -1 with errno. A program opens its disk once, so all its
+ * tries for the lock together end after two seconds. The language itself tries again for the lock
+ * of a device, and EBUSY ends that. */
 static int lock_alone(int fd) {
     static int64_t until;
     struct stat found;
@@ -35,8 +37,8 @@ static int lock_alone(int fd) {
     return -1;
 }
 
-/* A file that is open for reading alone and is to be locked alone is one that a `format` may have
- * left: there is nothing to wait for. */
+/* Locks a file in place of flock. A file that is open only for reading, and is to be locked
+ * exclusively, is one that a `format` may have left: there is nothing to wait for. */
 int __wrap_flock(int fd, int kind) {
     if (kind == (LOCK_SH | LOCK_NB)) {
         if (rlibreg_write_out(fd)) early_fault = errno;

@@ -1,5 +1,5 @@
-/* What the programs add to their language when they open and sync a disk: build.sh links it over
- * their open and fsync. rlibreg_disk_file.c does the same for the calls over a file. */
+/* Opens and syncs a disk for the programs, in place of their language's open and fsync, over which
+ * build.sh links it. rlibreg_disk_file.c does the same for the calls over a file. */
 #define _GNU_SOURCE
 #include "rlibreg_disk_file.h"
 #include "rlibreg_turn.h"
@@ -26,13 +26,14 @@ static struct {
     char path[PATH_MAX];
 } changed = { .fd = -1 };
 
-/* Keeps a disk that was opened for changes. Returns -1 if the system doesn't report which file it is. */
+/* Records the disk and its path, if it was opened for changes. Returns 0, or -1 if the system
+ * doesn't report which file it is. */
 static int keep_path(int fd, const char *path, int flags) {
     if (fd == changed.fd) changed.fd = -1; /* the number is another file's now */
     if ((flags & O_ACCMODE) == O_RDONLY || flags & O_CREAT) return 0;
     if (fstat(fd, &changed.file)) return -1;
     changed.fd = fd;
-    strcpy(changed.path, path); /* the system opens no longer path */
+    strcpy(changed.path, path); /* the system opens no path that is longer */
     return 0;
 }
 
@@ -49,9 +50,9 @@ int __wrap_open(const char *path, int flags, ...) {
     return -1;
 }
 
-/* After the first successful sync of a file, the medium has to have the roots that the system shows.
- * A descriptor with a high number is looked at after each sync. The program opens its disk once, so
- * a number belongs to one file. */
+/* Checks, after the first successful sync of a file, that the medium has the roots that the system
+ * shows. Returns 0, or -1 with errno. A descriptor with a high number is checked after each sync.
+ * The program opens its disk once, so a number belongs to one file. */
 static int meet_front_once(int fd) {
     static char was_synced[NUMBERS];
     if (fd < NUMBERS && was_synced[fd]) return 0;
@@ -60,8 +61,8 @@ static int meet_front_once(int fd) {
     return 0;
 }
 
-/* After a sync of the disk that is open for changes its path has to name it still. If it doesn't, nobody
- * will see what was written, and the sync fails. */
+/* Checks, after a sync of the disk that is open for changes, that its path still names it. If it
+ * doesn't, nobody will see what was written, and the sync fails. */
 static int sync_changed(void) {
     if (meet_front_once(changed.fd)) return -1;
     return rlibreg_path_names(AT_FDCWD, changed.path, &changed.file) ? 0 : -1;

@@ -1,5 +1,6 @@
-/* A stack that can't grow, for want of address space, of memory or by the user's limit, ends a
- * process by SIGSEGV wherever it is. So it grows before anything is begun. */
+/* Makes the stack of a process large enough at its start. If a stack can't grow, for want of
+ * address space or memory or because of the user's limit, SIGSEGV ends the process wherever it is.
+ * So the stack grows before anything is begun. */
 #define _GNU_SOURCE
 #include "rlibreg_stack.h"
 
@@ -9,7 +10,7 @@
 #include <string.h>
 #include <unistd.h>
 
-/* For the handler of the signal, since there is no other stack. */
+/* Number of bytes of the stack for the signal's handler, which has no other stack. */
 enum { OTHER_STACK = 1 << 15 };
 
 static struct refused_stack then;
@@ -21,7 +22,7 @@ static void cannot_grow(int number) {
     _exit(then.status);
 }
 
-/* The system makes the stack as long as it has to be for this byte. */
+/* Writes a byte that lies `bytes` bytes down the stack, so the system makes the stack that long. */
 __attribute__((noinline)) static void touch(size_t bytes) {
     *(volatile char *)alloca(bytes) = 0;
 }

@@ -4,8 +4,8 @@
 
 #include <stddef.h>
 
-/* What a process that is refused a stack does: it prints a message to a standard stream, and exits
- * with a status. */
+/* What a process does if its stack can't grow: it prints `message` to the standard stream `stream`,
+ * and exits with `status`. */
 struct refused_stack {
     int status, stream;
     const char *message;
@@ -15,8 +15,8 @@ struct refused_stack {
  * as `refused` says: otherwise the kernel would kill it later, when it needs the stack. */
 void rlibreg_grow_stack(size_t bytes, struct refused_stack refused);
 
-/* Whether a standard stream is a file that one of the words names. That file may be the disk, so no
- * message is printed to it (rlibreg_entry.c). */
+/* Returns whether a standard stream is a file that one of the arguments names. That file may be the
+ * disk, so no message is printed to it (rlibreg_entry.c). */
 int rlibreg_names_stream(int stream, char **words);
 
 #endif
