@@ -1,13 +1,13 @@
 /* rlibreg-run [-x] [-b BASE] [-c FOLDER [-v]] DISK PROGRAM [WORD].. starts a program with the
  * libraries of a registry.
  *
- * It binds PROGRAM over the registry on DISK, maps the image's segments at their addresses with
- * their permissions, calls the initializers of the libraries, and jumps to PROGRAM's entry, as the
- * kernel enters a program: on the stack are the words, PROGRAM first, the environment and the
- * auxiliary vector, and in rdx is what calls the finalizers (System V ABI, AMD64 supplement,
- * section 3.4.1). With -c it takes the image that an earlier start has left in FOLDER. It waits
- * while another process holds DISK for changes, and lets it go before it calls anything.
- * docs/C.md is the manual. */
+ * It binds PROGRAM against the registry on DISK, and maps the image's segments at their addresses
+ * with their permissions. Then it calls the initializers of the libraries, and jumps to PROGRAM's
+ * entry as the kernel does. The stack has the arguments, PROGRAM first, the environment and the
+ * auxiliary vector. rdx has the address of the function that calls the finalizers (System V ABI,
+ * AMD64 supplement, section 3.4.1). With -c it takes the image that an earlier start has left in
+ * FOLDER. It waits while another process has DISK locked for changes, and closes DISK before it
+ * calls anything. docs/C.md is the manual. */
 #define _GNU_SOURCE
 #include "rlibreg_disk_file.h"
 #include "rlibreg_run_kept.h"
@@ -25,7 +25,7 @@
 #include <malloc.h>
 #endif
 
-/* The loader takes some 56 KiB, beside what depends on its words. */
+/* Number of bytes of stack: the loader needs some 56 KiB, besides what depends on its arguments. */
 enum { STACK = 128 << 10 };
 
 void fail(const char *what) {
@@ -44,8 +44,8 @@ static _Noreturn void bad_words(void) {
     exit(BAD_WORDS);
 }
 
-/* Reads the words, and gives the place of DISK. Nothing is started where what it prints would go
- * into that, and no message is said that would. */
+/* Reads the arguments. Returns the index of DISK. If the program's output would go into DISK,
+ * starts nothing, and prints no message that would go there. */
 static int read_words(struct program *it, struct keeping *keeping, int argc, char **argv) {
     int next, are_good = read_options(it, keeping, argc, argv, &next);
     int stream = next < argc ? rlibreg_stream_of(argv[next]) : -1;
@@ -58,12 +58,14 @@ static int read_words(struct program *it, struct keeping *keeping, int argc, cha
     return next;
 }
 
-/* Tells standard error what is done with images. */
+/* Prints to standard error what is done with images: `what` or, if it is null, the text of
+ * `error`. */
 static void say(const struct keeping *it, const char *what, int error) {
     fprintf(stderr, "rlibreg-run: %s: %s\n", it->path, what ? what : strerror(error));
 }
 
-/* The disk is mapped: this signal comes where a sector of it can't be read, or the file was cut. */
+/* Handles SIGBUS. The disk is mapped: the signal comes if a sector can't be read, or the file was
+ * shortened. */
 static void cannot_read(int signal) {
     static const char what[] = "rlibreg-run: the disk can't be read\n";
     (void)signal;
@@ -71,7 +73,7 @@ static void cannot_read(int signal) {
     _exit(FAILED);
 }
 
-/* Opens the disk, binds the program and maps it, and lets the disk go. */
+/* Opens the disk, binds the program, maps it, and closes the disk. */
 static void load(struct program *it, struct keeping *keeping, const char *disk) {
     struct sigaction usual, ours = { .sa_handler = cannot_read };
     rlibreg *registry = rlibreg_create();
@@ -87,7 +89,7 @@ static void load(struct program *it, struct keeping *keeping, const char *disk) 
     rlibreg_close(registry);
 }
 
-/* Gives the bytes of an image back, but for the names of the libraries behind them. */
+/* Frees the bytes of an image, except for the names of the libraries, which come last. */
 static void let_bytes_go(rlibreg_image *it) {
     const rlibreg_object *first = &it->objects[1], *last = &it->objects[it->object_count - 1];
     if (it->object_count > 1) {
@@ -104,7 +106,7 @@ static void let_bytes_go(rlibreg_image *it) {
     it->segments = NULL;
 }
 
-/* Binds the program, and keeps the image where that is wanted, before anything of it runs. */
+/* Binds the program. Keeps the image, if that is wanted, before any code of the program runs. */
 static void bind_program(struct program *it, struct keeping *keeping, const char *disk) {
     read_program(it);
     load(it, keeping, disk);
@@ -115,11 +117,12 @@ static void bind_program(struct program *it, struct keeping *keeping, const char
     free(it->bytes);
     let_bytes_go(&it->image);
 #ifdef __GLIBC__
-    malloc_trim(0); /* the program lives on with what isn't given back */
+    malloc_trim(0); /* memory that isn't returned here stays with the program */
 #endif
 }
 
-/* How many bytes the words and the environment take as pointers, which the program gets anew. */
+/* Returns the size in bytes of the pointers to the arguments and the environment, which the program
+ * gets as a copy. */
 static size_t pointers_in(char **words, char **environment) {
     size_t count = 0;
     while (*words++) count++;

@@ -1,4 +1,4 @@
-/* The parts of the loader rlibreg-run. Nothing here is for users. */
+/* The declarations that the parts of the loader rlibreg-run share. Nothing here is for users. */
 #ifndef RLIBREG_RUN_H
 #define RLIBREG_RUN_H
 
@@ -8,17 +8,17 @@
 #include <sys/stat.h>
 
 enum {
-    REFUSED = 125,  /* there is no image, or not one that is started */
-    FAILED = 126,   /* a file can't be read, or memory isn't given where it is needed */
-    BAD_WORDS = 127 /* the words are none that the loader takes */
+    REFUSED = 125,  /* the bind is refused, or its image is one that the loader doesn't start */
+    FAILED = 126,   /* a file can't be read, or needed memory is refused */
+    BAD_WORDS = 127 /* the arguments have a form that the loader doesn't take */
 };
 
 #define PAGE ((uint64_t)4096)
 
-/* The numbers of the standard streams are those below. */
+/* The standard streams have the numbers below this one. */
 enum { STREAMS = 3 };
 
-/* Addresses of functions, each in code of the object that names it. */
+/* Addresses of functions. Each lies in the code of the object that names the function. */
 struct calls {
     uint64_t *at;
     size_t count, room;
@@ -26,53 +26,59 @@ struct calls {
 
 struct program {
     const char *path;
-    int fd;            /* its file, as long as it is read */
-    struct stat found; /* what that was when it was opened */
-    uint8_t *bytes;    /* its file's */
+    int fd;            /* descriptor of its file, while that is read */
+    struct stat found; /* state of the file when it was opened */
+    uint8_t *bytes;    /* bytes of the file */
     size_t length;
-    uint64_t base;         /* where it is bound */
-    int has_base;          /* whether the user named that */
-    int may_be_both;       /* whether memory may be written and executed at once */
-    rlibreg_image image;   /* it and its libraries; objects and names of these, when it is started */
-    rlibreg_object object; /* the first of the image: the program itself */
+    uint64_t base;         /* base at which it is bound */
+    int has_base;          /* whether the user named the base */
+    int may_be_both;       /* whether memory may be writable and executable at once */
+    rlibreg_image image;   /* image of it and its libraries; once it is started, only the objects
+                            * and the libraries' names */
+    rlibreg_object object; /* first object of the image: the program itself */
     struct calls initializers; /* in the order in which they are called */
-    struct calls finalizers;   /* in the opposite one */
-    int is_early;              /* whether the loader's C library isn't set up */
+    struct calls finalizers;   /* in the reverse of the order in which they are called */
+    int is_early;              /* whether the loader's C library isn't set up yet */
 };
 
-/* Each of these ends the process: with FAILED, behind it what errno says; and with a status. */
+/* End the process with a message. fail ends it with FAILED and prints what errno says; give_up ends
+ * it with `status` and prints `why`. */
 _Noreturn void fail(const char *what);
 _Noreturn void give_up(int status, const char *what, const char *why);
 
 /* ---- The program's file (rlibreg_run_program.c) */
 
-/* Opens it, where the user may execute it; and reads all of it. */
+/* open_program opens the program's file, if the user may execute it. read_program reads all of it.
+ * Each ends the process if it fails. */
 void open_program(struct program *it);
 void read_program(struct program *it);
 
-/* Of what the base has to be a multiple. Before the program is bound its bytes may be any, and what
- * this gives of them is good for nothing but to bind it: that says what is wrong with them. */
+/* Returns the unit of the program in bytes: its base has to be a multiple of the unit. Before the
+ * program is bound its bytes may be anything. Then the result is good only for binding the program,
+ * which finds what is wrong with the bytes. */
 uint64_t unit_of(const struct program *it);
 
 /* ---- Memory (rlibreg_run_image.c, rlibreg_run_base.c) */
 
-/* Binds the program over the registry, and maps the image, which may be read and written until it is
- * protected. */
+/* map_program binds the program against the registry, and maps the image, which can be read and
+ * written until it is protected. protect_program sets the permissions of its pages. */
 void map_program(struct program *it, rlibreg *registry, const char *disk);
 void protect_program(const struct program *it);
 
-/* Has the system give pages at once that are about to be written: one by one they take longer than
- * the bytes. */
+/* Asks the system to provide pages at once that are about to be written. Providing them one by one
+ * takes longer than writing the bytes. */
 void expect_bytes(uint64_t from, uint64_t length);
 
-/* The pages that nothing writes once the object is relocated. */
+/* The pages that nothing writes once the object is relocated, from the address `from` up to
+ * `to`. */
 struct pages {
     uint64_t from, to;
 };
 
-/* An object of a program, and what is done with its pages, which are to be protected so, in the
- * order of their addresses. A page that several segments share comes with each of them, and with
- * what it and those before permit. */
+/* An object of a program, for an action on its pages. each_pages calls the action for the pages of
+ * all objects, in the order of their addresses, with the permissions `how` that the pages are to
+ * have. A page that several segments share comes once for each of them, with the permissions of
+ * that segment and those before it. */
 struct part {
     const struct program *program;
     const rlibreg_object *object;
@@ -82,33 +88,36 @@ struct part {
 typedef void page_action(const struct part *part, uint64_t from, uint64_t to, int how);
 void each_pages(const struct program *program, page_action *action, void *context);
 
-/* How many bases are tried of the loader's own choosing, the one of a number, and what the image's
- * end isn't to be above. */
+/* The loader tries at most MOST_BASES bases if it chooses the base itself, and the end of an image
+ * isn't to be above END_OF_BASES. base_of_try returns the base of try number `number`. */
 enum { MOST_BASES = 16 };
 #define END_OF_BASES ((uint64_t)1 << 46)
 uint64_t base_of_try(const struct program *it, int number);
 
-/* ---- The objects of the image, which the bytes of their segments say (rlibreg_run_objects.c) */
+/* ---- The objects of the image, read from the bytes of their segments (rlibreg_run_objects.c) */
 
-/* What a message calls an object. */
+/* Returns the name of an object in a message. */
 const char *name_of(const struct program *it, const rlibreg_object *object);
 
-/* Whether an address is one of the object's memory that may be executed. */
+/* Returns whether an address lies in memory of the object that may be executed. */
 int is_code(const rlibreg_image *image, const rlibreg_object *object, uint64_t address);
 
-/* The bytes of the object's memory from an address to the end of its segment, how many they are,
- * and null where the address is in none of its segments. */
+/* Returns the bytes of the object's memory from `address` to the end of its segment, with their
+ * number in `length`. Returns null if the address lies in none of its segments. */
 const uint8_t *memory_at(const rlibreg_image *image, const rlibreg_object *object, uint64_t address,
                          uint64_t *length);
 
-/* Reads an object's program header of a number. Returns whether its memory has it. */
+/* Reads program header number `number` of an object into `one`. Returns whether the object's memory
+ * has it. */
 int header_at(const rlibreg_image *image, const rlibreg_object *object, size_t number,
               Elf64_Phdr *one);
 
+/* Returns the pages of an object that nothing writes once it is relocated. */
 struct pages fixed_pages(const rlibreg_image *image, const rlibreg_object *object);
 
-/* A dynamic section up to its DT_NULL; the entry of a number; and the value of the last entry of a
- * tag, where it has one. */
+/* A dynamic section up to its DT_NULL. dynamic_of returns that of an object, and entry_at its entry
+ * number `number`. has_tag returns whether an entry has the tag `tag`, with the value of the last
+ * such entry in `value`. */
 struct dynamic {
     const uint8_t *bytes;
     size_t count;
@@ -119,30 +128,32 @@ int has_tag(const struct dynamic *it, int64_t tag, uint64_t *value);
 
 /* ---- Initializers (rlibreg_run_order.c, rlibreg_run_calls.c) */
 
-/* The numbers of the libraries in the order in which they are initialized. The caller frees them.
- */
+/* Returns the numbers of the libraries in the order in which they are initialized. The caller frees
+ * the list. */
 size_t *order_of_libraries(const struct program *it);
 
-/* Finds what is called before the program and behind it, or refuses to start the program. */
+/* Finds the functions to call before and after the program, or refuses to start the program. */
 void find_calls(struct program *it);
 
 /* ---- The start (rlibreg_run_debugger.c, rlibreg_run_start.c) */
 
-/* Gives the length of the program's whole path, which its open file has: it is 0 where it isn't
- * told, and that of the room where there may be more of it. Behind it comes a byte 0. */
+/* Writes the whole path of the program's open file to the buffer `to` of `room` bytes, followed by
+ * a byte 0 if there is room. Returns the path's length in bytes: 0 if the system doesn't report the
+ * path, and `room` if there may be more of it. */
 size_t read_path(const struct program *it, char *to, size_t room);
 
-/* Tells a debugger of the objects, in a list that stays where it is, as the program's path does, and
- * nothing where that is null; and how much room the list takes. */
+/* room_of_list returns the size in bytes of the list of objects that a debugger reads.
+ * tell_debugger makes the list in `room` and shows it to the debugger. The list and the program's
+ * path have to stay where they are. If the path is null, it does nothing. */
 size_t room_of_list(const struct program *it);
 void tell_debugger(const struct program *it, void *room, char *path);
 
-/* Starts the program, whose file is still open. The environment is the one that it gets; the
- * kernel's, behind which the auxiliary vector stands, is where the kernel put it: what is linked
- * into this process may have made another. */
+/* Starts the program, whose file is still open. The program gets the environment `environment`.
+ * `kernels` is the environment where the kernel put it, and is followed by the auxiliary vector:
+ * code that is linked into this process may have made another environment. */
 _Noreturn void start(struct program *it, char **words, char **environment, char **kernels);
 
-/* The value that the kernel gave with a number of the auxiliary vector, or 0. */
+/* Returns the value that the kernel gave for entry `number` of the auxiliary vector, or 0. */
 uint64_t auxiliary_value(char **kernels, uint64_t number);
 
 #endif

@@ -1,4 +1,4 @@
-/* The initializers and finalizers of the libraries: found in their dynamic sections, before the
+/* Finds the initializers and finalizers of the libraries in their dynamic sections, before the
  * program is started. */
 #define _GNU_SOURCE
 #include "rlibreg_run.h"
@@ -16,9 +16,9 @@ static void add(struct calls *calls, uint64_t address) {
     calls->at[calls->count++] = address;
 }
 
-/* ---- Finding them */
+/* ---- Finding the functions */
 
-/* An object with its dynamic section. */
+/* An object and its dynamic section. */
 struct source {
     const struct program *program;
     const rlibreg_object *object;
@@ -52,7 +52,7 @@ static void add_function(struct calls *calls, const struct source *it, int64_t t
     if (has_tag(&it->dynamic, tag, &value)) add_code(calls, it, it->object->base + value, name);
 }
 
-/* Adds the addresses of an array, which are relocated. */
+/* Adds the addresses of an array, which are relocated by now. */
 static void add_array(struct calls *calls, const struct source *it, int64_t tag, int64_t size_tag,
                       const char *name) {
     uint64_t value, size = 0, room = 0, address;
@@ -81,9 +81,10 @@ static void add_finalizers(struct program *it, size_t number) {
     add_array(&it->finalizers, &source, DT_FINI_ARRAY, DT_FINI_ARRAYSZ, "DT_FINI_ARRAY");
 }
 
-/* The library that is initialized before everything else, by DF_1_INITFIRST: as with glibc, of
- * several the last in load order, and finalized in its place. 0, which is the program, where there
- * is none. */
+/* Returns the number of the library that is initialized before everything else, because of its
+ * DF_1_INITFIRST. If several have this flag, it is the last of them in load order, as with glibc.
+ * The library is finalized in its usual place. Returns 0, which is the program, if there is
+ * none. */
 static size_t first_of_all(const struct program *it) {
     for (size_t i = it->image.object_count; i-- > 1;) {
         uint64_t flags;

@@ -1,4 +1,4 @@
-/* Comparing what a kept image was bound from with the program and the disk as they are. */
+/* Compares what a kept image was bound from with the program and the disk as they are now. */
 #define _GNU_SOURCE
 #include "rlibreg_run_kernel.h"
 #include "rlibreg_run_kept.h"
@@ -6,14 +6,14 @@
 #include <errno.h>
 #include <sys/mman.h>
 
-/* How many bytes are read at once. */
+/* The number of bytes that are read at once. */
 enum { AT_ONCE = 16 << 10 };
 
 #ifndef MADV_POPULATE_READ /* Linux 5.14 */
 #define MADV_POPULATE_READ 22
 #endif
 
-/* A read ends before what can't be read: the next one says why. */
+/* A read ends before the bytes that can't be read, and the next read says why. */
 int read_exactly(int fd, void *to, uint64_t length, uint64_t at) {
     int64_t count = 1;
     for (uint64_t done = 0; done < length && count > 0; done += (uint64_t)count) {
@@ -25,8 +25,9 @@ int read_exactly(int fd, void *to, uint64_t length, uint64_t at) {
 
 /* ---- The image's pages */
 
-/* Reads a map of the kept file, from a page on: so an error is found here, and ends no process by a
- * signal later. A kernel before 5.14 can't be asked for that: there the bytes are read once more. */
+/* Reads a map of the kept file that begins at the offset `from` in it. So an error is found here,
+ * and doesn't end the process by a signal later. A kernel before 5.14 can't be asked for that: then
+ * the bytes are read from the file once more. */
 static int read_map(uint64_t map, uint64_t length, int kept, uint64_t from) {
     uint8_t bytes[AT_ONCE];
     int error = kernel_advise(map, length, MADV_POPULATE_READ);
@@ -53,17 +54,18 @@ static int read_pages(const struct kept_file *it, int kept) {
     return other;
 }
 
-/* ---- What it was bound from */
+/* ---- What the image was bound from */
 
-/* Bytes of an open file that were read at once. A program, or a disk, is read and not mapped, since
- * others may cut it. */
+/* Bytes of an open file that were read at once. A program or a disk is read, not mapped, because
+ * other processes may shorten it. */
 struct window {
     int fd;
-    uint64_t from, to; /* in the file */
+    uint64_t from, to; /* offsets in the file */
     uint8_t bytes[AT_ONCE];
 };
 
-/* Moves a window to AT, unless it already has that byte. Reads nothing from END on. */
+/* Moves a window to the offset `at`, unless it already has that byte. Reads nothing from the offset
+ * `end` on. */
 static int move_window(struct window *it, uint64_t at, uint64_t end) {
     if (it->from <= at && at < it->to) return 0;
     it->from = at;
@@ -71,10 +73,10 @@ static int move_window(struct window *it, uint64_t at, uint64_t end) {
     return read_exactly(it->fd, it->bytes, it->to - at, at);
 }
 
-/* What is compared: a program, or a disk, with a kept file. */
+/* A comparison of a program or a disk with a kept file. */
 struct comparison {
     struct window source, others;
-    uint64_t end_of_row; /* of stretches in the source */
+    uint64_t end_of_row; /* offset at which a row of stretches ends in the source */
     uint64_t end_of_others;
 };
 
@@ -86,7 +88,8 @@ static void begin_comparison(struct comparison *it, int source, int kept,
     it->end_of_others = place_of_pages(counts);
 }
 
-/* Compares the front of a stretch, as much of it as the windows have, and takes that away from it. */
+/* Compares the front of a stretch, as much of it as the windows have, and removes it from the
+ * stretch. */
 static int compare_front(struct comparison *it, struct stretch *one) {
     uint64_t step = one->length;
     const uint8_t *kept = (const void *)one->address;
@@ -105,14 +108,15 @@ static int compare_front(struct comparison *it, struct stretch *one) {
     return 0;
 }
 
-/* Where the stretches end that go on, each where the one before ends. */
+/* Returns the offset at which a row of stretches ends. In a row, each stretch begins where the one
+ * before ends. */
 static uint64_t end_of_row(const struct stretch *it, const struct stretch *end) {
     uint64_t at = it->at;
     for (; it < end && it->at == at; it++) at += it->length;
     return at;
 }
 
-/* Compares stretches, which are in the order of their places in the source. */
+/* Compares `count` stretches, which are in the order of their offsets in the source. */
 static int compare_stretches(struct comparison *it, const struct stretch *one, uint64_t count) {
     int other = 0;
     for (const struct stretch *end = one + count; one < end && !other; one++) {
@@ -130,8 +134,9 @@ static int compare_program(const struct program *program, int kept, const struct
     return compare_stretches(&comparison, it->stretches, it->head->counts.of_program);
 }
 
-/* Compares what an image was bound from with a disk. No lock is taken: as long as the disk has the same
- * roots, no change writes to what they list. So they are read before it, for the key, and after it. */
+/* Compares what an image was bound from with a disk. Takes no lock: as long as the disk has the
+ * same roots, no change writes to what they list. So the roots are read before the comparison, for
+ * the key, and after it. */
 static int compare_disk(int disk, int kept, const struct kept_file *it) {
     const struct counts *counts = &it->head->counts;
     struct comparison comparison;

@@ -1,4 +1,4 @@
-/* Tells a debugger where the program and its libraries are: by the list of objects that it finds
+/* Shows a debugger where the program and its libraries are. The debugger finds the list of objects
  * through the dynamic section of the process's file, which is the loader's (link.h). */
 #define _GNU_SOURCE
 #include "rlibreg_run_kernel.h"
@@ -6,10 +6,11 @@
 
 #include <link.h>
 
-/* musl's header doesn't name it. */
+/* musl's header doesn't declare this. */
 extern ElfW(Dyn) _DYNAMIC[] __attribute__((visibility("hidden")));
 
-/* What a debugger is told. The first three are used as long as no C library has a list. */
+/* The data that a debugger is shown. The first three fields are used as long as no C library has a
+ * list. */
 struct told {
     struct r_debug list;
     struct link_map loader;
@@ -33,8 +34,8 @@ size_t room_of_list(const struct program *it) {
     return sizeof(struct told) + it->image.object_count * sizeof(struct link_map);
 }
 
-/* A debugger has a breakpoint at this address, and looks at the list there. It finds it by its name
- * where nothing has begun yet. */
+/* A debugger sets a breakpoint at this address, and reads the list when the breakpoint is reached.
+ * It finds the function by its name if nothing has begun yet. */
 __attribute__((noinline)) void r_debug_state(void);
 void r_debug_state(void) {
     __asm__ volatile("");
@@ -46,7 +47,8 @@ static void tell_state(struct r_debug *list, int state) {
     if (list->r_brk != (ElfW(Addr))r_debug_state) ((void (*)(void))list->r_brk)();
 }
 
-/* The list of the C library; or, as long as there is none, one of the loader alone. */
+/* Returns the list of the C library. As long as there is none, returns a list that has only the
+ * loader. */
 static struct r_debug *list_of_objects(const struct program *it, struct told *room) {
     extern const char __ehdr_start[] __attribute__((visibility("hidden")));
     ElfW(Dyn) *entry = _DYNAMIC;
@@ -64,8 +66,8 @@ static struct r_debug *list_of_objects(const struct program *it, struct told *ro
     return &room->list;
 }
 
-/* The objects of the image as a debugger sees them, each behind the one before. A library has no
- * file, so its name is all that there is of it. */
+/* Lists the objects of the image for a debugger, each after the one before. A library has no file,
+ * so the list has only its name. */
 static void put_objects(const struct program *it, struct told *room, char *path,
                         struct link_map *last) {
     for (size_t i = 0; i < it->image.object_count; i++) {

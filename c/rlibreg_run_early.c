@@ -1,6 +1,6 @@
-/* The start from a kept image before the loader's C library is set up, which takes longer than all
- * of it. What isn't usual is left to main, which tries the same once more and says what was wrong.
- */
+/* Starts from a kept image before the loader's C library is set up, because setting it up takes
+ * longer than all of the start. Unusual cases are left to main, which tries the same again and
+ * reports what was wrong. rlibreg_entry.c calls this. */
 #define _GNU_SOURCE
 #include "rlibreg_run_early.h"
 #include "rlibreg_run_kernel.h"
@@ -8,8 +8,8 @@
 
 #include <fcntl.h>
 
-/* Where the stack may be so long, and what is put there takes no more than this, nobody has to look
- * whether it can grow: the kernel has made it 128 KiB longer than the words need. */
+/* If the stack may be STACK bytes long, and what is put there takes at most LITTLE bytes, nobody
+ * has to check that it can grow: the kernel has made it 128 KiB longer than the arguments need. */
 enum { STACK = 512 << 10, LITTLE = 16 << 10 };
 
 static size_t pointers_in(char **words, char **environment) {
@@ -19,8 +19,8 @@ static size_t pointers_in(char **words, char **environment) {
     return count * sizeof *words;
 }
 
-/* Opens the program, where it is a regular file that the user may execute, and the standard streams
- * are open: else it would be one of them. */
+/* Opens the program, if it is a regular file that the user may execute. Refuses if a standard
+ * stream isn't open, because the program's file would become that stream. Returns 0 or -1. */
 static int open_program_early(struct program *it) {
     it->fd = kernel_open(AT_FDCWD, it->path, O_RDONLY | O_CLOEXEC | O_NOCTTY | O_NONBLOCK);
     if (it->fd < 0) return -1;

@@ -1,8 +1,9 @@
-/* What the entry of the loader calls before that of its C library. */
+/* The function that the loader's entry calls before the entry of the C library. */
 #ifndef RLIBREG_RUN_EARLY_H
 #define RLIBREG_RUN_EARLY_H
 
-/* Starts the program from its kept image; or returns, and nothing has changed. */
+/* Starts the program from its kept image. Returns if that isn't possible: then nothing has
+ * changed. */
 void rlibreg_run_early(int argc, char **argv);
 
 #endif

@@ -1,5 +1,5 @@
-/* The folder in which images are kept, and the names there. What it is and whose is asked of
- * descriptors, so nobody can put another one in its place between. */
+/* The folder in which images are kept, and the names of the images. The type and the owner of a
+ * file are read through its descriptor, so nobody can put another file in its place meanwhile. */
 #define _GNU_SOURCE
 #include "rlibreg_run_kernel.h"
 #include "rlibreg_run_kept.h"
@@ -8,10 +8,11 @@
 #include <fcntl.h>
 #include <limits.h>
 
-/* ---- Whose it is */
+/* ---- Owners */
 
-/* An owner that has no number here, in a user namespace, is shown as another user. So the kernel says
- * whether the file is ours: only its owner may ask for it to be read without a note of when. */
+/* Returns whether a file belongs to root or to the user. In a user namespace, an owner that has no
+ * number there is shown as another user. So the kernel is asked too: only the owner of a file may
+ * have it read without a change to its access time. */
 static int is_owner(const struct keeping *it, int fd, const struct stat *file) {
     return !file->st_uid || (file->st_uid == it->user && !kernel_set_flags(fd, O_NOATIME));
 }
@@ -20,7 +21,8 @@ static int is_ours_alone(const struct keeping *it, int fd, const struct stat *fi
     return !(file->st_mode & (S_IWGRP | S_IWOTH)) && is_owner(it, fd, file);
 }
 
-/* The length of a path without the slashes and dots at its end, which would make open follow a link. */
+/* Returns the length of a path without the slashes and dots at its end, which would make open
+ * follow a link. */
 static size_t length_of_name(const char *path) {
     size_t length = strlen(path);
     for (;;) {
@@ -71,7 +73,7 @@ int open_kept(const struct keeping *it, const char *name, uint64_t *length) {
 
 /* ---- Names */
 
-/* FNV-1a, which a name needs no better than. */
+/* FNV-1a is good enough for a name. */
 uint64_t mixed(uint64_t number, const void *bytes, size_t length) {
     for (size_t i = 0; i < length; i++)
         number = (number ^ ((const uint8_t *)bytes)[i]) * 0x100000001b3;

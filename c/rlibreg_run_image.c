@@ -1,4 +1,4 @@
-/* The image in memory: its pages, their bytes and their permissions. */
+/* Maps the image: its pages, their bytes and their permissions. */
 #define _GNU_SOURCE
 #include "rlibreg_disk_file.h"
 #include "rlibreg_run.h"
@@ -9,7 +9,7 @@
 #include <string.h>
 #include <sys/mman.h>
 
-/* How many bytes of an image have room at once. */
+/* The number of bytes for which an image has room at first. */
 enum { FIRST_ROOM = 1 << 30 };
 
 static uint64_t page_of(uint64_t address) {
@@ -22,8 +22,9 @@ static uint64_t page_behind(const rlibreg_segment *segment) {
 
 /* ---- Pages */
 
-/* Takes pages where nothing is mapped. A kernel before 4.17 takes others then. The page at 0 is
- * where null points: nobody gets it, as from the kernel those don't who aren't root. */
+/* Maps the pages from the address `from` up to `to`, if nothing is mapped there. Returns 0, or -1
+ * with errno. A kernel before 4.17 maps other pages instead. The page at 0, where null points, is
+ * always refused, as the kernel refuses it to users other than root. */
 static int take_pages(uint64_t from, uint64_t to) {
     if (!from) {
         errno = EPERM;
@@ -38,7 +39,7 @@ static int take_pages(uint64_t from, uint64_t to) {
     return -1;
 }
 
-/* Gives the pages of the segments below an address back. */
+/* Unmaps the pages of the segments that begin below `end`. */
 static void free_pages(const rlibreg_image *image, uint64_t end) {
     int why = errno;
     for (size_t i = 0; i < image->count; i++) {
@@ -48,9 +49,10 @@ static void free_pages(const rlibreg_image *image, uint64_t end) {
     errno = why;
 }
 
-/* Takes the pages of all segments, and those without a gap at once: all, or none. */
+/* Maps the pages of all segments, with one call for pages without a gap. Maps all of them or none.
+ * Returns 0, or -1 with errno. */
 static int take_all_pages(const rlibreg_image *image) {
-    uint64_t from = 0, to = 0; /* pages without a gap, which aren't taken yet */
+    uint64_t from = 0, to = 0; /* pages without a gap that aren't mapped yet */
     for (size_t i = 0; i <= image->count; i++) {
         const rlibreg_segment *it = i < image->count ? &image->segments[i] : NULL;
         if (it && !it->length) continue;
@@ -74,13 +76,13 @@ static int protection(const rlibreg_segment *it) {
            (it->permissions & RLIBREG_EXECUTE ? PROT_EXEC : 0);
 }
 
-/* Pages that are protected alike, which takes one call. */
+/* Pages that get the same permissions, by one call. */
 struct run {
     uint64_t from, to;
     int how;
 };
 
-/* Does it with pages, and takes the writing away from those that are fixed. */
+/* Calls an action for pages. Those that are fixed get no permission to write. */
 static void act(page_action *action, const struct part *part, uint64_t from, uint64_t to, int how) {
     uint64_t first = part->fixed.from, end = part->fixed.to;
     if (first < from) first = from;
@@ -92,10 +94,10 @@ static void act(page_action *action, const struct part *part, uint64_t from, uin
     if (end < to) action(part, end, to, how);
 }
 
-/* Goes through the pages of an object with what the segments in them permit. */
+/* Goes through the pages of an object, with the permissions of the segments in them. */
 static void each_pages_of(const struct part *part, page_action *action) {
-    uint64_t last = 0; /* the last page of the segments before */
-    int shared = 0;    /* what they permit it */
+    uint64_t last = 0; /* address of the last page of the segments before */
+    int shared = 0;    /* permissions that these segments give that page */
     const rlibreg_segment *it = part->program->image.segments + part->object->first_segment;
     for (const rlibreg_segment *end = it + part->object->segments; it < end; it++) {
         uint64_t from = page_of(it->address), to = page_behind(it);
@@ -133,7 +135,8 @@ static void protect_run(const struct run *it) {
     fail("permissions");
 }
 
-/* Protects pages, with those before where that is the same; these wait for what comes behind. */
+/* Protects pages, together with those before if the permissions are the same. The last pages aren't
+ * protected until the next ones are known. */
 static void protect(const struct part *part, uint64_t from, uint64_t to, int how) {
     struct run *run = part->context;
     if (from == run->to && how == run->how) {
@@ -152,7 +155,8 @@ void protect_program(const struct program *program) {
 
 /* ---- The image */
 
-/* Tells who needs a C library what to do, by the line that says which name is missing. */
+/* Advises a user whose program needs a C library. `line` is the refusal, which ends with the
+ * missing name. */
 static void advise(const char *line) {
     const char *name = strrchr(line, ' ');
     if (name && (!strncmp(name, " libc.so", 8) || !strncmp(name, " libc.musl-", 11)))
@@ -167,21 +171,22 @@ static void refuse(const rlibreg *registry, uint32_t status, const char *disk) {
     exit(status == RLIBREG_OUT_OF_MEMORY || status == RLIBREG_DEVICE ? FAILED : REFUSED);
 }
 
-/* Whether an image ends below what the kernel maps. */
+/* Returns whether an image ends below the addresses where the kernel maps files. */
 static int is_low(const rlibreg_image *image) {
     if (!image->count) return 1;
     const rlibreg_segment *last = &image->segments[image->count - 1];
     return last->address + last->length <= END_OF_BASES;
 }
 
-/* Whether the program has an entry in code of its own; 0 in its file is none. */
+/* Returns whether the program has an entry in its own code. A 0 in its file means that it has
+ * none. */
 static int has_entry(const struct program *it) {
     return it->object.entry != it->base && is_code(&it->image, it->image.objects, it->object.entry);
 }
 
-/* Binds the program at a base, and takes the pages of the image. Gives whether they are free and,
- * where the loader chooses, low enough: else errno says what they aren't, and another base may do.
- */
+/* Binds the program at a base, and maps the pages of the image. Returns whether the pages were free
+ * and, if the loader chose the base, low enough. If they weren't, errno says which of the two it
+ * was, and another base may do. */
 static int bind_at(struct program *it, rlibreg *registry, const char *disk) {
     uint32_t status =
         rlibreg_image_in(registry, it->bytes, it->length, it->base, &it->image, FIRST_ROOM);
@@ -208,7 +213,8 @@ void expect_bytes(uint64_t from, uint64_t length) {
     if (length) madvise((void *)first, from + length - first, MADV_POPULATE_WRITE);
 }
 
-/* Where the page ends that has a byte of a segment, or the segment in it. */
+/* Returns the offset in a segment at which the page of the byte `at` ends, or the segment, if that
+ * ends first. */
 static uint64_t end_of_page(const rlibreg_segment *it, uint64_t at) {
     uint64_t end = at + PAGE - (it->address + at) % PAGE;
     return end < it->length ? end : it->length;
@@ -219,8 +225,8 @@ static int is_zero(const uint8_t *bytes, uint64_t length) {
     return !memcmp(bytes, zeros, length);
 }
 
-/* Copies the bytes of a segment, but for pages of zeros: that is what the pages hold, and they take
- * no memory until something else is written. */
+/* Copies the bytes of a segment, except pages of zeros. The mapped pages are zeros already, and
+ * take no memory until something else is written. */
 static void put_segment(const rlibreg_segment *it, const uint8_t *bytes) {
     uint64_t end, next;
     for (uint64_t at = 0; at < it->length; at = end) {

@@ -1,4 +1,4 @@
-/* Keeping an image that was bound: its file is made without a name, written once, and named. */
+/* Keeps an image that was bound: makes its file without a name, writes it once, and names it. */
 #define _GNU_SOURCE
 #include "rlibreg_run_kept.h"
 
@@ -34,7 +34,7 @@ static struct piece *last_of(struct pieces *it) {
     return it->count ? &it->at[it->count - 1] : NULL;
 }
 
-/* Adds pages behind all others, to the last piece where they are alike. */
+/* Adds pages after all others. They become part of the last piece, if they are like its pages. */
 static void add_pages(struct pieces *it, uint64_t address, uint64_t length, int is_zero, int how) {
     struct piece *last = last_of(it);
     if (last && last->address + last->length == address && last->how == (uint64_t)how &&
@@ -52,7 +52,8 @@ static int is_zero_page(uint64_t address) {
     return !memcmp((const void *)address, zeros, PAGE);
 }
 
-/* A page that two segments share comes with each of them, the last time with what both permit. */
+/* Adds pages to the pieces. A page that two segments share comes once for each of them, the last
+ * time with the permissions of both. */
 static void find_pieces(const struct part *part, uint64_t from, uint64_t to, int how) {
     struct pieces *it = part->context;
     struct piece *last = last_of(it);
@@ -63,7 +64,8 @@ static void find_pieces(const struct part *part, uint64_t from, uint64_t to, int
         add_pages(it, at, PAGE, is_zero_page(at), how);
 }
 
-/* Gives the pages their places in the file, and the length of that. */
+/* Sets the offsets of the pages in the file, from `at` on. Returns the length of the file in
+ * bytes. */
 static uint64_t place_pieces(struct pieces *it, uint64_t at) {
     for (size_t i = 0; i < it->count; i++) {
         if (!it->at[i].from) continue;
@@ -73,7 +75,7 @@ static uint64_t place_pieces(struct pieces *it, uint64_t at) {
     return at;
 }
 
-/* ---- Its beginning */
+/* ---- The beginning of a kept file */
 
 static struct counts counts_of(const struct keeping *it, const struct program *program,
                                const struct pieces *pieces,
@@ -108,7 +110,7 @@ static void put_objects(const struct program *program, const struct kept_file *f
     }
 }
 
-/* Fills the parts of a beginning behind its head. */
+/* Fills the parts of a beginning that follow its head. */
 static void fill_beginning(const struct kept_file *file, const struct program *program,
                            const struct pieces *pieces, const struct stretches *stretches) {
     memcpy(file->pieces, pieces->at, pieces->count * sizeof *pieces->at);
@@ -119,7 +121,7 @@ static void fill_beginning(const struct kept_file *file, const struct program *p
     put_calls(file->calls + file->head->counts.initializers, &program->finalizers);
 }
 
-/* Makes the beginning of a file, in memory that is to be freed; or returns null. */
+/* Makes the beginning of a file. Returns it, or null. The caller frees it. */
 static void *make_beginning(const struct keeping *it, const struct program *program,
                             struct pieces *pieces, struct stretches *stretches, const char *disk) {
     struct head head = { .key = it->key };
@@ -141,7 +143,8 @@ static void *make_beginning(const struct keeping *it, const struct program *prog
 
 /* ---- The file */
 
-/* A process that writes a longer file than it may is ended by a signal. */
+/* Returns whether this process may write a file of `length` bytes. A signal ends a process that
+ * writes a longer file than it may. */
 static int may_be_so_long(uint64_t length) {
     struct rlimit limit;
     return !getrlimit(RLIMIT_FSIZE, &limit) && length <= limit.rlim_cur;
@@ -162,7 +165,8 @@ static void keep_file(struct keeping *it, const struct program *program, void *b
     }
 }
 
-/* Finds all that is kept of an image, and makes its beginning; or returns null. */
+/* Finds everything that is kept of an image, and makes the beginning of its file. Returns the
+ * beginning, or null. The caller frees it. */
 static void *describe(const struct keeping *it, const struct program *program, const char *disk) {
     struct pieces pieces = { .at = malloc(MOST_PIECES * sizeof *pieces.at) };
     struct stretches stretches = { 0 };
@@ -186,8 +190,8 @@ void keep(struct keeping *it, const struct program *program, const char *disk) {
     free_sources(&it->sources);
 }
 
-/* Maps pages from the file where this process has them for itself. That they can be is seen first,
- * elsewhere; where they can't it keeps its own. */
+/* Maps pages from the file in place of those that only this process has. They are mapped elsewhere
+ * first, to see whether that works. If it doesn't, the process keeps its own pages. */
 static void share(const struct piece *it, int fd) {
     if (!it->from) return;
     void *map = mmap(NULL, it->length, (int)it->how, MAP_PRIVATE, fd, (off_t)it->from);

@@ -1,5 +1,5 @@
-/* Starting from a kept image: its pages are mapped from its file as they are, so that processes
- * share those that none of them writes. */
+/* Starts from a kept image. Its pages are mapped from its file as they are, so processes share the
+ * pages that none of them writes. */
 #define _GNU_SOURCE
 #include "rlibreg_run_kernel.h"
 #include "rlibreg_run_kept.h"
@@ -8,7 +8,7 @@
 #include <fcntl.h>
 #include <sys/mman.h>
 
-/* How long a beginning may be without a map of its own. */
+/* Length in bytes up to which a beginning needs no map of its own. */
 enum { USUAL = 8 << 10 };
 
 void say_more(const struct keeping *it, const char *what) {
@@ -19,10 +19,10 @@ void say_error(const struct keeping *it, int error) {
     if (it->says_more && it->say) it->say(it, NULL, error);
 }
 
-/* ---- Its beginning */
+/* ---- The beginning of a kept file */
 
-/* Gives the beginning of a kept file memory that stays, and takes it away again. Of most it is a page
- * that takes no call. */
+/* Allocates `length` bytes for the beginning of a kept file, which free_beginning frees. Returns
+ * null if memory is refused. Most beginnings fit into a static buffer, which needs no call. */
 static void *take_room(uint64_t length) {
     static _Alignas(struct head) uint8_t usual[USUAL];
     const int how = PROT_READ | PROT_WRITE, kind = MAP_PRIVATE | MAP_ANONYMOUS;
@@ -47,15 +47,16 @@ static int read_beginning(int kept, uint64_t length, struct kept_file *file) {
     return other || check_of(file->head) == head.check ? other : IS_OTHER;
 }
 
-/* Whether a file's beginning is that of the image that is looked for. */
+/* Returns whether the beginning of a file is that of the image with the key `key`. */
 static int is_of_key(const struct kept_file *it, const struct key *key) {
     uint64_t compared = key->program.kind == OF_BYTES ? key->program.length : 0;
     return is_same_key(&it->head->key, key) && it->head->counts.program == compared && is_whole(it);
 }
 
-/* ---- Its pages */
+/* ---- The pages of an image */
 
-/* A kernel before 4.17 gives other pages where these are taken. */
+/* Maps a piece. Returns 0, or an error, less than 0. A kernel before 4.17 maps other pages if these
+ * are in use. */
 static int map_piece(const struct piece *it, int kept) {
     int kind = MAP_PRIVATE | MAP_FIXED_NOREPLACE | (it->from ? 0 : MAP_ANONYMOUS);
     int64_t map =
@@ -70,7 +71,7 @@ static void unmap_pieces(const struct piece *it, uint64_t count) {
     while (count-- > 0) kernel_unmap(it[count].address, it[count].length);
 }
 
-/* Maps all pieces, or none. */
+/* Maps all pieces, or none. Returns 0, or an error, less than 0. */
 static int map_pieces(const struct kept_file *it, int kept) {
     for (uint64_t i = 0; i < it->head->counts.pieces; i++) {
         int error = map_piece(&it->pieces[i], kept);
@@ -81,10 +82,10 @@ static int map_pieces(const struct kept_file *it, int kept) {
     return 0;
 }
 
-/* ---- Taking it */
+/* ---- Taking an image */
 
-/* Gives the rest of the loader what it asks of an image, except for the segments. All of that is in
- * the beginning, which stays. */
+/* Sets what the rest of the loader needs of an image, except the segments. All of it lies in the
+ * beginning, which stays in memory. */
 static void take_objects(struct program *program, const struct kept_file *it) {
     const struct counts *counts = &it->head->counts;
     program->image.objects = it->objects;
@@ -97,7 +98,8 @@ static void take_objects(struct program *program, const struct kept_file *it) {
         (struct calls){ .at = it->calls + counts->initializers, .count = counts->finalizers };
 }
 
-/* Leaves an image that isn't taken. One that can't be read would be in the way of each start. */
+/* Reports why an image isn't taken. Removes an image that can't be read: it would be in the way of
+ * each start. */
 static void leave(const struct keeping *it, int other) {
     if (other == IS_OTHER) {
         say_more(it, "the image there is another one");
@@ -107,14 +109,14 @@ static void leave(const struct keeping *it, int other) {
     }
 }
 
-/* Maps an image of the key, and compares what it was bound from: in its own pages, which the program
- * is going to need. */
+/* Maps an image that has the key, and compares what it was bound from. The comparison uses the
+ * image's own pages, which the program will need anyway. Returns whether the image was taken. */
 static int take_image(struct keeping *it, struct program *program, int disk, int kept,
                       const struct kept_file *file) {
     int error = map_pieces(file, kept);
     if (error) {
         say_error(it, -error);
-        it->may_keep = 0; /* another one at other addresses would come in its place */
+        it->may_keep = 0; /* a new image, at other addresses, would replace this one */
         return 0;
     }
     int other = compare_image(program, disk, kept, file);
@@ -147,7 +149,7 @@ static int is_of(const struct stat *file, const struct state *disk) {
     return file->st_dev == disk->device && file->st_ino == disk->number;
 }
 
-/* Whether what is written to a standard stream may go into a disk, or that can't be asked. */
+/* Returns whether output to a standard stream may go into a disk, or that can't be found out. */
 static int is_stream(const struct state *disk) {
     struct stat found;
     for (int number = 0; number < STREAMS; number++) {
@@ -159,7 +161,8 @@ static int is_stream(const struct state *disk) {
     return 0;
 }
 
-/* Finds the key of an image over a disk that is open. Nothing is started whose output goes into it. */
+/* Finds the key of an image for an open disk. Returns 0, or -1 if there is none. If output would go
+ * into the disk, there is none: no image is started for such a disk. */
 static int find_key(struct keeping *it, const struct program *program, int disk) {
     if (disk < 0 || key_of_loader(&it->key) || key_of_disk(disk, &it->key) ||
         is_stream(&it->key.disk) || key_of_program(program, &it->key)) {
@@ -171,7 +174,7 @@ static int find_key(struct keeping *it, const struct program *program, int disk)
     return 0;
 }
 
-/* Takes the image of the key. */
+/* Takes the image that has the key. Returns whether it was taken. */
 static int take_named(struct keeping *it, struct program *program, int disk) {
     uint64_t length;
     give_name(it, program);

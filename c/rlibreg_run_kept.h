@@ -1,4 +1,5 @@
-/* Images that are kept from start to start: the parts of the loader's -c. Nothing here is for users. */
+/* Images that are kept from start to start: the parts of the loader's option -c. Nothing here is
+ * for users. */
 #ifndef RLIBREG_RUN_KEPT_H
 #define RLIBREG_RUN_KEPT_H
 
@@ -6,52 +7,57 @@
 
 #include <sys/types.h>
 
-/* ---- The key (rlibreg_run_key.c): two images with equal keys differ only if what is compared at
- * each start differs */
+/* ---- The key (rlibreg_run_key.c)
+ *
+ * If two images have equal keys, they differ only if what is compared at each start differs. */
 
 enum { ROOTS = 1024, MOST_COMPARED = 2 << 20 };
 
-/* The identity of an open file, or of a device, and the state of its bytes. */
+/* The identity of an open file or of a device, and the state of its bytes. */
 enum {
-    OF_FILE = 1, /* its times say when it was changed */
-    OF_DEVICE,   /* nothing says so */
-    OF_BYTES,    /* of the program: the key has only the length, and its bytes are compared */
+    OF_FILE = 1, /* a file whose times say when it was changed */
+    OF_DEVICE,   /* a device: nothing says when it was changed */
+    OF_BYTES,    /* the program, of which the key has only the length: its bytes are compared */
     OF_MEMORY    /* a file on tmpfs: a write through a shared map leaves its times as they are */
 };
 struct state {
     uint64_t kind, device, number;
-    uint64_t birth[2], modified[2], changed[2]; /* seconds, nanoseconds */
-    uint64_t length, sequence; /* a device's disk sequence, a file system's id */
+    uint64_t birth[2], modified[2], changed[2]; /* seconds and nanoseconds */
+    uint64_t length, sequence; /* a device's disk sequence, or a file system's id */
 };
 
 /* How the base is chosen. */
 enum { AT_RANDOM_BASE = 1, AT_FIXED_BASE, AT_NAMED_BASE };
 
-/* The number of bytes of a build's id that are kept, followed by zeros; and the fewest it may have. */
+/* The number of bytes of a build's id that are kept, followed by zeros; and the fewest that an id
+ * may have. */
 enum { BUILD = 32, LEAST_BUILD = 8 };
 
-/* It has no byte that isn't a field's, so that keys are compared by their bytes. */
+/* The key of an image. Each of its bytes belongs to a field, so keys are compared by their
+ * bytes. */
 struct key {
-    uint8_t build[BUILD]; /* the id of the loader's own build, which has the binder in it */
-    char boot[40];        /* the boot's id */
+    uint8_t build[BUILD]; /* id of the loader's own build, which includes the binder */
+    char boot[40];        /* id of the boot */
     uint8_t roots[ROOTS];
     struct state disk, program;
     uint64_t choice, base, may_be_both;
 };
 
-/* Read the state of what is open, and the parts of the key: of the loader, of the disk with the boot,
- * and of the program with its options. They return -1 if an image can't be kept by what they find. */
+/* state_of reads the state of an open file. The others read the parts of the key: of the loader, of
+ * the disk with the boot, and of the program with its options. They return 0, or -1 if they find
+ * that an image can't be kept. */
 int state_of(int fd, struct state *it);
 int key_of_loader(struct key *key);
 int key_of_disk(int fd, struct key *key);
 int key_of_program(const struct program *program, struct key *key);
 int is_same_key(const struct key *one, const struct key *other);
 
-/* Whether a disk of this state may change while its state stays the same: then all that an image was
- * bound from is compared at each start. */
+/* Returns whether a disk may change while its state `disk` stays the same. Then everything that an
+ * image was bound from is compared at each start. */
 int is_compared(const struct state *disk);
 
-/* Whether the next change gives the file another state: times have a tick's grain. */
+/* Returns whether the next change is sure to give the file another state. The times of a file have
+ * the grain of a clock tick. */
 int is_settled(const struct state *it);
 
 /* ---- The file of an image (rlibreg_run_kept_file.c) */
@@ -60,93 +66,104 @@ enum { MOST_PIECES = 1 << 14, MOST_STRETCHES = 1 << 18, MOST_OBJECTS = 1 << 12 }
 enum { MOST_CALLS = 1 << 20, MOST_NAMES = 1 << 22, MOST_PROGRAM = 16 << 20 };
 #define MOST_OTHERS ((uint64_t)1 << 40)
 
-/* Pages in a row that lie one after the other in the file, or are zeros and lie nowhere. */
+/* Pages in a row. They lie one after the other in the file, or they are zeros and aren't in the
+ * file. */
 struct piece {
     uint64_t address, length;
-    uint64_t from; /* in the file, or 0 */
-    uint64_t how;  /* PROT_READ and so on */
+    uint64_t from; /* offset in the file, or 0 */
+    uint64_t how;  /* permissions: PROT_READ and so on */
 };
 
-/* Bytes in a row that the image was bound from: of the program's file, or of the disk. The kept file
- * has the same bytes, in the pages of a piece if it can. */
+/* Bytes in a row that the image was bound from, of the program's file or of the disk. The kept file
+ * has the same bytes, in the pages of a piece if possible. */
 struct stretch {
-    uint64_t at, length; /* there */
-    uint64_t address;    /* in a piece that may be read; or 0 */
-    uint64_t from;       /* else in the kept file, before its pages */
+    uint64_t at, length; /* offset there, and length in bytes */
+    uint64_t address;    /* address in a piece that may be read, or 0 */
+    uint64_t from;       /* if the address is 0: offset in the kept file, before its pages */
 };
 
 struct counts {
     uint64_t pieces, of_program, of_disk /* stretches */, objects, initializers, finalizers;
-    uint64_t names, program; /* bytes */
-    uint64_t others;         /* bytes of stretches that are in no page of the image */
+    uint64_t names, program; /* numbers of bytes */
+    uint64_t others;         /* number of bytes of stretches that are in no page of the image */
 };
 
-/* What the file of each image begins with. */
+/* The first bytes of each kept file. */
 extern const char kept_form[16];
 
-/* The file begins with this. A build of the loader reads the heads of others of this form, so if you
- * change it, or the key, change the form too. It is followed by the pieces, the stretches of the
- * program's file, if that is compared, and of the disk, if that is; the objects, the addresses of the
- * initializers and the finalizers, and the objects' names, each followed by a byte 0. All this is the
- * file's beginning. Then come the stretches that aren't equal to pages of the image and, from the next
- * page on, the pieces' pages. */
+/* The head of a kept file. A build of the loader also reads the heads that other builds with this
+ * form wrote, so if you change the head or the key, change the form too. The parts of the file
+ * follow each other in this order:
+ *
+ * - the head
+ * - the pieces
+ * - the stretches of the program's file, if that is compared, and of the disk, if that is compared
+ * - the objects
+ * - the addresses of the initializers and the finalizers
+ * - the objects' names, each followed by a byte 0
+ * - the stretches that aren't equal to pages of the image
+ * - from the next page on, the pages of the pieces
+ *
+ * The parts up to the names are the file's beginning. */
 struct head {
     char form[16];
-    uint64_t check; /* of all other bytes of the beginning but the form */
+    uint64_t check; /* check of all other bytes of the beginning, except the form */
     struct key key;
-    uint64_t place; /* a number made of the paths and the options */
+    uint64_t place; /* number made of the paths and the options */
     uint64_t length;
     struct counts counts;
 };
 
-/* A kept file's beginning in memory, and its parts there. */
+/* The beginning of a kept file in memory, and its parts. */
 struct kept_file {
     struct head *head;
     struct piece *pieces;
-    struct stretch *stretches; /* of the program, then of the disk */
+    struct stretch *stretches; /* those of the program, then those of the disk */
     rlibreg_object *objects;
     uint64_t *calls;
     char *names;
 };
 
-/* Where in a kept file the beginning ends and the other stretches begin; and where the pages do. */
+/* place_of_others returns the offset in a kept file at which the beginning ends and the other
+ * stretches begin. place_of_pages returns the offset at which the pages begin. */
 uint64_t place_of_others(const struct counts *counts);
 uint64_t place_of_pages(const struct counts *counts);
 
-/* The parts of a beginning, whose head says how many there are of each. */
+/* Returns the parts of a beginning. The head says how many there are of each. */
 struct kept_file parts_of(void *beginning);
 
-/* The piece that has an address, or null: the last that begins there or below. */
+/* Returns the piece that has an address, or null. It is the last piece that begins at the address
+ * or below. */
 const struct piece *piece_with(const struct piece *first, size_t count, uint64_t address);
 
-/* The check of a beginning. It changes with each byte of it. */
+/* Returns the check of a beginning. It changes with each byte of the beginning. */
 uint64_t check_of(const struct head *head);
 
-/* Whether a head is one of this form, of a file of this length; and whether the beginning is as it has
- * to be. Only then is anything else done with it. */
+/* is_head returns whether a head has this form, and fits a file of `length` bytes. is_whole returns
+ * whether the beginning is as it has to be. A file is used only if both hold. */
 int is_head(const struct head *head, uint64_t length);
 int is_whole(const struct kept_file *it);
 
 /* ---- What an image was bound from (rlibreg_run_sources.c) */
 
-/* Bytes of a disk in a row: part of the file of the object of a number, from an offset on; or of no
- * file, if that is 0. */
+/* Bytes of a disk in a row. They belong to the file of object number `object`, from the offset
+ * `offset` on. If the number is 0, they belong to no file. */
 struct extent {
     uint64_t at, length, offset;
     size_t object;
 };
 
-/* The bytes of a disk that a bind reads, but for the roots; and the disk, as long as it is, with these
- * bytes and the roots alone. */
+/* The bytes of a disk that a bind reads, except the roots; and a copy of the disk, of the same
+ * length, that has only these bytes and the roots. */
 struct sources {
-    uint8_t *copy; /* or null */
+    uint8_t *copy; /* the copy, or null */
     uint64_t length;
     struct extent *at;
     size_t count, room;
 };
 
-/* Copies what the program's image was bound from, of a disk that is locked and has this key. Returns
- * -1 if it can't be had, or isn't all: then nothing is to be freed. */
+/* Copies what the program's image was bound from. The disk is locked and has the key `key`. Returns
+ * 0. If the bytes can't be read, or aren't all, returns -1, and there is nothing to free. */
 int take_sources(struct sources *it, const struct program *program, int disk, const struct key *key);
 void free_sources(struct sources *it);
 
@@ -154,79 +171,82 @@ void free_sources(struct sources *it);
 
 enum { NAME_ROOM = 17 };
 
-/* What is kept, and where. */
+/* The folder in which images are kept, and the image of this start. */
 struct keeping {
-    const char *path; /* of the folder, or null: no image is taken or kept */
-    int says_more;    /* whether standard error is told what is done */
-    /* Tells it: these words, or where they are null, those of an error. Null until there is a C
-     * library. */
+    const char *path; /* path of the folder, or null: no image is taken or kept */
+    int says_more;    /* whether to print to standard error what is done */
+    /* Prints `what` or, if it is null, the text of `error`. Null until there is a C library. */
     void (*say)(const struct keeping *it, const char *what, int error);
-    uid_t user;       /* the effective one */
-    int folder;       /* -1 where it isn't one in which images are kept */
+    uid_t user;       /* effective user id */
+    int folder;       /* descriptor of the folder; -1 if images aren't kept there */
     int is_for_all;   /* whether every user may read the folder, the disk and the program */
     int may_keep;     /* whether an image that is bound now may be kept */
-    int file;         /* of an image that is whole, and has no name yet; or 0 */
-    void *beginning;  /* of that file; or null */
-    struct sources sources; /* if the disk is compared */
+    int file;         /* descriptor of an image's file that is whole and has no name yet, or 0 */
+    void *beginning;  /* beginning of that file, or null */
+    struct sources sources; /* what the image was bound from, if the disk is compared */
     struct key key;
-    char name[NAME_ROOM]; /* of an image of such a key */
+    char name[NAME_ROOM]; /* name of an image that has this key */
 };
 
-/* Opens the folder, where it is the user's or root's and nobody else may write it. This and the next
- * one give of an error its number, less than 0. */
+/* Opens the folder, if it belongs to the user or to root, and nobody else may write it. Returns 0,
+ * or an error, less than 0. */
 int open_folder(struct keeping *it);
 
-/* Opens the image of the name: what is asked of the folder holds for it too, and it has no other
- * name. Gives its length. */
+/* Opens the image of this name. It has to meet the conditions of the folder, and must have no other
+ * name. Returns its descriptor, with its length in `length`, or an error, less than 0. */
 int open_kept(const struct keeping *it, const char *name, uint64_t *length);
 
-/* The name of images that replace each other; the number of their options, mixed with bytes. */
+/* give_name sets the name of the image. Images that replace each other have the same name.
+ * number_of_options returns a number made of the options, and mixed returns `number` mixed with
+ * bytes. */
 void give_name(struct keeping *it, const struct program *program);
 uint64_t number_of_options(const struct key *key);
 uint64_t mixed(uint64_t number, const void *bytes, size_t length);
 
 void close_folder(struct keeping *it);
 
-/* ---- The words (rlibreg_run_words.c) */
+/* ---- The arguments (rlibreg_run_words.c) */
 
-/* Reads those before DISK, all of them, and gives the place of that. Gives whether the words are of
- * the form that they have to be. */
+/* Reads all arguments before DISK, and sets `next` to the index of DISK. Returns whether the
+ * arguments have the form that they have to have. */
 int read_options(struct program *it, struct keeping *keeping, int argc, char **argv, int *next);
 
 /* ---- The files of the folder (rlibreg_run_named.c) */
 
-/* Makes a file without a name; and gives it its name, once it is whole, in the place of the one that
- * has it. */
+/* make_file makes a file without a name, and returns its descriptor. name_file gives the file its
+ * name, once it is whole, in place of the file that has the name. Both return -1 with errno if they
+ * fail. */
 int make_file(const struct keeping *it);
 int name_file(const struct keeping *it, int fd);
 
-/* Takes away the images of older keys than one's that is to be kept, and of other builds of the loader
- * but one. */
+/* Removes the images whose keys are older than that of `head`, an image that is to be kept. Also
+ * removes the images of other builds of the loader, except one of these builds. */
 void drop_older(const struct keeping *it, const struct head *head);
 
-/* Whether every user may read the open file of a path, and reach it by its real path
+/* Returns whether every user may read the open file of a path, and reach it by its real path
  * (rlibreg_run_rights.c). */
 int may_all_read(const char *path, int fd);
 
-/* A number for what tells images that replace each other by their paths. */
+/* Returns a number made of the options and the real paths of the program and the disk. It shows
+ * which images replace each other. */
 uint64_t number_of_paths(const struct keeping *it, const struct program *program, const char *disk);
 
 /* ---- Making the file of an image (rlibreg_run_stretches.c) */
 
-/* The pieces of an image, while they are found, in the order of their addresses. */
+/* The pieces of an image, while they are being found, in the order of their addresses. */
 struct pieces {
     struct piece *at;
     size_t count;
     int is_too_many;
 };
 
-/* The stretches, while they are found: of the program, and then those of the disk. */
+/* The stretches, while they are being found: those of the program, then those of the disk. */
 struct stretches {
     struct stretch *at;
     size_t count, room;
-    size_t first;    /* of the list that is being made */
-    uint64_t others; /* the bytes that are in no page of the image */
-    int has_failed;  /* memory was refused */
+    size_t first;    /* index of the first stretch of the list that is being made */
+    uint64_t others; /* number of bytes that are in no page of the image */
+    int has_failed;  /* whether memory was refused */
 };
 
 void find_stretches_of_program(struct stretches *it, const struct program *program,
@@ -234,45 +254,47 @@ void find_stretches_of_program(struct stretches *it, const struct program *progr
 void find_stretches_of_disk(struct stretches *it, const struct program *program,
                             const struct sources *sources, const struct pieces *pieces);
 
-/* Gives the others their places in the file, from this one on. */
+/* Sets the offsets in the file of the stretches that are in no page, from `others` on. */
 void place_stretches(struct stretches *it, uint64_t others);
 
 /* Writes the file of an image, whose beginning is made, to an empty file, and syncs it
- * (rlibreg_run_write.c). Returns -1 if that failed. */
+ * (rlibreg_run_write.c). Returns 0, or -1 if that failed. */
 int write_kept(int fd, const struct keeping *it, const struct program *program,
                const struct kept_file *file);
 
 /* ---- Comparing (rlibreg_run_compare.c)
  *
- * These return 0 if what is read is what was kept, IS_OTHER if it isn't, and an error, less than 0, if
- * the kept file can't be read. */
+ * These return 0 if what is read is what was kept, and IS_OTHER if it isn't. If the kept file can't
+ * be read, they return an error, less than 0. */
 
 enum { IS_OTHER = 1 };
 
-/* Reads bytes of a file at a place, all of them. */
+/* Reads `length` bytes of a file from the offset `at` on, all of them. */
 int read_exactly(int fd, void *to, uint64_t length, uint64_t at);
 
-/* Compares all that an image was bound from, whose pieces are mapped. */
+/* Compares everything that an image was bound from. The image's pieces are mapped. */
 int compare_image(const struct program *program, int disk, int kept, const struct kept_file *it);
 
 /* ---- Taking (rlibreg_run_kept.c) and keeping (rlibreg_run_keep.c) */
 
-/* Tells standard error, where the user wants that. */
+/* Print to standard error, if the user wants that. */
 void say_more(const struct keeping *it, const char *what);
 void say_error(const struct keeping *it, int error);
 
-/* Maps the image that is kept of a program over a disk, with all that its start needs. Gives whether
- * there was one that fits; else nothing is mapped. The folder stays open, where it is one. */
+/* Maps the image that is kept for a program and a disk, with all that its start needs. Returns
+ * whether there was one that fits; if there wasn't, nothing is mapped. The folder stays open, if it
+ * could be opened. */
 int take_kept(struct keeping *it, struct program *program, const char *disk);
 
-/* Decide whether an image of the program over a disk may be kept. The disk is open and locked: the
- * first is called before the program is bound, the second after it. */
+/* Decide whether an image of the program may be kept for a disk. The disk is open and locked.
+ * look_at_disk is called before the program is bound, and look_at_image after it. */
 void look_at_disk(struct keeping *it, const struct program *program, const char *path, int disk);
 void look_at_image(struct keeping *it, const struct program *program, int disk);
 
-/* Makes the file of the image, before its pages are protected and anything of it runs; and gives it
- * its name, once they are: what isn't started isn't kept. Then this process shares its pages too. An
- * error here is none of the start. */
+/* keep makes the file of the image, before the image's pages are protected and any of its code
+ * runs. name_kept gives the file its name, once the pages are protected: an image that isn't
+ * started isn't kept. Then this process shares the file's pages too. An error in these calls
+ * doesn't fail the start. */
 void keep(struct keeping *it, const struct program *program, const char *disk);
 void name_kept(struct keeping *it);
 

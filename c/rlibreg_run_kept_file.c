@@ -1,5 +1,5 @@
-/* The form of the file of a kept image. It may be anything, so all of it is looked at before it is
- * used. */
+/* The form of the file of a kept image. The file may be anything, so all of it is checked before it
+ * is used. */
 #define _GNU_SOURCE
 #include "rlibreg_run_kernel.h"
 #include "rlibreg_run_kept.h"
@@ -30,10 +30,11 @@ struct kept_file parts_of(void *beginning) {
     return it;
 }
 
-/* Eight bytes of any kind. */
+/* Eight bytes of any type. */
 typedef uint64_t __attribute__((may_alias)) eight;
 
-/* Each step gives different numbers for different bytes and for different numbers before it. */
+/* Mixes eight bytes into a number. Different bytes make different results, and so do different
+ * numbers before. */
 static uint64_t with_eight(uint64_t number, uint64_t bytes) {
     number = (number ^ bytes) * 0x9e3779b97f4a7c15;
     return number ^ number >> 32;
@@ -49,7 +50,7 @@ uint64_t check_of(const struct head *head) {
     return number;
 }
 
-/* So none of the sums above wraps. */
+/* These limits also keep the sums above from wrapping. */
 int is_head(const struct head *it, uint64_t length) {
     const struct counts *counts = &it->counts;
     return !memcmp(it->form, kept_form, sizeof it->form) && it->length == length &&
@@ -61,7 +62,8 @@ int is_head(const struct head *it, uint64_t length) {
            place_of_pages(counts) <= length;
 }
 
-/* Whether a piece lies behind the end of the one before, and its pages in the file. */
+/* Returns whether a piece doesn't begin before `end`, where the piece before ends, and its pages
+ * lie in the file. */
 static int is_piece(const struct piece *it, uint64_t end, const struct head *head) {
     const uint64_t last = (uint64_t)1 << 47, both = PROT_WRITE | PROT_EXEC;
     if ((it->address | it->length | it->from) % PAGE || !it->length) return 0;
@@ -83,8 +85,8 @@ const struct piece *piece_with(const struct piece *first, size_t count, uint64_t
                                                                                            : NULL;
 }
 
-/* Whether the kept file has a stretch: in a piece that may be read, or between its beginning and its
- * pages. */
+/* Returns whether the kept file has the bytes of a stretch: in a piece that may be read, or between
+ * its beginning and its pages. */
 static int is_kept(const struct kept_file *it, const struct stretch *one) {
     const struct counts *counts = &it->head->counts;
     const struct piece *piece = piece_with(it->pieces, counts->pieces, one->address);
@@ -95,8 +97,8 @@ static int is_kept(const struct kept_file *it, const struct stretch *one) {
     return one->from >= begin && one->from <= end && one->length <= end - one->from;
 }
 
-/* Whether stretches are kept, and lie in a file, or a disk, of this length, in the order of their
- * places there. */
+/* Returns whether the kept file has the bytes of the stretches, and these lie, in order, in a file
+ * or a disk of `length` bytes. */
 static int are_in_order(const struct kept_file *file, const struct stretch *it, uint64_t count,
                         uint64_t length) {
     uint64_t end = 0;
@@ -109,7 +111,7 @@ static int are_in_order(const struct kept_file *file, const struct stretch *it, 
     return 1;
 }
 
-/* Whether the stretches of the program are the whole program, one after the other. */
+/* Returns whether the stretches of the program are the whole program, one after the other. */
 static int are_whole(const struct kept_file *it) {
     uint64_t at = 0;
     for (uint64_t i = 0; i < it->head->counts.of_program; at += it->stretches[i++].length)
@@ -117,7 +119,7 @@ static int are_whole(const struct kept_file *it) {
     return at == it->head->counts.program;
 }
 
-/* A disk that isn't compared has no stretches. */
+/* Returns whether the stretches are as they have to be. A disk that isn't compared has none. */
 static int are_stretches(const struct kept_file *it) {
     const struct counts *counts = &it->head->counts;
     const struct state *disk = &it->head->key.disk;
@@ -133,7 +135,7 @@ static int is_code_of(const struct kept_file *it, uint64_t address) {
 
 int is_whole(const struct kept_file *it) {
     const struct counts *counts = &it->head->counts;
-    uint64_t end = PAGE; /* the page at 0 is nobody's */
+    uint64_t end = PAGE; /* no piece may have the page at 0 */
     for (uint64_t i = 0; i < counts->pieces; i++) {
         if (!is_piece(&it->pieces[i], end, it->head)) return 0;
         end = it->pieces[i].address + it->pieces[i].length;

@@ -1,4 +1,5 @@
-/* Calls of the kernel without a C library. */
+/* Calls the kernel without a C library, for the parts of the loader that run before there is
+ * one. */
 #define _GNU_SOURCE
 #include "rlibreg_run_kernel.h"
 
@@ -11,7 +12,7 @@
 #include <sys/syscall.h>
 #include <unistd.h>
 
-/* A call with up to six arguments. */
+/* Makes a system call with up to six arguments. Returns what the kernel returns. */
 static int64_t ask(long number, const uint64_t it[6]) {
     register uint64_t fourth __asm__("r10") = it[3], fifth __asm__("r8") = it[4];
     register uint64_t sixth __asm__("r9") = it[5];
@@ -145,10 +146,11 @@ void *memset(void *to, int byte, size_t length) {
     return to;
 }
 
-/* Bytes of any kind, at any address. */
+/* Bytes of any type, at any address. */
 typedef uint64_t __attribute__((may_alias, aligned(1))) piece;
 
-/* How many are equal at the front, by as many as the processor compares at once. */
+/* Returns the number of equal bytes at the front, in multiples of what the processor compares at
+ * once. */
 static size_t equal_at_once(const uint8_t *one, const uint8_t *other, size_t length) {
     enum { PIECES = 8 };
     const size_t step = PIECES * sizeof(piece);

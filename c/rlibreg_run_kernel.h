@@ -1,5 +1,6 @@
-/* Calls of the kernel, and C's on bytes, without a C library: all that the parts of the loader use
- * which run before it is set up (rlibreg_run_early.c). Nothing here is for users. */
+/* Calls of the kernel, and C's functions on bytes, without a C library. The parts of the loader
+ * that run before the C library is set up (rlibreg_run_early.c) use no others. Nothing here is for
+ * users. */
 #ifndef RLIBREG_RUN_KERNEL_H
 #define RLIBREG_RUN_KERNEL_H
 
@@ -12,14 +13,14 @@
 struct statfs;
 struct statx;
 
-/* gcc calls these by itself too, so they have C's names. A C library chooses its own by the
- * processor while it is set up. */
+/* gcc also calls these by itself, so they have C's names. A C library chooses its own versions by
+ * the processor while it is set up. */
 void *memcpy(void *to, const void *from, size_t length) __asm__("rlibreg_kernel_copy");
 void *memset(void *to, int byte, size_t length) __asm__("rlibreg_kernel_fill");
 int memcmp(const void *one, const void *other, size_t length) __asm__("rlibreg_kernel_compare");
 size_t strlen(const char *text) __asm__("rlibreg_kernel_length");
 
-/* Each gives what the kernel gives: of an error its number, less than 0. */
+/* Each returns what the kernel returns: if it fails, the number of the error, less than 0. */
 int kernel_open(int folder, const char *path, int flags);
 int kernel_close(int fd);
 int kernel_flags(int fd);
@@ -29,20 +30,20 @@ int kernel_fstat(int fd, struct stat *found);
 int kernel_statx(int fd, unsigned wanted, struct statx *found);
 int kernel_fstatfs(int fd, struct statfs *found);
 int kernel_ioctl(int fd, unsigned long request, void *argument);
-int kernel_may_execute(int fd); /* 0 where the user may */
-int64_t kernel_end(int fd);     /* its length, of a device too */
+int kernel_may_execute(int fd); /* 0 if the user may */
+int64_t kernel_end(int fd);     /* length of a file or a device in bytes */
 int64_t kernel_read(int fd, void *to, size_t length, uint64_t at);
-int64_t kernel_link(const char *path, char *to, size_t room); /* where a symbolic link leads */
+int64_t kernel_link(const char *path, char *to, size_t room); /* target of a symbolic link */
 int64_t kernel_map(uint64_t at, uint64_t length, int how, int kind, int fd, uint64_t from);
 int kernel_unmap(uint64_t at, uint64_t length);
 int kernel_advise(uint64_t at, uint64_t length, int how);
 int kernel_clock(struct timespec *now);
-int64_t kernel_stack_limit(void); /* in bytes; the greatest number where there is none */
+int64_t kernel_stack_limit(void); /* in bytes; INT64_MAX if there is no limit */
 void kernel_take_name(const char *name);
 void kernel_take_thread(void *block);
 _Noreturn void kernel_end_process(int status, const char *message);
 
-/* Whether the user wants the same addresses in each start, as debuggers do. */
+/* Returns whether the user wants the same addresses at each start, as debuggers do. */
 int has_fixed_bases(void);
 
 #endif

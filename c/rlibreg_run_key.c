@@ -1,4 +1,4 @@
-/* What a kept image is made of. */
+/* Makes the key of a kept image, which shows what the image was bound from. */
 #define _GNU_SOURCE
 #include "rlibreg_run_kernel.h"
 #include "rlibreg_run_kept.h"
@@ -17,16 +17,16 @@
 #define BLKGETDISKSEQ _IOR(0x12, 128, uint64_t)
 #endif
 
-/* A file that was changed so many seconds ago or more is changed with another time from now on. */
+/* If a file was changed at least this many seconds ago, its next change gives it another time. */
 enum { SETTLED = 2 };
 
 /* ---- States */
 
 enum { TMPFS = 0x01021994 };
 
-/* Sees what a file is on: the kind of its state, and an id that is most often another one after another
- * file system has come in the place of this one. Returns -1 if the file's number and times say little of
- * its bytes: behind a network or another process, and on FAT. */
+/* Reads on what file system a file is. Sets the kind of its state, and an id that most often
+ * changes when another file system takes the place of this one. Returns -1 if the file's number and
+ * times say little about its bytes: over a network, behind another process, and on FAT. */
 static int see_file_system(int fd, struct state *it) {
     static const uint32_t with_times[] = { 0xef53, /* ext2 to ext4 */ 0x58465342, /* xfs */
                                            0x9123683e, /* btrfs */ 0xf2f52010 /* f2fs */ };
@@ -61,7 +61,7 @@ static int state_of_file(int fd, const struct statx *found, struct state *it) {
 }
 
 static int state_of_device(int fd, const struct statx *found, struct state *it) {
-    int64_t length = kernel_end(fd); /* what the system says of it otherwise isn't its length */
+    int64_t length = kernel_end(fd); /* statx doesn't report the length of a device */
     it->kind = OF_DEVICE;
     it->device = makedev(found->stx_rdev_major, found->stx_rdev_minor);
     it->length = (uint64_t)length;
@@ -78,7 +78,7 @@ int state_of(int fd, struct state *it) {
 
 /* ---- The key */
 
-/* Puts the build's id, where a note has it. */
+/* Puts the build's id into the key, if a note has it. Returns 0, or -1 if it doesn't. */
 static int put_build(const char *note, uint64_t length, struct key *key) {
     Elf64_Nhdr it;
     static const char owner[] = ELF_NOTE_GNU;
@@ -94,7 +94,7 @@ static int put_build(const char *note, uint64_t length, struct key *key) {
     return 0;
 }
 
-/* Looks at the notes of a segment one by one. */
+/* Searches the notes of a segment for the build's id. Returns 0, or -1 if none has it. */
 static int find_build(const char *notes, const ElfW(Phdr) *segment, struct key *key) {
     Elf64_Nhdr it;
     for (uint64_t at = 0; at + sizeof it <= segment->p_memsz;) {
@@ -107,7 +107,7 @@ static int find_build(const char *notes, const ElfW(Phdr) *segment, struct key *
     return -1;
 }
 
-/* The linker makes it of all that it links, so nobody has to remember anything. */
+/* The linker makes the id from everything that it links, so nobody has to remember to change it. */
 int key_of_loader(struct key *key) {
     extern const char __ehdr_start[] __attribute__((visibility("hidden")));
     const ElfW(Ehdr) *header = (const void *)__ehdr_start;

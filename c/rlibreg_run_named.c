@@ -1,4 +1,4 @@
-/* The files of images that are kept: how they are made and named, and which of them go. */
+/* Makes and names the files of kept images, and removes old ones. */
 #define _GNU_SOURCE
 #include "rlibreg_run_kept.h"
 
@@ -36,7 +36,8 @@ int make_file(const struct keeping *it) {
     return -1;
 }
 
-/* By its descriptor alone a file can be named with some rights, or since 6.10. */
+/* Gives a file its name. Returns 0, or -1 with errno. To name a file by its descriptor alone, a
+ * process needs some rights, or Linux 6.10 or later. */
 static int link_file(const struct keeping *it, int fd) {
     char path[32];
     if (!linkat(fd, "", it->folder, it->name, AT_EMPTY_PATH)) return 0;
@@ -46,7 +47,7 @@ static int link_file(const struct keeping *it, int fd) {
 }
 
 int name_file(const struct keeping *it, int fd) {
-    enum { TRIES = 4 }; /* others keep images too */
+    enum { TRIES = 4 }; /* other processes keep images too */
     for (int i = 0; i < TRIES; i++) {
         if (!link_file(it, fd)) return 0;
         if (errno != EEXIST || (unlinkat(it->folder, it->name, 0) && errno != ENOENT)) return -1;
@@ -54,20 +55,22 @@ int name_file(const struct keeping *it, int fd) {
     return -1;
 }
 
-/* ---- Which of them go */
+/* ---- Which images are removed */
 
-/* Those of two builds of the loader stay: of its own, and of that which kept one last of all others. */
+/* The two builds of the loader whose images stay: its own, and of all others the one that kept an
+ * image last. */
 struct builds {
     const uint8_t *own;
     uint8_t other[BUILD];
-    struct timespec time; /* of its image; 0 where there is no other build */
+    struct timespec time; /* time of that build's image; 0 if there is no other build */
 };
 
 static int is_of(const struct head *it, const uint8_t *build) {
     return !memcmp(it->key.build, build, BUILD);
 }
 
-/* Whether a kept image has an older key than one, or is replaced by it, as the paths say. */
+/* Returns whether a kept image has an older key than `than`, or is replaced by it, as their paths
+ * show. */
 static int is_older(const struct head *it, const struct head *than) {
     const struct state *disk = &it->key.disk, *own = &than->key.disk;
     if (memcmp(it->key.boot, than->key.boot, sizeof it->key.boot)) return 1;
@@ -76,8 +79,8 @@ static int is_older(const struct head *it, const struct head *than) {
            (memcmp(disk, own, sizeof *disk) || memcmp(it->key.roots, than->key.roots, ROOTS));
 }
 
-/* Reads what another image of the folder begins with, and when it was kept. Gives whether it is one.
- */
+/* Reads the head of another image of the folder, and the time when it was kept. Returns whether the
+ * file is an image. */
 static int read_head(const struct keeping *it, const char *name, struct head *head,
                      struct timespec *time) {
     struct stat found;

@@ -1,5 +1,5 @@
-/* What the loader reads of an image's objects: in the bytes of their segments, before they may be
- * in memory that can't be read. */
+/* Reads the objects of an image in the bytes of their segments, before these are in memory that may
+ * be unreadable. */
 #define _GNU_SOURCE
 #include "rlibreg_run.h"
 
@@ -12,7 +12,8 @@ const char *name_of(const struct program *it, const rlibreg_object *object) {
 
 /* ---- Segments */
 
-/* The object's segment that has an address, or null: the last that begins there or below. */
+/* Returns the object's segment that has an address, or null. It is the last segment that begins at
+ * the address or below. */
 static const rlibreg_segment *segment_of(const rlibreg_image *image, const rlibreg_object *object,
                                          uint64_t address) {
     const rlibreg_segment *first = image->segments + object->first_segment;
@@ -51,7 +52,7 @@ int header_at(const rlibreg_image *image, const rlibreg_object *object, size_t n
     return 1;
 }
 
-/* The first program header of a type. */
+/* Reads the first program header of a type. Returns whether there is one. */
 static int header_of(const rlibreg_image *image, const rlibreg_object *object, uint32_t type,
                      Elf64_Phdr *one) {
     for (size_t i = 0; header_at(image, object, i, one); i++)
@@ -65,9 +66,9 @@ static uint64_t end_of(const rlibreg_image *image, const rlibreg_object *object)
     return last->address + last->length;
 }
 
-/* As other loaders do, from the page in which they begin to the last whole one; but none behind the
- * object's memory, and none of a program that names no loader: the start of a static PIE relocates
- * it once more. */
+/* As in other loaders, the fixed pages go from the page in which PT_GNU_RELRO begins to its last
+ * whole page. None lies past the object's memory. A program that names no loader has none, because
+ * the start of a static PIE relocates it once more. */
 struct pages fixed_pages(const rlibreg_image *image, const rlibreg_object *object) {
     Elf64_Phdr one;
     struct pages none = { object->base, object->base };

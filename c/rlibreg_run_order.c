@@ -1,15 +1,15 @@
 /* The order in which libraries are initialized (gABI chapter 5, "Initialization and Termination
- * Functions"): what a library needs comes before it. Where libraries need each other in a circle
- * the order is that of the loader of glibc 2.35 and later: in which a walk leaves them that begins
- * at each object, from the last in load order to the first, and goes to what that needs in the
- * order of its DT_NEEDED. */
+ * Functions"): a library comes after those that it needs. If libraries need each other in a circle,
+ * the order is that of the loader of glibc 2.35 and later. A walk begins at each object, from the
+ * last in load order to the first, and goes to what the object needs in the order of its DT_NEEDED.
+ * The libraries are initialized in the order in which the walk leaves them. */
 #define _GNU_SOURCE
 #include "rlibreg_run.h"
 
 #include <stdlib.h>
 #include <string.h>
 
-/* A library by its name. */
+/* A library and its name. */
 struct named {
     const char *name;
     size_t number;
@@ -19,18 +19,18 @@ struct named {
 struct entered {
     size_t number;
     struct dynamic dynamic;
-    size_t next;      /* which of its entries comes next */
-    uint64_t strings; /* the address of its string table */
+    size_t next;      /* number of its next entry */
+    uint64_t strings; /* address of its string table */
 };
 
 struct walk {
     const struct program *program;
-    struct named *names; /* the libraries, sorted */
+    struct named *names; /* the libraries, sorted by name */
     size_t libraries;
-    char *was_entered; /* by number */
+    char *was_entered; /* whether a library was entered, by its number */
     struct entered *path;
     size_t depth;
-    size_t *order; /* those that the walk has left */
+    size_t *order; /* the libraries that the walk has left */
     size_t left;
 };
 
@@ -38,7 +38,7 @@ static int compare_names(const void *a, const void *b) {
     return strcmp(((const struct named *)a)->name, ((const struct named *)b)->name);
 }
 
-/* A name that is looked for, and how many bytes of memory it has at most. */
+/* A name to look for, and the most bytes of memory that it has. */
 struct wanted {
     const char *name;
     uint64_t room;
@@ -49,7 +49,8 @@ static int compare_wanted(const void *wanted, const void *named) {
     return strncmp(it->name, ((const struct named *)named)->name, it->room);
 }
 
-/* The library that another one needs by a name of its string table. */
+/* Returns the number of the library that another one, `it`, needs by the name at `offset` in its
+ * string table. */
 static size_t needed_library(const struct walk *walk, const struct entered *it, uint64_t offset) {
     const rlibreg_image *image = &walk->program->image;
     const rlibreg_object *object = &image->objects[it->number];
@@ -74,7 +75,7 @@ static void enter(struct walk *walk, size_t number) {
     if (has_tag(&it->dynamic, DT_STRTAB, &it->strings)) it->strings += object->base;
 }
 
-/* Goes one entry on in the library that was entered last, or leaves it. */
+/* Goes to the next entry of the library that was entered last, or leaves that library. */
 static void step(struct walk *walk) {
     struct entered *last = &walk->path[walk->depth - 1];
     if (last->next == last->dynamic.count) {

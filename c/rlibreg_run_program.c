@@ -1,4 +1,4 @@
-/* What the loader reads in the program's file. */
+/* Opens and reads the program's file. */
 #define _GNU_SOURCE
 #include "rlibreg_run.h"
 
@@ -9,16 +9,17 @@
 #include <sys/stat.h>
 #include <unistd.h>
 
-enum { MOST = (16 << 20) + 1 }; /* a file of so many bytes is refused, and so is a longer one */
+enum { MOST = (16 << 20) + 1 }; /* a file of this many bytes or more is refused */
 
-/* Whether the user may execute a file, which nobody may on a file system that is mounted so: as the
- * kernel asks it of a program. Before 5.8 a kernel can't be asked of a descriptor. */
+/* Returns whether the user may execute a file, as the kernel decides it for a program. Nobody may
+ * on a file system that is mounted without this right. A kernel before 5.8 can't be asked about a
+ * descriptor. */
 static int may_execute(int fd, const char *path) {
     if (!faccessat(fd, "", X_OK, AT_EACCESS | AT_EMPTY_PATH)) return 1;
     return errno != EACCES && !faccessat(AT_FDCWD, path, X_OK, AT_EACCESS);
 }
 
-/* What isn't a regular file may have no end, or none yet, so it isn't waited for. */
+/* A file that isn't regular may have no end, or none yet, so the loader doesn't wait for it. */
 void open_program(struct program *it) {
     it->fd = open(it->path, O_RDONLY | O_CLOEXEC | O_NOCTTY | O_NONBLOCK);
     if (it->fd < 0 || fstat(it->fd, &it->found)) fail(it->path);
@@ -26,7 +27,7 @@ void open_program(struct program *it) {
     if (!may_execute(it->fd, it->path)) fail(it->path);
 }
 
-/* Reads the file into memory, so that nobody can cut or change it under the loader. */
+/* Reads the file into memory, so that nobody can shorten or change it while the loader uses it. */
 void read_program(struct program *it) {
     it->bytes = malloc(MOST);
     if (!it->bytes) fail("memory");
@@ -48,7 +49,7 @@ static Elf64_Ehdr file_header(const struct program *it) {
     return header;
 }
 
-/* Reads the program header of a number. Returns whether the file has it. */
+/* Reads program header number `number` into `one`. Returns whether the file has it. */
 static int read_header(const struct program *it, size_t number, Elf64_Phdr *one) {
     Elf64_Ehdr header = file_header(it);
     if (number >= header.e_phnum || header.e_phoff > it->length) return 0;

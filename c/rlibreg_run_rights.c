@@ -1,4 +1,4 @@
-/* Whether every user may read a file. */
+/* Finds out whether every user may read a file. */
 #define _GNU_SOURCE
 #include "rlibreg_run_kept.h"
 
@@ -7,22 +7,23 @@
 #include <string.h>
 #include <sys/xattr.h>
 
-/* Whether group and others have these rights to what a path names. A list of rights (ACL) may take from
- * some user what the mode gives to all, so nothing with one is for all. */
+/* Returns whether the group and others have these rights to the file of a path. A list of rights
+ * (ACL) may deny some user what the mode gives to all, so a file with such a list doesn't count. */
 static int has_rights(const char *path, mode_t rights) {
     struct stat found;
     return !stat(path, &found) && (found.st_mode & rights) == rights &&
            getxattr(path, "system.posix_acl_access", NULL, 0) <= 0;
 }
 
-/* Whether a real path is that of an open file. */
+/* Returns whether a real path names an open file. */
 static int names(const char *path, int fd) {
     struct stat named, open;
     return !stat(path, &named) && !fstat(fd, &open) && named.st_dev == open.st_dev &&
            named.st_ino == open.st_ino;
 }
 
-/* Whether group and others may search each folder of a real path, which is cut for that. */
+/* Returns whether the group and others may search each folder of a real path. Cuts the path as it
+ * goes. */
 static int is_within_reach(char *path) {
     char *end;
     while ((end = strrchr(path, '/')) && end > path) {

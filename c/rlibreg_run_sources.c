@@ -1,7 +1,7 @@
-/* The sectors that a bind reads, as docs/FORMATS.md has them: the roots, the catalogues, the entries, and
- * the files of the libraries in load order. All of it is copied while the disk is locked, and the
- * program is bound once more, over the copy. So the image depends on the copied bytes and on nothing
- * else, even if somebody without the lock writes to the disk meanwhile. */
+/* Copies the sectors that a bind reads, as docs/FORMATS.md describes them: the roots, the
+ * catalogues, the entries, and the files of the libraries in load order. All of them are copied
+ * while the disk is locked, and the program is bound again, against the copy. So the image depends
+ * only on the copied bytes, even if a process without the lock writes to the disk meanwhile. */
 #define _GNU_SOURCE
 #include "rlibreg_run_kept.h"
 
@@ -12,13 +12,13 @@
 
 enum { SECTOR = 512 };
 
-/* Where the fields are that are used here, and how many there are at most of what a field counts. */
+/* Offsets of the fields that are used here, and the most that a counting field may say. */
 enum { ROOT_GENERATION = 8, ROOT_COUNT = 56, ROOT_LIST = 64, MOST_CATALOGUES = 32 };
 enum { CATALOGUE_COUNT = 4, CATALOGUE_LIST = 16, MOST_ENTRIES = 64 };
 enum { ENTRY_LENGTH = 4, ENTRY_NAME_LENGTH = 8, ENTRY_COUNT = 10, ENTRY_NAME = 16, ENTRY_LIST = 256 };
 enum { MOST_NAME = 240, MOST_EXTENTS = 32 };
 
-/* A number of so many bytes, little endian. */
+/* Returns a number of `bytes` bytes, little endian. */
 static uint64_t number_at(const uint8_t *at, int bytes) {
     uint64_t number = 0;
     while (bytes-- > 0) number = number << 8 | at[bytes];
@@ -27,8 +27,9 @@ static uint64_t number_at(const uint8_t *at, int bytes) {
 
 /* ---- Copying */
 
-/* The pages of the copy can't be written before bytes are put there: so the others take no memory,
- * also where the system promises no more than it has. */
+/* Copies bytes of the disk. Returns 0 or -1. The pages of the copy can't be written before bytes
+ * are put there, so the other pages take no memory, even if the system promises only memory that it
+ * has. */
 static int copy_bytes(struct sources *it, int disk, uint64_t at, uint64_t length) {
     uint64_t page = at / PAGE * PAGE, end = at + length;
     if (mprotect(it->copy + page, end - page, PROT_READ | PROT_WRITE)) return -1;
@@ -40,8 +41,7 @@ static int copy_bytes(struct sources *it, int disk, uint64_t at, uint64_t length
     return 0;
 }
 
-/* Copies bytes of the disk, and adds them to the list. OBJECT is the number of the library of whose
- * file they are, from OFFSET on; 0 if they are part of none. */
+/* Copies bytes of the disk, and adds their extent to the list. Returns 0 or -1. */
 static int take_bytes(struct sources *it, int disk, struct extent one) {
     if (one.at > it->length || one.length > it->length - one.at) return -1;
     if (it->count == it->room) {
@@ -55,15 +55,15 @@ static int take_bytes(struct sources *it, int disk, struct extent one) {
     return copy_bytes(it, disk, one.at, one.length);
 }
 
-/* Copies a sector. Returns its bytes, or null. */
+/* Copies sector number `number`. Returns its bytes, or null. */
 static const uint8_t *take_sector(struct sources *it, int disk, uint64_t number) {
     struct extent one = { .at = number * SECTOR, .length = SECTOR };
     return take_bytes(it, disk, one) ? NULL : it->copy + one.at;
 }
 
-/* ---- What is read */
+/* ---- The sectors that a bind reads */
 
-/* The number of the library of this name in the image, or 0. */
+/* Returns the number of the library of this name in the image, or 0. */
 static size_t number_of(const struct program *program, const uint8_t *name, uint64_t length) {
     const rlibreg_image *image = &program->image;
     for (size_t i = 1; i < image->object_count; i++)
@@ -73,7 +73,7 @@ static size_t number_of(const struct program *program, const uint8_t *name, uint
     return 0;
 }
 
-/* Copies the file of an entry, extent by extent. */
+/* Copies the file of an entry, extent by extent. Returns 0 or -1. */
 static int take_file(struct sources *it, int disk, const uint8_t *entry, size_t object) {
     uint64_t left = number_at(entry + ENTRY_LENGTH, 4), offset = 0;
     uint64_t extents = number_at(entry + ENTRY_COUNT, 2);
@@ -89,7 +89,7 @@ static int take_file(struct sources *it, int disk, const uint8_t *entry, size_t 
     return left ? -1 : 0;
 }
 
-/* Copies an entry, and its file if that is one of the image. */
+/* Copies an entry, and its file if the image has it. Returns 0 or -1. */
 static int take_entry(struct sources *it, int disk, const struct program *program, uint64_t number) {
     const uint8_t *entry = take_sector(it, disk, number);
     uint64_t length = entry ? number_at(entry + ENTRY_NAME_LENGTH, 2) : 0;
@@ -109,7 +109,8 @@ static int take_catalogue(struct sources *it, int disk, const struct program *pr
     return 0;
 }
 
-/* The current root: of both it is that of the greater generation. */
+/* Returns the current root, which is the one with the greater generation, or null if there is
+ * none. */
 static const uint8_t *root_of(const uint8_t *roots) {
     static const char magic[8] = { 'R', 'L', 'I', 'B', 'R', 'E', 'G', '2' };
     const uint8_t *found = NULL;
@@ -120,7 +121,8 @@ static const uint8_t *root_of(const uint8_t *roots) {
     return found;
 }
 
-/* The roots are in the key. */
+/* Copies everything that a bind reads. Returns 0 or -1. The roots of the disk have to be `roots`,
+ * those of the key. */
 static int take_all(struct sources *it, int disk, const struct program *program,
                     const uint8_t *roots) {
     if (it->length < ROOTS || copy_bytes(it, disk, 0, ROOTS) || memcmp(it->copy, roots, ROOTS))
@@ -135,13 +137,14 @@ static int take_all(struct sources *it, int disk, const struct program *program,
 
 /* ---- The second bind */
 
-/* How many bytes an image has: its segments', and behind them its names. */
+/* Returns the number of bytes of an image: those of its segments, followed by its names. */
 static size_t bytes_of(const rlibreg_image *image) {
     const rlibreg_object *last = &image->objects[image->object_count - 1];
     return last->name + last->name_length + 1;
 }
 
-/* Binds over a copy, into room for an image that is like the program's. */
+/* Binds the program against a copy, into the buffers of `other`, which have room for an image like
+ * the program's. Returns 0 if the two images are equal. */
 static int bind_copy(const struct sources *it, const struct program *program,
                      const rlibreg_image *other) {
     const rlibreg_image *image = &program->image;
@@ -157,7 +160,7 @@ static int bind_copy(const struct sources *it, const struct program *program,
            memcmp(other->bytes, image->bytes, bytes);
 }
 
-/* Whether the copy has all that the program's image comes from. */
+/* Returns whether the copy has everything that the program's image comes from. */
 static int has_all(const struct sources *it, const struct program *program) {
     rlibreg_image other = { 0 };
     other.objects = malloc(program->image.object_count * sizeof *other.objects);
@@ -168,7 +171,8 @@ static int has_all(const struct sources *it, const struct program *program) {
     return has;
 }
 
-/* In the order of their places a start compares them by the fewest reads. */
+/* Orders extents by their offsets on the disk. In this order a start compares them with the fewest
+ * reads. */
 static int is_before(const void *one, const void *other) {
     const struct extent *a = one, *b = other;
     return (a->at > b->at) - (a->at < b->at);

@@ -1,4 +1,5 @@
-/* The program's stack, the calls before it is entered, and the jump to its entry. */
+/* Makes the program's stack, calls what is called before the program is entered, and jumps to the
+ * program's entry. */
 #define _GNU_SOURCE
 #include "rlibreg_run_kernel.h"
 #include "rlibreg_run.h"
@@ -15,16 +16,17 @@ static size_t words_in(char **list) {
 
 /* ---- The auxiliary vector */
 
-/* The one that the kernel gave this process. It stands behind the environment, out of which, where
- * AT_SECURE is set, the start of this process's C library takes variables: for each of these one
- * null more stands before the vector, which itself begins with none. */
+/* Returns the auxiliary vector that the kernel gave this process. It follows the environment. If
+ * AT_SECURE is set, the start of this process's C library takes variables out of the environment.
+ * Then there is one more null before the vector for each of them. The vector itself doesn't begin
+ * with a null. */
 static const Elf64_auxv_t *vector_behind(char **environment) {
     while (*environment) environment++;
     while (!*environment) environment++;
     return (const Elf64_auxv_t *)environment;
 }
 
-/* How many entries the vector has, the last included. */
+/* Returns the number of entries of the vector, including the last. */
 static size_t entries_in(const Elf64_auxv_t *vector) {
     size_t count = 1;
     for (; vector->a_type != AT_NULL; vector++) count++;
@@ -37,8 +39,8 @@ uint64_t auxiliary_value(char **kernels, uint64_t number) {
     return it->a_type == AT_NULL ? 0 : it->a_un.a_val;
 }
 
-/* An entry as the program is to see it: what the kernel says of this loader is said of the program.
- */
+/* Returns an entry as the program is to see it. If the kernel's entry is about this loader, the
+ * result is about the program. */
 static Elf64_auxv_t entry_for(const struct program *it, Elf64_auxv_t entry) {
     switch (entry.a_type) {
     case AT_PHDR:
@@ -67,8 +69,9 @@ static Elf64_auxv_t entry_for(const struct program *it, Elf64_auxv_t entry) {
 
 static struct calls at_the_end;
 
-/* The program calls this. Thread-local data are its own by then, so nothing of this process's C
- * library may be used. Each finalizer is called once, even where one ends the program. */
+/* The program calls this. By then the thread-local data are the program's own, so nothing of this
+ * process's C library may be used. Each finalizer is called once, even if one of them ends the
+ * program. */
 static void call_finalizers(void) {
     typedef void finalizer(void);
     while (at_the_end.count) ((finalizer *)at_the_end.at[--at_the_end.count])();
@@ -82,10 +85,11 @@ static void call_initializers(const struct program *it, uint64_t *stack) {
         ((initializer *)it->initializers.at[i])(argc, words, words + argc + 1);
 }
 
-/* The thread's block, which a C library would have set up: code that is compiled with
- * -fstack-protector looks there for its secret, in libraries and in a program without a C library of
- * its own. As others do it, that is of the kernel's random bytes, and the lowest of it a zero. */
-enum { OWN = 0, SECRET = 5, THREAD = 8 }; /* words of it */
+/* Sets up the thread's block as a C library would. Code that is compiled with -fstack-protector
+ * looks there for its secret, in libraries and in a program without a C library of its own. As in
+ * other loaders, the secret is taken from the kernel's random bytes, and its lowest byte is a
+ * zero. */
+enum { OWN = 0, SECRET = 5, THREAD = 8 }; /* indexes of its words, and their number */
 static void take_thread(uint64_t *block, const uint64_t *random) {
     memset(block, 0, THREAD * sizeof *block);
     block[OWN] = (uint64_t)block;
@@ -102,7 +106,7 @@ static void take_name(const char *path) {
     kernel_take_name(name);
 }
 
-/* Puts what the kernel puts onto the stack of a program that it enters. */
+/* Puts onto the stack what the kernel puts onto the stack of a program that it enters. */
 static void fill_stack(const struct program *it, uint64_t *at, char **words, char **environment,
                        const Elf64_auxv_t *vector) {
     size_t argc = words_in(words), variables = words_in(environment), entries = entries_in(vector);
@@ -116,14 +120,15 @@ static void fill_stack(const struct program *it, uint64_t *at, char **words, cha
     }
 }
 
-/* Memory that stays. */
+/* Allocates memory that is never freed. Ends the process if it is refused. */
 static void *room_for(size_t bytes) {
     int64_t map = kernel_map(0, bytes, PROT_READ | PROT_WRITE, MAP_PRIVATE | MAP_ANONYMOUS, -1, 0);
     if (map < 0) kernel_end_process(FAILED, "rlibreg-run: memory: Cannot allocate memory\n");
     return (void *)map;
 }
 
-/* The program's whole path, where it is told: in this room, where it is so short. */
+/* Returns the program's whole path, or null if the system doesn't report it. The path is in `room`
+ * if it is short enough. */
 static char *path_of(const struct program *it, char *room, size_t length) {
     size_t found = read_path(it, room, length);
     if (found == length) {
@@ -133,7 +138,7 @@ static char *path_of(const struct program *it, char *room, size_t length) {
     return found && found < length ? room : NULL;
 }
 
-/* The stack lies below what this process has on its own stack, which goes on growing down from
+/* The program's stack lies below what this process has on its own stack, and grows down from
  * there. */
 void start(struct program *it, char **words, char **environment, char **kernels) {
     enum { LITTLE = 8 << 10, SHORT = 256 };

@@ -1,5 +1,5 @@
-/* The bytes that a kept image is compared by, of the program's file and of the disk: most are equal to
- * pages of the image, which are in the kept file once. */
+/* Finds the bytes by which a kept image is compared, of the program's file and of the disk. Most of
+ * them are equal to pages of the image, which the kept file has only once. */
 #define _GNU_SOURCE
 #include "rlibreg_run_kept.h"
 
@@ -7,13 +7,14 @@
 #include <string.h>
 #include <sys/mman.h>
 
-/* The piece that has an address, if it is in the file and may be read; or null. */
+/* Returns the piece that has an address, if it is in the file and may be read; otherwise null. */
 static const struct piece *kept_piece(const struct pieces *it, uint64_t address) {
     const struct piece *piece = piece_with(it->at, it->count, address);
     return piece && piece->from && piece->how & PROT_READ ? piece : NULL;
 }
 
-/* The address of a page of an object that has the same bytes as its file at an offset, or 0. */
+/* Returns the address of a page of an object that has the same bytes as its file at an offset, or
+ * 0. */
 static uint64_t page_of(const struct program *program, size_t object, uint64_t offset,
                         const uint8_t *bytes, const struct pieces *pieces) {
     const rlibreg_object *it = &program->image.objects[object];
@@ -30,9 +31,9 @@ static uint64_t page_of(const struct program *program, size_t object, uint64_t o
     return 0;
 }
 
-/* ---- Finding them */
+/* ---- Finding the stretches */
 
-/* Whether a stretch goes on where the last one of the same list ends. */
+/* Returns whether a stretch continues the last one of the same list. */
 static int goes_on(const struct stretches *it, const struct stretch *one,
                    const struct pieces *pieces) {
     if (it->count == it->first) return 0;
@@ -62,7 +63,8 @@ static void add_stretch(struct stretches *it, struct stretch one, const struct p
     it->at[it->count++] = one;
 }
 
-/* Adds bytes of an object's file, which are at OFFSET in it, and at AT where they are compared. */
+/* Adds bytes of an object's file. They are at `one.offset` in the file, and are compared at
+ * `one.at`. */
 static void add_bytes(struct stretches *it, const struct program *program, struct extent one,
                       const uint8_t *bytes, const struct pieces *pieces) {
     for (uint64_t step, end = one.at + one.length; one.at < end; one.at += step) {

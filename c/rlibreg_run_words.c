@@ -1,17 +1,17 @@
-/* The words of the loader. */
+/* Reads the arguments of the loader. */
 #define _GNU_SOURCE
 #include "rlibreg_run_kernel.h"
 #include "rlibreg_run_kept.h"
 
-/* The number that a digit is, or 16. */
+/* Returns the value of a digit, or 16 if it is none. */
 static unsigned digit_of(char letter) {
     if ('0' <= letter && letter <= '9') return (unsigned)(letter - '0');
     if ('a' <= letter && letter <= 'f') return (unsigned)(letter - 'a' + 10);
     return 'A' <= letter && letter <= 'F' ? (unsigned)(letter - 'A' + 10) : 16;
 }
 
-/* Reads digits, decimal or behind 0x hexadecimal. Gives whether they are some, of a number that
- * there is. */
+/* Reads a base from digits, which are decimal or, after 0x, hexadecimal. Returns whether there are
+ * digits, and nothing else, and the base fits into 64 bits. */
 static int read_base(const char *word, uint64_t *base) {
     unsigned radix = word[0] == '0' && word[1] == 'x' ? 16 : 10;
     if (radix == 16) word += 2;
@@ -24,7 +24,7 @@ static int read_base(const char *word, uint64_t *base) {
     return 1;
 }
 
-/* Takes an option that has a value. Gives whether it is a good one. */
+/* Sets an option that has a value. Returns whether the value is good. */
 static int take_value(struct program *it, struct keeping *keeping, char letter, const char *value) {
     if (!value) return 0;
     if (letter == 'c') {
@@ -35,8 +35,9 @@ static int take_value(struct program *it, struct keeping *keeping, char letter, 
     return read_base(value, &it->base);
 }
 
-/* Reads the options of the word at a place, which may be several: a value is the rest of the word or
- * the next one. Gives whether they are good, and how many words they take. */
+/* Reads the options of the first word, which may be several. A value is the rest of the word, or
+ * the next word. Returns whether the options are good, and sets `taken` to the number of words that
+ * they take. */
 static int read_word(struct program *it, struct keeping *keeping, char **words, int *taken) {
     int are_good = 1;
     *taken = 1;

@@ -1,5 +1,5 @@
-/* Writing the file of an image from its beginning to its end, in few calls: what is written by one call
- * a file system keeps in few large pages, and a start maps, reads and unmaps these faster. */
+/* Writes the file of an image from its beginning to its end, in few calls. A file system keeps what
+ * one call writes in few large pages, and a start maps, reads and unmaps these faster. */
 #define _GNU_SOURCE
 #include "rlibreg_run_kept.h"
 
@@ -16,7 +16,8 @@ struct output {
     struct iovec parts[MOST_PARTS];
 };
 
-/* Takes away as many bytes as were written. Returns the number of parts that are left. */
+/* Removes the first `written` bytes, which were written. Returns the number of parts that are
+ * left. */
 static int drop_written(struct iovec **it, int count, size_t written) {
     for (; count && written >= (*it)->iov_len; count--) written -= (*it)++->iov_len;
     if (count) {
@@ -44,7 +45,7 @@ static void put(struct output *it, const void *bytes, uint64_t length) {
     it->parts[it->count++] = (struct iovec){ .iov_base = (void *)bytes, .iov_len = length };
 }
 
-/* Puts the stretches that are in no page of the image, out of the bytes that they are of. */
+/* Puts the stretches that are in no page of the image. They are part of `bytes`. */
 static void put_others(struct output *it, const struct stretch *one, uint64_t count,
                        const uint8_t *bytes) {
     for (const struct stretch *end = one + count; one < end; one++)
@@ -56,8 +57,8 @@ static void put_pieces(struct output *it, const struct piece *one, uint64_t coun
         if (one->from) put(it, (const void *)one->address, one->length);
 }
 
-/* It is on the medium before anyone maps it: else a process may find other bytes in a page that the
- * system couldn't write and had to drop. */
+/* The file is on the medium before any process maps it. Otherwise a process might find other bytes
+ * in a page that the system couldn't write and had to drop. */
 int write_kept(int fd, const struct keeping *it, const struct program *program,
                const struct kept_file *file) {
     static const uint8_t zeros[PAGE];
