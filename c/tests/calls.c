@@ -1,6 +1,6 @@
-/* calls LIBRARY OTHER PROGRAM NAME DIGEST makes the calls over bytes with buffers of every size, with
- * bytes that are damaged, and with none. LIBRARY, of the SONAME NAME, is what PROGRAM needs; OTHER
- * has the same SONAME. DIGEST is what sha256sum prints of LIBRARY. */
+/* calls LIBRARY OTHER PROGRAM NAME DIGEST makes the calls over bytes with buffers of every size,
+ * with damaged bytes, and with none. PROGRAM needs LIBRARY, which has the SONAME NAME; OTHER has
+ * the same SONAME. DIGEST is the digest that sha256sum prints for LIBRARY. */
 #include "../rlibreg.h"
 
 #include <stdio.h>
@@ -34,7 +34,7 @@ static struct file read_file(const char *path) {
     return it;
 }
 
-/* ---- Buffers with a guard behind them */
+/* ---- Buffers followed by a guard */
 
 static void *guarded(size_t length) {
     uint8_t *it = malloc(length + GUARD);
@@ -48,7 +48,7 @@ static void check_guard(void *buffer, size_t length) {
     free(buffer);
 }
 
-/* ---- A disk that calls are made over */
+/* ---- A disk for the calls */
 
 static uint8_t disk[SECTORS * SECTOR];
 
@@ -64,7 +64,7 @@ static void carry_out(const uint8_t *plan, uint64_t length) {
 }
 
 struct call {
-    char what; /* f, u, i, r, d, p: plans; l, b */
+    char what; /* f, u, i, r or d: the plan call of this kind; otherwise that for preloads */
     const void *asked;
     size_t length;
 };
@@ -90,7 +90,7 @@ static uint32_t plan(struct call it, uint8_t *out, size_t room, char *text, size
                                 answer);
 }
 
-/* Plans with every room, and then carries the plan out. */
+/* Makes a plan with room of every size, and then carries it out. */
 static void try_plan(struct call it) {
     static uint8_t whole[ROOM], before[sizeof disk];
     char ok[8];
@@ -110,11 +110,11 @@ static void try_plan(struct call it) {
         check_guard(out, room);
         check_guard(text, 2);
     }
-    WANT(!memcmp(before, disk, sizeof disk)); /* a call writes nothing on the disk */
+    WANT(!memcmp(before, disk, sizeof disk)); /* a call writes nothing to the disk */
     carry_out(whole, answer.bytes);
 }
 
-/* How many steps a plan has. */
+/* Checks the number of steps of a plan. */
 static void try_steps(struct call it, uint64_t steps) {
     static uint8_t out[ROOM];
     char text[8];
@@ -123,7 +123,7 @@ static void try_steps(struct call it, uint64_t steps) {
     WANT(answer.count == steps);
 }
 
-/* A refusal, with every room for its text. */
+/* Checks a refusal, with room of every size for its text. */
 static void try_refusal(struct call it, uint32_t wanted, const char *line) {
     static uint8_t out[ROOM];
     for (size_t room = 0; room <= strlen(line) + 1; room++) {
@@ -138,7 +138,8 @@ static void try_refusal(struct call it, uint32_t wanted, const char *line) {
     }
 }
 
-/* Names in a row: each has a byte 0 behind it, and the empty one is a name that nothing has. */
+/* Tries names in a row. A byte 0 follows each of them, and the empty name is one that no library
+ * has. */
 static void try_names(const char *name) {
     char names[600] = { 0 };
     size_t one = strlen(name) + 1;
@@ -152,7 +153,7 @@ static void try_names(const char *name) {
     try_refusal(cut_behind, RLIBREG_BAD_ARGUMENT, "");
 }
 
-/* ---- Looking, with every room */
+/* ---- Reading, with room of every size */
 
 static void try_listing(uint64_t libraries, uint64_t preloads, uint64_t generation,
                         const char *names, size_t names_length, const char *said) {
@@ -180,7 +181,7 @@ static void try_listing(uint64_t libraries, uint64_t preloads, uint64_t generati
     }
 }
 
-/* An answer that speaks of nothing but this. */
+/* Returns whether an answer has these values, and 0 in every other field. */
 static int is_answer(const rlibreg_answer *it, uint32_t status, uint64_t bytes, uint64_t text) {
     rlibreg_answer wanted = { .status = status, .bytes = bytes, .text = text };
     return !memcmp(it, &wanted, sizeof wanted);
@@ -211,7 +212,7 @@ static void try_digest(const char *name, const char *wanted) {
     check_guard(digest, RLIBREG_DIGEST_BYTES);
 }
 
-/* A name that no library has, with every room for the text. */
+/* Asks for a name that no library has, with room of every size for the text. */
 static void try_no_file(const char *name, size_t length) {
     const char *line = "refused C3 NotInstalled\n";
     for (size_t room = 0; room <= strlen(line) + 1; room++) {
@@ -232,7 +233,8 @@ static void try_no_file(const char *name, size_t length) {
     }
 }
 
-/* Names of no form, beside one that a library has. */
+/* Asks for names that no library has and that aren't well formed, or are like the name of a
+ * library. */
 static void try_no_files(const char *name) {
     char names[1000];
     size_t length = strlen(name);
@@ -240,7 +242,7 @@ static void try_no_files(const char *name) {
     memcpy(names, name, length + 1);
     try_no_file(NULL, 0);
     try_no_file(names, length - 1);
-    try_no_file(names, length + 1); /* with the byte 0 behind it */
+    try_no_file(names, length + 1); /* with the byte 0 after it */
     try_no_file(names, sizeof names);
     names[0] ^= 0x80;
     try_no_file(names, length);
@@ -254,7 +256,7 @@ static void try_info(rlibreg_information wanted) {
     check_guard(it, sizeof *it);
 }
 
-/* Without a registry neither is told, and nothing is written but the text. */
+/* Checks that without a registry no call returns anything, and that only the text is written. */
 static void try_nothing_told(size_t length, uint32_t wanted, const char *line) {
     char text[64];
     rlibreg_answer answer;
@@ -271,7 +273,7 @@ static void try_nothing_told(size_t length, uint32_t wanted, const char *line) {
     check_guard(it, 0);
 }
 
-/* An image, and how much room it has. */
+/* An image, and the room that its buffers have. */
 struct image {
     rlibreg_object *objects;
     rlibreg_segment *segments;
@@ -285,7 +287,7 @@ static uint32_t bind_into(struct file program, struct image it, rlibreg_answer *
                         answer);
 }
 
-/* An image of one library, which needs nothing. */
+/* Checks an image with one library, which needs nothing. */
 static void check_image(struct image it, const rlibreg_answer *answer, const char *library) {
     uint64_t at = 0, segment = 0;
     const char *names[] = { "/program", library };
@@ -348,7 +350,7 @@ static void try_image(struct file program, const char *library) {
             }
 }
 
-/* ---- Bindings and an executable file: a call for each */
+/* ---- Bindings and an executable file: one call for each */
 
 static uint32_t give(char what, struct file program, uint64_t base, void *bytes, size_t room,
                      char *text, size_t text_room, rlibreg_answer *answer) {
@@ -359,7 +361,8 @@ static uint32_t give(char what, struct file program, uint64_t base, void *bytes,
                               text, text_room, answer);
 }
 
-/* With every room this is given, by this status; where there is too little, nothing is written. */
+/* Checks that a call returns the bytes `given` with the status `wanted`, for room of every size. If
+ * there is too little room, it writes nothing. */
 static void try_given(char what, struct file program, uint32_t wanted, const void *given,
                       size_t length, uint64_t count) {
     for (size_t room = 0; room <= length + 1; room++) {
@@ -375,7 +378,8 @@ static void try_given(char what, struct file program, uint32_t wanted, const voi
     }
 }
 
-/* Nothing is given: the buffer is left, and the text says why, with every room for that. */
+/* Checks that a call returns nothing: the buffer stays as it is, and the text says why, with room
+ * of every size for the text. */
 static void try_not_given(char what, struct file program, uint64_t base, uint32_t wanted,
                           const char *line) {
     for (size_t room = 0; room <= strlen(line) + 1; room++) {
@@ -391,13 +395,13 @@ static void try_not_given(char what, struct file program, uint64_t base, uint32_
     }
 }
 
-/* What neither is given of, by the same lines as a bind. */
+/* Checks that neither call returns anything, with the same line as a bind. */
 static void try_none_given(struct file program, uint64_t base, uint32_t wanted, const char *line) {
     try_not_given('b', program, base, wanted, line);
     try_not_given('x', program, base, wanted, line);
 }
 
-/* Without its library a program has no executable file, and it is told what it lacks. */
+/* Without its library a program has no executable file, and its bindings say what is missing. */
 static void try_lacking(struct file program, const char *library) {
     char missing[600], said[2000];
     snprintf(missing, sizeof missing, "refused B3 Missing /program %s\n", library);
@@ -407,7 +411,7 @@ static void try_lacking(struct file program, const char *library) {
     try_not_given('x', program, 0x10000, RLIBREG_MISSING, missing);
 }
 
-/* With its library, of which no relocation names a symbol. */
+/* With its library a program has bindings. No relocation names a symbol of this library. */
 static void try_bindings(struct file program, const char *library) {
     char said[2000];
     const char *form = "object 0x%016x /program\nneeds %s\nobject 0x%016x %s\nend\n";
@@ -415,7 +419,7 @@ static void try_bindings(struct file program, const char *library) {
     try_given('b', program, RLIBREG_DONE, said, (size_t)length, 0);
 }
 
-/* The same program with an entry, at its first byte but one, in memory that may be executed. */
+/* Returns the same program with an entry, at its second byte, in memory that may be executed. */
 static struct file with_entry(struct file program) {
     struct file it = { malloc(program.length), program.length };
     WANT(it.bytes && program.length > 64 + 56);
@@ -425,7 +429,8 @@ static struct file with_entry(struct file program) {
     return it;
 }
 
-/* The file of a program is of the kind ET_EXEC, with its entry, and as many headers as are counted. */
+/* The file of a program is of the type ET_EXEC, with the program's entry, and with as many headers
+ * as the answer counts. */
 static void try_executable(struct file program) {
     static uint8_t bytes[ROOM];
     rlibreg_answer answer;
@@ -448,7 +453,7 @@ static void try_bind_refusal(struct file program, uint64_t base, uint32_t wanted
     if (wanted != RLIBREG_MISSING) try_none_given(program, base, wanted, line);
 }
 
-/* ---- Bytes that are damaged */
+/* ---- Damaged bytes */
 
 static int is_status(uint32_t status) {
     return status <= RLIBREG_BAD_ARGUMENT || strcmp(rlibreg_status_name(status), "unknown");
@@ -496,7 +501,7 @@ static void try_damaged(struct file program, struct file library) {
     memcpy(disk, kept, sizeof disk);
 }
 
-/* ---- No bytes, and none that are sectors */
+/* ---- No bytes, and bytes that aren't whole sectors */
 
 static void try_lengths(void) {
     char text[64];
@@ -522,8 +527,8 @@ static void try_lengths(void) {
 
 struct given {
     struct file library, other, program;
-    const char *name;   /* the SONAME of the first two, with a byte 0 behind it */
-    const char *digest; /* of the first, in hexadecimal */
+    const char *name;   /* SONAME of the first two, followed by a byte 0 */
+    const char *digest; /* digest of the first, in hexadecimal */
 };
 
 static struct call install_of(struct file file) {

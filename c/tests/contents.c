@@ -1,6 +1,6 @@
-/* contents LIBRARY NAME asks for libraries' bytes and digests, and for what is told of the whole, of disks in
- * the folder where it is run. LIBRARY has the SONAME NAME, of one byte, and stays a library when
- * that is another and when bytes stand behind it. */
+/* contents LIBRARY NAME reads the bytes and digests of libraries, and the information on the whole
+ * registry, from disks in the folder where it is run. LIBRARY has the SONAME NAME, of one byte. It
+ * stays a library if the SONAME is changed, and if bytes follow it. */
 #define _POSIX_C_SOURCE 200809L
 #include "watched.h"
 
@@ -8,9 +8,9 @@
 
 enum { SECTOR = 512, MOST_FILE = 16 << 20 };
 
-static unsigned char library[MOST_FILE + 1]; /* its own bytes, and behind them others */
-static size_t least;                         /* how many bytes it has of its own */
-static unsigned char *soname;                /* the byte in it */
+static unsigned char library[MOST_FILE + 1]; /* its own bytes, followed by others */
+static size_t least;                         /* number of its own bytes */
+static unsigned char *soname;                /* byte of the SONAME in it */
 
 static void read_library(const char *path, const char *name) {
     const char wanted[] = { 0, name[0], 0 };
@@ -23,7 +23,7 @@ static void read_library(const char *path, const char *name) {
     WANT(soname);
 }
 
-/* A library of this name and length. */
+/* Installs a library of this name and length. Returns a status. */
 static uint32_t install(rlibreg *it, char name, size_t length) {
     *soname = (unsigned char)name;
     return rlibreg_install(it, library, length);
@@ -46,7 +46,7 @@ static uint32_t remove_library(rlibreg *it, char name) {
     return rlibreg_remove(it, (char[]){ name, 0 });
 }
 
-/* The digest of a library is the one that sha256sum has of these bytes. */
+/* Checks that a library has the digest that sha256sum prints for these bytes. */
 static void want_digest(rlibreg *it, char name, const void *bytes, size_t length) {
     uint8_t digest[RLIBREG_DIGEST_BYTES];
     FILE *file = fopen("given", "wb"), *sum;
@@ -68,7 +68,7 @@ static void want_file(rlibreg *it, char name, const void *wanted, size_t length)
     free(bytes);
 }
 
-/* A library of this name and length has its bytes, as it is installed. */
+/* Checks that the library of this name and length has its bytes, as it was installed. */
 static void want_library(rlibreg *it, char name, size_t length) {
     *soname = (unsigned char)name;
     want_file(it, name, library, length);
@@ -86,7 +86,7 @@ static void want_no_file(rlibreg *it, const char *name, uint32_t wanted, const c
     WANT(!strcmp(rlibreg_text(it), text) && rlibreg_last(it)->status == wanted);
 }
 
-/* Lengths around those of sectors and of the first buffer. */
+/* Tries lengths around those of sectors and of the first buffer. */
 static void try_lengths(void) {
     const size_t lengths[] = { least, 512, 513, 65535, 65536, 65537, MOST_FILE };
     const size_t count = sizeof lengths / sizeof *lengths;
@@ -109,7 +109,7 @@ static void try_lengths(void) {
     rlibreg_close(it);
 }
 
-/* Puts a byte into the disk, and gives the one that was there. */
+/* Puts a byte into the disk. Returns the byte that was there. */
 static int put_byte(long at, int byte) {
     FILE *disk = fopen("disk", "r+b");
     WANT(disk && !fseek(disk, at, SEEK_SET));
@@ -119,8 +119,8 @@ static int put_byte(long at, int byte) {
     return before;
 }
 
-/* A library that is damaged is given as it is, and keeps nothing else from being told: data in
- * sector 2, entry in 3, catalogue in 4; and behind these those of another. */
+/* A damaged library is returned as it is, and keeps nothing else from being returned. Its data are
+ * in sector 2, its entry in 3, and the catalogue in 4. Those of another library follow. */
 static void try_damaged(void) {
     unsigned char damaged[SECTOR];
     rlibreg_listing listing;
@@ -143,7 +143,7 @@ static void try_damaged(void) {
     rlibreg_close(it);
 
     put_byte(2 * SECTOR, library[0]);
-    put_byte(3 * SECTOR, 0); /* the entry: nothing is told then */
+    put_byte(3 * SECTOR, 0); /* the entry: then nothing is returned */
     it = opened();
     want_no_file(it, "b", RLIBREG_DAMAGED, "refused S5 Damaged\n");
     WANT(rlibreg_info_of(it, &told) == RLIBREG_DAMAGED && !memcmp(&told, &before, sizeof told));
@@ -151,11 +151,11 @@ static void try_damaged(void) {
     rlibreg_close(it);
 }
 
-/* ---- The whole */
+/* ---- The whole registry */
 
 static unsigned seen_full, seen_fragmented, seen_empty;
 
-/* Whether a file that is longer than the greatest is refused for that. */
+/* Returns whether a file that is longer than the largest one is refused because of its length. */
 static int is_too_large(rlibreg *it, uint32_t status, size_t length) {
     seen_full += status == RLIBREG_FULL;
     seen_fragmented += status == RLIBREG_FRAGMENTED;
@@ -164,8 +164,8 @@ static int is_too_large(rlibreg *it, uint32_t status, size_t length) {
     return status == RLIBREG_FULL || status == RLIBREG_FRAGMENTED;
 }
 
-/* What is told is what is listed; a library of a new name goes in up to the greatest length, and
- * not above it. */
+/* Checks that the information agrees with the listing, and that a library of a new name can be
+ * installed up to the largest length, and not above it. */
 static void try_told(rlibreg *it, uint64_t sectors) {
     rlibreg_information told, after;
     rlibreg_listing listing;
@@ -185,7 +185,7 @@ static void try_told(rlibreg *it, uint64_t sectors) {
     WANT(after.largest == told.largest || told.unused_runs > 32);
 }
 
-/* Disks of each size from the least on, empty and with a library. */
+/* Tries disks of each size from the smallest on, empty and with a library. */
 static void try_sizes(void) {
     for (uint32_t sectors = 8; sectors < 40; sectors++) {
         rlibreg *it = formatted(sectors);
@@ -199,8 +199,9 @@ static void try_sizes(void) {
     rlibreg_close(it);
 }
 
-/* A disk that is filled with small libraries, of which every other one is then removed, twice. The
- * whole is tried at every seventh: at 64 libraries too, whose next one takes a catalogue more. */
+/* Fills a disk with small libraries, and then removes every other one, twice. Checks the whole
+ * registry at every seventh library. This includes 64 libraries, after which the next one needs one
+ * more catalogue. */
 static void try_runs(uint32_t sectors) {
     rlibreg *it = formatted(sectors);
     for (int round = 0; round < 2; round++) {

@@ -1,12 +1,13 @@
 /* cuts PROGRAM NAME DISK BASE_PROGRAM CHANGE [FILE|NAME].. cuts the plan of a change at each
  * prefix, and opens every disk that a power cut may leave then, by the library and by the program
- * `rlibreg`. Behind the CHANGE `update` are several, with a word `,` between each two.
+ * `rlibreg`. After the CHANGE `update` there are several changes, with a word `,` between each two.
  *
- * Of what was written since the last sync each sector has its old content or any that was written
- * to it. A disk that is left has to be the one from before the change or the one after it, whole:
- * by its listing with the generation, and by the image of a program that is bound over it. What the
- * program prints of both has to be the same as of one of these two. As a control the plan is tried
- * without the sync before its last write: then a disk has to be left that is neither. */
+ * Each sector that was written since the last sync has its old content, or any that was written to
+ * it. A disk that is left has to be, as a whole, the one from before the change or the one after
+ * it. This is judged by its listing, with the generation, and by the image of a program that is
+ * bound against it. `rlibreg` has to print for the disk what it prints for one of these two. As a
+ * control, the plan is tried without the sync before its last write: then a disk has to be left
+ * that is neither. */
 #define _GNU_SOURCE
 #include "../rlibreg.h"
 
@@ -36,20 +37,20 @@ static uint8_t *read_file(const char *path, size_t *length) {
 /* ---- What a disk holds */
 
 struct files {
-    const char *rlibreg; /* the program */
-    const char *left;    /* a path for a disk */
-    const char *bound;   /* the path of a program that is bound */
-    uint8_t *program;    /* its bytes */
+    const char *rlibreg; /* path of the program `rlibreg` */
+    const char *left;    /* path for a disk that is left */
+    const char *bound;   /* path of a program that is bound */
+    uint8_t *program;    /* bytes of that program */
     size_t program_length;
-    size_t length; /* of the disk */
+    size_t length; /* length of the disk in bytes */
 };
 
 struct seen {
     uint32_t listed, bound; /* statuses */
     uint64_t generation;
-    size_t length; /* of the text, and of the image's bytes behind it */
+    size_t length; /* length of the text, and of the image's bytes after it */
     uint8_t *bytes;
-    size_t printed_length; /* of what the program prints */
+    size_t printed_length; /* length of the program's output */
     char *printed;
 };
 
@@ -80,7 +81,7 @@ static int are_same(const struct seen *a, const struct seen *b) {
            a->length == b->length && !memcmp(a->bytes, b->bytes, a->length);
 }
 
-/* What the program prints of a disk: its listing, and the image or the refusal of a bind. */
+/* Reads the output of `rlibreg` for a disk: its listing, and the image or the refusal of a bind. */
 static void run_program(const struct files *it, const uint8_t *disk, struct seen *seen) {
     char command[4096];
     FILE *file = fopen(it->left, "wb");
@@ -99,7 +100,7 @@ static void run_program(const struct files *it, const uint8_t *disk, struct seen
 struct steps {
     size_t count;
     uint32_t sector[MOST_STEPS];
-    const uint8_t *content[MOST_STEPS]; /* null: a sync */
+    const uint8_t *content[MOST_STEPS]; /* null for a sync */
 };
 
 static struct steps steps_of(const uint8_t *plan, const rlibreg_answer *answer) {
@@ -158,8 +159,8 @@ static void try_disk(struct cuts *it, const uint8_t *disk) {
     free(seen.printed);
 }
 
-/* Tries the disks that are left of the steps from one on, up to another: of each sector that they
- * write, its content so far or any of theirs. */
+/* Tries the disks that the steps from `from` up to `to` may leave. Each sector that they write has
+ * its content so far, or any of theirs. */
 static void try_mixtures(struct cuts *it, uint8_t *disk, size_t from, size_t to) {
     while (from < to && !it->steps->content[from]) from++;
     if (from == to) {
@@ -198,8 +199,8 @@ static void free_tried(struct cuts *it) {
     it->count = it->old = it->new = it->neither = 0;
 }
 
-/* The steps without the sync before the last write; none where nothing is written before that sync.
- */
+/* Returns the steps without the sync before the last write, or none if nothing is written before
+ * that sync. */
 static struct steps without_sync(const struct steps *steps) {
     struct steps it = *steps;
     size_t last = it.count, writes = 0;
@@ -217,7 +218,7 @@ static struct steps without_sync(const struct steps *steps) {
 
 /* ---- */
 
-/* An update: of each kind and its words up to a comma, in one plan. */
+/* Plans an update in one plan: for each change its kind, and its words up to a comma. */
 static uint32_t plan_update(const uint8_t *disk, size_t length, char **words, uint8_t *plan,
                             char *text, rlibreg_answer *answer) {
     static uint8_t bytes[ROOM];

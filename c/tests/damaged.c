@@ -1,6 +1,6 @@
-/* damaged DISK PROGRAM binds a program, damages the bytes of its image in many ways, and has the
- * loader find what is to be called, and which pages are fixed. It finds that or refuses, and reads
- * nothing outside of the image, which the sanitizers see. */
+/* damaged DISK PROGRAM binds a program, and damages the bytes of its image in many ways. The loader
+ * has to find the functions to call and the fixed pages, or to refuse. It must read nothing outside
+ * the image: the sanitizers would detect that. */
 #include "../rlibreg_run.h"
 
 #include <setjmp.h>
@@ -12,7 +12,7 @@ enum { ROUNDS = 20000, ROOM = 1 << 16 };
 
 static jmp_buf back;
 
-/* A refusal ends the loader, but not this. */
+/* A refusal ends the loader, but not this test. */
 void give_up(int status, const char *what, const char *why) {
     if (status != REFUSED || !strlen(what) || !strlen(why)) abort();
     longjmp(back, 1);
@@ -23,7 +23,7 @@ void fail(const char *what) {
     abort();
 }
 
-/* What the loader has when it is ended it doesn't free. */
+/* The loader doesn't free the memory that it has when it ends. */
 const char *__asan_default_options(void);
 const char *__asan_default_options(void) {
     return "detect_leaks=0";
@@ -35,7 +35,7 @@ static uint32_t next_random(void) {
     return random >> 8;
 }
 
-/* Changes a byte of a dynamic section, and at times one of the image. */
+/* Changes a byte of a dynamic section or, at times, a byte anywhere in the image. */
 static void damage(const rlibreg_image *image, size_t length) {
     const rlibreg_object *object = &image->objects[next_random() % image->object_count];
     struct dynamic dynamic = dynamic_of(image, object);
@@ -45,7 +45,7 @@ static void damage(const rlibreg_image *image, size_t length) {
     image->bytes[at] ^= (uint8_t)(1u << next_random() % 8);
 }
 
-/* Whether the loader would start the program. */
+/* Returns whether the loader would start the program. */
 static int is_started(struct program *it) {
     if (setjmp(back)) return 0;
     it->initializers.count = it->finalizers.count = 0;
@@ -67,7 +67,7 @@ int main(int argc, char **argv) {
     fclose(file);
     if (rlibreg_open(registry, argv[1], 0)) return 2;
     if (rlibreg_image_of(registry, bytes, it.length, it.base, &it.image)) return 2;
-    size_t length = it.image.objects->name; /* the segments', behind which the names are */
+    size_t length = it.image.objects->name; /* bytes of the segments, which the names follow */
     uint8_t *kept = malloc(length);
     if (!kept || !is_started(&it)) return 1;
     memcpy(kept, it.image.bytes, length);

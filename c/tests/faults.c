@@ -1,9 +1,9 @@
 /* faults LIBRARY OTHER PROGRAM NAME OLD makes every change of a disk, in the folder where it is
- * run, and has each call of the system fail, from the opening of the disk to its closing; the
- * process end at each; and each growth of memory fail. LIBRARY and OTHER have the SONAME NAME, and
- * different lengths; PROGRAM needs it. OLD is a disk of version 1. The disk has to be the old one
- * or the new one then, as the answer says. It is linked with --wrap of malloc, calloc and realloc
- * beside the watched calls. */
+ * run. It makes each call of the system fail, from the opening of the disk to its closing. It also
+ * ends the process at each of them, and makes each growth of memory fail. Then the disk has to be
+ * the old one or the new one, as the answer says. LIBRARY and OTHER have the SONAME NAME and
+ * different lengths. PROGRAM needs it. OLD is a disk of version 1. The test is linked with --wrap
+ * of malloc, calloc and realloc, besides the watched calls. */
 #define _GNU_SOURCE
 #include "watched.h"
 
@@ -15,7 +15,7 @@
 
 /* ---- Growths of memory that fail */
 
-static long growths = -1; /* how many are let through before one fails, or -1 */
+static long growths = -1; /* number of growths before the one that fails, or -1 */
 
 static int is_due(void) {
     if (growths < 0) return 0;
@@ -62,7 +62,7 @@ static void put(const char *bytes, size_t length, off_t whole) {
     WANT(!close(fd));
 }
 
-/* What the disk holds, as a listing or the refusal of one. */
+/* Returns the content of the disk: its listing, or the refusal of one. */
 static const char *state(void) {
     static char text[4096];
     rlibreg_listing listing;
@@ -83,7 +83,7 @@ struct change {
     const char *what;
     void (*prepare)(void);
     uint32_t (*make)(rlibreg *it);
-    int opens; /* whether it opens the disk itself */
+    int opens; /* whether the change opens the disk itself */
     char before[256], after[256];
 };
 
@@ -103,8 +103,8 @@ static uint32_t make_preload(rlibreg *it) {
     return rlibreg_preload(it, &name, 1);
 }
 
-/* An update that replaces the library, sets the preloads, and installs and removes: all of it or
- * nothing is found in a listing. */
+/* An update that replaces the library, sets the preloads, installs and removes. A listing shows all
+ * of it or nothing. */
 static struct update {
     rlibreg_change changes[4];
     char bytes[2 << 20];
@@ -174,7 +174,7 @@ static struct change changes[] = {
     { .what = "format in place", .prepare = leave_zeros, .make = make_format, .opens = 1 },
 };
 
-/* What a change was answered, and by which of its calls. */
+/* The outcome of a change: the status of its opening, the status of the change, and errno. */
 struct outcome {
     uint32_t opened, status;
     int why;
@@ -188,7 +188,7 @@ static uint32_t executable_of(rlibreg *it, uint64_t base, void **bytes, size_t *
     return rlibreg_executable_of(it, program.bytes, program.length, base, bytes, length);
 }
 
-/* After S1 a struct says S2 to everything. */
+/* After S1 (Device) a struct refuses every call with S2 (Reopen). */
 static void want_reopen(rlibreg *it, const struct change *change) {
     char *text;
     rlibreg_listing listing;
@@ -217,7 +217,7 @@ static int is_of_the_system(uint32_t status) {
     return status == RLIBREG_SYSTEM || status == RLIBREG_DEVICE;
 }
 
-/* Makes a change, from the opening of the disk to its closing. */
+/* Makes a change, from the opening of the disk to its closing. Returns its outcome. */
 static struct outcome attempt(const struct change *change) {
     struct outcome it = { 0 };
     rlibreg *registry = rlibreg_create();
@@ -236,7 +236,7 @@ static struct outcome attempt(const struct change *change) {
     return it;
 }
 
-/* Asks for a change that was made or not. */
+/* Makes a change again, which may have been made already. */
 static void make_again(const struct change *change, int was_made) {
     uint32_t status = attempt(change).status;
     WANT(!status ||
@@ -251,18 +251,19 @@ static int has_failed(const char *word) {
     return !strcmp(watched.failed, word);
 }
 
-/* Whether the answer is the right one to the call that failed. */
+/* Returns whether the outcome fits the call that failed. */
 static int is_right(const struct change *change, const struct outcome *it) {
     if (has_failed("attributes") || has_failed("past") || has_failed("unlock") ||
         has_failed("system") || has_failed("mark-changes") || has_failed("unmark"))
-        return !it->status; /* it goes on without */
-    if (has_failed("flags") && !it->status) return 1; /* those of a stream */
-    if (change->opens) /* making.c knows more of each */
+        return !it->status; /* the change goes on without the call */
+    if (has_failed("flags") && !it->status) return 1; /* flags of a stream */
+    if (change->opens) /* making.c knows more about each */
         return !it->status || ((it->status == RLIBREG_SYSTEM || it->status == RLIBREG_DEVICE) &&
                                (it->why == EIO || it->why == EAGAIN));
-    if (has_failed("stat")) /* the path is opened again, or isn't known to name the file */
+    if (has_failed("stat")) /* the path is opened again, or may name another file */
         return !it->status || (it->why == EIO && it->status == RLIBREG_DEVICE && !it->opened);
-    if (has_failed("fstat") && it->status == RLIBREG_DEVICE) /* of the disk, beside its path */
+    if (has_failed("fstat") && it->status == RLIBREG_DEVICE) /* of the disk, to compare it with
+                                                              * its path */
         return it->why == EIO && !it->opened;
     if (has_failed("fstat") || has_failed("flags")) /* of the disk, or of a stream */
         return it->why == EIO && it->status == RLIBREG_SYSTEM;
@@ -292,7 +293,8 @@ static void try_short_writes(const struct change *change) {
     watched.is_short = 1;
     struct outcome it = attempt(change);
     unwatch();
-    WANT(!it.status || (change->opens && it.why == ENOSPC)); /* a new disk's first write is whole */
+    WANT(!it.status || (change->opens && it.why == ENOSPC)); /* the first write to a new disk is
+                                                              * whole */
     WANT(!strcmp(state(), it.status ? change->before : change->after));
 }
 
@@ -320,7 +322,7 @@ static void try_ends(const struct change *change, long calls) {
 
 enum { LOOKS = 9 };
 
-/* Looks at the disk, by the call of this number. */
+/* Reads the disk by call number `number`. Returns its status. */
 static uint32_t look_by(rlibreg *it, int number) {
     uint32_t status;
     rlibreg_listing listing;
@@ -366,7 +368,8 @@ static uint32_t look_by(rlibreg *it, int number) {
     return rlibreg_info_of(it, &information);
 }
 
-/* Looks at the disk, and says by which status, if not by those without a fault. */
+/* Reads the disk by each call. Returns the first status that differs from the one without a fault,
+ * or RLIBREG_DONE. */
 static uint32_t look(rlibreg *it, const uint32_t usual[LOOKS]) {
     for (int i = 0; i < LOOKS; i++) {
         uint32_t status = look_by(it, i);
@@ -383,7 +386,8 @@ static void find_usual(const struct change *change, uint32_t usual[LOOKS]) {
     rlibreg_close(it);
 }
 
-/* Has each growth fail, from the making of the struct on: nothing was done, and all goes on. */
+/* Makes each growth of memory fail, from the creation of the struct on. Checks that nothing was
+ * done, and that everything can go on. */
 static long try_memory(const struct change *change) {
     uint32_t usual[LOOKS] = { 0 };
     if (!change->opens) find_usual(change, usual);
@@ -410,7 +414,7 @@ static long try_memory(const struct change *change) {
     }
 }
 
-/* ---- What a struct is not for */
+/* ---- Wrong use of a struct */
 
 static void try_misuse(void) {
     char *text;
@@ -424,7 +428,7 @@ static void try_misuse(void) {
     leave_empty();
     rlibreg *it = rlibreg_create();
     WANT(!rlibreg_text(it)[0] && rlibreg_last(it)->status == 0);
-    WANT(rlibreg_listing_of(it, &listing) == RLIBREG_BAD_GEOMETRY); /* it has no file */
+    WANT(rlibreg_listing_of(it, &listing) == RLIBREG_BAD_GEOMETRY); /* the struct has no file */
     WANT(!strcmp(rlibreg_text(it), "refused S6 BadGeometry\n"));
     WANT(rlibreg_image_of(it, program.bytes, program.length, 0, &image) == RLIBREG_BAD_GEOMETRY);
     WANT(rlibreg_file_of(it, name, &bytes, &length) == RLIBREG_BAD_GEOMETRY && !bytes);
@@ -442,7 +446,7 @@ static void try_misuse(void) {
     WANT(rlibreg_open(it, "/none/none", 0) == RLIBREG_SYSTEM && errno == ENOENT);
     WANT(rlibreg_format(it, "/none/none", 128, 0) == RLIBREG_SYSTEM && errno == ENOENT);
 
-    WANT(!rlibreg_open(it, DISK, 0) && !rlibreg_text(it)[0]); /* for reading alone */
+    WANT(!rlibreg_open(it, DISK, 0) && !rlibreg_text(it)[0]); /* only for reading */
     WANT(rlibreg_open(it, DISK, 0) == RLIBREG_BAD_ARGUMENT);
     WANT(make_format(it) == RLIBREG_BAD_ARGUMENT);
     WANT(make_install(it) == RLIBREG_READ_ONLY);

@@ -1,5 +1,6 @@
 /* filtered ERRNO COMMAND [WORD].. runs a command whose calls of fcntl are refused with ERRNO, as a
- * filter of system calls (seccomp) may refuse them. Exits with status 99 if there can't be a filter. */
+ * filter of system calls (seccomp) may refuse them. Exits with status 99 if there can't be a
+ * filter. */
 #define _GNU_SOURCE
 #include <errno.h>
 #include <linux/filter.h>

@@ -1,7 +1,7 @@
-/* findings LIBRARY NAME OLD looks at the libraries of disks, over a file in the folder where it is
- * run and over its bytes. LIBRARY has the SONAME NAME, of one byte, and stays a library when that
- * is another; OLD is a disk of version 1. What has to be found of a damaged file is what an
- * installation says of it. */
+/* findings LIBRARY NAME OLD checks the libraries of disks, over a file in the folder where it is
+ * run, and over the bytes of the file. LIBRARY has the SONAME NAME, of one byte, and stays a
+ * library if the SONAME is changed. OLD is a disk of version 1. The finding on a damaged file has
+ * to be what an installation says about the file. */
 #include "watched.h"
 
 #include <unistd.h>
@@ -10,7 +10,7 @@ enum { SECTOR = 512, SECTORS = 64, ROOM = 1 << 16, LIBRARIES = 3, DAMAGED = 1, G
 
 static uint8_t library[SECTOR], disk[SECTORS * SECTOR], old[1 << 20];
 static size_t length, old_length;
-static uint8_t *soname; /* the byte of the name in `library` */
+static uint8_t *soname; /* byte of the SONAME in `library` */
 static const char names[] = "a\0b\0c";
 
 static size_t read_file(uint8_t *bytes, size_t room, const char *path) {
@@ -41,7 +41,7 @@ static void install(rlibreg *it, char name) {
     WANT(!rlibreg_install(it, library, length));
 }
 
-/* A disk with the libraries that `names` has. */
+/* Makes a disk that has the libraries of `names`. */
 static void make_disk(void) {
     rlibreg *it = formatted(SECTORS);
     for (int i = 0; i < LIBRARIES; i++) install(it, names[2 * i]);
@@ -54,7 +54,7 @@ static void write_disk(void) {
     WANT(file && fwrite(disk, 1, sizeof disk, file) == sizeof disk && !fclose(file));
 }
 
-/* Where the file of the library of this name is. */
+/* Returns the place on the disk of the file of the library of this name. */
 static uint8_t *file_of(char name) {
     *soname = (uint8_t)name;
     for (size_t at = 0; at < sizeof disk; at += SECTOR)
@@ -63,7 +63,7 @@ static uint8_t *file_of(char name) {
     return NULL;
 }
 
-/* ---- What has to be found */
+/* ---- The findings that are wanted */
 
 static void want_found(const rlibreg_finding *findings, const char *row, const uint32_t *wanted) {
     WANT(!memcmp(row, names, sizeof names));
@@ -73,7 +73,7 @@ static void want_found(const rlibreg_finding *findings, const char *row, const u
     }
 }
 
-/* Over the bytes, and over a file of them. */
+/* Checks the findings over the bytes, and over a file of these bytes. */
 static void want_findings(const uint32_t *wanted) {
     rlibreg_answer answer, zeros = { .count = LIBRARIES, .bytes = sizeof names };
     rlibreg_finding places[LIBRARIES];
@@ -94,7 +94,7 @@ static void want_findings(const uint32_t *wanted) {
     rlibreg_close(it);
 }
 
-/* What an installation says of this file where a library of this name is installed. */
+/* Returns what an installation says about this file, if a library of this name is installed. */
 static uint32_t installation_says(const uint8_t *file, char name) {
     static uint8_t alone[sizeof disk], plan[ROOM];
     rlibreg_answer answer;
@@ -119,7 +119,7 @@ static uint32_t next_random(void) {
     return random >> 8;
 }
 
-/* One of three libraries is damaged in many ways, and the others are sound. */
+/* Damages one of three libraries in many ways. The others stay sound. */
 static void try_damaged_files(void) {
     uint32_t wanted[LIBRARIES] = { 0 };
     unsigned seen[RLIBREG_OTHER_NAME + 1] = { 0 }, kinds = 0;
@@ -146,7 +146,7 @@ static void try_damaged_files(void) {
     printf("findings: %u kinds, each as an installation says it\n", kinds);
 }
 
-/* The first is damaged, the last, and all. */
+/* Damages every set of libraries, among them the first, the last, and all. */
 static void try_several(void) {
     uint8_t kept[sizeof disk];
     memcpy(kept, disk, sizeof disk);
@@ -162,7 +162,7 @@ static void try_several(void) {
     }
 }
 
-/* A damaged library is replaced, or removed, and all are sound then. */
+/* Replaces or removes a damaged library. Then all libraries are sound. */
 static void try_mended(void) {
     const uint32_t wanted[LIBRARIES] = { 0 };
     rlibreg_findings found;
@@ -184,7 +184,8 @@ static void try_mended(void) {
     }
 }
 
-/* Any byte of the disk: what can be told of the whole can be listed and looked at. */
+/* Damages any byte of the disk. If the information on the registry can be read, the registry can
+ * also be listed and checked. */
 static void try_damaged_disks(void) {
     static uint8_t kept[sizeof disk], row[ROOM];
     static rlibreg_finding places[64];
@@ -222,7 +223,8 @@ static int is_guarded(const void *buffer, size_t from, size_t to) {
     return 1;
 }
 
-/* Buffers of every size: where one is too small nothing is written, and what is needed is told. */
+/* Tries buffers of every size. If one is too small, nothing is written, and the answer has the
+ * sizes that are needed. */
 static void try_rooms(void) {
     const uint32_t wanted[LIBRARIES] = { 0 };
     for (size_t room = 0; room <= LIBRARIES + 1; room++)
@@ -248,7 +250,8 @@ static void try_rooms(void) {
 
 /* ---- Without a registry */
 
-/* Of bytes that hold none nothing is told but why, and nothing is written but the line. */
+/* Checks bytes that hold no registry: the answer says only why, and nothing is written except the
+ * line. */
 static void want_refused(const uint8_t *bytes, size_t size, uint32_t status, const char *line) {
     for (size_t room = 0; room <= strlen(line) + 1; room++) {
         rlibreg_answer answer, wanted = { .status = status, .text = strlen(line) };
@@ -279,7 +282,7 @@ static void try_refused(void) {
 
 /* ---- Numbers of libraries */
 
-/* None; and more than there is room for at first. */
+/* Tries a registry without libraries, and one with more than there is room for at first. */
 static void try_numbers(void) {
     rlibreg_findings found;
     rlibreg *it = formatted(512);

@@ -28,7 +28,8 @@ static rlibreg *opened(unsigned flags) {
     return it;
 }
 
-/* A child that does something with a struct of its parent's, and then waits until it is killed. */
+/* Makes a child that does something with a struct of its parent, and then waits until it is killed.
+ * Returns the child's process number. */
 static pid_t child_that(void (*does)(rlibreg *), rlibreg *it) {
     int done[2];
     char byte;
@@ -43,7 +44,8 @@ static pid_t child_that(void (*does)(rlibreg *), rlibreg *it) {
         for (;;) pause();
     }
     close(done[1]);
-    WANT(read(done[0], &byte, 1) == 1); /* and not the end, where a child has failed */
+    WANT(read(done[0], &byte, 1) == 1); /* not the end of the pipe, which shows that the child
+                                         * has failed */
     close(done[0]);
     return child;
 }
@@ -83,7 +85,8 @@ static void call_all(rlibreg *it) {
     WANT(rlibreg_last(it)->status == bad && !rlibreg_text(it)[0]);
 }
 
-/* What the child closes is its own alone. Then it can open a disk as every process can. */
+/* Closes the struct in a child, which affects only the child. Then the child can open a disk as
+ * every process can. */
 static void close_it(rlibreg *it) {
     rlibreg_close(it);
     it = rlibreg_create();
@@ -101,7 +104,7 @@ static void only_has_it(rlibreg *it) {
 
 enum { GENERATIONS = 4 };
 
-/* How children are made: by fork, whose handlers run, or by the system call, which runs none; with
+/* How children are made: by fork, which runs handlers, or by the system call, which runs none. With
  * CLONE_NEWPID each child is process 1 of a new process namespace. */
 struct way {
     int is_call, flags;
@@ -124,7 +127,8 @@ static void disk_of(int generation, char *path) {
     snprintf(path, 16, "disk-%u", (unsigned)generation % 10);
 }
 
-/* A wait for a disk that its parent holds ends by its limit, and not at once. */
+/* If a child waits for a disk that its parent has locked, the wait ends by its limit, and not at
+ * once. */
 static void wait_for_parent(const char *path) {
     struct timespec begun, ended;
     rlibreg *it = rlibreg_create();
@@ -138,7 +142,7 @@ static void wait_for_parent(const char *path) {
 
 static void try_generations(struct way way, rlibreg **opened, int generation);
 
-/* Opens a disk, which the next generation finds open. */
+/* Opens a disk, and makes the next generation, which finds it open. */
 static void open_own(struct way way, rlibreg **opened, int generation) {
     char path[16];
     disk_of(generation, path);
@@ -155,13 +159,13 @@ static void open_own(struct way way, rlibreg **opened, int generation) {
     WANT(!is_held(path) && !unlink(path));
 }
 
-/* Process 1 ends by no signal for which it has no handler. */
+/* A signal doesn't end process 1 if it has no handler for that signal. */
 static void end_late(int number) {
     (void)number;
     _exit(1);
 }
 
-/* Each generation may only close what those before it opened, and that takes no lock away. */
+/* Each generation can only close what those before it opened, and that releases no lock. */
 static void try_generations(struct way way, rlibreg **opened, int generation) {
     char path[16];
     WANT(!way.flags || getpid() == 1);
@@ -177,8 +181,8 @@ static void try_generations(struct way way, rlibreg **opened, int generation) {
     }
 }
 
-/* Tries generations of children in a process that has opened no disk before. Returns 0 if there can't
- * be such children. */
+/* Tries generations of children in a process that has opened no disk before. Returns 0 if such
+ * children can't be made. */
 static int in_generations(struct way way, int wipes_nothing) {
     rlibreg *opened[GENERATIONS];
     pid_t child = child_of((struct way){ 1, way.flags });
@@ -194,8 +198,8 @@ static int in_generations(struct way way, int wipes_nothing) {
     return 1;
 }
 
-/* A handler and the kernel see each fork, the kernel sees each call of clone, and the process number
- * tells most children. */
+/* A handler and the kernel see each fork, the kernel sees each call of clone, and the process
+ * number distinguishes most children. */
 static void try_all_generations(void) {
     const struct way by_fork = { 0, CLONE_NEWPID }, by_call = { 1, CLONE_NEWPID };
     WANT(in_generations((struct way){ 1, 0 }, 1) && in_generations((struct way){ 0, 0 }, 0));
@@ -205,7 +209,7 @@ static void try_all_generations(void) {
         printf("skipped: children with their parent's process number (%s)\n", strerror(errno));
 }
 
-/* If forks can't be watched for want of memory, no disk is opened; later it is. */
+/* If forks can't be watched for want of memory, no disk is opened. Later, with memory, it is. */
 static void try_unwatched(void) {
     fflush(stdout);
     pid_t child = fork();
@@ -247,7 +251,8 @@ int main(int argc, char **argv) {
         WANT(flags ? is_held_alone("disk") : is_held("disk"));
         WANT(!rlibreg_listing_of(it, &listing) && listing.libraries == 1);
         rlibreg_listing_free(&listing);
-        pid_t third = child_that(only_has_it, it); /* its file is open as long as it lives */
+        pid_t third = child_that(only_has_it, it); /* the child keeps the file open as long as it
+                                                    * lives */
         rlibreg_close(it);
         WANT(!is_held("disk"));
         rlibreg_close(opened(RLIBREG_CHANGES | RLIBREG_WAIT));

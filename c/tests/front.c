@@ -1,6 +1,6 @@
-/* front opens disks in the folder where it is run, whose roots the medium is said to have otherwise
- * than the system shows them, with the calls of the system watched: what is forgotten, what the
- * medium is given, and what is refused. */
+/* front opens disks in the folder where it is run. The calls of the system are watched, and report
+ * other roots on the medium than the system shows. The test checks what the system is made to
+ * forget, what is written to the medium, and what is refused. */
 #define _GNU_SOURCE
 #include "watched.h"
 
@@ -9,7 +9,7 @@
 
 enum { CHANGES = RLIBREG_CHANGES, BLOCK = 4096, ROOTS = 1024, FOR_EVER = 1 << 20 };
 
-/* Opens a disk, and closes it. */
+/* Opens a disk, and closes it. Returns the status of the opening. */
 static uint32_t opens(const char *path, unsigned flags) {
     rlibreg *it = rlibreg_create();
     WANT(it);
@@ -43,14 +43,16 @@ static void write_at(const char *path, const void *from, size_t length, off_t at
     WANT(fd >= 0 && pwrite(fd, from, length, at) == (ssize_t)length && !close(fd));
 }
 
-/* Watches, with roots that differ: 1, 2, or both, 3; the system keeps them so many times. */
+/* Watches, with roots that differ: the first (1), the second (2) or both (3). The system keeps its
+ * own roots the first `keeps` times that it is to forget them. */
 static void watch_differing(int differ, int keeps) {
     watch();
     watched.differ = differ;
     watched.keeps = keeps;
 }
 
-/* More and more is forgotten, until the system says that the front is gone; then again. */
+/* The system is made to forget more and more, until it reports that the front is gone. Then it is
+ * made to do so again. */
 static void try_forgetting(void) {
     const int often[] = { 0, 1, 9, 10, 25 };
     for (size_t i = 0; i < sizeof often / sizeof *often; i++) {
@@ -66,7 +68,8 @@ static void try_forgetting(void) {
     WANT(!opens("disk", CHANGES) && !made("forget") && !made("write"));
 }
 
-/* A front that stays: who only looks is refused, and the medium is to take it of who changes. */
+/* The system keeps the front. An opening for reading is refused, and an opening for changes writes
+ * the front to the medium. */
 static void try_staying(void) {
     for (int differ = 1; differ <= 3; differ++) {
         watch_differing(differ, FOR_EVER);
@@ -96,7 +99,7 @@ static void try_staying(void) {
     WANT(fails_by(opens("disk", CHANGES), EIO));
 }
 
-/* The medium is given what is a root, of either version, and nothing else. */
+/* Only a root is written to the medium, of either version. */
 static void try_roots(void) {
     static const char zeros[BLOCK];
     const char *magics[] = { "RLIBREG1", "RLIBREG2", "RLIBREG3", "rlibreg2" };
@@ -118,8 +121,8 @@ static void try_roots(void) {
     WANT(!unlink("other"));
 }
 
-/* Where nothing can be read past the system's memory, or what is read is of memory: the front is
- * forgotten, and who changes has the medium take it. */
+/* The medium can't be read past the system's memory, or such a read returns some memory's bytes.
+ * The system is made to forget the front, and an opening for changes writes it to the medium. */
 static void want_unknown(void (*prepare)(int), int way) {
     prepare(way);
     WANT(!opens("disk", 0) && made("forget asked ") && !made("write") && count("forget ") == 1);
@@ -167,7 +170,7 @@ static void try_unknown(void) {
         WANT(i ? fails_by(status, EIO) : !status && !made("write sync"));
     }
     loop_over_memory(0);
-    watched.loop = 2; /* and past it */
+    watched.loop = 2; /* and a loop past memory */
     WANT(!opens("disk", CHANGES) && !made("forget") && !made("write"));
     set_encrypted(0);
     watched.differ = 2;
@@ -175,7 +178,7 @@ static void try_unknown(void) {
     WANT(fails_by(opens("disk", 0), EIO));
 }
 
-/* A read that fails, a short one among them, and a description that keeps reading past memory. */
+/* Reads that fail or are short, and an open file that keeps reading past the system's memory. */
 static void try_failing(void) {
     const int kinds[] = { EIO, EINTR, ENODATA };
     const char *words[] = { "read", "read-past", "no-more-past" };

@@ -1,8 +1,8 @@
-/* The system's calls by which an image is kept, with a clock that is ten seconds on, so that no file
- * was changed just now: linked into the loader with --wrap. Of these calls the one of the number DIE
- * ends the process as a kill does, before it is made; and that of the number FAIL fails. Of the reads by
- * which an image is looked for the one of the number READ fails; OLD is a kernel that can't be asked for
- * pages, and UNREAD one that can't read them. */
+/* The calls of the system by which an image is kept. They have a clock that is ten seconds ahead,
+ * so that no file was changed just now. They are linked into the loader with --wrap. Call number
+ * DIE ends the process as a kill does, before it is made. Call number FAIL fails. Among the reads
+ * by which an image is looked for, read number READ fails. If OLD is set, the kernel can't be asked
+ * to read pages, and if UNREAD is set, it can't read them. */
 #define _GNU_SOURCE
 #include <errno.h>
 #include <fcntl.h>
@@ -64,9 +64,9 @@ WRAPPED(int, fchmod, int fd, mode_t mode) {
     return fails() ? -1 : __real_fchmod(fd, mode);
 }
 
-static int is_synced; /* since it was written last */
+static int is_synced; /* whether it was synced since it was last written */
 
-/* Writes less than it is asked to, if SHORT is how much it writes; every second time it is interrupted
+/* Writes at most `most` bytes, which is the number in SHORT. Every second call is interrupted
  * instead. */
 static ssize_t write_some(int fd, const struct iovec *parts, size_t most) {
     static int calls;

@@ -1,5 +1,5 @@
-/* The key of a kept image, and what is looked at in its file before it is used. kept FILE tries them
- * with a file that it may write. */
+/* kept FILE tries the key of a kept image, and the checks of its file before the file is used. It
+ * may write FILE. */
 #define _GNU_SOURCE
 #include "../rlibreg_run_kept.h"
 
@@ -66,7 +66,7 @@ static void put(const char *path, const void *bytes, size_t length, off_t at) {
     close(fd);
 }
 
-/* The times go on by ticks. */
+/* The times of a file advance by ticks. */
 static void wait_a_tick(void) {
     nanosleep(&(struct timespec){ .tv_nsec = 20000000 }, NULL);
 }
@@ -88,7 +88,7 @@ static void try_disk(const char *path) {
     WANT((int64_t)key.disk.changed[1] == found.st_ctim.tv_nsec);
 
     wait_a_tick();
-    put(path, bytes + ROOTS, 1, ROOTS); /* behind the roots, and the same */
+    put(path, bytes + ROOTS, 1, ROOTS); /* after the roots, and the same byte as before */
     const struct timespec times[] = { found.st_atim, found.st_mtim };
     WANT(!utimensat(AT_FDCWD, path, times, 0));
     other = key_of(path);
@@ -158,7 +158,7 @@ static void try_times(void) {
     WANT(is_settled(&(struct state){ .kind = OF_BYTES }));
 }
 
-/* ---- Bytes, by the loader's own calls (rlibreg_run_kernel.h) */
+/* ---- Bytes, by the loader's own functions (rlibreg_run_kernel.h) */
 
 void *own_copy(void *to, const void *from, size_t length) __asm__("rlibreg_kernel_copy");
 void *own_fill(void *to, int byte, size_t length) __asm__("rlibreg_kernel_fill");
@@ -211,8 +211,8 @@ static uint64_t sound_file(uint8_t *bytes, size_t room) {
     return head.length;
 }
 
-/* Whether a file would be used, which is asked as the loader asks it: of memory that ends where the
- * beginning does. */
+/* Returns whether a file would be used. Finds this as the loader does, in memory that ends where
+ * the beginning does. */
 static int is_used(const uint8_t *bytes, uint64_t length) {
     struct head head;
     if (length < sizeof head) return 0;
@@ -248,7 +248,7 @@ static int is_used(const uint8_t *bytes, uint64_t length) {
     return is;
 }
 
-/* A file with eight bytes changed. */
+/* A change of a file: eight bytes at an offset. */
 struct change {
     size_t at;
     uint64_t number;
@@ -314,7 +314,8 @@ static void try_changes(const uint8_t *sound, uint64_t length) {
     free(bytes);
 }
 
-/* Each changed byte of a beginning changes its check, or is one of the form or of the check. */
+/* Each changed byte of a beginning changes its check, unless the byte is part of the form or of the
+ * check. */
 static void try_check(const uint8_t *sound, uint64_t length) {
     uint8_t *bytes = malloc(length);
     WANT(bytes);

@@ -1,5 +1,5 @@
-/* killed NUMBER COMMAND.. runs a command and kills it before the call of the system of that number,
- * counted from 0. Its status is 77 then, and else the command's. */
+/* killed NUMBER COMMAND.. runs a command, and kills it before call NUMBER of the system, counted
+ * from 0. Then it exits with status 77, and otherwise with the command's status. */
 #define _GNU_SOURCE
 #include <signal.h>
 #include <stdio.h>
@@ -15,7 +15,8 @@ static void fail(const char *what) {
     exit(2);
 }
 
-/* Lets a process go on up to the next call of the system, or to the end of one. Gives its state. */
+/* Lets a process run to the next call of the system, or to the end of one. Returns its wait
+ * status. */
 static int next_stop(pid_t process, int signal) {
     int status;
     if (ptrace(PTRACE_SYSCALL, process, NULL, (void *)(long)signal)) fail("ptrace");

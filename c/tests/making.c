@@ -1,7 +1,7 @@
 /* making LIBRARY NAME makes registries in the folder where it is run, with the calls of the system
- * watched: each fails, every two of them fail, and the process ends at each; file systems without
- * hard links; and what stands there or is put there meanwhile. What is left has to be no disk or a
- * whole one, and then a registry is made. LIBRARY has the SONAME NAME. */
+ * watched. Each call fails, every two of them fail, and the process ends at each. There are file
+ * systems without hard links, and files that exist before or are put there meanwhile. What is left
+ * has to be no disk or a whole one, and then a registry is made. LIBRARY has the SONAME NAME. */
 #define _GNU_SOURCE
 #include "watched.h"
 
@@ -32,7 +32,8 @@ static const char *text_of(uint32_t status) {
     return "";
 }
 
-/* Asks for a registry. Where it is made the struct is open for changes, and holds the lock. */
+/* Makes a registry. Returns a status. If it is made, the struct is open for changes, and has the
+ * lock. */
 static uint32_t format_path(const char *path, unsigned flags) {
     rlibreg *it = rlibreg_create();
     WANT(it);
@@ -63,7 +64,7 @@ static int fails_by(uint32_t status, int why) {
     return status == RLIBREG_SYSTEM && errno == why;
 }
 
-/* The generation of a registry, which has to be whole and empty. */
+/* Returns the generation of a registry, which has to be whole and empty. */
 static uint64_t generation_of(const char *path) {
     rlibreg_listing listing;
     rlibreg *it = rlibreg_create();
@@ -87,7 +88,7 @@ static void clear(void) {
     WANT(here(""));
 }
 
-/* Writes a file anew. */
+/* Writes a file, in place of what it had. */
 static void put(const char *path, const char *bytes, size_t length) {
     int fd = open(path, O_WRONLY | O_CREAT | O_TRUNC, 0666);
     WANT(fd >= 0 && write(fd, bytes, length) == (ssize_t)length && !close(fd));
@@ -105,7 +106,8 @@ static void try_order(void) {
     clear();
 }
 
-/* What is there after calls have failed: no disk, or a whole one. A registry can be made then. */
+/* Checks that calls which failed left no disk or a whole one, and that a registry can be made
+ * then. */
 static void want_none_or_whole(uint32_t status) {
     int was_made = is_there(DISK);
     if (was_made) generation_of(DISK);
@@ -133,7 +135,8 @@ static long try_faults(int why) {
         int in_plan = has_failed("write") || has_failed("sync") || has_failed("length");
         int has_name = has_failed("unlink") || has_failed("sync-folder") ||
                        (has_failed("names") && why == EIO);
-        if (status) WANT(told == why || told == EAGAIN); /* that of a last look before the name */
+        if (status) WANT(told == why || told == EAGAIN); /* of the last check before the file
+                                                          * gets its name */
         if (status) WANT(has_name || in_plan || status == RLIBREG_SYSTEM);
         if (has_name) WANT(status == RLIBREG_DEVICE);
         WANT(here(has_name || !status ? "disk " : "")); /* and never the other name */
@@ -158,8 +161,8 @@ static void try_two_faults(long calls) {
     }
 }
 
-/* The process ends at each call. The disk that is there then may have moved elsewhere before the
- * next is made. */
+/* The process ends at each call. The disk that it left may be moved elsewhere before the next one
+ * is made. */
 static void try_ends(long calls, int is_moved) {
     for (long n = 0; n < calls; n++) {
         int status;
@@ -215,7 +218,7 @@ static void try_no_links(void) {
     WANT(here(""));
 }
 
-/* ---- Names that the medium hasn't got, of which the sync of their folder didn't tell */
+/* ---- Names that aren't on the medium, although the sync of their folder succeeded */
 
 static void watch_names(int why) {
     watch();
@@ -244,17 +247,17 @@ static void try_lost_names(void) {
     }
 }
 
-/* ---- What is put there meanwhile */
+/* ---- Files that are put there meanwhile */
 
-static const char *put_before; /* the word of a call */
-static const char *put_what;   /* a file that is put in the disk's place before it */
+static const char *put_before; /* word of a call */
+static const char *put_what;   /* file that is put in the disk's place before the call */
 static const char *put_where;
 
 static void put_meanwhile(const char *word) {
     if (!strcmp(word, put_before) && !is_there(put_where)) WANT(!link(put_what, put_where));
 }
 
-/* A registry or a short file is put under the name of the disk before a call is made. */
+/* Puts a registry or a short file under the name of the disk before a call is made. */
 static void try_raced(const char *before, int why, int rename_why) {
     put_before = before;
     put_where = DISK;
@@ -274,7 +277,7 @@ static void try_raced(const char *before, int why, int rename_why) {
 
 static int thefts;
 
-/* Another process takes the name for one that was left. */
+/* Another process takes the name for a leftover, and removes it. */
 static void steal(const char *word) {
     if (!strcmp(word, "lock-alone") && thefts-- > 0) WANT(!unlink(OTHER));
 }
@@ -293,9 +296,10 @@ static void try_stolen(void) {
     WANT(here(""));
 }
 
-/* ---- What stands under the other name */
+/* ---- Files that have the other name */
 
-/* A regular file that nobody holds: its name is taken away, and the file stays as it is. */
+/* Tries a regular file that no process has locked: its name is removed, and the file stays as it
+ * is. */
 static void try_left(const char *bytes, size_t length) {
     char found[8192];
     put("kept", bytes, length);
@@ -346,7 +350,7 @@ static void try_held(void) {
     }
 }
 
-/* A name that has no room for more bytes. */
+/* Tries a name that has no room for more bytes. */
 static void try_long_names(void) {
     for (size_t length = 241; length <= 255; length += length == 243 ? 12 : 1) {
         char path[300] = "./";
@@ -360,7 +364,7 @@ static void try_long_names(void) {
     }
 }
 
-/* ---- A file that stands is formatted where it is */
+/* ---- A file that exists is formatted in place */
 
 static void try_in_place(void) {
     static char zeros[64 * 512];

@@ -1,5 +1,6 @@
-/* mapped FILE OTHER maps FILE, writes each of its bytes again, so that its pages are dirty, and prints a
- * line. When its input ends, it writes the bytes of OTHER into FILE through the map. */
+/* mapped FILE OTHER maps FILE, and writes each of its bytes again, so that its pages are dirty.
+ * Then it prints a line. When its input ends, it writes the bytes of OTHER into FILE through the
+ * map. */
 #define _GNU_SOURCE
 #include <fcntl.h>
 #include <stdio.h>

@@ -1,6 +1,7 @@
 /* opening LIBRARY NAME opens disks in the folder where it is run, with the calls of the system
- * watched: their order, locks, files that are replaced meanwhile, syncs that a file system hasn't
- * got, and block devices, for which regular files stand. LIBRARY has the SONAME NAME. */
+ * watched. It checks the order of the calls, locks, files that are replaced meanwhile, syncs that a
+ * file system doesn't have, and block devices, for which regular files are used. LIBRARY has the
+ * SONAME NAME. */
 #define _GNU_SOURCE
 #include "watched.h"
 
@@ -37,7 +38,7 @@ static void format(const char *path) {
     rlibreg_close(it);
 }
 
-/* The generation of the registry of a file. */
+/* Returns the generation of the registry of a file. */
 static uint64_t generation_of(const char *path, unsigned flags) {
     rlibreg_listing listing;
     rlibreg *it = rlibreg_create();
@@ -69,7 +70,7 @@ static void try_order(void) {
     }
 }
 
-/* Each call of an opening fails. What it was answered is told, and nothing stays open. */
+/* Each call of an opening fails. The error is reported, and nothing stays open. */
 static void try_faults(unsigned flags) {
     for (long n = 0;; n++) {
         watch();
@@ -80,7 +81,8 @@ static void try_faults(unsigned flags) {
         unwatch();
         if (n >= watched.calls) break;
         WANT(!status || (status == RLIBREG_SYSTEM && why == EIO));
-        /* It is opened once more, goes on without, or has nothing left to do. */
+        /* The path is opened once more, the opening goes on without the call, or nothing is left to
+         * do. */
         WANT(!status == !!strstr("stat attributes past unlock", watched.failed) ||
              (!status && strstr("flags system look mark-changes unmark", watched.failed)));
         WANT(!is_held("disk"));
@@ -124,7 +126,7 @@ static void try_locks(void) {
     }
 }
 
-/* A lock that this process has is not waited for: the process would wait for itself. */
+/* A process doesn't wait for a lock that it has: it would wait for itself. */
 static void try_own_locks(void) {
     WANT(!link("disk", "second"));
     for (unsigned first = 0; first <= CHANGES; first++) {
@@ -200,7 +202,7 @@ static void try_syncs(void) {
     }
 }
 
-/* ---- What is neither a regular file nor a block device */
+/* ---- Files that are neither regular files nor block devices */
 
 static void try_kinds(void) {
     WANT(!mkdir("folder", 0777) && !mkfifo("pipe", 0666) && !symlink("none", "nothing"));
@@ -260,7 +262,8 @@ static void try_devices(void) {
     WANT(!is_held("disk"));
 }
 
-/* How many milliseconds pass until a lock is had that others have for so many tries, or is given up. */
+/* Returns how many milliseconds pass until a lock is had, or is given up. Others have it for
+ * `times` tries. */
 static long waits(unsigned flags, int limit, const char *lock, long times, uint32_t wanted) {
     rlibreg *it = rlibreg_create();
     WANT(it);
@@ -289,7 +292,7 @@ static void try_held_devices(void) {
     WANT(waits(CHANGES, -1, "lock-alone", 1, RLIBREG_HELD) == 0); /* a regular file */
 }
 
-/* A wait ends where its limit is over, also where signals end what is asked of the system. */
+/* A wait ends when its limit is over, even if signals interrupt the calls of the system. */
 static void try_limits(void) {
     const int limits[] = { 0, 1, 30, 5000 };
     for (size_t i = 0; i < 4; i++) {
@@ -320,7 +323,7 @@ int main(int argc, char **argv) {
     name = argv[2];
     int free_number = dup(0);
     close(free_number);
-    alarm(60); /* who waits for himself doesn't wait for ever */
+    alarm(60); /* a process that waits for itself doesn't wait for ever */
     format("disk");
     try_order();
     try_faults(0);

@@ -1,5 +1,5 @@
-/* place LIBRARY NAME has the file of a disk be cut, made longer, replaced and taken away, before a
- * change and at each of its calls of the system. LIBRARY has the SONAME NAME. */
+/* place LIBRARY NAME shortens, lengthens, replaces and removes the file of a disk, before a change
+ * and at each of its calls of the system. LIBRARY has the SONAME NAME. */
 #define _GNU_SOURCE
 #include "watched.h"
 
@@ -30,13 +30,13 @@ static uint32_t install(rlibreg *it) {
     return rlibreg_install(it, library, library_length);
 }
 
-/* Whether a call was answered S1, since the file isn't as it was. */
+/* Returns whether a call returned S1 (Device) because the file isn't as it was. */
 static int has_changed(const rlibreg *it, uint32_t status, int why) {
     return status == RLIBREG_DEVICE && errno == why && rlibreg_errno(it) == why &&
            !strcmp(rlibreg_text(it), "refused S1 Device\n");
 }
 
-/* ---- What becomes of the file */
+/* ---- Changes to the file */
 
 static void cut(void) {
     WANT(!truncate("disk", SECTORS * 256));
@@ -83,7 +83,7 @@ static long writes_of(const char *log) {
     return count;
 }
 
-/* It becomes so before a change: nothing is written. */
+/* The file is altered before a change of the registry: nothing is written. */
 static void try_before(void) {
     for (int i = 0; i < ALL; i++) {
         prepare();
@@ -97,7 +97,7 @@ static void try_before(void) {
     }
 }
 
-/* It becomes so at one of the calls of a change, the last sync among them. */
+/* The file is altered at one of the calls of a change, even at its last sync. */
 static long due;
 static void (*doing)(void);
 
@@ -129,7 +129,8 @@ static long try_meanwhile(void) {
     return tries;
 }
 
-/* Of a file that was cut nothing is read through the map. */
+/* Reads the disk by call number `number`. If the file was shortened, nothing is read through the
+ * map. */
 static uint32_t look_by(rlibreg *it, int number) {
     const rlibreg_change install = { RLIBREG_INSTALL, 0, library_length };
     rlibreg_listing listing;
@@ -168,7 +169,8 @@ static void try_looks(void) {
     }
 }
 
-/* A path leads from where it was given, wherever the process goes then. */
+/* A path leads from the folder where it was given, even if the process enters another folder
+ * then. */
 static void try_paths(void) {
     char whole[PATH_MAX + 8];
     prepare();
@@ -178,7 +180,7 @@ static void try_paths(void) {
     for (size_t i = 0; i < sizeof paths / sizeof *paths; i++) {
         for (int makes = 0; makes < 2; makes++) {
             if (makes) unlink("disk");
-            if (makes && paths[i][0] == 'l') continue; /* a link to nothing: it isn't made */
+            if (makes && paths[i][0] == 'l') continue; /* a link to nothing: no disk is made */
             rlibreg *it = makes ? make_disk(paths[i]) : open_disk(paths[i]);
             WANT(!chdir("folder"));
             if (!makes) WANT(!rlibreg_upgrade(it));

@@ -1,5 +1,6 @@
-/* shared DISK is linked with the shared library alone: it makes a disk and lists it, and prints the
- * names that the library has for the tests of a file, behind them that of a number that is none. */
+/* shared DISK is linked only with the shared library. It makes a disk and lists it. Then it prints
+ * the names that the library has for the tests of a file, and what it returns for a number that no
+ * test has. */
 #include "rlibreg.h"
 
 #include <stdio.h>

@@ -12,7 +12,7 @@ enum { STREAMS = 3, CHANGES = RLIBREG_CHANGES };
 static char library[1 << 20], before[64 * 512], found[64 * 512 + 1];
 static size_t library_length;
 static const char *name;
-static int kept[STREAMS]; /* the streams of this test, elsewhere */
+static int kept[STREAMS]; /* descriptors that keep this test's own streams */
 
 static void keep_streams(void) {
     for (int i = 0; i < STREAMS; i++) WANT((kept[i] = fcntl(i, F_DUPFD_CLOEXEC, 10)) >= 10);
@@ -22,7 +22,8 @@ static void put_back(void) {
     for (int i = 0; i < STREAMS; i++) WANT(dup2(kept[i], i) == i);
 }
 
-/* Whether a number has what nothing can be written to, and that isn't the disk. */
+/* Returns whether a descriptor is open for something to which nothing can be written and that isn't
+ * the disk. */
 static int is_filled(int number) {
     struct stat here, disk;
     WANT(!stat("disk", &disk));
@@ -46,12 +47,12 @@ static int is_as_before(void) {
     return !memcmp(found, before, sizeof before);
 }
 
-/* Whether a call was answered that the disk is a stream. */
+/* Returns whether a call was refused because the disk is a stream. */
 static int is_refused(uint32_t status) {
     return status == RLIBREG_SYSTEM && errno == ETXTBSY;
 }
 
-/* Each set of streams isn't open. */
+/* Tries each set of streams that aren't open. */
 static void try_closed(void) {
     for (int set = 1; set < 1 << STREAMS; set++) {
         for (int makes = 0; makes < 2; makes++) {
@@ -94,7 +95,7 @@ static void try_closed_meanwhile(const char *word, int makes) {
     }
 }
 
-/* The disk is behind a stream: before it is opened, or only then. */
+/* The disk is also open as a stream: before it is opened, or only afterwards. */
 static void try_the_disk(int how, int may_be_written) {
     for (int i = 0; i < STREAMS; i++) {
         rlibreg_listing listing;
@@ -126,7 +127,7 @@ static void try_the_disk(int how, int may_be_written) {
     }
 }
 
-/* A block device, for which regular files stand, by another node. */
+/* Tries a block device that is opened by another node. Regular files are used for the devices. */
 static void try_devices(void) {
     int fd = open("other", O_RDWR | O_CREAT, 0666);
     WANT(fd >= 0 && dup2(fd, 1) == 1 && !close(fd));
@@ -149,7 +150,7 @@ int main(int argc, char **argv) {
     FILE *file = fopen(argv[1], "rb");
     WANT(file && (library_length = fread(library, 1, sizeof library, file)) && !fclose(file));
     name = argv[2];
-    /* what this test prints stays apart from the streams that it closes */
+    /* the output of this test stays apart from the streams that it closes */
     WANT(freopen("/dev/null", "r", stdin) && setvbuf(stdout, NULL, _IOFBF, 4096) == 0);
     keep_streams();
     rlibreg_close(make("disk"));

@@ -1,9 +1,10 @@
-/* Maps as they are where others have the pages, and a bind that tells of itself where BINDS is set:
+/* Maps at places that others have taken, and a bind that reports itself if BINDS is set. They are
  * linked into the loader with --wrap=mmap, --wrap=kernel_map and --wrap=rlibreg_bind. Of the maps
- * that ask for a place, the first FREE have it, the next TAKEN find it taken, and the others have it
- * again. Where ELSEWHERE is set those get another one, as from a kernel before 4.17. The file CUT is
- * cut behind each map of a file, and CUT_LATE before a bind. After each bind the bytes of the file RAW
- * are written over the file `disk`, as by a process that takes no lock. */
+ * that ask for a place, the first FREE get it, the next TAKEN find it taken, and the others get it
+ * again. If ELSEWHERE is set, those that find it taken get another place, as from a kernel before
+ * 4.17. The file CUT is shortened after each map of a file, and the file CUT_LATE before a bind.
+ * After each bind the bytes of the file RAW are written over the file `disk`, as by a process that
+ * takes no lock. */
 #define _GNU_SOURCE
 #include "../rlibreg.h"
 #include "../rlibreg_run_kernel.h"
@@ -35,7 +36,7 @@ static long number_of(const char *variable) {
     return getenv(variable) ? atol(getenv(variable)) : 0;
 }
 
-/* Whether this map of a place finds it taken. */
+/* Returns whether this map finds its place taken. */
 static int is_taken(int kind) {
     static long calls;
     if (!(kind & MAP_FIXED_NOREPLACE)) return 0;

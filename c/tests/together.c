@@ -69,7 +69,8 @@ static void want_text(const char *wanted) {
     WANT(answer.text == strlen(wanted) && !memcmp(text, wanted, answer.text));
 }
 
-/* It is planned, in a buffer of its size and in no smaller one, and carried out. */
+/* Checks that the update is planned, in a buffer of its size and in no smaller one. Carries it
+ * out. */
 static void want_done(uint64_t steps) {
     WANT(!ask(ROOM) && answer.status == 0 && answer.count == steps);
     uint64_t whole = answer.bytes;
@@ -82,7 +83,7 @@ static void want_done(uint64_t steps) {
     carry_out();
 }
 
-/* One of the changes is refused, behind so many. */
+/* Checks that one of the changes is refused, after `before` others. */
 static void want_refused(uint32_t status, uint64_t before, const char *line) {
     memset(out, GUARDED, sizeof out);
     WANT(ask(ROOM) == status && answer.status == status && answer.count == before);
@@ -92,7 +93,7 @@ static void want_refused(uint32_t status, uint64_t before, const char *line) {
     for (size_t i = 0; i < sizeof out; i++) WANT(out[i] == GUARDED);
 }
 
-/* The last change isn't one, and nothing is asked. */
+/* Adds a malformed change at the end, and checks that the update is refused for its arguments. */
 static void want_bad(uint64_t kind, uint64_t from, uint64_t own_length) {
     changes[count++] = (rlibreg_change){ kind, from, own_length };
     memset(out, GUARDED, sizeof out);
@@ -123,12 +124,12 @@ static size_t sectors_of(const struct file *file) {
     return (file->length + SECTOR - 1) / SECTOR;
 }
 
-/* Changes that are made together. Beside the sectors of files and one for each entry a plan has the
- * catalogue, the root, and a sync before, between and behind them. */
+/* Makes changes together. Besides the sectors of files and one for each entry, a plan has the
+ * catalogue, the root, and a sync before, between and after them. */
 static void try_done(void) {
     char wanted[128];
     begin();
-    want_done(1); /* none: a sync */
+    want_done(1); /* a plan without a change is a sync */
     want_listing(0, "end\n");
     add_file(RLIBREG_INSTALL, &library);
     add_file(RLIBREG_INSTALL, &longer);
@@ -137,7 +138,7 @@ static void try_done(void) {
     snprintf(wanted, sizeof wanted, "library b %zu\nlibrary a %zu\npreload a\npreload b\nend\n",
              library.length, longer.length);
     want_listing(1, wanted);
-    /* what is removed was a preload before the update, and its place is taken anew */
+    /* the library that is removed was a preload before the update, and its place is used again */
     begin();
     add(RLIBREG_PRELOAD, "a", 2);
     add(RLIBREG_REMOVE, "b", 1);
@@ -146,7 +147,7 @@ static void try_done(void) {
     snprintf(wanted, sizeof wanted, "library a %zu\nlibrary b %zu\npreload a\nend\n", longer.length,
              other.length);
     want_listing(2, wanted);
-    /* what is installed and removed is a change all the same */
+    /* a library that is installed and removed is a change all the same */
     begin();
     add(RLIBREG_REMOVE, "b", 1);
     add_file(RLIBREG_INSTALL, &library);
@@ -157,13 +158,13 @@ static void try_done(void) {
     carry_out();
     snprintf(wanted, sizeof wanted, "library a %zu\nend\n", longer.length);
     want_listing(3, wanted);
-    /* preloads alone: the root, and a sync before it and behind it */
+    /* only preloads: the root, and a sync before it and after it */
     begin();
     add(RLIBREG_PRELOAD, "a", 2);
     want_done(3);
 }
 
-/* Refusals at each place; the disk has the library a, which is a preload. */
+/* Tries refusals at each place. The disk has the library a, which is a preload. */
 static void try_refusals(void) {
     begin();
     add(RLIBREG_REMOVE, "a", 1);

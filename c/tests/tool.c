@@ -1,6 +1,6 @@
-/* tool COMMAND DISK [WORD].. does over a file what the program `rlibreg` does with the same words,
- * and prints what it prints. Its exit status is the program's too, but 9 for what the library alone
- * says. With `wait` before COMMAND it waits for a disk that is held. */
+/* tool COMMAND DISK [WORD].. does over a file what the program `rlibreg` does with the same
+ * arguments, and prints the same. It also exits with the program's status, except for statuses that
+ * only the library has: then with 9. With `wait` before COMMAND it waits for a locked disk. */
 #include "../rlibreg.h"
 
 #include <errno.h>
@@ -19,7 +19,7 @@ static void *read_file(const char *path, size_t *length) {
     return bytes;
 }
 
-/* As `rlibreg bind` prints it. */
+/* Prints a segment as `rlibreg bind` prints it. */
 static void print_segment(const rlibreg_image *image, const rlibreg_segment *it) {
     if (!it->length) return;
     printf("segment 0x%016llx %llu %c%c%c\n", (unsigned long long)it->address,

@@ -1,7 +1,7 @@
-/* turns has processes and threads take turns at a disk in the folder where it is run: a change beside
- * readers that come one after the other, waits with limits under a thousand signals a second, waits
- * that are killed, and threads. `turns threads` tries the threads alone, 32 of them, with forks: for
- * the sanitizer of threads. */
+/* turns makes processes and threads take turns at a disk in the folder where it is run. It tries a
+ * change beside readers that come one after the other, waits with limits under a thousand signals a
+ * second, waits that are killed, and threads. `turns threads` tries only the threads, 32 of them,
+ * with forks: for the sanitizer of threads. */
 #define _GNU_SOURCE
 #include "../rlibreg.h"
 
@@ -41,7 +41,7 @@ static void sleep_for(double time) {
     while (seconds() < end) usleep(1000);
 }
 
-/* A struct whose opening was answered so. */
+/* Returns a struct after an opening that has to return `wanted`. */
 static rlibreg *opens(const char *path, unsigned flags, int limit, uint32_t wanted) {
     rlibreg *it = rlibreg_create();
     WANT(it);
@@ -50,7 +50,7 @@ static rlibreg *opens(const char *path, unsigned flags, int limit, uint32_t want
     return it;
 }
 
-/* How long an opening takes that is answered so. */
+/* Returns how many seconds an opening takes that has to return `wanted`. */
 static double time_of(const char *path, unsigned flags, int limit, uint32_t wanted) {
     double began = seconds();
     rlibreg *it = opens(path, flags, limit, wanted);
@@ -67,7 +67,7 @@ static void format(const char *path) {
     rlibreg_close(it);
 }
 
-/* A process that does something; it ends with this one. */
+/* Makes a child that calls `does` and then ends. Returns the child's process number. */
 static pid_t child_that(void (*does)(void)) {
     fflush(stdout);
     pid_t child = fork();
@@ -106,7 +106,7 @@ static void read_always(void) {
     }
 }
 
-/* Whether the readers leave no moment without one of them. */
+/* Returns whether there is always a reader. */
 static int are_steady(void) {
     int fd = open("disk", O_RDWR | O_CLOEXEC), times = 0;
     for (int i = 0; i < 40; i++) {
@@ -129,7 +129,7 @@ static void try_steady(void) {
     for (int i = 0; i < 6; i++) {
         long before = shared->reads;
         double took = time_of("disk", CHANGES | WAIT, i % 2 ? 5000 : NO_LIMIT, RLIBREG_DONE);
-        WANT(took < 1.5); /* and not what readers give way at most */
+        WANT(took < 1.5); /* less than the most for which readers give way */
         while (shared->reads < before + READERS) usleep(1000);
     }
     shared->is_over = 1;
@@ -149,7 +149,7 @@ static void read_at_once(void) {
     rlibreg_close(opens("disk", 0, NO_LIMIT, RLIBREG_DONE));
 }
 
-/* Whether a reader has to give way, by the lock that says so. */
+/* Returns whether a reader has to give way, as the mark shows. */
 static int is_marked(void) {
     int fd = open("disk", O_RDONLY | O_CLOEXEC);
     struct flock it = { .l_type = F_RDLCK, .l_start = (off_t)1 << 62, .l_len = 1 };
@@ -157,8 +157,8 @@ static int is_marked(void) {
     return it.l_type == F_WRLCK;
 }
 
-/* Who gives way isn't refused since the change has its turn then. Behind a change nobody gives way
- * to another that waits: he is refused at once. */
+/* A reader that gives way isn't refused when the change has its turn. While one change has the lock
+ * and another waits, a reader doesn't give way: it is refused at once. */
 static void try_giving_way(void) {
     shared->waits = 0;
     rlibreg *reader = opens("disk", 0, NO_LIMIT, RLIBREG_DONE);
@@ -191,7 +191,7 @@ static void *wait_in_thread(void *unused) {
     return unused;
 }
 
-/* It forks while a thread waits, and what it forked lives on. */
+/* Forks while a thread waits. The child lives on. */
 static void wait_and_fork(void) {
     pthread_t thread;
     WANT(!pthread_create(&thread, NULL, wait_in_thread, NULL));
@@ -214,7 +214,7 @@ static void try_kills(void) {
         shared->waits = shared->is_over = 0;
         pid_t writer = child_that(all[i]);
         while (shared->waits < (all[i] == wait_and_fork ? 2 : 1) || !is_marked()) usleep(1000);
-        if (i == 0) { /* it gives way, and isn't refused for that */
+        if (i == 0) { /* the reader gives way, and isn't refused for that */
             double took = time_of("disk", 0, NO_LIMIT, RLIBREG_DONE);
             WANT(took >= 1.99 && took < 10);
             took = time_of("disk", WAIT, 100, RLIBREG_DONE);
@@ -234,7 +234,7 @@ static void ignore(int signal) {
     (void)signal;
 }
 
-/* A thousand signals come in a second, or none more. */
+/* Makes a thousand signals come each second, or no more at all. */
 static void have_signals(int come, int flags) {
     struct sigaction how = { .sa_handler = ignore, .sa_flags = flags };
     struct itimerval each = { { 0, come ? 1000 : 0 }, { 0, come ? 1000 : 0 } };
@@ -270,7 +270,8 @@ static void try_limits(void) {
     }
 }
 
-/* Who may only read the disk locks the bytes of the marks: a change goes without them. */
+/* A process that may only read the disk locks the bytes of the marks. A change does without the
+ * marks. */
 static void try_malice(void) {
     int fd = open("disk", O_RDONLY | O_CLOEXEC);
     struct flock all = { .l_type = F_RDLCK, .l_start = (off_t)1 << 61 };
@@ -288,7 +289,8 @@ static void try_malice(void) {
 
 static _Atomic int inside, turns_had;
 
-/* Opens the disk again and again, and has it alone where it asks for that. */
+/* Opens the disk again and again. A thread that has the exclusive lock has to be the only one with
+ * a lock. */
 static void *take_turns(void *number) {
     unsigned flags = (size_t)number % 4 ? CHANGES : 0;
     for (int i = 0; i < 12; i++) {
@@ -304,7 +306,7 @@ static void *take_turns(void *number) {
     return NULL;
 }
 
-/* Each gets its turns, also while children are forked. */
+/* Each thread gets its turns, also while children are forked. */
 static void try_threads(size_t count) {
     pthread_t threads[32];
     turns_had = 0;
@@ -322,7 +324,7 @@ static void try_threads(size_t count) {
 
 static rlibreg *_Atomic handed;
 
-/* It has `other`, waits for `disk`, and gives both back. */
+/* Opens `other`, waits for `disk`, and closes both. */
 static void *take_both(void *unused) {
     rlibreg *first = opens("other", CHANGES | WAIT, NO_LIMIT, RLIBREG_DONE);
     turns_had = 1;
@@ -332,7 +334,7 @@ static void *take_both(void *unused) {
     return unused;
 }
 
-/* It closes what another thread opened. */
+/* Closes what another thread opened. */
 static void *close_handed(void *unused) {
     rlibreg_information found;
     WANT(!rlibreg_info_of(handed, &found));
@@ -342,14 +344,14 @@ static void *close_handed(void *unused) {
     return unused;
 }
 
-/* A thread that would wait for itself is told so at once, and waits for others. */
+/* A thread that would wait for itself is refused at once. It does wait for others. */
 static void try_circle(void) {
     pthread_t thread;
     turns_had = 0;
     rlibreg *it = opens("disk", 0, NO_LIMIT, RLIBREG_DONE);
     WANT(!pthread_create(&thread, NULL, take_both, NULL));
     while (!turns_had) usleep(1000);
-    usleep(50 * 1000); /* now it waits */
+    usleep(50 * 1000); /* now the thread waits */
     time_of("other", WAIT, NO_LIMIT, RLIBREG_HELD);
     time_of("disk", CHANGES | WAIT, NO_LIMIT, RLIBREG_HELD);
     rlibreg_close(it);
@@ -381,7 +383,7 @@ static void *call_while_cancelled(void *unused) {
     return NULL;
 }
 
-/* It ends its calls before it ends. */
+/* A cancelled thread ends its calls before it ends. */
 static void try_cancel(void) {
     pthread_t thread;
     void *ended;
@@ -400,7 +402,7 @@ int main(int argc, char **argv) {
     WANT(shared != MAP_FAILED);
     format("disk");
     format("other");
-    alarm(100); /* somebody never has his turn */
+    alarm(100); /* ends the test if some process or thread never gets its turn */
     if (!only_threads) {
         try_steady();
         try_giving_way();

@@ -1,7 +1,8 @@
-/* rlibreg-run as the tests of the loader start it, with images that are kept: of each start the
- * image is kept before, if it can be, and then taken twice, the last time by the loader as it is
- * built. What the first two print goes nowhere, but for what is said of the image. RUN is the loader
- * that keeps them at once, BUILT the other, FOLDER has the images, and SAID gets the lines. */
+/* Starts rlibreg-run as the tests of the loader do, with images that are kept. For each start, an
+ * image is kept first, if it can be. Then it is taken twice, the last time by the loader as it is
+ * built. The output of the first two starts goes nowhere, except what is said about the image. RUN
+ * is the loader that keeps images at once, BUILT is the other, FOLDER has the images, and SAID gets
+ * the lines. */
 #define _GNU_SOURCE
 #include <fcntl.h>
 #include <stdlib.h>

@@ -1,7 +1,7 @@
 /* updates LIBRARY OTHER LONG PROGRAM makes updates of a disk, in the folder where it is run, and
- * binds PROGRAM over disks that are yet to be updated. LIBRARY and OTHER have the SONAME b, LONG has
- * the SONAME a, and PROGRAM needs b. Memory that the system refuses is tried where it is compiled
- * without the sanitizer of addresses, which has much of its own. */
+ * binds PROGRAM against disks before they are updated. LIBRARY and OTHER have the SONAME b, LONG
+ * has the SONAME a, and PROGRAM needs b. Refused memory is tried only if the test is compiled
+ * without the sanitizer of addresses, which needs much memory itself. */
 #define _GNU_SOURCE
 #include "watched.h"
 
@@ -41,7 +41,7 @@ static int is_as_before(void) {
     return !memcmp(before, after, sizeof before);
 }
 
-/* A disk that has the library b and the preload b. */
+/* Returns a disk that has the library b and the preload b. */
 static rlibreg *formatted(uint32_t sectors) {
     const char *const names[] = { "b" };
     rlibreg *it = rlibreg_create();
@@ -110,8 +110,8 @@ static int are_same(const rlibreg_image *one, const rlibreg_image *other_one) {
            !memcmp(one->bytes, other_one->bytes, all);
 }
 
-/* The bind before an update is the one after it, also of who has the disk for reading alone; and a
- * disk is left alone until the update. */
+/* A bind before an update returns what a bind after it returns, also if the disk is open only for
+ * reading. Nothing changes the disk before the update. */
 static void want_bound(uint32_t status) {
     rlibreg_image tried, shared, found;
     read_disk(before);
@@ -134,7 +134,8 @@ static void want_bound(uint32_t status) {
     rlibreg_close(it);
 }
 
-/* One of the changes is refused, behind so many, by the update and by a bind before it. */
+/* Checks that one of the changes is refused, after `behind` others, by the update and by a bind
+ * before it. */
 static void want_refused(uint32_t status, uint64_t behind, const char *line) {
     rlibreg_image image;
     read_disk(before);
@@ -221,7 +222,7 @@ static void count_sync(const char *word) {
     syncs += !strcmp(word, "sync");
 }
 
-/* How many syncs a change takes. */
+/* Returns the number of syncs that a change makes. */
 static int syncs_of(rlibreg *it, uint32_t (*change)(rlibreg *)) {
     syncs = 0;
     watch();
@@ -235,7 +236,7 @@ static uint32_t replace(rlibreg *it) {
     return rlibreg_replace(it, other.bytes, other.length);
 }
 
-/* However many changes there are, they are as many syncs, and one generation. */
+/* However many changes an update has, it makes the same number of syncs, and one generation. */
 static void try_many(void) {
     char wanted[64];
     rlibreg *it = formatted(SECTORS);
@@ -252,7 +253,7 @@ static void try_many(void) {
     rlibreg_close(it);
 }
 
-/* A disk of the greatest length, which is sparse. */
+/* Tries a disk of the greatest length, which is sparse. */
 static void try_the_greatest(void) {
     rlibreg_image image;
     rlibreg *it = formatted(GREATEST);
@@ -267,7 +268,7 @@ static void try_the_greatest(void) {
 
 /* ---- Memory */
 
-/* The bind before an update finds no memory; the update does. */
+/* Checks that a bind before an update finds no memory. The update itself does. */
 static void want_no_memory(rlibreg *it) {
     rlibreg_image image;
     WANT(image_after(it, &image) == RLIBREG_OUT_OF_MEMORY && !image.bytes && !image.count);
@@ -294,10 +295,11 @@ static void try_no_map(void) {
 }
 
 #ifndef __SANITIZE_ADDRESS__
-/* How many bytes are there for a bind, and how many sectors a disk has that doesn't fit in. */
+/* FREE is the number of bytes that a bind can get, and LONG the number of sectors of a disk that
+ * doesn't fit into them. */
 enum { SKIPPED = 77, FREE = 7 << 20, LONG = 1 << 17 };
 
-/* Memory that is counted. */
+/* Limits the memory that the system counts as data (RLIMIT_DATA). */
 static int limit_data(void) {
     unsigned long pages;
     FILE *file = fopen("/proc/self/statm", "r");
@@ -307,7 +309,8 @@ static int limit_data(void) {
     return setrlimit(RLIMIT_DATA, &limit);
 }
 
-/* Memory that is locked: of root's there is no limit. */
+/* Limits the memory that is locked (RLIMIT_MEMLOCK). Root has no such limit, so the process becomes
+ * another user. */
 static int lock_memory(void) {
     const struct rlimit limit = { FREE, FREE };
     if (setrlimit(RLIMIT_MEMLOCK, &limit)) return -1;
@@ -315,7 +318,8 @@ static int lock_memory(void) {
     return mlockall(MCL_FUTURE);
 }
 
-/* With so little memory a bind can come before the update of a small disk, and of no long one. */
+/* With so little memory, a bind before the update succeeds on a small disk, and fails on a long
+ * one. */
 static void bind_and_update(rlibreg *it, uint32_t sectors) {
     rlibreg_image image;
     if (sectors != SECTORS) {

@@ -1,7 +1,7 @@
-/* updating LIBRARY NAME has the updater of docs/C.md end at each call of the system by which it
- * opens, makes and writes a disk, over nothing and over what may stand there before; then it is run
- * again, and has to succeed. Then eight threads run it at once. It is linked with the updater, whose
- * main is updater_main. LIBRARY has the SONAME NAME. */
+/* updating LIBRARY NAME ends the updater of docs/C.md at each call of the system by which it opens,
+ * makes and writes a disk. It tries this with no file before, and with each file that may exist
+ * before. Then it runs the updater again, which has to succeed. Then eight threads run it at once.
+ * The test is linked with the updater, whose main is updater_main. LIBRARY has the SONAME NAME. */
 #define _GNU_SOURCE
 #include "watched.h"
 
@@ -14,15 +14,15 @@
 #define DISK "disk"
 #define OTHER ".disk.rlibreg-new"
 
-enum { LENGTH = 8192 * 512 }; /* of the updater's disk */
+enum { LENGTH = 8192 * 512 }; /* length of the updater's disk in bytes */
 
 int updater_main(int argc, char **argv);
 
 static char *library;
 static const char *name;
 
-/* Runs the updater in a process of its own, which ends at a call. Gives its status, and whether it
- * ended there. */
+/* Runs the updater in a process of its own, which ends at call number `end`. Returns its status,
+ * and whether it ended there. */
 static int updater(long end, int *has_ended) {
     enum { ENDED = 77 };
     int status;
@@ -57,7 +57,7 @@ static void put(const char *path, const char *bytes, size_t length, off_t whole)
     WANT(!close(fd));
 }
 
-/* What may stand there before. */
+/* Leave the files that may exist before. */
 static void leave_nothing(void) {
 }
 
@@ -92,7 +92,7 @@ static long try_ends(void (*leave)(void)) {
     }
 }
 
-/* What may be somebody's is left alone. */
+/* A file that may belong to somebody is left as it is. */
 static void try_others(const char *bytes, size_t length, off_t whole) {
     static char found[LENGTH + 1];
     int has_ended;
@@ -124,7 +124,7 @@ static void *update(void *unused) {
     return unused;
 }
 
-/* Each of them succeeds: it waits for the others, also for the one that makes the disk. */
+/* Each thread succeeds: it waits for the others, also for the one that makes the disk. */
 static void try_threads(void (*leave)(void)) {
     int status;
     leave();

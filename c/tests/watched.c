@@ -1,4 +1,4 @@
-/* The watched calls: each is logged, fails where a test says so, and else is made. */
+/* The watched calls. Each is logged. It fails if a test says so, and otherwise it is made. */
 #define _GNU_SOURCE
 #include "watched.h"
 
@@ -49,7 +49,7 @@ static int is_refused_word(const char *word) {
     return 0;
 }
 
-/* Whether a call is to fail. */
+/* Logs a call. Returns whether it is to fail. */
 static int fails(const char *word, int only_looks) {
     if (!watched.is_on) return 0;
     long number = watched.calls++;
@@ -96,7 +96,7 @@ WRAPPED(int, openat, int folder, const char *path, int flags, ...) {
     va_start(more, flags);
     mode_t mode = flags & O_CREAT ? va_arg(more, mode_t) : 0;
     va_end(more);
-    /* without O_CREAT, O_EXCL is for devices alone */
+    /* without O_CREAT, O_EXCL is only for devices */
     int true_flags = flags & O_CREAT ? flags : flags & ~O_EXCL;
     return fails(word_of_open(flags), 0) ? -1 : __real_openat(folder, path, true_flags, mode);
 }
@@ -123,7 +123,7 @@ WRAPPED(off_t, lseek, int fd, off_t at, int whence) {
     return fails("length", 1) ? -1 : __real_lseek(fd, at, whence);
 }
 
-/* No time is spent, but the clock goes on. */
+/* No time passes, but the clock goes on. */
 WRAPPED(int, nanosleep, const struct timespec *asked, struct timespec *left) {
     if (!watched.is_on) return __real_nanosleep(asked, left);
     WANT(asked->tv_sec == 0 && asked->tv_nsec > 0 && asked->tv_nsec <= 5000000);
@@ -150,7 +150,7 @@ static const char *word_of_mark(const struct flock *it) {
 }
 
 WRAPPED(int, sync_file_range, int fd, off_t from, off_t length, unsigned how) {
-    if (watched.is_on) WANT(!from && !length && how == 7); /* all of it, and waited for */
+    if (watched.is_on) WANT(!from && !length && how == 7); /* the whole file, and waited for */
     return fails("early", 0) ? -1 : __real_sync_file_range(fd, from, length, how);
 }
 
@@ -196,13 +196,13 @@ WRAPPED(int, pthread_atfork, void (*before)(void), void (*parent)(void), void (*
     return is_refused ? ENOMEM : __real_pthread_atfork(before, parent, child);
 }
 
-/* ---- What the system keeps of a file's front, and what the medium has of it */
+/* ---- The front of a file, as the system keeps it and as the medium has it */
 
 static int is_of_marks(int what) {
     return what == F_OFD_GETLK || what == F_OFD_SETLK || what == F_OFD_SETLKW;
 }
 
-/* A mark lies behind every disk. */
+/* A mark lies past the end of every disk. */
 static int mark_fails(int what, const struct flock *it) {
     WANT(it->l_whence == SEEK_SET && it->l_start > (off_t)1 << 40 && it->l_len <= 2);
     if (what == F_OFD_GETLK) return fails("look", 1);
@@ -219,12 +219,13 @@ WRAPPED(int, fcntl, int fd, int what, ...) {
     if (!watched.is_on || what != F_SETFL) return __real_fcntl(fd, what, word);
     if (fails(flags & O_DIRECT ? "past" : "no-more-past", 1)) return -1;
     watched.is_past = flags & O_DIRECT;
-    return __real_fcntl(fd, what, flags & ~O_DIRECT); /* the disk of the test may have none */
+    return __real_fcntl(fd, what, flags & ~O_DIRECT); /* the test's disk may have no O_DIRECT */
 }
 
 int __real_mincore(void *from, size_t length, unsigned char *kept);
 
-/* Whether memory was written already: else some file systems don't read the medium into it. */
+/* Returns whether memory was written already. Otherwise some file systems don't read the medium
+ * into it. */
 static int is_there(void *page) {
     unsigned char kept;
     return !__real_mincore(page, 1, &kept) && kept & 1;
@@ -273,7 +274,7 @@ WRAPPED(int, mincore, void *from, size_t length, unsigned char *kept) {
     return 0;
 }
 
-/* Before the roots were compared a map holds no page: it allows no access. */
+/* Before the roots are compared, a map holds no page, because it allows no access. */
 WRAPPED(void *, mmap, void *at, size_t length, int how, int kind, int fd, off_t from) {
     if (kind & MAP_ANONYMOUS)
         return fails("copy", 0) ? MAP_FAILED : __real_mmap(at, length, how, kind, fd, from);
@@ -291,7 +292,7 @@ WRAPPED(int, ftruncate, int fd, off_t length) {
     return fails("cut", 0) ? -1 : __real_ftruncate(fd, length);
 }
 
-/* One that fails has done a part, and so has one at which the process ends. */
+/* A write that fails has written a part, and so has one at which the process ends. */
 WRAPPED(ssize_t, pwrite, int fd, const void *from, size_t length, off_t at) {
     watched.is_dirty = 1;
     watched.wrote = length;
@@ -307,7 +308,7 @@ WRAPPED(ssize_t, pwrite, int fd, const void *from, size_t length, off_t at) {
 }
 
 WRAPPED(int, linkat, int from, const char *old, int to, const char *new, int flags) {
-    WANT(!watched.is_on || !watched.is_dirty); /* a name is given to what is on the medium */
+    WANT(!watched.is_on || !watched.is_dirty); /* only what is on the medium is given a name */
     return fails("link", 0) ? -1 : __real_linkat(from, old, to, new, flags);
 }
 
@@ -335,7 +336,8 @@ static long rename_new(va_list more) {
     return fails("rename-new", 0) ? -1 : __real_syscall(SYS_renameat2, from, old, to, new, flags);
 }
 
-/* The library makes two calls so, which musl hasn't got, and a test makes one, without its handlers. */
+/* The library makes two calls in this way, which musl doesn't have. A test makes a third one,
+ * clone, which runs no handlers. */
 WRAPPED(long, syscall, long number, ...) {
     va_list more;
     WANT(number == SYS_statx || number == SYS_renameat2 || number == SYS_clone);
@@ -360,7 +362,7 @@ WRAPPED(int, unlinkat, int folder, const char *path, int flags) {
     return fails("unlink", 0) ? -1 : __real_unlinkat(folder, path, flags);
 }
 
-/* ---- What a test looks at */
+/* ---- State that a test reads */
 
 static int can_lock(const char *path, int kind) {
     int fd = __real_open(path, O_RDONLY | O_CLOEXEC, 0);

@@ -1,6 +1,7 @@
-/* within no-words|no-gain|secure COMMAND.. starts a command without any word, not even its own name;
- * where no memory that was written may be executed later; or as the kernel starts what has more
- * rights than its user, which is told by AT_SECURE. */
+/* within no-words|no-gain|secure COMMAND.. starts a command. With no-words it has no argument, not
+ * even its own name. With no-gain no memory that was written may be executed later. With secure the
+ * command is started as the kernel starts a program that has more rights than its user, which
+ * AT_SECURE shows. */
 #define _GNU_SOURCE
 #include <stdio.h>
 #include <string.h>
