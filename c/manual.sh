@@ -43,7 +43,7 @@ END
 awk '/^## Synopsis/ {inside = 1} inside' COMMANDS.md |
     page rlibreg 1 'keeps a registry of shared libraries, and binds programs'
 awk '/^## Synopsis/ {inside = 1} inside' TOOL.md |
-    page rlibreg-tool 1 'tells what the disk of a registry has, and gives it back'
+    page rlibreg-tool 1 'shows, copies and changes what is on the disk of a registry'
 
 # section PAGE NAME: prints the section of a page about a program; the section begins with the program's
 # arguments.
