@@ -51,7 +51,7 @@ CLAUSES = [
 # The calls of the headline, among them.
 HEADLINE = [('registry/format', 'format'), ('registry/open', 'open'), ('registry/apply', 'apply'), ('registry/apply', 'run')]
 READING = [
-    ('1. Files', 'What the bytes of a file say, and when they are refused (gABI chapters 4 and 5).', [
+    ('1. Files', 'The bytes of a file: what they say, and when they are refused (gABI chapters 4 and 5).', [
         'elf_file/Address: bytes_at', 'elf_dynamic/Symbol: symbols', 'elf_dynamic/Relocation: relocations',
         'elf_dynamic/Strings: needed soname', 'elf_dynamic/Refusal: first_refusal']),
     ('2. Admission', 'Which symbols an object exports, and when its hash table can be trusted (gABI chapters 4 and 5).', [
@@ -59,19 +59,19 @@ READING = [
         'hash_check/Admission: has_bad_hash_table', 'hash_check/FileRefusal: first_file_refusal']),
     ('3. Lookup', 'Which objects a program is bound with, and what each symbol is bound to (gABI chapter 5, ld.so(8)).', [
         'scope/Levels: next_level', 'scope/LoadOrder: load_order missing', 'scope/Lookup: lookup', 'scope/Target: target']),
-    ('4. Images', 'Where the objects are placed, and the byte at each address (gABI chapter 5, psABI).', [
+    ('4. Images', 'The places of the objects, and the byte at each address (gABI chapter 5, psABI).', [
         'image/Placement: place', 'image/Relocating: value_of', 'image/Byte: byte_of', 'image/Image: image_of',
         'image/Refusal: bind_tests']),
-    ('5. States and steps', 'What a registry holds, how a command may be answered, and what state this leaves (own).', [
+    ('5. States and steps', 'The state that a registry holds, how a command may be answered, and which state this leaves (own).', [
         'requests/Library: IsLibrary', 'states/State: State', 'states/Cost: cost catalogues_for taken_by free',
         'requests/Tests: tests_of',
         'requests/Step: accepted IsReply LacksWrite LacksRead Step']),
     ('6. Sectors', 'Which lists of sectors hold a state (own; `docs/FORMATS.md` has the formats).', [
         'roots/Choice: IsCurrent', 'store/Stands: AreCatalogued AreListed HasRoom IsIntact state_of Stands StandsOld',
         'registry/Stands: Stands StandsOld']),
-    ('7. Disks and mixtures', 'What each call does to an honest disk, and what a stop may leave of it (own).', [
+    ('7. Disks and mixtures', 'The calls of an honest disk: what each of them does, and what a stop may leave (own).', [
         'sector_disk/Disk: DiskFacts Mixture KeepsPast IsRead IsWrite IsSync LeavesOnly StartsWith']),
-    ('8. Files of sectors', 'What each call does to an honest file, what its medium may have (POSIX; what kernels do), and a disk over it (own).', [
+    ('8. Files of sectors', "The calls of an honest file: what each of them does, and what the file's medium may have (POSIX; what kernels do). Then a disk over such a file (own).", [
         'file_disk/SectorFile: FileFacts MediumAt IsFileCall IsFileRead IsFileWrite IsFileSync IsFoundWith',
         'file_disk/FileDisk: file_facts IsCovered IsMomentAt FollowsTheFile HoldsOfTheMedium IsOver IsAsTheFile StartsAsFound HasCause']),
     ('9. Crash safety', 'The state that a stop leaves at each moment of a command, an update, a run of these, a script, and rounds (own).', [
@@ -79,21 +79,21 @@ READING = [
         'registry/Acknowledged: Transaction Exchange acknowledged AreAccepted',
         'registry/Updating: updated', 'registry/Ran: UpdatesAt GivesUp Idles HasBegun HoldsAcknowledged LeavesAccepted FindsAccepted Ran',
         'commands/DiskScript: LinesRan', 'registry/Rounds: AlwaysStands RoundLeads']),
-    ('10. Disks of version 1', 'What opening says of such a disk, and what an upgrade makes of it (own).', [
+    ('10. Disks of version 1', 'How opening refuses such a disk, and what an upgrade makes of it (own).', [
         'store/Opening: RefusesOpen', 'store/Upgraded: upgraded', 'registry/Upgraded: IsUpgradeOf',
         'store/Step: refusal_of_upgrade IsUpgradeAnswer']),
 ]
 PLAIN = {
-    'file_disk/SectorFile: IsFileCall': 'one call: time goes on by one, a failure is counted; the size stays, and what the medium might have had before',
-    'file_disk/SectorFile: IsFileRead': 'a read changes nothing; the sectors that it moved are those written last, unless a sync has failed; none moved is a failure',
-    'file_disk/SectorFile: IsFileWrite': 'a write, short or failed too: each sector given has the old content or the new, those moved the new; no set grows by more',
-    'file_disk/SectorFile: IsFileSync': 'a sync: no set grows; where it succeeds, and none failed before, each set has what reads give, alone',
-    'file_disk/FileDisk: file_facts': 'a disk over a file: a stop may leave what waited, or what the medium had, since the last sync; reads give what waits first',
-    'file_disk/FileDisk: IsCovered': 'what the medium may have from one file to a later one, a stop of the disk might have left since the moment before',
-    'file_disk/FileDisk: FollowsTheFile': "what the medium may have had at a moment of the file, a stop might have left at the disk's moment then",
-    'file_disk/FileDisk: HoldsOfTheMedium': 'what holds of all that a stop may leave, from one moment of the disk to a later one, holds of the medium between them',
-    'file_disk/SectorFile: IsFoundWith': 'a file as it is found after a stop: reads give these sectors, and its medium has them and nothing else',
-    'file_disk/FileDisk: IsOver': 'a disk that was made over a file: only the sectors of the file were counted; the disk has as many, and reads give what it had',
+    'file_disk/SectorFile: IsFileCall': 'one call: time goes on by one, and a failure is counted; the size stays, and so does what the medium might have had before',
+    'file_disk/SectorFile: IsFileRead': 'a read changes nothing. The sectors that it moved are those that were written last, unless a sync has failed; a read that moves none has failed',
+    'file_disk/SectorFile: IsFileWrite': 'a write, also a short or failed one: reads return the old or the new content of each given sector, and the new content of each moved one, unless a sync has failed. No set grows by more than the new content',
+    'file_disk/SectorFile: IsFileSync': 'a sync: no set grows. If it succeeds, and no sync failed before, the set of each sector has only the content that reads return',
+    'file_disk/FileDisk: file_facts': 'a disk over a file: since the last sync, a stop may leave what was buffered or what the medium had; reads return what is buffered first',
+    'file_disk/FileDisk: IsCovered': 'whatever the medium may have, from one file to a later one, a stop of the disk might have left since the moment before',
+    'file_disk/FileDisk: FollowsTheFile': "whatever the medium may have had at a moment of the file, a stop might have left at the disk's moment then",
+    'file_disk/FileDisk: HoldsOfTheMedium': 'whatever holds of all that a stop may leave, from one moment of the disk to a later one, holds of the medium between them',
+    'file_disk/SectorFile: IsFoundWith': 'a file as it is found after a stop: reads return these sectors, and its medium has them and nothing else',
+    'file_disk/FileDisk: IsOver': "a disk that was made over a file: only the file's sectors were counted. The disk has as many sectors, and reads return what the file had",
     'byte_disk/ByteDisk: IsPlanOf': 'what a plan is to its disk: at each of its steps it leaves what the disk said of a moment, and each moment has such a step',
     'byte_disk/Plan: MayBeLeft': 'a stop after these steps may leave a sector with the content that it had when the last sync was done, or after some step since',
     'byte_registry/Asked: IsAsked': 'the bytes hold this state alone; the reply is by the step table, and once it is Done the steps lead to the state of acceptance',
@@ -118,79 +118,86 @@ PLAIN = {
     'binders/Stepped: SteppedIn': 'the flights after a step: one step further, over with the answer of the bind, or where it was',
     # One plain sentence in place of a comment that needs its context, or that is longer than a row, here and in the
     # table.
-    'elf_file/Address: bytes_at': 'so many bytes at an address, where one PT_LOAD of the file has them',
-    'elf_dynamic/Strings: soname': "the library's own name, DT_SONAME, where it has one",
+    'elf_file/Address: bytes_at': 'as many bytes as are asked for, from an address on, if one PT_LOAD of the file has them',
+    'elf_dynamic/Strings: soname': "the library's own name, DT_SONAME, if it has one",
     'elf_dynamic/Strings: needed': 'the names of the libraries that an object needs, DT_NEEDED, in their order',
     'elf_dynamic/Refusal: first_refusal': 'the first of the tests E1 to E27 and E30 to E32 that a file fails, or none',
     'hash_check/Export: is_exported': 'symbol number i, not 0, is global or weak, defined, NOTYPE, OBJECT or FUNC, and DEFAULT or PROTECTED',
     'hash_check/Definition: definition_of': 'the symbol that an object exports under a name, found by going through all its symbols',
-    'hash_check/Admission: has_bad_hash_table': "E29: the hash table has no bucket, a bad index, or a walk that has no end or misses an export",
-    'hash_check/FileRefusal: first_file_refusal': 'the first test that a file fails: those above, E28 (two exports of one name), then E29',
+    'hash_check/Admission: has_bad_hash_table': "E29 (BadHashTable): the hash table has no bucket, has a bad index, or has a walk that doesn't end or that misses an export",
+    'hash_check/FileRefusal: first_file_refusal': 'the first test that a file fails: those above, then E28 (DuplicateDefinition: two exports of one name), then E29',
     'hash_check/Hash: hash_step': 'one more byte of a name goes into its hash',
     'hash_check/Admission: is_met': "an index is on the walk from the bucket of its own name's hash",
     'scope/Levels: first_occurrences': 'each of them once, at its first place',
-    'scope/Levels: next_level': 'the next level of a breadth-first order: what the objects of a level need and no level has yet',
+    'scope/Levels: next_level': 'the next level of a breadth-first order: the objects that those of a level need, and that no level has yet',
     'scope/LoadOrder: available': 'a program and the installed libraries in one list, in which an object has its number (own)',
     'scope/LoadOrder: load_order': 'the objects in load order: the program, the preloads, then level by level what they need',
-    'scope/Lookup: lookup': 'the first definition of a name in load order, weak or not; a symbolic object is searched first for its own symbols',
+    'scope/Lookup: lookup': 'the first definition of a name in load order, weak or not. A symbolic object is searched first for its own symbols',
     'scope/Lookup: scope_of': 'where the symbols of an object are searched: all objects in load order, itself first where it is symbolic',
-    'scope/Target: target': 'what a symbol of an object is bound to: its own definition, one that is found, 0, or nothing',
+    'scope/Target: target': "what a symbol of an object is bound to: the symbol's own definition, a definition that is found, 0, or nothing",
     'scope/Target: target_of': 'the same of a symbol that is read: itself, what is found under its name, 0 where it is weak, or nothing',
-    'image/Placement: place': 'objects in memory in load order: the first at the base, each other one behind the one before it, aligned',
-    'image/Byte: byte_of': 'the byte at an address: of the last relocation written there, else of the file, else 0 up to p_memsz',
+    'image/Placement: place': 'objects in memory, in load order: the first at the base, and each other one after the one before it, aligned',
+    'image/Byte: byte_of': 'the byte at an address: that of the last relocation that writes there; else that of the file; else 0 up to p_memsz',
     'image/Image: image_of': 'the image: each PT_LOAD of each placed object, with these bytes',
-    'image/Refusal: bind_tests': 'the tests of a bind in their order: B1 file, B2 base, B3 missing library, B4 room, B5 undefined symbol',
-    'requests/Library: IsLibrary': 'no test refuses the file of a library, and its name is its SONAME',
+    'image/Refusal: bind_tests': 'the tests of a bind in their order: B1 (file), B2 (base), B3 (missing library), B4 (room), B5 (undefined symbol)',
+    'requests/Library: IsLibrary': "no test refuses the library's file, and the library's name is its SONAME",
     'states/State: State': 'a registry: its generation, its libraries with their names and bytes, and the names of its preloads',
     'requests/Step: TakesMemory': 'where a command takes memory: to admit a file that passes the tests before admission, and to list',
     'requests/Tests: has_repeat': 'a name is there twice',
     'requests/Step: IsReply': 'the answer to an accepted command: done, the listing, or the image with the defined byte at each address',
-    'requests/Step: LacksWrite': 'a write or a sync of a change failed: it took effect or not, and the disk has to be opened again',
-    'requests/Step: LacksRead': 'a read of a bind failed, and nothing changed; B1 and B2 come before all reads',
+    'requests/Step: LacksWrite': 'a write or a sync of a change failed: the change took effect or not, and the disk has to be opened again',
+    'requests/Step: LacksRead': 'a read of a bind failed, and nothing changed. B1 and B2 come before all reads',
     'requests/Step: Step': 'the step table: how a command may be answered in a state, and which state and condition this leaves',
     'roots/Root: ListFits': 'places for the sectors that a root lists: in version 1 those of its entries, in version 2 those of its catalogues',
     'states/Geometry: IsGeometry': 'a disk of so many sectors can hold a state, as a premise',
     'roots/Catalogue: CatalogueHasSpelling': 'the limits of the fields: a catalogue has a spelling exactly where it keeps to them',
-    'states/Cost: taken_by': 'how many sectors a state takes: for its libraries, and twice for their catalogues, as a change writes these anew',
-    'states/Cost: free': 'how many of so many sectors a state leaves free, beside the roots and what it takes',
-    'store/Stands: AreCatalogued': 'catalogues list the sectors of entries: each spells its part of them, 64, and the last what remains',
+    'image/Relocating: value_of': 'the value that a relocation of an object writes',
+    'states/Cost: cost': 'the number of sectors that a file of a given length costs: those of its bytes, and one for its entry',
+    'states/Cost: catalogues_for': 'the number of catalogues that list a given number of libraries. All of them are full, except perhaps the last',
+    'states/Cost: taken_by': 'the number of sectors that a state takes: for its libraries, and twice for their catalogues, because a change writes all of these again',
+    'states/Cost: free': 'the number of sectors of a disk that a state leaves free, besides the roots and the sectors that it takes',
+    'store/Stands: AreCatalogued': 'catalogues list the sectors of entries: each catalogue encodes its part of them, which is 64, and the last one encodes the rest',
     'store/Stands: AreListed': "the sectors of a root's entries: in version 1 the root lists them itself, in version 2 its catalogues do",
-    'store/Stands: HasRoom': 'in version 2 there is room for the catalogues twice: for those that stand, and for those of the next change',
-    'store/Stands: IsIntact': 'one root is current, its entries are listed and spelt, no used sector is used twice, no name twice, there is room',
-    'store/Stands: state_of': 'the state that is read by a root and its entries',
-    'store/Stands: Stands': 'some root of version 2 and entries are intact in these sectors, and what is read by them is this state',
+    'store/Stands: HasRoom': 'in version 2 there is room for the catalogues twice: for the current ones, and for those of the next change',
+    'store/Stands: IsIntact': 'one root is current, its entries are listed and encoded, no used sector is used twice, no name occurs twice, and there is room',
+    'store/Stands: state_of': 'the state that a root and its entries describe',
+    'store/Stands: Stands': 'some root of version 2 and its entries are intact in these sectors, and they describe this state',
     'store/Stands: StandsOld': 'the same by the old rules: by a root of version 1',
-    'registry/Stands: Stands': 'the same of libraries: reading the sectors gives this state, and each file is a library',
+    'registry/Stands: Stands': 'the same for libraries: reading the sectors gives this state, and each file is a library',
     'registry/Stands: StandsOld': 'the same by the old rules, and each file is a library',
-    'sector_disk/Disk: DiskFacts': 'a disk: whether it is honest, its calls, what reads give, and what a stop at each moment may leave',
+    'sector_disk/Disk: DiskFacts': 'a disk: whether it is honest, its calls, what reads return, and what a stop at each moment may leave',
     'sector_disk/Disk: Mixture': 'what a stop now may leave: each sector, by itself, with one of its contents',
-    'sector_disk/Disk: IsSync': 'a sync: reads give the same; where it succeeds, a stop leaves what reads give, and nothing else',
-    'sector_disk/Disk: IsWrite': 'a write: where it succeeds reads give the new content; a stop may leave that or what it could leave before',
-    'sector_disk/Disk: LeavesOnly': 'at every moment from one state of a disk to a later one, a stop leaves only sectors of this kind',
+    'sector_disk/Disk: IsSync': 'a sync: reads return the same. If it succeeds, a stop leaves what reads return, and nothing else',
+    'sector_disk/Disk: IsWrite': 'a write: if it succeeds, reads return the new content. A stop may leave the new content, or what it could leave before',
+    'sector_disk/Disk: LeavesOnly': 'at every moment from one state of a disk to a later one, a stop leaves only sectors that have a given property',
     'registry/Opened: IsAt': 'a registry at a state: an honest disk, no failed write or sync, and whatever a stop leaves holds the state',
-    'registry/Applied: MayLeaveBy': 'the state before the command, the one after, or that of a change that a failed call cut off',
+    'registry/Applied: MayLeaveBy': 'the state before the command, the state after it, or the state after a change that a failed call cut off',
     'registry/Applied: AppliedBy': 'one command: a step of the step table, during which a stop leaves only what `MayLeaveBy` says',
-    'registry/Untested: UntestedStep': 'the step table where files may be no libraries: a bind that needs such a one is answered S5, and nothing else changes',
+    'registry/Untested: UntestedStep': 'the step table if files may be no libraries: a bind that needs such a file is refused with S5 (Damaged), and nothing else changes',
     'c_answers/Answers: IsPlanOf': 'the plan leads from the one state that the bytes hold to that of acceptance, and from one of a registry to such a one',
+    'sector_disk/Disk: KeepsPast': 'at each earlier moment, the sets of the sectors and the mark stay as they were',
+    'file_disk/FileDisk: IsAsTheFile': 'reads return what the file has, and a stop may leave what its medium may have, and nothing else',
+    'registry/Updating: updated': 'the state that an update makes of the current state: the one after its requests, of the next generation; without a change the same',
+    'registry/Ran: UpdatesAt': 'an update of a registry at its state: its requests were planned in a draft by the step table, one after the other, and its commit got this answer',
     'registry/Ran: HasBegun': 'the first k exchanges have all begun by this moment',
     'registry/Ran: HoldsAcknowledged': 'every command and update acknowledged by this moment is among the first k',
-    'registry/Ran: LeavesAccepted': 'what a stop leaves at a moment holds the state after the accepted ones of such first k exchanges',
-    'registry/Ran: FindsAccepted': 'what a stop leaves at the end holds the state after all accepted commands and updates',
+    'registry/Ran: LeavesAccepted': 'whatever a stop leaves at a moment holds the state after the accepted ones of such first k exchanges',
+    'registry/Ran: FindsAccepted': 'whatever a stop leaves at the end holds the state after all accepted commands and updates',
     'registry/Ran: Ran': 'a run: one exchange after the other, with what a stop leaves at each moment and at the end',
     'commands/DiskScript: LinesRan': 'the commands of the lines of a script are such a run',
     'registry/Rounds: AlwaysStands': 'whatever a stop leaves of the disk holds the state',
     'registry/Rounds: RoundLeads': 'a round that ran leads to the state after its accepted commands; any other keeps the state',
-    'elf_dynamic/Symbol: symbols': 'all symbols of a file, that of index 0 too',
-    'requests/Tests: tests_of': 'the tests of a change, in their order; a bind and a listing have none here',
-    'sector_disk/Disk: IsRead': 'a read: nothing changes, and where it succeeds it gives what was written last',
+    'elf_dynamic/Symbol: symbols': 'all symbols of a file, including the one with index 0',
+    'requests/Tests: tests_of': 'the tests of a change, in their order. A bind and a listing have none here',
+    'sector_disk/Disk: IsRead': 'a read: nothing changes, and if it succeeds, it returns what was written last',
     'store/Opened: IsAt': 'a store at a state: an honest disk, no failed write or sync, and every mixture holds it by these entries',
     'store/Stands: StandsBy': 'by this root and these entries the sectors hold the state',
     'store/Changed: Changed': 'a change of at most so many calls, with these refusals, one for a failed device and one for a failed store',
-    'store/Opening: RefusesOpen': 'how `open` may refuse these sectors: S12 where the current root is of version 1 (S1 or S11 may come in its place)',
-    'store/Step: refusal_of_upgrade': 'why a state of version 1 is not upgraded: S10 at the last generation, S7 where its catalogues have no room',
-    'store/Step: IsUpgradeAnswer': 'the answers to an upgrade: just that refusal, or none; S1 and S11 may come in place of each',
+    'store/Opening: RefusesOpen': 'how `open` may refuse these sectors: with S12 (OldFormat) if the current root is of version 1 (S1 or S11 may come in its place)',
+    'store/Step: refusal_of_upgrade': "why a state of version 1 isn't upgraded: S10 (GenerationEnd) at the last generation, S7 (Full) if its catalogues have no room",
+    'store/Step: IsUpgradeAnswer': 'the answers to an upgrade: exactly that refusal, or none. S1 and S11 may come in place of each',
     'store/Upgraded: IsRelistedFrom': 'the entries by which sectors held a state by the old rules, listed by catalogues in the lowest free sectors',
-    'registry/Upgraded: IsUpgradeOf': 'at the state that sectors held by the new rules, or at the one after that which they held by the old ones',
+    'registry/Upgraded: IsUpgradeOf': 'the registry is at the state that the sectors held by the new rules, or at the one after the state that they held by the old rules',
     'registry/Calls: calls_of': 'how many calls an accepted command makes: for the bytes of a file, the catalogues, the entry, the root, and two syncs',
     'scope/Queue: AreApart': 'the places are below the limit, and no place is among them twice',
     'roots/Fields: ListsSectors': 'so many sectors in so many places: behind the root sectors and before `end`, none of them twice',
@@ -471,8 +478,8 @@ def numbers(files, first, needed):
     every = every_of(files)
     format_count = sum(file.startswith(('elf_file/', 'elf_dynamic/')) for file, _ in needed)
     headline = cited(files, [clause for clause in CLAUSES if clause[:2] in HEADLINE])
-    return (f'There are {len(every):,} definitions in all. The clauses above cite {len(needed)} of them ({lines_of(files, needed):,} '
-            f'lines), directly or through others; those of `Registry::format`, `open`, `apply` and `run` alone {len(headline)} '
-            f'({lines_of(files, headline):,}). {format_count} are of the ELF format: its constants, its fields, and the tests of a file. The '
-            f'{len(first)} main ones are below. [DEFINITIONS](DEFINITIONS.md) has the other {len(needed) - len(first)}, and the '
-            f'{len(every) - len(needed)} that only contracts of single crates cite.')
+    return (f'There are {len(every):,} definitions in all. The clauses above cite {len(needed):,} of them ({lines_of(files, needed):,} '
+            f'lines), directly or through others. The clauses of `Registry::format`, `open`, `apply` and `run` cite {len(headline)} '
+            f'({lines_of(files, headline):,} lines). Of the cited definitions, {format_count} are of the ELF format: its constants, its '
+            f'fields, and the tests of a file. The {len(first)} main definitions are below. [DEFINITIONS](DEFINITIONS.md) has the other '
+            f'{len(needed) - len(first)}, and the {len(every) - len(needed)} that only contracts of single crates cite.')
