@@ -87,8 +87,9 @@ def brought_in(text):
     return {(crate, name) for crate, several, one in BROUGHT.findall(text) for name in re.findall(r'\w+', several or one)}
 
 
-# A call that the tests of removals make through `Registry::remove`: its `requires` speak of the entries of a store.
-THROUGH_OTHERS = {'store::Store::delete'}
+# Calls that no test makes by itself: `Registry::remove` makes the first, and crates/registry_cuts runs the second
+# with every cut and pick.
+THROUGH_OTHERS = {'store::Store::delete', 'registry::run_rounds'}
 
 
 def is_tested(promise):

@@ -1,4 +1,4 @@
-// Each call of a registry, of its binders, of an update, of rounds and of the program, once by its
+// Each call of a registry, of its binders, of an update and of the program, once by its
 // path and with ample memory. Some of them no program here makes: they are for those who ask without
 // a script.
 
@@ -7,7 +7,7 @@ use binders::{Binders, Event, EventReply};
 use commands::{Action, Shown, read_words, run_image, run_words};
 use elf_dynamic::Object;
 use hash_check::Admitted;
-use registry::{FoundLibraries, Registry, Round, RoundReplies, Step, Update, run_rounds};
+use registry::{FoundLibraries, Registry, Step, Update};
 use requests::{Command, Refusal, Reply};
 use samples::{library, program};
 use sector_disk::Memory;
@@ -264,40 +264,6 @@ fn an_update_is_given_up_and_another_one_is_committed(rt: HostRuntime) {
     let is_new = has(&mut registry, 3);
     let _ = Registry::into_disk(registry);
     assert!(rt; is_planned && is_kept && is_made && is_new);
-}
-
-// Whether two rounds are run, of which the second finds what the first has made.
-fn runs_rounds(alloc: Global, disk: Memory) -> Result<bool, Fail> {
-    let (file, program) = (library(b'a', 2), program(b'a'));
-    let replace = [Command::Replace(&file)];
-    let asks = asks(&program);
-    let mut rounds = Vec::new(alloc);
-    for commands in [replace.as_slice(), asks.as_slice()] {
-        rounds.push(Round {
-            commands: Vec::from_slice(alloc, commands)?,
-            cut: 0,
-            late: false,
-            picks: Vec::new(alloc),
-        })?;
-    }
-    let Ok((replies, _)) = run_rounds(alloc, disk, rounds) else {
-        return Ok(false);
-    };
-    Ok(match replies.as_slice() {
-        [RoundReplies::Ran(first), RoundReplies::Ran(second)] => {
-            matches!(first.as_slice(), [Reply::Done]) && are_of(second, 2)
-        }
-        _ => false,
-    })
-}
-
-#[test]
-fn rounds_are_run(rt: HostRuntime) -> Result<(), Fail> {
-    let Some(registry) = made(rt.alloc()) else {
-        panic!(rt; "no registry")
-    };
-    assert!(rt; runs_rounds(rt.alloc(), Registry::into_disk(registry))?);
-    Ok(())
 }
 
 #[test]
