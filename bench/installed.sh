@@ -19,7 +19,7 @@ debootstrap --variant=minbase --include=$wanted "$release" "$root" > "$root.log"
 rm "$root.log"
 mkdir "$root/rlibreg" "$root/rlibreg/c"
 cp -r docs python share "$root/rlibreg/"
-cp -r c/*.{sh,py,in,lua} c/rlibreg.h c/system c/tests "$root/rlibreg/c/"
+cp -r c/*.{sh,py,in,lua} c/rlibreg.h c/rlibreg-switch c/system c/tests "$root/rlibreg/c/"
 cp bench/page.sh "$root/rlibreg/"
 cp -rP "$built" "$root/rlibreg/c/out"
 
