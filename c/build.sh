@@ -148,8 +148,10 @@ $cc $flags -g0 -c -o "$folder/rlibreg_begin.o" c/rlibreg_begin.c
 cp c/rlibreg-{gcc,ld} c/rlibreg{,_plus}.specs c/rlibreg_plus.cc c/rlibreg_{versions,words}.awk "$folder/"
 ln -sf rlibreg-gcc "$folder/rlibreg-g++"
 mkdir -p "$folder/rlibreg_kernel"
-for headers in /usr/include/{,"$($cc -print-multiarch)/"}{linux,asm,asm-generic}; do
-    [ ! -d "$headers" ] || ln -sfn "$headers" "$folder/rlibreg_kernel/${headers##*/}"
+for name in asm asm-generic cxl drm fwctl linux misc mtd rdma regulator scsi sound video xen; do
+    for headers in /usr/include/{,"$($cc -print-multiarch)/"}$name; do
+        [ ! -d "$headers" ] || ln -sfn "$headers" "$folder/rlibreg_kernel/$name"
+    done
 done
 echo "built in $folder: librlibreg.a, librlibreg.so, rlibreg.h, rlibreg-gcc;" \
     "$kind: rlibreg-run, rlibreg, rlibreg-tool"

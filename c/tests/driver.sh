@@ -191,6 +191,7 @@ want 'as an executable' 'one 1 two 2
 = 0' "$(ended ./alone)"
 
 . "$here/driver_words.sh"
+. "$here/driver_projects.sh"
 
 # C++: two libraries with an object each, virtual destructors, statics of functions, new and delete.
 if command -v g++ > /dev/null; then
