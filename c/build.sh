@@ -142,9 +142,19 @@ soname=librlibreg.so.${version%.*}
     ln -s "$soname" librlibreg.so
 )
 
-# The driver, with its specs, what links, where its programs begin, what C++ asks for, what reads version
-# scripts and files of words, and the kernel's headers.
-$cc $flags -g0 -c -o "$folder/rlibreg_begin.o" c/rlibreg_begin.c
+# The driver, with its specs, what links, where its programs begin, what they may ask for, what C++ asks
+# for, what reads version scripts and files of words, and the kernel's headers. Its programs have musl,
+# whatever library this is compiled for.
+of_musl="$flags -g0 -fno-stack-protector -U_FORTIFY_SOURCE"
+for part in begin emulated; do
+    $cc $of_musl -c -o "$folder/rlibreg_$part.o" "c/rlibreg_$part.c"
+done
+(
+    cd "$folder"
+    rm -f rlibreg_emulated.a
+    ar rcsD rlibreg_emulated.a rlibreg_emulated.o
+    rm rlibreg_emulated.o
+)
 cp c/rlibreg-{gcc,ld} c/rlibreg{,_plus}.specs c/rlibreg_plus.cc c/rlibreg_{versions,words}.awk "$folder/"
 ln -sf rlibreg-gcc "$folder/rlibreg-g++"
 mkdir -p "$folder/rlibreg_kernel"

@@ -1,6 +1,9 @@
 # Makes version scripts one that names no version: what any of them has global or local stays so, and
 # what is both is global. A line of the character FS follows each script. A script that is refused, such
 # as for a symbol with two versions, ends it with 1 and a line of the script's number and the reason.
+#
+# Of emulated thread-local data a variable `x` has the symbol `__emutls_v.x`. If the variable `emulated` is
+# set, the scripts' names get such names beside them.
 
 function fail(why) {
     print script " " why
@@ -37,8 +40,12 @@ function write(patterns, label, parts, key, first) {
     for (key in patterns) {
         if (!first++) print label ":"
         split(key, parts, SUBSEP)
-        if (parts[1] == "") print "  " parts[2] ";"
-        else print "  extern " parts[1] " { " parts[2] "; };"
+        if (parts[1] != "") {
+            print "  extern " parts[1] " { " parts[2] "; };"
+            continue
+        }
+        print "  " parts[2] ";"
+        if (emulated && parts[2] ~ /^[^"*]/) print "  __emutls_v." parts[2] ";"
     }
 }
 function read_script() {

@@ -81,16 +81,14 @@ ends 'no script' old "$gcc: none.map: there is no such file" \
     $gcc -shared -DNUMBER=1 source.c -Wl,-z,now,--version-script=none.map
 
 # What the product refuses.
-echo '__thread int number; int one(void) { return number++; }' > thread.c
-refused 'thread-local data' "$gcc: output: refused C1 E11 TlsSegment: thread-local data: \
--D__thread= makes it ordinary, for one thread" $gcc -shared thread.c
 cat > indirect.c << 'END'
 static int one(void) { return 1; }
 static int (*choose(void))(void) { return one; }
 int chosen(void) __attribute__((ifunc("choose")));
 END
-refused 'an indirect function' "$gcc: output: refused C1 E26 IfuncSymbol: an indirect function: \
-configure without ifunc and target_clones attributes" $gcc -shared indirect.c
+indirect="$gcc: output: refused C1 E26 IfuncSymbol: an indirect function: configure without ifunc and \
+target_clones attributes"
+refused 'an indirect function' "$indirect" $gcc -shared indirect.c
 refused 'a name with a slash' \
     "$gcc: output: refused C1 E33 BadSoname: link with -Wl,-soname,NAME" \
     $gcc -shared -DNUMBER=1 source.c -Wl,-z,now,-soname,a/b
@@ -192,6 +190,7 @@ want 'as an executable' 'one 1 two 2
 
 . "$here/driver_words.sh"
 . "$here/driver_projects.sh"
+. "$here/driver_threads.sh"
 
 # C++: two libraries with an object each, virtual destructors, statics of functions, new and delete.
 if command -v g++ > /dev/null; then

@@ -1,13 +1,11 @@
 # driver.sh: words and names that a driver may read otherwise than gcc, or give to awk and sed.
 
 # gcc decides what words ask for: no word keeps the product from reading what is linked.
-tls="$gcc: output: refused C1 E11 TlsSegment: thread-local data: -D__thread= makes it ordinary, for \
-one thread"
 for words in '-dumpdir -c' '-dumpbase -E' '-dumpbase-ext .s' -dA '-MD -MT -M' '-I -S' -Wl,-rpath,-r \
     '-Xlinker -rpath -Xlinker --version' '-o other'; do
-    refused "$words" "$tls" $gcc -shared thread.c $words
+    refused "$words" "$indirect" $gcc -shared indirect.c $words
 done
-refused "an argument that isn't known as one" "${tls/C1/B1}" $gcc -shared thread.c -Wl,--exclude-libs,-r
+refused "an argument that isn't known as one" "${indirect/C1/B1}" $gcc -shared indirect.c -Wl,--exclude-libs,-r
 
 # makes NAMES WORD..: in an empty folder the driver makes files of these names, and ends with 0.
 makes() {
@@ -41,7 +39,7 @@ for words in '-shared plain.c -o' '-c plain.c -o' '-c plain.c -I' '-c plain.c -D
     want "$words" '= 1' "$(ended $gcc $words | tail -n 1)"
     want "$words: what is made" '' "$(compgen -G '-*' || true)"
 done
-want '-name, refused' '= 1' "$(ended $gcc -shared thread.c -o -name | tail -n 1)"
+want '-name, refused' '= 1' "$(ended $gcc -shared indirect.c -o -name | tail -n 1)"
 want '-name, refused: what is left' '' "$(compgen -G '-*' || true)"
 
 # What is left of an old output is what gcc leaves.
@@ -79,9 +77,9 @@ wait $!
 cmp it got
 $plain -o /dev/stdout | cmp it -
 want 'a full device' '= 1' "$(ended $plain -o /dev/full | tail -n 1)"
-want 'a refused pipe' '= 1' "$(ended timeout 20 $gcc -shared thread.c -o pipe 2> told | tail -n 1)"
+want 'a refused pipe' '= 1' "$(ended timeout 20 $gcc -shared indirect.c -o pipe 2> told | tail -n 1)"
 ln -s target to
-want 'a link to nothing, refused' '= 1' "$(ended $gcc -shared thread.c -o to | tail -n 1)"
+want 'a link to nothing, refused' '= 1' "$(ended $gcc -shared indirect.c -o to | tail -n 1)"
 [ ! -e target ]
 $plain -o to
 cmp it target
