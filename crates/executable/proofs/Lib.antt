@@ -16,4 +16,5 @@ pub mod Placing
 pub mod Congruent
 pub mod Counting
 pub mod Final
+pub mod Uncalled
 pub mod Refusing
