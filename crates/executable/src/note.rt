@@ -1,8 +1,11 @@
 // The notes of a program.
 
-ghost use Rattle.std.specs.Prelude.{◌≡◌, ◌≤◌, ◌<◌, ◌/◌, ◌^◌, drop, length, take, MatchOption};
+ghost use Rattle.std.specs.Prelude.{◌≡◌, ◌+◌, ◌≤◌, ◌<◌, ◌/◌, ◌^◌, drop, length, take};
+ghost use Rattle.std.specs.Prelude.{MatchOption};
+ghost use Rattle.std.specs.Int.{next_multiple_of};
+ghost use Rattle.elf_file.specs.Number.{number_at};
 ghost use Rattle.executable.specs.Note.{note_size, is_calls_note, has_calls_note, is_of_notes};
-ghost use Rattle.executable.specs.Note.{find_notes, notes_of, calls_itself};
+ghost use Rattle.executable.specs.Note.{find_notes, notes_by, notes_of, calls_itself};
 
 use crate::initializers::{section_memory, u64_in};
 use crate::segments::split;
@@ -36,7 +39,8 @@ fn first_bytes<'a>(memory: &Memory<'a>, size: u64) -> Memory<'a>
 /// Bytes of a name or a descriptor, padded.
 fn padded_size(notes: &Memory<'_>, at: usize) -> usize
     requires { at + 4 ≤ length notes.now }
-    ensures { result ≡ next_multiple_of (number_at 4 notes.now at) NOTE_ALIGNMENT }
+    ensures value { result ≡ next_multiple_of (number_at 4 notes.now at) NOTE_ALIGNMENT }
+    ensures small { result < 2 ^ 33 }
 {
     let size = u64::from(u32_in(notes, at));
     size.next_multiple_of(NOTE_ALIGNMENT) as usize
@@ -69,17 +73,18 @@ fn is_calls_note(notes: &Memory<'_>) -> bool
 }
 
 /// Whether it is one of these notes. One pass over them.
-fn has_calls_note(mut notes: Memory<'_>) -> bool
-    ensures { result ≡ has_calls_note (length notes) notes }
+fn has_calls_note(notes: &Memory<'_>) -> bool
+    ensures { result ≡ has_calls_note (length notes.now) notes.now }
 {
+    let mut rest = notes.skip(0);
     for _ in 0..notes.len() {
-        if is_calls_note(&notes) {
+        if is_calls_note(&rest) {
             return true;
         }
-        let Some(rest) = behind_note(&notes) else {
+        let Some(next) = behind_note(&rest) else {
             return false;
         };
-        notes = rest;
+        rest = next;
     }
     false
 }
@@ -97,11 +102,23 @@ fn is_of_notes(headers: &Memory<'_>, i: usize) -> bool
 /// The first of so many program headers that is of notes. One pass over them.
 #[tactic(auto, unfolding(crate::specs::Note::find_notes))]
 fn find_notes(headers: &Memory<'_>, count: u64) -> Option<usize>
-    ensures { result ≡ find_notes headers.now count }
+    ensures found { result ≡ find_notes headers.now count }
+    ensures fits { length headers.now < 2 ^ 32 }
 {
     let whole = headers.len() / PROGRAM_HEADER_SIZE;
     let count = (whole as u64).min(count) as usize;
     (0..count).find(|i| is_of_notes(headers, *i))
+}
+
+/// The notes by a program header of an object.
+fn notes_by<'a>(base: u64, own: &'a [Segment], headers: &Memory<'_>, i: usize) -> Memory<'a>
+    requires small { length headers.now < 2 ^ 32 }
+    requires within { i < length headers.now / 56 }
+    ensures { result ≡ notes_by base own.now headers.now i }
+{
+    let place = u64_in(headers, PROGRAM_HEADER_SIZE * i + 16);
+    let size = u64_in(headers, PROGRAM_HEADER_SIZE * i + 32);
+    first_bytes(&section_memory(base, own, Some(place)), size)
 }
 
 /// The notes of an object.
@@ -109,12 +126,10 @@ fn notes_of<'a>(object: &ImageObject, own: &'a [Segment]) -> Memory<'a>
     ensures { result ≡ notes_of object.now own.now }
 {
     let headers = section_memory(object.base, own, object.addresses.headers);
-    let Some(i) = find_notes(&headers, object.addresses.header_count) else {
-        return Memory::new(&[], 0);
-    };
-    let place = u64_in(&headers, PROGRAM_HEADER_SIZE * i + 16);
-    let size = u64_in(&headers, PROGRAM_HEADER_SIZE * i + 32);
-    first_bytes(&section_memory(object.base, own, Some(place)), size)
+    match find_notes(&headers, object.addresses.header_count) {
+        None => Memory::new(&[], 0),
+        Some(i) => notes_by(object.base, own, &headers, i),
+    }
 }
 
 /// Whether the program says that it calls the functions itself that a loader would call.
@@ -125,7 +140,7 @@ pub(crate) fn calls_itself(image: &Image) -> bool
         [] => false,
         [program, ..] => {
             let (own, _) = split(image.segments(), program.segment_count);
-            has_calls_note(notes_of(program, own))
+            has_calls_note(&notes_of(program, own))
         }
     }
 }
