@@ -15,7 +15,6 @@ extern void _init(void);
 #pragma GCC visibility push(hidden)
 extern void __init_libc(char **environment, char *name); /* what sets musl up; in its libc.a */
 typedef void initializer(int, char **, char **);
-extern initializer *const __preinit_array_start[], *const __preinit_array_end[];
 extern initializer *const __init_array_start[], *const __init_array_end[];
 #pragma GCC visibility pop
 
@@ -41,10 +40,6 @@ static void set_up(int count, char **words, char **environment) {
 /* This file is the first that is linked, so this is the first function of the array. */
 __attribute__((section(".preinit_array"), used)) static initializer *const first = set_up;
 
-static void call_all(initializer *const *from, initializer *const *to, int count, char **words) {
-    for (; from != to; from++) (*from)(count, words, environ);
-}
-
 /* `stack` is what the program finds on its stack. `end` is a loader's function for the end of the program,
  * or null; musl's loader leaves another value. */
 __attribute__((used)) static _Noreturn void begin(long *stack, void (*end)(void)) {
@@ -54,12 +49,12 @@ __attribute__((used)) static _Noreturn void begin(long *stack, void (*end)(void)
         at_end = end;
     } else {
         set_up(count, words, words + count + 1);
-        call_all(__preinit_array_start, __preinit_array_end, count, words);
-        rlibreg_initialize_libraries(count, words, environ);
-        at_end = rlibreg_finalize_libraries;
+        rlibreg_initialize(count, words, words + count + 1);
+        at_end = rlibreg_finalize;
     }
     _init();
-    call_all(__init_array_start, __init_array_end, count, words);
+    for (initializer *const *it = __init_array_start; it != __init_array_end; it++)
+        (*it)(count, words, environ);
     exit(main(count, words, environ));
 }
 

@@ -4,11 +4,12 @@
 
 #pragma GCC visibility push(hidden)
 
-/* Calls the initializers of the libraries in the order of rlibreg-run, with these arguments. */
-void rlibreg_initialize_libraries(int count, char **words, char **environment);
+/* Calls the program's DT_PREINIT_ARRAY and the initializers of the libraries with these arguments, in the
+ * order of rlibreg-run. */
+void rlibreg_initialize(int count, char **words, char **environment);
 
-/* Calls the finalizers of the libraries that were initialized, in the opposite order. */
-void rlibreg_finalize_libraries(void);
+/* Calls the finalizers of the libraries, in the opposite order. */
+void rlibreg_finalize(void);
 
 #pragma GCC visibility pop
 

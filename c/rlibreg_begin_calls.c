@@ -1,0 +1,132 @@
+/* Calls the libraries' initializers and finalizers if no loader does, as rlibreg-run does: in the same
+ * order, and only functions in the code of the object that names them (rlibreg_run_calls.c and
+ * rlibreg_run_order.c). */
+#include "rlibreg_begin.h"
+#include "rlibreg_objects.h"
+
+#include <string.h>
+#include <unistd.h>
+
+enum { MOST = 2048, REFUSED = 125 };
+typedef void initializer(int, char **, char **);
+typedef void finalizer(void);
+
+#pragma GCC visibility push(hidden)
+extern initializer *const __preinit_array_start[], *const __preinit_array_end[];
+#pragma GCC visibility pop
+
+static uint16_t order[MOST]; /* the numbers of libraries, as they are initialized */
+static size_t ordered;
+static char was_entered[MOST + 1];
+
+static _Noreturn void refuse(const struct rlibreg_object *it, const char *tag, const char *why) {
+    const char *parts[] = { "rlibreg: ", it->name, ": ", tag, why, "\n" };
+    for (size_t i = 0; i < sizeof parts / sizeof *parts; i++)
+        if (write(2, parts[i], strlen(parts[i])) < 0) break;
+    _exit(REFUSED);
+}
+
+/* Enters a library, and leaves it behind those that it needs. */
+static void enter(const struct rlibreg_objects *all, size_t number) {
+    const struct rlibreg_object *it = &all->at[number];
+    if (was_entered[number]) return;
+    was_entered[number] = 1;
+    for (const Elf64_Dyn *entry = it->dynamic; entry->d_tag != DT_NULL; entry++)
+        if (entry->d_tag == DT_NEEDED) {
+            const struct rlibreg_object *needed =
+                rlibreg_object_named(it->strings + entry->d_un.d_val);
+            if (needed) enter(all, (size_t)(needed - all->at));
+        }
+    order[ordered++] = (uint16_t)number;
+}
+
+/* Returns whether an address is one of an object's segments that permit all of `flags`. */
+static int is_within(const struct rlibreg_object *it, uintptr_t address, uint32_t flags) {
+    for (size_t i = 0; i < it->header_count; i++)
+        if (it->headers[i].p_type == PT_LOAD && (it->headers[i].p_flags & flags) == flags &&
+            address - it->base - it->headers[i].p_vaddr < it->headers[i].p_memsz)
+            return 1;
+    return 0;
+}
+
+/* Returns the function of a tag, or null. */
+static uintptr_t function_of(const struct rlibreg_object *it, int64_t tag, const char *name) {
+    uint64_t value = rlibreg_tag_of(it, tag, UINT64_MAX);
+    if (value == UINT64_MAX) return 0;
+    if (!is_within(it, it->base + value, PF_X)) refuse(it, name, " names a function that isn't in its own code");
+    return it->base + value;
+}
+
+/* The functions of an array. */
+struct functions {
+    const uintptr_t *at;
+    size_t count;
+};
+
+static struct functions array_of(const struct rlibreg_object *it, int64_t tag, int64_t size_tag,
+                                 const char *name) {
+    uint64_t value = rlibreg_tag_of(it, tag, UINT64_MAX), size = rlibreg_tag_of(it, size_tag, UINT64_MAX);
+    struct functions found = { 0 };
+    if (value == UINT64_MAX || !size) return found;
+    if (size == UINT64_MAX || !is_within(it, it->base + value, 0) ||
+        !is_within(it, it->base + value + size - 1, 0))
+        refuse(it, name, " isn't in its memory");
+    if (size % sizeof *found.at) refuse(it, name, " has no whole number of addresses");
+    found.at = (const uintptr_t *)(it->base + value);
+    found.count = size / sizeof *found.at;
+    for (size_t i = 0; i < found.count; i++)
+        if (!is_within(it, found.at[i], PF_X)) refuse(it, name, " names a function that isn't in its own code");
+    return found;
+}
+
+static struct functions initializers_of(const struct rlibreg_object *it) {
+    return array_of(it, DT_INIT_ARRAY, DT_INIT_ARRAYSZ, "DT_INIT_ARRAY");
+}
+static struct functions finalizers_of(const struct rlibreg_object *it) {
+    return array_of(it, DT_FINI_ARRAY, DT_FINI_ARRAYSZ, "DT_FINI_ARRAY");
+}
+
+/* Refuses a library before anything is called, as rlibreg-run does. */
+static void test(const struct rlibreg_object *it) {
+    function_of(it, DT_INIT, "DT_INIT");
+    function_of(it, DT_FINI, "DT_FINI");
+    initializers_of(it);
+    finalizers_of(it);
+}
+
+static void initialize(const struct rlibreg_object *it, int count, char **words, char **environment) {
+    struct functions array = initializers_of(it);
+    uintptr_t function = function_of(it, DT_INIT, "DT_INIT");
+    if (function) ((initializer *)function)(count, words, environment);
+    for (size_t i = 0; i < array.count; i++) ((initializer *)array.at[i])(count, words, environment);
+}
+
+/* Returns the number of the library that comes before everything else, or 0: as in rlibreg_run_calls.c. */
+static size_t first_of(const struct rlibreg_objects *all) {
+    size_t i = all->count - 1;
+    while (i && !(rlibreg_tag_of(&all->at[i], DT_FLAGS_1, 0) & DF_1_INITFIRST)) i--;
+    return i;
+}
+
+void rlibreg_initialize(int count, char **words, char **environment) {
+    struct rlibreg_objects all = rlibreg_all_objects();
+    size_t first = first_of(&all);
+    for (size_t i = all.count; i-- > 1;) enter(&all, i);
+    for (size_t i = 0; i < ordered; i++) test(&all.at[order[i]]);
+    if (first) initialize(&all.at[first], count, words, environment);
+    for (initializer *const *it = __preinit_array_start; it != __preinit_array_end; it++)
+        (*it)(count, words, environment);
+    for (size_t i = 0; i < ordered; i++)
+        if (order[i] != first) initialize(&all.at[order[i]], count, words, environment);
+}
+
+void rlibreg_finalize(void) {
+    struct rlibreg_objects all = rlibreg_all_objects();
+    while (ordered) {
+        const struct rlibreg_object *it = &all.at[order[--ordered]];
+        struct functions array = finalizers_of(it);
+        uintptr_t function = function_of(it, DT_FINI, "DT_FINI");
+        for (size_t i = array.count; i-- > 0;) ((finalizer *)array.at[i])();
+        if (function) ((finalizer *)function)();
+    }
+}
