@@ -20,7 +20,7 @@ enum { PAGE = 4096, MOST = 2049 }; /* a registry has up to 2,048 libraries */
 
 #pragma GCC visibility push(hidden)
 extern const Elf64_Ehdr __ehdr_start __attribute__((weak));
-extern const Elf64_Dyn _DYNAMIC[];
+extern Elf64_Dyn _DYNAMIC[];
 #pragma GCC visibility pop
 
 struct table {
