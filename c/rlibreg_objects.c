@@ -17,6 +17,7 @@
 
 enum { PAGE = 4096, MOST = 2049 }; /* a registry has up to 2,048 libraries */
 #define END_OF_MEMORY ((uintptr_t)1 << 47)
+#define WRONG_HEADERS "not found, or its memory doesn't begin with its headers: "
 
 #pragma GCC visibility push(hidden)
 extern const Elf64_Ehdr __ehdr_start __attribute__((weak));
@@ -157,7 +158,8 @@ static void add_program(struct table *all) {
 static void add_listed(struct table *all, const struct r_debug *list) {
     struct rlibreg_object it;
     for (const struct link_map *map = list->r_map ? list->r_map->l_next : NULL; map; map = map->l_next) {
-        if (!read_library(all, &it, map->l_addr)) continue;
+        if (map->l_addr == getauxval(AT_SYSINFO_EHDR)) continue;
+        if (!read_library(all, &it, map->l_addr)) fail(WRONG_HEADERS, map->l_name);
         if ((uintptr_t)list < it.base || (uintptr_t)list >= it.end) add(all, &it);
     }
 }
@@ -197,8 +199,7 @@ static void test_needed(const struct table *all) {
     for (size_t i = 0; i < all->count; i++)
         for (const Elf64_Dyn *it = all->at[i].dynamic; it->d_tag != DT_NULL; it++)
             if (it->d_tag == DT_NEEDED && !named(all, all->at[i].strings + it->d_un.d_val))
-                fail("its headers aren't where its memory begins, or it isn't in memory: ",
-                     all->at[i].strings + it->d_un.d_val);
+                fail(WRONG_HEADERS, all->at[i].strings + it->d_un.d_val);
 }
 
 static struct table *find_objects(void) {

@@ -111,3 +111,47 @@ for linker in bfd gold lld; do
         says "$linker $words" 'before +b +a +d +main 11 -main -d -a -b = 4' linked
     done
 done
+
+# A program of another entry begins as it says, and makes no promise.
+for words in '-e first' -efirst --entry=first '--entry first'; do
+    $gcc -o entered main.c -Wl,${words/ /,} -x c - <<< 'void _start(void); void first(void) { _start(); }'
+    want "$words" '' "$(readelf -nW entered | grep rlibreg || true)"
+done
+
+# wrong WHAT WANTED WORD..: the driver links no such library.
+wrong() {
+    want "$1" "$gcc: output: $2
+= 1" "$(ended $gcc -shared -o output "${@:3}")"
+    [ ! -e output ]
+}
+wrong 'a library that comes first' "its constructors would come before the program's C library: link \
+without -z initfirst" later.c -Wl,-z,initfirst
+wrong 'headers elsewhere' "its memory doesn't begin with its headers: link without -Ttext-segment, or \
+a linker script" later.c -Wl,-Ttext-segment=0x10000
+
+# Such libraries of another driver, and one whose array has the function of another.
+other='gcc -fPIC -shared -nostdlib -fno-stack-protector -Wl,--hash-style=sysv'
+$other -DNAME='"first"' -DFUNCTION=of_first -Wl,-z,initfirst,-soname,libfirst.so -o libfirst.so named.c
+$other -Wl,-Ttext-segment=0x10000,-soname,libhigh.so -o libhigh.so plain.c
+echo '__attribute__((constructor)) void same(void) {} ' > same.c
+library one same.c
+library two same.c
+for name in first high; do "$built/rlibreg" install disk lib$name.so > told; done
+$gcc -o high main.c $needs libhigh.so
+want 'headers elsewhere, by the loader' '= 0' "$(by loader high)"
+for way in executable $(tr ' ' '\n' <<< "$ways" | grep built); do
+    want "headers elsewhere, $way" "rlibreg: not found, or its memory doesn't begin with its headers: \
+libhigh.so
+= 127" "$(by $way high)"
+done
+$gcc -o same main.c $needs libone.so libtwo.so
+want 'the function of another' "rlibreg-run: libtwo.so: DT_INIT_ARRAY names a function that isn't in its \
+own code
+= 125" "$(by loader same)"
+for way in executable $(tr ' ' '\n' <<< "$ways" | grep built); do
+    want "the function of another, $way" "rlibreg: libtwo.so: DT_INIT_ARRAY names a function that isn't in \
+its own code
+= 125" "$(by $way same)"
+done
+cd ..
+echo "constructors: before main and behind it, of libraries and programs by rlibreg-gcc: as written"
