@@ -145,9 +145,10 @@ soname=librlibreg.so.${version%.*}
 # The driver, with its specs, what links, where its programs begin, what C++ asks for, what reads version
 # scripts and files of words, and the kernel's headers.
 (
-    # One object, the names of whose parts no program sees. No stack protector is set up yet.
+    # One object, which is small, since a start takes as long as it touches pages. No stack protector is
+    # set up yet.
     for part in begin begin_calls objects; do
-        $cc $flags -g0 -fno-stack-protector -c -o "$folder/begins_$part.o" "c/rlibreg_$part.c"
+        $cc $flags -g0 -Os -fno-stack-protector -c -o "$folder/begins_$part.o" "c/rlibreg_$part.c"
     done
     cd "$folder"
     ld -r -o rlibreg_begin.o begins_{begin,begin_calls,objects}.o

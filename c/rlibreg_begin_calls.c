@@ -1,10 +1,12 @@
 /* Calls the libraries' initializers and finalizers if no loader does, as rlibreg-run does: in the same
  * order, and only functions in the code of the object that names them (rlibreg_run_calls.c and
  * rlibreg_run_order.c). */
+#define _GNU_SOURCE
 #include "rlibreg_begin.h"
 #include "rlibreg_objects.h"
 
 #include <string.h>
+#include <sys/mman.h>
 #include <unistd.h>
 
 enum { MOST = 2048, REFUSED = 125 };
@@ -15,9 +17,15 @@ typedef void finalizer(void);
 extern initializer *const __preinit_array_start[], *const __preinit_array_end[];
 #pragma GCC visibility pop
 
-static uint16_t order[MOST]; /* the numbers of libraries, as they are initialized */
-static size_t ordered;
-static char was_entered[MOST + 1];
+/* The walk over the libraries, by their numbers. It has memory of its own, so that a program without it
+ * touches no more pages. */
+struct walk {
+    struct rlibreg_objects objects;
+    char was_entered[MOST + 1];
+    uint16_t order[MOST]; /* as they are initialized */
+    size_t ordered;
+};
+static struct walk *walked;
 
 static _Noreturn void refuse(const struct rlibreg_object *it, const char *tag, const char *why) {
     const char *parts[] = { "rlibreg: ", it->name, ": ", tag, why, "\n" };
@@ -27,17 +35,16 @@ static _Noreturn void refuse(const struct rlibreg_object *it, const char *tag, c
 }
 
 /* Enters a library, and leaves it behind those that it needs. */
-static void enter(const struct rlibreg_objects *all, size_t number) {
-    const struct rlibreg_object *it = &all->at[number];
-    if (was_entered[number]) return;
-    was_entered[number] = 1;
+static void enter(struct walk *walk, size_t number) {
+    const struct rlibreg_object *it = &walk->objects.at[number], *needed;
+    if (walk->was_entered[number]) return;
+    walk->was_entered[number] = 1;
     for (const Elf64_Dyn *entry = it->dynamic; entry->d_tag != DT_NULL; entry++)
         if (entry->d_tag == DT_NEEDED) {
-            const struct rlibreg_object *needed =
-                rlibreg_object_named(it->strings + entry->d_un.d_val);
-            if (needed) enter(all, (size_t)(needed - all->at));
+            needed = rlibreg_object_named(it->strings + entry->d_un.d_val);
+            if (needed) enter(walk, (size_t)(needed - walk->objects.at));
         }
-    order[ordered++] = (uint16_t)number;
+    walk->order[walk->ordered++] = (uint16_t)number;
 }
 
 /* Returns whether an address is one of an object's segments that permit all of `flags`. */
@@ -108,22 +115,29 @@ static size_t first_of(const struct rlibreg_objects *all) {
     return i;
 }
 
+static struct walk *walk_over(struct rlibreg_objects all) {
+    struct walk *it = mmap(NULL, sizeof *it, PROT_READ | PROT_WRITE, MAP_PRIVATE | MAP_ANONYMOUS, -1, 0);
+    if (it == MAP_FAILED) refuse(&all.at[0], "memory", " was refused");
+    it->objects = all;
+    for (size_t i = all.count; i-- > 1;) enter(it, i);
+    return it;
+}
+
 void rlibreg_initialize(int count, char **words, char **environment) {
-    struct rlibreg_objects all = rlibreg_all_objects();
-    size_t first = first_of(&all);
-    for (size_t i = all.count; i-- > 1;) enter(&all, i);
-    for (size_t i = 0; i < ordered; i++) test(&all.at[order[i]]);
-    if (first) initialize(&all.at[first], count, words, environment);
+    struct walk *walk = walked = walk_over(rlibreg_all_objects());
+    const struct rlibreg_object *objects = walk->objects.at;
+    size_t first = first_of(&walk->objects);
+    for (size_t i = 0; i < walk->ordered; i++) test(&objects[walk->order[i]]);
+    if (first) initialize(&objects[first], count, words, environment);
     for (initializer *const *it = __preinit_array_start; it != __preinit_array_end; it++)
         (*it)(count, words, environment);
-    for (size_t i = 0; i < ordered; i++)
-        if (order[i] != first) initialize(&all.at[order[i]], count, words, environment);
+    for (size_t i = 0; i < walk->ordered; i++)
+        if (walk->order[i] != first) initialize(&objects[walk->order[i]], count, words, environment);
 }
 
 void rlibreg_finalize(void) {
-    struct rlibreg_objects all = rlibreg_all_objects();
-    while (ordered) {
-        const struct rlibreg_object *it = &all.at[order[--ordered]];
+    while (walked->ordered) {
+        const struct rlibreg_object *it = &walked->objects.at[walked->order[--walked->ordered]];
         struct functions array = finalizers_of(it);
         uintptr_t function = function_of(it, DT_FINI, "DT_FINI");
         for (size_t i = array.count; i-- > 0;) ((finalizer *)array.at[i])();
