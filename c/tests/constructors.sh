@@ -14,7 +14,7 @@ cd constructors
 cp "$here"/programs/{named,named_main,busy,busy_main}.c "$here"/programs/driver_* .
 gcc=rlibreg-gcc
 "$built/rlibreg" format disk 32768 > /dev/null
-ways='loader kept executable'
+ways='loader executable'
 
 # library NAME FILE WORD..: makes libNAME.so, which is installed, or put in the place of the old one.
 library() {
@@ -28,7 +28,7 @@ library() {
 by() {
     case $1 in
         loader) ended "$built/rlibreg-run" disk "./$2" "${@:3}" ;;
-        kept) ended "$built/rlibreg-run" -c ../kept disk "./$2" "${@:3}" ;;
+        kept) ended "$built/rlibreg-run" -v -c ../kept disk "./$2" "${@:3}" ;;
         executable)
             rm -f alone
             if "$built/rlibreg-tool" executable disk "$2" 0x10000000 > alone; then
@@ -74,7 +74,6 @@ export GIVEN=given
 says 'a busy constructor' 'child 9 main 2 word 41 given given main ends busy ends
 = 5' busy word
 EXIT=7 says 'a constructor that ends the process' 'child 9 main ends = 7' busy word
-unset GIVEN
 
 # The next version of a library has initializers; a program that was linked before calls them.
 echo 'int later(void) { return 6; }' > later.c
@@ -152,6 +151,15 @@ for way in executable $(tr ' ' '\n' <<< "$ways" | grep built); do
     want "the function of another, $way" "rlibreg: libtwo.so: DT_INIT_ARRAY names a function that isn't in \
 its own code
 = 125" "$(by $way same)"
+done
+
+# From images that are kept, once the files are two seconds old.
+sleep 2.1
+for program in named 'busy word'; do
+    by kept $program > told
+    said=$(by loader $program)
+    want "$program, kept" "rlibreg-run: ../kept: its image is taken
+$said" "$(by kept $program)"
 done
 cd ..
 echo "constructors: before main and behind it, of libraries and programs by rlibreg-gcc: as written"
