@@ -1,6 +1,6 @@
-/* Calls the libraries' initializers and finalizers if no loader does, as rlibreg-run does: in the same
- * order, and only functions in the code of the object that names them (rlibreg_run_calls.c and
- * rlibreg_run_order.c). */
+/* Calls the libraries' initializers and finalizers if no loader does. As in rlibreg-run, a function has to
+ * lie in the code of the object that names it (rlibreg_run_calls.c), and the order is the same
+ * (rlibreg_run_order.c). */
 #define _GNU_SOURCE
 #include "rlibreg_begin.h"
 #include "rlibreg_objects.h"
@@ -17,12 +17,12 @@ typedef void finalizer(void);
 extern initializer *const __preinit_array_start[], *const __preinit_array_end[];
 #pragma GCC visibility pop
 
-/* The walk over the libraries, by their numbers. It has memory of its own, so that a program without it
- * touches no more pages. */
+/* A walk over the libraries, which are named by their numbers. It is mapped only if it is needed, so that
+ * other starts touch fewer pages. */
 struct walk {
     struct rlibreg_objects objects;
-    char was_entered[MOST + 1];
-    uint16_t order[MOST]; /* as they are initialized */
+    char was_entered[MOST + 1]; /* by number */
+    uint16_t order[MOST];       /* the order in which the libraries are initialized */
     size_t ordered;
 };
 static struct walk *walked;
@@ -34,7 +34,7 @@ static _Noreturn void refuse(const struct rlibreg_object *it, const char *tag, c
     _exit(REFUSED);
 }
 
-/* Enters a library, and leaves it behind those that it needs. */
+/* Enters a library, then those that it needs, and appends it to the order when it leaves it. */
 static void enter(struct walk *walk, size_t number) {
     const struct rlibreg_object *it = &walk->objects.at[number], *needed;
     if (walk->was_entered[number]) return;
@@ -56,7 +56,7 @@ static int is_within(const struct rlibreg_object *it, uintptr_t address, uint32_
     return 0;
 }
 
-/* Returns the function of a tag, or null. */
+/* Returns the address of the function that a tag names, or 0 if the object doesn't have the tag. */
 static uintptr_t function_of(const struct rlibreg_object *it, int64_t tag, const char *name) {
     uint64_t value = rlibreg_tag_of(it, tag, UINT64_MAX);
     if (value == UINT64_MAX) return 0;
@@ -64,7 +64,7 @@ static uintptr_t function_of(const struct rlibreg_object *it, int64_t tag, const
     return it->base + value;
 }
 
-/* The functions of an array. */
+/* Addresses of functions in an object's memory. */
 struct functions {
     const uintptr_t *at;
     size_t count;
@@ -93,7 +93,7 @@ static struct functions finalizers_of(const struct rlibreg_object *it) {
     return array_of(it, DT_FINI_ARRAY, DT_FINI_ARRAYSZ, "DT_FINI_ARRAY");
 }
 
-/* Refuses a library before anything is called, as rlibreg-run does. */
+/* Ends the process if a function or an array isn't where it has to be. */
 static void test(const struct rlibreg_object *it) {
     function_of(it, DT_INIT, "DT_INIT");
     function_of(it, DT_FINI, "DT_FINI");
@@ -108,7 +108,8 @@ static void initialize(const struct rlibreg_object *it, int count, char **words,
     for (size_t i = 0; i < array.count; i++) ((initializer *)array.at[i])(count, words, environment);
 }
 
-/* Returns the number of the library that comes before everything else, or 0: as in rlibreg_run_calls.c. */
+/* Returns the number of the library that is initialized before everything else, because of its
+ * DF_1_INITFIRST. As in rlibreg-run, it is the last of them in load order. Returns 0 if there is none. */
 static size_t first_of(const struct rlibreg_objects *all) {
     size_t i = all->count - 1;
     while (i && !(rlibreg_tag_of(&all->at[i], DT_FLAGS_1, 0) & DF_1_INITFIRST)) i--;

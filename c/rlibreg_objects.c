@@ -1,10 +1,12 @@
-/* Finds the objects of a bound program.
+/* Finds the objects of a bound program in memory.
  *
- * Each object lies at the least multiple of its unit that isn't below the end of the one before it
- * (COMMANDS, `bind`), and the first is the program: so the program finds them by itself, under rlibreg-run
- * as in a file of `rlibreg-tool executable`, where there is nobody to tell it. It looks for the next object
- * at each place that a unit allows. A library's ELF header has to lie at its base, where linkers put it.
- * Under musl's loader, where programs run where they are built, DT_DEBUG has a list of them. */
+ * The first object is the program. Each other object lies at the least multiple of its unit that isn't below
+ * the end of the object before it (COMMANDS, `bind`). The unit isn't known before the object is found, so
+ * each unit is tried: one place for each. A library is found if its memory begins with its ELF header, as
+ * linkers make it. This works under rlibreg-run and in a file of `rlibreg-tool executable`.
+ *
+ * Under musl's loader, which starts programs where they are built, the objects are those in the list to which
+ * DT_DEBUG points. */
 #define _GNU_SOURCE
 #include "rlibreg_objects.h"
 
@@ -27,11 +29,11 @@ extern Elf64_Dyn _DYNAMIC[];
 struct table {
     size_t count;
     struct rlibreg_object at[MOST];
-    const struct rlibreg_object *by_name[MOST]; /* the libraries, by their names */
-    const Elf64_Phdr *headers; /* those of a file that has all objects; null if there is none */
+    const struct rlibreg_object *by_name[MOST]; /* the libraries, sorted by name */
+    const Elf64_Phdr *headers; /* the program headers of a file that has all objects, or null */
     size_t header_count;
 };
-static struct table *found; /* once they are found */
+static struct table *found; /* null until the objects are found */
 
 static _Noreturn void fail(const char *why, const char *name) {
     const char *parts[] = { "rlibreg: ", why, name, "\n" };
@@ -42,8 +44,9 @@ static _Noreturn void fail(const char *why, const char *name) {
 
 /* ---- Memory that may be read */
 
-/* In a file of `rlibreg-tool executable` the kernel has the file's program headers, which aren't the
- * program's own, and the file has all that is mapped. */
+/* Sets `headers` if the program runs as a file of `rlibreg-tool executable`. Then the kernel reports the
+ * file's program headers instead of the program's own, and each page of an object is in one of its
+ * PT_LOADs. */
 static void find_headers(struct table *all) {
     const Elf64_Phdr *headers = (const Elf64_Phdr *)getauxval(AT_PHDR);
     if (headers == all->at[0].headers) return;
@@ -79,7 +82,7 @@ static uintptr_t unit_of(const struct rlibreg_object *it) {
     return unit;
 }
 
-/* Reads the dynamic section of an object whose base is known. */
+/* Reads the dynamic section of an object into the other members. */
 static void read_dynamic(struct rlibreg_object *it) {
     uintptr_t name = 0;
     it->name = "";
@@ -103,8 +106,8 @@ static void read_dynamic(struct rlibreg_object *it) {
     if (name && it->strings) it->name = it->strings + name;
 }
 
-/* Reads the program headers and the dynamic section of an object whose base is known. Returns 0 if it has
- * none. */
+/* Reads the program headers and the dynamic section of an object whose base is known. Returns 0 if the object
+ * has no dynamic section. */
 static int read_headers(struct rlibreg_object *it, const Elf64_Ehdr *file) {
     it->headers = (const Elf64_Phdr *)((const char *)file + file->e_phoff);
     it->header_count = file->e_phnum;
@@ -120,7 +123,7 @@ static int read_headers(struct rlibreg_object *it, const Elf64_Ehdr *file) {
     return 1;
 }
 
-/* Reads the library whose base is `base`, if there is one. */
+/* Reads the library whose base is `base`. Returns 0 if there is none. */
 static int read_library(const struct table *all, struct rlibreg_object *it, uintptr_t base) {
     const Elf64_Ehdr *file = (const Elf64_Ehdr *)base;
     static const unsigned char begin[] = { 0x7f, 'E', 'L', 'F', ELFCLASS64, ELFDATA2LSB, EV_CURRENT };
@@ -146,15 +149,15 @@ static void add_program(struct table *all) {
     if (!&__ehdr_start) fail("the program's headers aren't in its memory", "");
     const Elf64_Phdr *header =
         (const Elf64_Phdr *)((const char *)&__ehdr_start + __ehdr_start.e_phoff);
-    while (header->p_type != PT_DYNAMIC) header++; /* no program is accepted without */
+    while (header->p_type != PT_DYNAMIC) header++; /* each program that is accepted has one */
     it.base = (uintptr_t)_DYNAMIC - header->p_vaddr;
     read_headers(&it, &__ehdr_start);
     it.name = "";
     add(all, &it);
 }
 
-/* Adds the objects of the list of musl's loader, but not the loader, which has the list in its own memory,
- * nor the kernel's object. */
+/* Adds the objects in the list of musl's loader, except the kernel's object and the loader, which has the
+ * list in its own memory. */
 static void add_listed(struct table *all, const struct r_debug *list) {
     struct rlibreg_object it;
     for (const struct link_map *map = list->r_map ? list->r_map->l_next : NULL; map; map = map->l_next) {
@@ -164,7 +167,7 @@ static void add_listed(struct table *all, const struct r_debug *list) {
     }
 }
 
-/* Reads the object that is placed behind an address, if there is one. */
+/* Reads the object that is placed after an object that ends at `end`. Returns 0 if there is none. */
 static int read_next(const struct table *all, struct rlibreg_object *it, uintptr_t end) {
     for (uintptr_t unit = PAGE; rounded(end, unit) < END_OF_MEMORY; unit *= 2)
         if (read_library(all, it, rounded(end, unit)) && unit_of(it) == unit && *it->name) return 1;
@@ -217,7 +220,7 @@ static struct table *find_objects(void) {
     return all;
 }
 
-/* Two threads may find them at once: one table is kept. */
+/* Returns the table of all objects. If two threads make it at the same time, one table is kept. */
 static const struct table *table(void) {
     struct table *it = __atomic_load_n(&found, __ATOMIC_ACQUIRE), *none = NULL;
     if (it) return it;
