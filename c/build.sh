@@ -144,16 +144,19 @@ soname=librlibreg.so.${version%.*}
 
 # The driver, with its specs, what links, where its programs begin, what they may ask for, what C++ asks
 # for, what reads version scripts and files of words, and the kernel's headers. Its programs have musl,
-# whatever library this is compiled for.
-of_musl="$flags -g0 -fno-stack-protector -U_FORTIFY_SOURCE"
-for part in begin emulated; do
-    $cc $of_musl -c -o "$folder/rlibreg_$part.o" "c/rlibreg_$part.c"
-done
+# whatever this is compiled for. What they begin with is one object, which is small, since a start takes as
+# long as it touches pages. No stack protector is set up yet.
 (
+    of_program="$flags -g0 -fno-stack-protector -U_FORTIFY_SOURCE"
+    for part in begin begin_calls objects; do
+        $cc $of_program -Os -c -o "$folder/begins_$part.o" "c/rlibreg_$part.c"
+    done
+    $cc $of_program -c -o "$folder/rlibreg_emulated.o" c/rlibreg_emulated.c
     cd "$folder"
+    ld -r -o rlibreg_begin.o begins_{begin,begin_calls,objects}.o
     rm -f rlibreg_emulated.a
     ar rcsD rlibreg_emulated.a rlibreg_emulated.o
-    rm rlibreg_emulated.o
+    rm begins_{begin,begin_calls,objects}.o rlibreg_emulated.o
 )
 cp c/rlibreg-{gcc,ld} c/rlibreg{,_plus}.specs c/rlibreg_plus.cc c/rlibreg_{versions,words}.awk "$folder/"
 ln -sf rlibreg-gcc "$folder/rlibreg-g++"

@@ -51,6 +51,29 @@ DF_1_PIE = 0x08000000
 abbrev pub PT_INTERP : ℕ
 PT_INTERP = 3
 
+-- notes, by p_type
+abbrev pub PT_NOTE : ℕ
+PT_NOTE = 4
+
+-- the alignment of notes, by p_align: name and descriptor of each are padded to a multiple of it
+abbrev pub NOTE_ALIGNMENT : ℕ
+NOTE_ALIGNMENT = 4
+
+-- bytes of a note before its name: the sizes of its name and of its descriptor, and its type
+abbrev pub NOTE_HEADER_SIZE : ℕ
+NOTE_HEADER_SIZE = 12
+
+-- the note of a program that calls its libraries' functions itself (own): its name, `rlibreg` and a zero, as a number of eight bytes; the name's size
+abbrev pub CALLS_NAME : ℕ
+CALLS_NAME = 0x67657262696c72
+
+abbrev pub CALLS_NAME_SIZE : ℕ
+CALLS_NAME_SIZE = 8
+
+-- its type; it has no descriptor
+abbrev pub CALLS_TYPE : ℕ
+CALLS_TYPE = 1
+
 -- bytes of an entry of such an array
 abbrev pub ARRAY_ENTRY_SIZE : ℕ
 ARRAY_ENTRY_SIZE = 8

@@ -18,6 +18,7 @@ use crate::entry::entry_of;
 use crate::front::{front_of, table_of};
 use crate::initializers::{first_finalized, first_initialized, is_preinitialized};
 use crate::merging::pieces_of;
+use crate::note::calls_itself;
 use crate::piece::Piece;
 use crate::place::{MEMORY_LIMIT, MOST_HEADERS, PAGE, padding, place_of};
 use crate::refusal::ExecutableRefusal;
@@ -136,7 +137,7 @@ fn writable_code(alloc: Global, name: &[u8]) -> ExecutableRefusal
 }
 
 /// The entry of an image whose program doesn't relocate itself, and none of whose objects has
-/// functions that nobody would call.
+/// functions that nobody would call: the program may say that it calls them.
 fn entry_to_call(alloc: Global, image: &Image) -> Result<u64, ExecutableRefusal>
     ensures entry { IfOk result (λ entry. entry_of image.now ≡ Some entry) }
     ensures called { OnOk result (HasNoCalls image.now) }
@@ -147,6 +148,9 @@ fn entry_to_call(alloc: Global, image: &Image) -> Result<u64, ExecutableRefusal>
     };
     if is_static_pie(image) {
         return Err(ExecutableRefusal::StaticPie);
+    }
+    if calls_itself(image) {
+        return Ok(entry);
     }
     if is_preinitialized(image) {
         return Err(ExecutableRefusal::PreInitializers);

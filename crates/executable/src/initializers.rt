@@ -48,7 +48,7 @@ struct Tags {
 }
 
 /// The number at a place of memory, little endian.
-fn u64_in(memory: &Memory<'_>, at: usize) -> u64
+pub(crate) fn u64_in(memory: &Memory<'_>, at: usize) -> u64
     requires { at + 8 ≤ length memory.now }
     ensures { result ≡ number_at 8 memory.now at }
 {
