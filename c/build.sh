@@ -151,12 +151,16 @@ soname=librlibreg.so.${version%.*}
     for part in begin begin_calls objects; do
         $cc $of_program -Os -c -o "$folder/begins_$part.o" "c/rlibreg_$part.c"
     done
-    $cc $of_program -c -o "$folder/rlibreg_emulated.o" c/rlibreg_emulated.c
+    for part in emulated dl; do
+        $cc $of_program -c -o "$folder/begins_$part.o" "c/rlibreg_$part.c"
+    done
     cd "$folder"
     ld -r -o rlibreg_begin.o begins_{begin,begin_calls,objects}.o
-    rm -f rlibreg_emulated.a
-    ar rcsD rlibreg_emulated.a rlibreg_emulated.o
-    rm begins_{begin,begin_calls,objects}.o rlibreg_emulated.o
+    for part in dl objects emulated; do
+        rm -f rlibreg_$part.a
+        ar rcsD rlibreg_$part.a begins_$part.o
+    done
+    rm begins_*.o
 )
 cp c/rlibreg-{gcc,ld} c/rlibreg{,_plus}.specs c/rlibreg_plus.cc c/rlibreg_{versions,words}.awk "$folder/"
 ln -sf rlibreg-gcc "$folder/rlibreg-g++"

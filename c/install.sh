@@ -69,7 +69,7 @@ add_all() {
     add link rlibreg-gcc "$1/bin/rlibreg-g++"
     add 755 "$here/rlibreg-switch" "$1/bin/rlibreg-switch"
     add 755 "$2/rlibreg-ld" "$1/lib/rlibreg/rlibreg-ld"
-    for name in rlibreg{,_plus}.specs rlibreg_begin.o rlibreg_emulated.a rlibreg_plus.cc \
+    for name in rlibreg{,_plus}.specs rlibreg_begin.o rlibreg_{dl,objects,emulated}.a rlibreg_plus.cc \
         rlibreg_{versions,words}.awk; do
         add 644 "$2/$name" "$1/lib/rlibreg/$name"
     done
