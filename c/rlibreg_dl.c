@@ -65,9 +65,9 @@ void *dlopen(const char *path, int mode) {
     const char *slash = strrchr(path, '/'), *name = slash ? slash + 1 : path;
     const struct rlibreg_object *it = *name ? rlibreg_object_named(name) : NULL;
     if (it) return handle_of(it);
-    __dl_seterr("%s: the program isn't bound to a library of the name '%s': link it by rlibreg-gcc with "
-                "--module FILE, and install FILE in the registry",
-                path, name);
+    __dl_seterr("%s: no library of this name is bound to the program, which rlibreg-gcc links with "
+                "--module FILE",
+                path);
     return NULL;
 }
 

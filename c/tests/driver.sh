@@ -113,14 +113,7 @@ $gcc -specs=pie.specs -o copy copy.c libdata.so
 $gcc -o /dev/null copy.c libdata.so
 [ -c /dev/null ]
 
-# A configure finds no dlopen and no dlsym, whatever it links, and what it makes does run.
-for name in dlopen dlsym; do
-    echo "char $name(void); int main(void) { return $name(); }" > conftest.c
-    want "$name" "collect2: error: ld returned 1 exit status
-= 1" "$(ended $gcc -o conftest conftest.c -ldl -lc | tail -n 2)"
-    want "$name, all of it" "collect2: error: ld returned 1 exit status
-= 1" "$(ended $gcc --whole-libc -o conftest conftest.c -ldl | tail -n 2)"
-done
+# What a configure makes does run.
 echo 'int main(void) { return 3; }' > conftest.c
 want 'what gcc has for another C library' 'collect2: error: ld returned 1 exit status
 = 1' "$(ended $gcc -fsanitize=address -o conftest conftest.c | tail -n 2)"
@@ -132,7 +125,7 @@ else
     echo "skipped: a program where it is built, for want of musl's loader"
 fi
 $gcc --whole-libc -o conftest conftest.c
-want 'all of musl' 'malloc qsort strtok ' "$(exported conftest | tr ' ' '\n' |
+want 'all of musl' 'dlopen dlsym malloc qsort strtok ' "$(exported conftest | tr ' ' '\n' |
     grep -x 'malloc\|qsort\|strtok\|dlopen\|dlsym' | tr '\n' ' ')"
 
 want "what a build system sees of the driver's own" '' \
@@ -191,6 +184,7 @@ want 'as an executable' 'one 1 two 2
 . "$here/driver_words.sh"
 . "$here/driver_projects.sh"
 . "$here/driver_threads.sh"
+. "$here/driver_opening.sh"
 
 # C++: two libraries with an object each, virtual destructors, statics of functions, new and delete.
 if command -v g++ > /dev/null; then

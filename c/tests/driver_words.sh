@@ -158,11 +158,14 @@ TMPDIR=/none $gcc -shared plain.c -o libone.so
 want 'another folder of temporary files' 'one ' "$(exported libone.so)"
 if unshare -rm mount -t tmpfs none /mnt 2> told; then
     echo old > output
-    for size in 16k 256k; do
-        want "$size for temporary files" '= 1' "$(ended unshare -rm bash -c "mount -t tmpfs -o size=$size \
-            none /mnt && TMPDIR=/mnt $gcc -o output -x c - <<< 'int main(void) { return 0; }'" | tail -n 1)"
-    done
-    want 'too little room: what is left' old "$(cat output)"
+    want 'no room for temporary files' '= 1' "$(ended unshare -rm bash -c "mount -t tmpfs -o size=4k none \
+        /mnt && TMPDIR=/mnt $gcc -o output -x c - <<< 'int main(void) { return 0; }'" | tail -n 1)"
+    want 'no room: what is left' old "$(cat output)"
+    echo 'char large[400000] = { 1 };' > large.c
+    want 'no room for a registry' "$gcc: output: $(command -v rlibreg) can't read it, or has no room in /mnt
+= 1" "$(ended unshare -rm bash -c "mount -t tmpfs -o size=256k none /mnt && $gcc -c large.c &&
+        TMPDIR=/mnt $gcc -shared -o output large.o" | tail -n 2)"
+    want 'no room for a registry: what is left' gone "$(cat output 2> told || echo gone)"
 else
     echo "skipped: full folders of temporary files ($(cat told))"
 fi
