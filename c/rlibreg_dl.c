@@ -49,8 +49,7 @@ static const struct rlibreg_object *object_of(const void *handle) {
     struct rlibreg_objects all = rlibreg_all_objects();
     uintptr_t offset = (uintptr_t)handle - (uintptr_t)maps;
     size_t number = offset / sizeof *maps;
-    if (offset % sizeof *maps || number >= all.count || !maps[number].l_ld) return NULL;
-    return &all.at[number];
+    return offset % sizeof *maps || number >= all.count ? NULL : &all.at[number];
 }
 
 int __dl_invalid_handle(void *handle) {

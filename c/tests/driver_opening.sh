@@ -13,6 +13,8 @@ want 'no module' "$gcc: --module wants a FILE
 = 1" "$(ended $gcc -o conftest conftest.c --module)"
 want 'a module that is nowhere' '= 1' "$(ended $gcc -o conftest conftest.c --module none.so | tail -n 1)"
 
+want 'a module, where nothing is linked' '= 0' "$(ended $gcc --module none.so -c -o conftest.o conftest.c)"
+
 mkdir opening
 cd opening
 mkdir kept
@@ -97,4 +99,10 @@ int main(void) { return dlopen("libbelow.so", RTLD_NOW) == 0; }
 __asm__(".globl begin\nbegin: jmp _start");
 END_OF_FILE
 want 'another entry' '= 0' "$(ended "$built/rlibreg-run" disk ./asks)"
+
+# Libraries that need each other.
+$gcc -shared -o libbelow.so driver_below.c module.so
+"$built/rlibreg" replace disk libbelow.so > told
+want 'libraries in a circle' "${said/not below: not found, Symbol not found: module_call/not below: found}" \
+    "$(opens "$built/rlibreg-run" disk ./opens)"
 cd ..

@@ -124,7 +124,7 @@ want 'many words' 'one ' "$(exported many.so)"
 # temporary files. (lld itself writes no output with a `%`.)
 odd=$'sp ace\nnew\t"q\'u#&\\b=c*[x]$(y)`z`;|'
 mkdir "$odd" "$odd/parts" "$odd/temporary"
-for name in -gcc -ld .specs _begin.o _emulated.a _versions.awk _words.awk; do
+for name in -gcc -ld .specs _begin.o _{dl,objects,emulated}.a _versions.awk _words.awk; do
     cp "$built/rlibreg$name" "$odd/parts"
 done
 cp source.c "$odd/$odd.c"

@@ -9,6 +9,7 @@ int shared_name(void) { return 2; }
 __attribute__((weak)) int module_weak(void) { return 3; }
 __attribute__((visibility("hidden"))) int module_hidden(void) { return 4; }
 __attribute__((visibility("protected"))) int module_protected(void) { return 5; }
+__asm__(".globl module_absolute\nmodule_absolute = 0x1234");
 static int found;
 
 int module_call(void) { return module_value + below(); }

@@ -41,6 +41,7 @@ static void look_up(void) {
     printf("%d %d\n", next ? ((call *)next)() : -1, result(RTLD_DEFAULT, "module_found"));
     show("hidden", dlsym(module, "module_hidden"));
     show("not below", dlsym(below, "module_call"));
+    wrong += dlsym(module, "module_absolute") != (void *)0x1234;
     show("nowhere", dlsym(RTLD_DEFAULT, "nowhere"));
     show("no handle", dlsym((void *)8, "below"));
     show("half a handle", dlsym((char *)module + 8, "below"));
@@ -67,6 +68,7 @@ static void describe(void) {
     void *module = dlopen("module.so", RTLD_NOW);
     char *call = dlsym(module, "module_call");
     wrong += !dladdr(call + 1, &info) || info.dli_saddr != call;
+    wrong += !dladdr(call, &info) || info.dli_saddr != call;
     printf("%s %s\n", info.dli_fname, info.dli_sname);
     wrong += !dladdr((void *)count, &info) || info.dli_sname || !strstr(info.dli_fname, "opens");
     wrong += dladdr(&info, &info) || dladdr((void *)16, &info);
