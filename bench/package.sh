@@ -1,7 +1,8 @@
 #!/usr/bin/env bash
 # package.sh BUILT FOLDER [RELEASE]..  makes a Debian package in FOLDER from the files that c/build.sh has
 # put into BUILT. It has each file that c/install.sh installs, lintian (if installed) finds no errors in
-# it, and its bytes are the same each time. Then the script installs it in a bare Debian of each RELEASE,
+# it, and its bytes are the same each time. If c/plugin.sh has put gcc's plugin into BUILT, it has a package
+# of its own, rlibreg-gcc-12 for gcc 12, since it has another license. Then the script installs it in a bare Debian of each RELEASE,
 # such as bookworm or trixie, runs what it has, and removes it.
 #
 # It wants dpkg-dev, and pandoc for manual pages. Who makes it is DEBFULLNAME with DEBEMAIL, or else the
@@ -45,6 +46,7 @@ tree() {
     local page doc=$1/usr/share/doc/rlibreg
     DESTDIR=$1 PYTHONDIR=/usr/lib/python3/dist-packages c/install.sh /usr "$built" > "$room/said"
     mv "$1/usr/share/rlibreg/installed" "$room/installed" # dpkg has a list of its own
+    rm -f "$1"/usr/lib/rlibreg/rlibreg_tls-*.so           # another package has it
     strip --strip-unneeded "$1"/usr/bin/rlibreg{,-tool} "$1"/usr/lib/librlibreg.so.*.*.*
     strip --strip-debug --enable-deterministic-archives "$1/usr/lib/librlibreg.a"
     cp c/debian/copyright "$doc/copyright"
@@ -65,22 +67,54 @@ control() {
     install -m 755 c/debian/postinst c/debian/prerm "$1/DEBIAN/"
     install -m 644 c/debian/triggers "$1/DEBIAN/"
     echo "librlibreg ${version%.*} rlibreg (>= ${version%.*})" > "$1/DEBIAN/shlibs"
-    (cd "$1" && find usr -type f | sort | xargs md5sum) > "$1/DEBIAN/md5sums"
 }
 
-# make FILE: the package.
+# plugin_tree FOLDER: what the package of gcc's plugin installs, with the plugin's source.
+plugin_tree() {
+    local doc=$1/usr/share/doc/rlibreg-gcc-$gcc
+    install -Dm 644 "$plugin" "$1/usr/lib/rlibreg/${plugin##*/}"
+    install -Dm 644 c/debian/plugin-copyright "$doc/copyright"
+    install -Dm 644 c/rlibreg_tls.cc "$doc/rlibreg_tls.cc"
+    changelog | sed "1s/^rlibreg /rlibreg-gcc-$gcc /" | gzip -9n > "$doc/changelog.gz"
+}
+
+# plugin_control FOLDER: what dpkg is told of it.
+plugin_control() {
+    local release=${plugin##*/rlibreg_tls-} using
+    release=${release%.so}
+    using=$(dpkg-query -W -f '${source:Package} (= ${source:Version})' "gcc-$gcc-plugin-dev")
+    mkdir "$1/DEBIAN"
+    sed "s|@VERSION@|$version|g; s|@WHO@|$who|; s|@GCC@|$gcc|g; s|@RELEASE@|$release|; s|@USING@|$using|
+        s|@NEXT@|${release%.*}.$((${release##*.} + 1))~|" \
+        c/debian/plugin-control > "$1/DEBIAN/control"
+}
+
+# make FILE KIND: the package, by the functions KINDtree and KINDcontrol.
 make() {
     rm -rf "$room/tree"
     mkdir "$room/tree"
-    tree "$room/tree"
-    control "$room/tree"
+    "$2tree" "$room/tree"
+    "$2control" "$room/tree"
+    (cd "$room/tree" && find usr -type f | sort | xargs md5sum) > "$room/tree/DEBIAN/md5sums"
     find "$room/tree" -exec touch -h -d "@$SOURCE_DATE_EPOCH" {} +
     dpkg-deb --root-owner-group --build "$room/tree" "$1" > "$room/said"
 }
 
+# tested FILE KIND: makes a package twice, and tests it.
+tested() {
+    make "$1" "$2"
+    make "$room/again.deb" "$2"
+    cmp "$1" "$room/again.deb"
+    if command -v lintian > /dev/null; then
+        lintian --fail-on error "$1"
+    else
+        echo 'left out: lintian, which is not here'
+    fi
+}
+
 # whole FILE: whether the package has each file that install.sh has listed. Manual pages are compressed.
 whole() {
-    sed '/^#/d; /\/$/d; \|/share/rlibreg/installed$|d; s|/man/man[13]/.*|&.gz|' "$room/installed" |
+    sed '/^#/d; /\/$/d; \|/share/rlibreg/installed$|d; \|/rlibreg_tls-[^/]*$|d; s|/man/man[13]/.*|&.gz|' "$room/installed" |
         sort > "$room/listed"
     dpkg-deb --fsys-tarfile "$1" | tar -t | sed 's/^\.//' | sort > "$room/packed"
     comm -23 "$room/listed" "$room/packed" > "$room/missing"
@@ -140,14 +174,15 @@ try() {
     echo "$1: installed, run and removed"
 }
 
-make "$package"
-make "$room/again.deb"
-cmp "$package" "$room/again.deb"
+tested "$package" ''
 whole "$package"
-if command -v lintian > /dev/null; then
-    lintian --fail-on error "$package"
+plugin=$(compgen -G "$built/rlibreg_tls-*.so" | sort -V | tail -n 1 || true)
+if [ -n "$plugin" ]; then
+    gcc=${plugin##*/rlibreg_tls-} gcc=${gcc%%.*}
+    tested "$folder/rlibreg-gcc-${gcc}_${version}_amd64.deb" plugin_
+    echo "$folder/rlibreg-gcc-${gcc}_${version}_amd64.deb"
 else
-    echo 'left out: lintian, which is not here'
+    echo "left out: the package of gcc's plugin, which c/plugin.sh makes"
 fi
 for release; do try "$release"; done
 echo "$package"
