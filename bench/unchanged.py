@@ -51,7 +51,7 @@ PROJECTS = {
         'bzip2', 'make {words} CC="{cc}"', '-f Makefile-libbz2_so', 'bzip2', ['libbz2.so.1.0'],
         {'bzip2': ('bzip2-shared', 'bzip2')}),
     'Lua, alone': Project(
-        'lua5.4', 'make posix CC="{cc}"', '', '', [], {'lua': ('src/lua', 'src/lua')}),
+        'lua5.4', 'make linux CC="{cc}"', '', '', [], {'lua': ('src/lua', 'src/lua')}),
     'cJSON': Project(
         'cjson', CMAKE, '', STATIC, ['libcjson.so'],
         {'cJSON_test': ('cJSON_test',) * 2, **{it: (f'tests/{it}',) * 2 for it in UNITS}}, ['cmake']),
@@ -78,9 +78,8 @@ PROJECTS = {
         {'pcre2test': ('.libs/pcre2test', 'pcre2test')}),
     'SQLite, alone': Project(
         'sqlite3', CONFIGURE + ' libsqlite3.la shell.c && ./libtool --mode=link {cc} '
-        '-DSQLITE_OMIT_LOAD_EXTENSION -o shell shell.c libsqlite3.la',
-        '--disable-load-extension --disable-tcl --disable-static',
-        '--disable-load-extension --disable-tcl --disable-shared', ['.libs/libsqlite3.so'],
+        '-o shell shell.c libsqlite3.la',
+        '--disable-tcl --disable-static', '--disable-tcl --disable-shared', ['.libs/libsqlite3.so'],
         {'sqlite3': ('.libs/shell', 'shell')}, ['tclsh']),
     'xz': Project(
         'xz-utils', CONFIGURE + ' && make check TESTS=', '--disable-static', '--disable-shared',
