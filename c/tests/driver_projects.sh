@@ -180,6 +180,10 @@ END_OF_FILE
     cmake --build made > told 2>&1 || { cat told; exit 1; }
     for name in inner outer; do "$built/rlibreg" replace disk made/$name/lib$name.so > told; done
     want 'CMake' "$ran" "$(runs made/app/app)"
+    if [ -e /usr/lib/x86_64-linux-musl/libm.a ]; then
+        cmake -S . -B searched -DCMAKE_C_COMPILER=$gcc -DCMAKE_LIBRARY_ARCHITECTURE=x86_64-linux-musl \
+            > told 2>&1 || { cat told; exit 1; }
+    fi
 else
     echo 'skipped: CMake, which is not here'
 fi

@@ -2,7 +2,8 @@
 
 plugin=$built/rlibreg_tls-$(gcc -dumpfullversion).so
 musl-gcc -fPIC -c -o native.o -x c - <<< '__thread int number; int one(void) { return number++; }'
-plain_hint='there is no plugin for this gcc (rlibreg-gcc(1)); else use clang -femulated-tls'
+plain_hint='this gcc has no plugin for it (rlibreg-gcc(1)): make one, or compile by clang -femulated-tls, or by '
+plain_hint="$plain_hint-D__thread= for one thread"
 hint=$plain_hint
 [ ! -f "$plugin" ] ||
     hint='compile all of it by this driver, or by clang -femulated-tls, and none in assembly'
