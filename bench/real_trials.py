@@ -97,7 +97,7 @@ def bzip2_trials(_):
 def lua_alone_trials(_):
     steps = [Step(['-e', 'print(("x"):rep(3), 7 // 2, math.sin(1), #arg)']), Step(['-v'])]
     steps += [Step(['-'], b'local t = {} for i = 1, 9 do t[i] = i * i end print(#t, t[9])\n')]
-    steps += [Step(['-e', 'print(pcall(require, "nowhere"), package.loadlib("./none", "f"))'])]
+    steps += [Step(['-e', 'print(pcall(require, "nowhere"), (package.loadlib("./none", "f")))'])]
     yield Trial('lua', {}, steps, lambda ended, *_: ended[0].output.startswith(b'xxx\t3\t0.84147'))
 
 
