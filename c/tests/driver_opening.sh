@@ -80,10 +80,10 @@ if [ "$(id -u)" = 0 ] && command -v setpriv > told; then
 else
     echo 'skipped: an executable with more rights than its user'
 fi
-for at in 1 2 3 4; do
-    opens "$built/rlibreg-run" -c kept disk ./opens > told
-    want 'with images that are kept' "$said" "$(cat told)"
-done
+sleep 2.1 # then images are kept
+want 'an image is made' "$said" "$(opens "$built/rlibreg-run" -c kept disk ./opens)"
+want 'from an image' "rlibreg-run: kept: its image is taken
+$said" "$(opens "$built/rlibreg-run" -v -c kept disk ./opens)"
 
 # A library that asks for dlopen has the program's; one without a C library has none to ask.
 $gcc -shared -o libasks.so -x c - << 'END_OF_FILE'
