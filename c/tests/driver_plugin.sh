@@ -27,6 +27,11 @@ want 'a malloc that has thread-local data' '100 bytes of thread 0
 212 bytes of thread 2
 = 0' "$(ended "$built/rlibreg-run" thread.disk ./memory)"
 
+# A library has no emulation of its own, also if it asks for it.
+$gcc -O1 -shared -o libthreads1.so driver_threads_one.o -lgcc_eh
+want 'the emulation of a library' '                 U __emutls_get_address' \
+    "$(nm libthreads1.so | grep emutls_get_address)"
+
 # Version scripts name variables.
 cat > exported.c << 'END_OF_FILE'
 __thread int seen = 3, seen_too = 4, hidden = 5;
