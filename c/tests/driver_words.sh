@@ -127,6 +127,7 @@ mkdir "$odd" "$odd/parts" "$odd/temporary"
 for name in -gcc -ld .specs _begin.o _{dl,objects,emulated}.a _versions.awk _words.awk; do
     cp "$built/rlibreg$name" "$odd/parts"
 done
+for name in "$built"/rlibreg_tls-*.so; do [ ! -f "$name" ] || cp "$name" "$odd/parts"; done
 cp source.c "$odd/$odd.c"
 cp two.map "$odd/$odd"
 cp two.map a=b.map
