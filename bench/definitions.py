@@ -139,7 +139,7 @@ PLAIN = {
     'image/Placement: place': 'objects in memory, in load order: the first at the base, and each other one after the one before it, aligned',
     'image/Byte: byte_of': 'the byte at an address: that of the last relocation that writes there; else that of the file; else 0 up to p_memsz',
     'image/Image: image_of': 'the image: each PT_LOAD of each placed object, with these bytes',
-    'image/Refusal: bind_tests': 'the tests of a bind in their order: B1 (file), B2 (base), B3 (missing library), B4 (room), B5 (undefined symbol)',
+    'image/Refusal: bind_tests': 'the tests of a bind in their order: B1 (a file is refused), B2 (BadBase), B3 (Missing), B4 (NoRoom), B5 (Undefined)',
     'requests/Library: IsLibrary': "no test refuses the library's file, and the library's name is its SONAME",
     'states/State: State': 'a registry: its generation, its libraries with their names and bytes, and the names of its preloads',
     'requests/Step: TakesMemory': 'where a command takes memory: to admit a file that passes the tests before admission, and to list',
