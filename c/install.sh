@@ -95,6 +95,9 @@ add_all() {
     for page in "$here"/../docs/*.md; do
         add 644 "$page" "$1/share/doc/rlibreg/${page##*/}"
     done
+    for page in "$here"/../docs/pictures/*.svg; do
+        add 644 "$page" "$1/share/doc/rlibreg/pictures/${page##*/}"
+    done
     for page in "$3"/*.[13]; do
         [ ! -f "$page" ] || add 644 "$page" "$1/share/man/man${page##*.}/${page##*/}"
     done
