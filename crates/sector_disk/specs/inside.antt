@@ -1,4 +1,4 @@
--- What follows of what is said of the two disks. Nobody has to believe it.
+-- What follows from the facts of the two disks. A reader needn't believe it, because it is proved.
 pub mod FuseLaws
 pub mod MemoryLaws
 pub mod WrittenLaws
