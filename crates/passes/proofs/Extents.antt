@@ -9,7 +9,7 @@ use Rattle.extents.specs.declared.extent.Extent.{Extent}
 use Rattle.extents.specs.Extent.{Has, IsApart, sector_count, places}
 use Rattle.passes.proofs.Runs.{in_range, from_range}
 
--- the sectors of two lists of extents
+-- the sectors of two lists of extents, one list after the other
 pub places-append : (some more : List Extent) → places (some ++ more) ≡ places some ++ places more
 places-append some more = flat_map-append (λ (e : Extent). range_with_len e.start e.count) some more
 
@@ -41,7 +41,7 @@ run_in_places extents i d lt k here =
     (subst (λ l. Contains l k) (sym (places_more extents i d lt))
     (Contains-append_right (places (take i extents)) (range_with_len (get_or extents i d).start (get_or extents i d).count) k (from_range _ _ k here.0 here.1))))
 
--- a place lies in an extent
+-- each place of a list lies in one of the extents
 pub in_extent : (extents : List Extent) (k : ℕ) (d : Extent) → Contains (places extents) k → (j : ℕ) × (j < length extents) × Has (get_or extents j d) k
 in_extent [] k d found = absurd (omega (arith, found.1))
 in_extent (e ∷ extents) k d found = ⊎_elim
