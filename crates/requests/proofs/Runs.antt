@@ -1,4 +1,4 @@
--- Runs grow by a step.
+-- Runs with one more step.
 use Rattle.std.proofs.Common.{◌≡◌, ℕ, take, List, [], ◌∷◌, ◌++◌, refl, sym, subst, suc, zero}
 use Rattle.requests.specs.Runs.{last_of, Steps, Run}
 
@@ -28,7 +28,7 @@ module _ {S Q R : Type 0} (Step : S → Q → R → S → Type 0) where
   steps_append s (x ∷ qs) [] ts qs' rs' ts' h more = absurd h
   steps_append s (x ∷ qs) (y ∷ rs) [] qs' rs' ts' h more = absurd h
 
-  -- the first k of the steps are steps, and lead to the state after them
+  -- the first k steps are steps, and lead to the state after them
   steps_first : (k : ℕ) (s : S) (qs : List Q) (rs : List R) (ts : List S) → Steps Step s qs rs ts → Steps Step s (take k qs) (take k rs) (take k ts)
   steps_first zero s qs rs ts h = tt
   steps_first (suc k) s [] [] [] h = tt
