@@ -33,7 +33,7 @@ NAME = re.compile(r'[A-Za-z_][\w]*(?:::[A-Za-z_]\w*)*')
 PATH = re.compile(r'^[\w.{},*-]+(?:/[\w.{},*-]+)+/?$')
 BRACES = re.compile(r'\{([^{}]*)\}')
 OF_THE_ROOT, IN_A_CRATE = ('crates', 'docs', 'bench', 'c', 'python', '.ci'), ('src', 'specs', 'proofs', 'data', 'must-fail')
-# The folder that a build makes, and a path that stands for many.
+# The folder that a build makes, and a path that is a pattern for many.
 MADE, ANY_FILE = 'out', 'proofs/FILE'
 
 

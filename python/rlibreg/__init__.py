@@ -286,7 +286,7 @@ def _word(word: PathName) -> bytes:
 def _words(names: Iterable[str]) -> list[bytes]:
     """Returns the names of preloads for C."""
     if isinstance(names, (str, bytes)):
-        raise TypeError('preloads are a list of names')
+        raise TypeError('preloads must be a list of names')
     return [_word(name) for name in names]
 
 
@@ -294,16 +294,16 @@ def _unsigned(value: int, bits: int) -> int:
     """Returns a number that fits into C's type: ctypes would take it modulo 2^bits."""
     number = operator.index(value)
     if not 0 <= number < 1 << bits:
-        raise OverflowError(f'{number} is no unsigned number of {bits} bits')
+        raise OverflowError(f'{number} is not an unsigned {bits}-bit number')
     return number
 
 
 def _seconds(wait: Wait) -> float:
     """Returns how many seconds to wait for a lock."""
     if not isinstance(wait, (int, float)):
-        raise TypeError('wait is True, False, or a number of seconds')
+        raise TypeError('wait must be True, False, or a number of seconds')
     if not wait >= 0:
-        raise ValueError('wait is less than no time')
+        raise ValueError('wait must not be negative')
     return math.inf if wait is True else wait
 
 
@@ -385,7 +385,7 @@ class _Handle:
         if self.is_closed:
             return _error(Closed, Status.BAD_ARGUMENT, 'the registry is closed')
         if self.turn.is_taken:
-            return _error(Busy, Status.BAD_ARGUMENT, 'the registry is within another call')
+            return _error(Busy, Status.BAD_ARGUMENT, 'the registry is in another call')
         return None
 
     def do(self, work: Callable[[], Union[Error, _Given]]) -> _Given:
@@ -629,7 +629,7 @@ class Update:
         if error:
             raise error
         if self._changes is not None:
-            raise _error(Error, Status.BAD_ARGUMENT, 'the update has begun')
+            raise _error(Error, Status.BAD_ARGUMENT, 'the update has already begun')
         self._changes = []
         return self
 
@@ -643,7 +643,7 @@ class Update:
     def _begun(self) -> list[tuple[int, bytes]]:
         """Returns the changes so far."""
         if self._changes is None:
-            raise _error(Error, Status.BAD_ARGUMENT, 'an update is made within its `with`')
+            raise _error(Error, Status.BAD_ARGUMENT, 'changes of an update must be made inside its `with` block')
         return self._changes
 
     def _call(self, name: str, *words: object) -> None:
@@ -815,7 +815,7 @@ class Registry:
                     raise _damaged(name, finding)
                 data = self.file(name)
                 if self.info().generation != listing.generation:
-                    raise _error(Error, Status.BAD_ARGUMENT, 'the registry was changed meanwhile')
+                    raise _error(Error, Status.BAD_ARGUMENT, 'the registry was changed during the dump')
                 yield begin + b'install '
                 for at in range(0, len(data), _DUMPED):
                     yield binascii.hexlify(data[at:at + _DUMPED])
