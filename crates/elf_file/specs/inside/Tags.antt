@@ -1,4 +1,4 @@
--- What the code keeps of the entries of the dynamic section.
+-- The values that the code keeps of the entries of the dynamic section.
 use Rattle.std.specs.Prelude.{ℕ, ◌+◌, ◌/◌, ◌≤◌, ◌≡◌, map, length, List, Option, Some}
 use Rattle.std.specs.Prelude.{None, ◌==◌, count_by, slice_index_or, unwrap_or, if◌then◌else◌}
 use Rattle.std.specs.Option.{option_map}
