@@ -30,7 +30,7 @@ has_headers file h = (
       (when_none BadProgramHeaders (has_bad_program_headers file) (none_at (header_tests file) 9 h)),
 )
 
--- the PT_LOADs of a file that E11 to E14 don't refuse follow the rules and each other
+-- the PT_LOADs of a file that E11 to E14 don't refuse follow the rules and follow each other
 pub has_segments : (file : List ℕ) → segment_refusal file ≡ None → HasSegments file
 unfolding segment_refusal
 has_segments file h = record {

@@ -1,4 +1,4 @@
--- The ELF-64 file header and the tests of it (gABI chapter 4; elf(5)).
+-- The ELF-64 file header and its tests (gABI chapter 4; elf(5)).
 use Rattle.std.specs.Prelude.{ℕ, ◌+◌, ◌*◌, List, length, slice_index, Bool, not, ◌==◌, ◌||◌, ◌&&◌, nat_lt, ◌≤◌}
 use Rattle.elf_file.specs.Number.{number_at}
 use Rattle.elf_file.specs.Constant.{ELF_MAGIC, ELFCLASS64, ELFDATA2LSB, EV_CURRENT, ELFOSABI_SYSV, ELFOSABI_GNU}

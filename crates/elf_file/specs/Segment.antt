@@ -1,4 +1,4 @@
--- The program headers and the tests of them (gABI chapter 5; elf(5)).
+-- The program headers and their tests (gABI chapter 5; elf(5)).
 use Rattle.std.specs.Prelude.{ℕ, ◌+◌, ◌*◌, ◌%◌, List, map, filter, take, drop, length, Bool, not, ◌==◌, ◌||◌, ◌&&◌, nat_lt}
 use Rattle.std.specs.Int.{is_power_of_two}
 use Rattle.std.specs.List.{list_any, range_with_len, zip}

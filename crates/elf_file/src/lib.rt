@@ -3,8 +3,8 @@
 //!
 //! `Dynamic::read` accepts a file exactly if none of the tests of its headers, segments and tags
 //! applies. Otherwise it returns the refusal of the first test that applies. The view that it
-//! returns has the values of the tags, the PT_LOADs, and the bytes of the file at an address. It
-//! allocates nothing and copies nothing.
+//! returns has the values of the tags, the PT_LOADs, and the bytes of the file at an address. The
+//! crate allocates nothing and copies nothing.
 #![tactic(auto)]
 
 mod address;

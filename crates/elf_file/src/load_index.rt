@@ -19,8 +19,8 @@ const BLOCKS: usize = 64;
 /// there. The index has, for each block, the header number of its first PT_LOAD.
 ///
 /// A PT_LOAD is found by its address in three steps: a binary search over the blocks, a binary
-/// search within a block (`narrowed`), and a pass over the headers that are left. The pass is short
-/// unless headers of other types lie between the PT_LOADs.
+/// search within a block (`narrowed`), and a pass over the headers that are left. The pass is
+/// needed because headers of other types may lie between the PT_LOADs.
 #[derive(Clone, Copy)]
 pub(crate) struct LoadIndex {
     pub(crate) blocks: usize,

@@ -47,7 +47,7 @@ fn next_needed(bytes: &[u8], count: usize, from: usize) -> usize
 }
 
 impl<'a> NeededOffsets<'a> {
-    /// Returns the offsets that the first `count` entries of a section have.
+    /// Returns the offsets in the DT_NEEDED entries among the first `count` entries of a section.
     pub(crate) fn new(section: &'a [u8], count: usize) -> NeededOffsets<'a>
         requires { count ≤ length section.now / 16 }
         ensures { result ≡ values_from section.now count 0 }

@@ -1,4 +1,4 @@
-/// The reasons why a file is refused, in the order of the tests.
+/// The reason why a file is refused. The variants are in the order of the tests.
 #[derive(Clone, Copy, Debug, PartialEq, Eq)]
 pub enum ObjectRefusal {
     /// E1: the file is shorter than a file header (64 bytes).

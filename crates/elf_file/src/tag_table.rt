@@ -86,7 +86,7 @@ impl Slot {
 }
 
 impl TagTable {
-    /// The table of no entries.
+    /// Returns the table of a section without entries.
     fn empty() -> TagTable
         ensures { IsTable [] result.slots }
     {
