@@ -15,7 +15,7 @@ use elf_file::{Dynamic, SYMBOL_SIZE, Tag};
 
 /// The tables of a file, which are parts of its bytes, and values that the code keeps of its tags:
 /// the number of needed libraries, and the offset of the object's own name in the string table, if
-/// it has one. The last value is whether the object's own references are looked up in it first.
+/// it has one. A third value says whether the object's own references are looked up in it first.
 #[derive(Clone, Copy)]
 pub(crate) struct Parts<'a> {
     pub(crate) strings: &'a [u8],

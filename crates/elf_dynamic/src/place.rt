@@ -12,8 +12,8 @@ use elf_file::{IndexedSegments, ProgramHeader, is_in_memory_part};
 const WRITTEN: u64 = 8;
 
 /// Returns whether a relocation writes outside the memory of all PT_LOADs. `last` is the PT_LOAD
-/// into which the relocation before it writes. It is tried first, and then the index of all
-/// PT_LOADs.
+/// into which the last writing relocation before it writes, if there is one. This PT_LOAD is tried
+/// first, and then the index of all PT_LOADs.
 #[tactic(auto, using(crate::proofs::Misplaced::of_one))]
 fn is_misplaced(
     segments: &IndexedSegments<'_>,

@@ -15,13 +15,14 @@ use elf_file::{SYMBOL_SIZE, u16_at, u32_at, u64_at};
 /// A symbol of the file (gABI chapter 4, `Elf64_Sym`).
 #[derive(Clone, Copy, PartialEq, Eq)]
 pub struct Symbol {
-    /// `st_name`: the offset of its name in the string table, in bytes.
+    /// `st_name`: the offset of the symbol's name in the string table, in bytes.
     pub name: u32,
-    /// `st_info`: its binding and its type.
+    /// `st_info`: the symbol's binding and type.
     pub info: u8,
-    /// `st_other`: its visibility.
+    /// `st_other`: the symbol's visibility.
     pub other: u8,
-    /// `st_shndx`: the index of the section in which it is defined, or one of the `SHN_` numbers.
+    /// `st_shndx`: the index of the section in which the symbol is defined, or one of the `SHN_`
+    /// numbers.
     pub section: u16,
     /// `st_value`: an address to which the base hasn't been added, or an absolute value.
     pub value: u64,
