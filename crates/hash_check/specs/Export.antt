@@ -1,4 +1,4 @@
--- Which symbols an object exports (gABI chapter 4, symbol table).
+-- The symbols that an object exports (gABI chapter 4, symbol table).
 use Rattle.std.specs.Prelude.{ℕ, List, Bool, false, ◌-◌, ◌==◌, ◌&&◌, ◌||◌, not, length, slice_get}
 use Rattle.std.specs.List.{filter, range_with_len}
 use Rattle.std.specs.Option.{option_map_or}

@@ -31,8 +31,8 @@ fn are_own(numbers: &[u32]) -> bool
     true
 }
 
-/// Returns the names of symbols, and whether all of them differ, which a table of the names
-/// decides. The symbols may be in any order. Returns `None` if the table can't decide it.
+/// Returns the names of symbols, and whether all of them differ, by putting them into a table. The
+/// symbols may be in any order. Returns `None` if the table can't decide it.
 fn names_in_table<'a>(
     alloc: Global,
     object: &Object<'a>,
@@ -66,8 +66,8 @@ fn lengths_fall(names: &[Name<'_>]) -> bool
     true
 }
 
-/// Returns whether the names of the symbols differ, which the strings that the names are tails of
-/// decide. The symbols are sorted by the places of their names.
+/// Returns whether the names of the symbols differ, by comparing the strings that the names are
+/// tails of. The symbols are sorted by the places of their names.
 fn differ_in_strings(
     alloc: Global,
     object: &Object<'_>,
@@ -104,10 +104,10 @@ fn few_exports<'a>(alloc: Global, object: &Object<'a>) -> Result<Option<Exports<
 }
 
 /// Returns the exported symbols, or `None` if two of them share a name. If fewer than two symbols
-/// are exported, the list is empty. A table of the names usually decides it. If many names are
-/// tails of others, or the file was made to crowd the table, the strings that the names are tails
-/// of decide. Allocates about 40 bytes an exported symbol while it runs, of which about 28 are
-/// kept.
+/// are exported, the list is empty. Usually a table of the names decides whether two are the same.
+/// It can't if many names are tails of others, or if the file was made to crowd the table. Then the
+/// strings that the names are tails of are compared. Allocates about 40 bytes an exported symbol
+/// while it runs, of which about 28 are kept.
 pub(crate) fn unique_exports<'a>(
     alloc: Global,
     object: &Object<'a>,

@@ -94,9 +94,9 @@ fn count_of_lengths(endings: &[Ending<'_>]) -> usize
 }
 
 /// Returns the numbers of names that are tails of strings. The time depends on the strings and on
-/// the number of names, not on how many bytes the names share. If the strings share no bytes, each
-/// of them is compared about log n times. Allocates 4 bytes a name, and while it runs 4 bytes more
-/// for each byte of the longest string. Returns an error if there are 2^32 names or more.
+/// the number of names, not on how many bytes the names share. If n strings share no bytes, each of
+/// them is compared about log n times. Allocates 4 bytes a name, and while it runs 4 bytes more for
+/// each byte of the longest string. Returns an error if there are 2^32 names or more.
 pub(crate) fn numbers_of_endings(
     alloc: Global,
     names: &[Name<'_>],

@@ -16,7 +16,7 @@ pub enum FileRefusal {
 /// The reason why a file isn't read as an admitted object.
 #[derive(Clone, Copy, Debug, PartialEq, Eq)]
 pub enum ReadRefusal {
-    /// A test on files applies.
+    /// The file is refused, for this reason.
     File(FileRefusal),
     /// The memory that admission needs was refused.
     OutOfMemory,

@@ -1,4 +1,4 @@
-// Which indices a walk meets.
+// The indices that a walk meets.
 
 ghost use Rattle.std.specs.Prelude.{◌≡◌, ◌<◌, ◌≤◌, ◌-◌, ◌↔◌, ℕ, length, IsTrue};
 ghost use Rattle.hash_check.specs.Walk.{walk, Meets};

@@ -230,8 +230,8 @@ fn has_good_table<'a>(
 
 /// Returns whether the hash table can't be trusted. Allocates about 24 bytes a symbol while it
 /// runs, and follows each chain word once. An exported symbol is looked up in one step on the walk
-/// that met it first, and in about log n steps on others. Its name is hashed only if not all walks
-/// meet it.
+/// that met it first, and in about log n steps on other walks of n steps. Its name is hashed only
+/// if not all walks meet it.
 #[tactic(auto, using(crate::proofs::Deciding::bad_test, crate::proofs::Deciding::words_test))]
 pub(crate) fn has_bad_hash_table<'a>(
     alloc: Global,
