@@ -48,9 +48,9 @@ fn walk_length(object: &Object<'_>, from: u32, most: u32) -> u32
     most
 }
 
-/// Returns the number of symbols on the longest walk of an object. If the walks together are as
-/// long as the object has symbols, some of them share symbols. Then it returns the number of all
-/// symbols, and makes no more steps.
+/// Returns the number of symbols on the longest walk of an object. If the walks together have as
+/// many steps as the object has symbols, some of them share symbols. In that case it makes no more
+/// steps, and returns the number of all symbols.
 fn longest_walk(object: &Object<'_>) -> u32 {
     let mut left = object.symbol_count();
     let mut longest = 0;
