@@ -1,4 +1,4 @@
--- Relocations that write outside the memory of all PT_LOADs.
+-- Relocations that write bytes that don't lie in the memory of one PT_LOAD.
 use Rattle.std.proofs.Common.{◌≡◌, ℕ, ◌<◌, true, false, List, length, arith, ◌∙◌, ap}
 use Rattle.std.specs.List.{list_any}
 use Rattle.std.proofs.lemmas.Bool.Decides.{nat_tests}
@@ -26,7 +26,7 @@ fine_by_type file r is = grind (arith, nat_tests)
 pub fine_by_place : (file : List ℕ) (r : Relocation) → is_in_memory file r.offset 8 ≡ true → is_misplaced file r ≡ false
 fine_by_place file r is = grind (arith, nat_tests)
 
--- a relocation that writes outside of memory is misplaced
+-- a relocation that writes bytes outside of memory is misplaced
 pub misplaced_by : (file : List ℕ) (r : Relocation) → is_writing r.kind ≡ true → is_in_memory file r.offset 8 ≡ false → is_misplaced file r ≡ true
 misplaced_by file r writing none = grind (arith, nat_tests)
 

@@ -11,9 +11,9 @@ use elf_file::{IndexedSegments, ProgramHeader, is_in_memory_part};
 /// The number of bytes that a relocation writes.
 const WRITTEN: u64 = 8;
 
-/// Returns whether a relocation writes outside the memory of all PT_LOADs. `last` is the PT_LOAD
-/// into which the last writing relocation before it writes, if there is one. This PT_LOAD is tried
-/// first, and then the index of all PT_LOADs.
+/// Returns whether a relocation writes bytes that don't lie in the memory of one PT_LOAD. `last` is
+/// the PT_LOAD into which the last writing relocation before it writes, if there is one. This
+/// PT_LOAD is tried first, and then the index of all PT_LOADs.
 #[tactic(auto, using(crate::proofs::Misplaced::of_one))]
 fn is_misplaced(
     segments: &IndexedSegments<'_>,
@@ -41,7 +41,8 @@ fn is_misplaced(
     }
 }
 
-/// Returns whether a relocation of a table writes outside the memory of all PT_LOADs.
+/// Returns whether a relocation of a table writes bytes that don't lie in the memory of one
+/// PT_LOAD.
 #[tactic(auto, using(crate::proofs::Misplaced::of_a_table))]
 pub(crate) fn has_misplaced_in(segments: &IndexedSegments<'_>, table: &[u8]) -> bool
     ensures { result ≡ list_any (is_misplaced segments.now) (relocations_in table.now) }

@@ -71,7 +71,7 @@ impl<'a> Tables<'a> {
             || has_bad_relocation_symbol_in(self.jmprel(), count)
     }
 
-    /// Returns whether a relocation writes outside the memory of all PT_LOADs.
+    /// Returns whether a relocation writes bytes that don't lie in the memory of one PT_LOAD.
     fn has_bad_place(&self) -> bool
         ensures { result ≡ has_bad_place self.now }
     {

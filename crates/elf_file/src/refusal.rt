@@ -59,7 +59,7 @@ pub enum ObjectRefusal {
     RelocationType(u32),
     /// E31: a relocation names a symbol that doesn't exist.
     RelocationSymbol,
-    /// E32: a relocation writes outside the memory of the PT_LOADs.
+    /// E32: a relocation writes bytes that don't lie in the memory of one PT_LOAD.
     RelocationPlace,
     /// E33: a library's file has no SONAME that may be a library's name.
     BadSoname,
