@@ -31,7 +31,7 @@ are_many image = nat_lt MOST_HEADERS (header_count_of (pieces_of image.segments)
 abbrev place_in : MemoryImage → Option ℕ
 place_in image = place_of (pieces_of image.segments)
 
--- the refusal where there is an entry
+-- the refusal of an image that has an entry
 with-entry : (image : MemoryImage) (entry : ℕ) (static before : Bool) (name last : Option (List ℕ)) → entry_of image ≡ Some entry → is_static_pie image ≡ static → is_preinitialized image ≡ before
     → first_initialized image ≡ name → first_finalized image ≡ last
     → executable_refusal image ≡ refusal_by (Some entry) static before name last (are_many image) (first_unasked image) (place_in image)
@@ -43,7 +43,7 @@ with-entry image entry static before name last e t b n l =
     ∙ ap (λ x. refusal_by (Some entry) static before x (first_finalized image) (are_many image) (first_unasked image) (place_in image)) n
     ∙ ap (λ x. refusal_by (Some entry) static before name x (are_many image) (first_unasked image) (place_in image)) l
 
--- the refusal where nothing else would be called
+-- the refusal of an image without functions that nobody calls
 uncalled : (image : MemoryImage) (entry : ℕ) (many : Bool) (code : Option (List ℕ)) (place : Option ℕ) → entry_of image ≡ Some entry → HasNoCalls image
     → are_many image ≡ many → first_unasked image ≡ code → place_in image ≡ place
     → executable_refusal image ≡ refusal_by (Some entry) false false None None many code place
