@@ -1,4 +1,4 @@
--- What events do to a registry with binders (own).
+-- The effect of events on a registry with binders (own).
 use Rattle.std.specs.Prelude.{◌≡◌, ◌⊎◌, ℕ, List, Ok, Err}
 use Rattle.sector_disk.specs.Disk.{DiskFacts, AreCallsExactly}
 use Rattle.states.specs.State.{State}
@@ -35,8 +35,8 @@ happening_of (event.Begin program base) = begin program.now base
 happening_of (event.Advance slot) = advance slot
 happening_of (event.Cancel slot) = cancel slot
 
--- What applying a command does to a registry, whatever binders it has. The binders stay on their
--- flights.
+-- The effect of applying a command to a registry, whatever binders it has. The binders stay on
+-- their flights.
 pub record AppliesIn {D : Type 0} (facts : D → DiskFacts) (old new : Slotted D) (request : Request) (answer : Reply) : Type 0 where
   pub applied : (s : State) → IsAt facts old.registry s → Applies facts old.registry new.registry s request answer
   pub all_calls : (s : State) → IsAt facts old.registry s

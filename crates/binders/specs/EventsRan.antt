@@ -1,4 +1,5 @@
--- What a list of events does to a registry with binders, and what a stop leaves meanwhile (own).
+-- The effect of a list of events on a registry with binders, and the states that a stop leaves
+-- meanwhile (own).
 use Rattle.std.specs.Prelude.{◌≡◌, List, [], ◌∷◌, map}
 use Rattle.sector_disk.specs.Disk.{DiskFacts}
 use Rattle.states.specs.State.{State}

@@ -1,4 +1,4 @@
--- What beginning, advancing and ending a binder in a slot does (own).
+-- The effect of beginning, advancing and ending a binder in a slot (own).
 use Rattle.std.specs.Prelude.{◌≡◌, ◌≢◌, ◌↔◌, ◌⊎◌, ◌<◌, ◌+◌, ℕ, List, slice_index_or}
 use Rattle.std.specs.Prelude.{slice_set, Option, Some, None, Result, Ok, Err, IfOk, IfErr, OnErr, IsTrue, IsFalse}
 use Rattle.sector_disk.specs.Disk.{DiskFacts, Mixture, IsUnchanged, LeavesOnly, AreCalls, AreCallsAtMost, AreCallsExactly}
@@ -57,7 +57,7 @@ pub record BeginsIn {D : Type 0} (facts : D → DiskFacts) (old new : Slotted D)
   pub refusals : IfErr result (λ e. (e ≡ Reopen) ⊎ (e ≡ NoSlot) ⊎ (e ≡ OutOfMemory))
 
 -- the flights of the binders after a step of one: its flight is one step further, is over with the
--- answer of the bind, or is where it was
+-- answer of the bind, or hasn't changed
 abbrev pub SteppedIn : {D : Type 0} → (D → DiskFacts) → Slotted D → Slotted D → ℕ
     → List (Option Flight) → Flight → Result Step Refusal → Type 0
 SteppedIn facts old new slot flights flight (Ok Going) = (flight.going < goings flight) × AreOn facts new (slice_set flights slot (Some (further flight)))
@@ -68,7 +68,7 @@ SteppedIn facts old new slot flights flight (Err refusal) = AreOn facts new flig
     × AreCallsAtMost (step_sectors flight) (facts old.registry.disk) (facts new.registry.disk)
     × MayBeRefused flight.program refusal
 
--- the slots after a step: the binder of this slot is where it was, is one step further, or is gone
+-- the slots after a step: the binder of this slot hasn't changed, is one step further, or is gone
 abbrev pub SlotsAfter : List (Option Binding) → ℕ → List (Option Binding) → Result Step Refusal → Type 0
 SlotsAfter old slot new (Ok (Final answer)) = new ≡ slice_set old slot None
 SlotsAfter old slot new result = IsPut old slot new

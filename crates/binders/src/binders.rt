@@ -124,7 +124,7 @@ impl<D: Disk> Binders<D> {
 
     /// Makes the next step of the binder in `slot`. Refuses with C8, and then S2. The first step
     /// tests the program by itself, each following step reads and admits one library, and the last
-    /// step binds. Then the slot is free. After S1, S2 and S11 the binder is where it was.
+    /// step binds. Then the slot is free. After S1, S2 and S11 the binder hasn't changed.
     pub fn advance(&mut self, slot: usize) -> Result<Step, Refusal>
         ensures { AdvancesIn D.facts self.old self.new slot result }
     {

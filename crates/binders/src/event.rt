@@ -1,4 +1,4 @@
-// What happens to a registry with binders.
+// Events of a registry with binders, and their replies.
 use requests::{Command, Reply};
 
 /// A command, or something that is done with a binder.

@@ -11,7 +11,7 @@ use Rattle.requests.specs.Library.{IsLibrary, library_refusal}
 use Rattle.contents.specs.declared.finding.Finding.{Finding}
 use Rattle.contents.specs.declared.finding.Finding.TheVariants.{Sound, Refused, OtherName, Unreadable}
 
--- What the finding says about the library is true. The finding Unreadable says nothing: a read failed.
+-- The finding is true of the library. Unreadable says nothing about it: a read failed.
 abbrev pub IsFinding : Library → Finding → Type 0
 IsFinding l Sound = IsLibrary l
 IsFinding l (Refused refusal) = library_refusal l.bytes ≡ Some refusal

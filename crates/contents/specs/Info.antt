@@ -12,7 +12,7 @@ pub record IsInfo (sectors : ℕ) (s : State) (info : Info) : Type 0 where
   pub generation : info.generation ≡ s.generation
   pub libraries : info.libraries ≡ length s.libraries
   pub preloads : info.preloads ≡ length s.preloads
-  -- the sectors that the state leaves free, and together with those that the catalogues of the next
-  -- change take
+  -- the number of sectors that the state leaves free, and this number plus the sectors that the
+  -- catalogues of the next change take
   pub free_are : info.unused.free ≡ free sectors s
   pub unused_are : info.unused.sectors ≡ free sectors s + catalogues_for (length s.libraries)

@@ -23,7 +23,7 @@ use std::alloc::{AllocError, Global};
 pub fn finding_of(alloc: Global, name: &[u8], file: &[u8]) -> Result<Finding, AllocError>
     ensures finding { IfOk result (IsFinding (record { name = name.now; bytes = file.now })) }
     ensures read { IfOk result (λ finding. finding ≢ Finding.Unreadable) }
-    // The finding of a file that another test refuses never fails.
+    // A file that another test refuses is always reported.
     ensures memory { OnErr result (ReadNeedsMemory file.now) }
 {
     match library_name(alloc, file) {

@@ -1,11 +1,11 @@
-// What a disk has.
+// The contents of a disk.
 use sector_disk::Disk;
 use std::marker::Model;
 use store::Store;
 
-/// What a disk of version 2 has. Names, lengths and the places of files are in memory, but no bytes
-/// of files. Contracts see the store in which they are kept. Nobody changes this store, and nobody
-/// holds its byte strings.
+/// The contents of a disk of version 2. Names, lengths and the places of files are in memory, but
+/// no bytes of files. Contracts see the store in which they are kept. Nobody changes this store,
+/// and nobody holds its byte strings.
 pub struct Contents<D: Disk> {
     pub(crate) store: Store<D>,
 }

@@ -3,7 +3,7 @@ ghost use Rattle.std.specs.Prelude.{◌≡◌};
 
 use hash_check::FileRefusal;
 
-/// What a check of an installed library finds.
+/// The result of a check of an installed library.
 #[derive(Clone, Copy, PartialEq, Eq)]
 pub enum Finding {
     /// The file is a library with the name of its entry.

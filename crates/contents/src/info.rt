@@ -43,7 +43,7 @@ impl<D: Disk> Contents<D> {
         ensures runs { result.unused.runs ≡ length (unused_runs (layout_in_use self.now)) }
 
         // An install of a file with a new name is refused with none of S7, S8, S9 and S10 exactly
-        // if the file isn't longer than this. The number is 0, or the length of a file that is
+        // if the file isn't longer than `largest`. `largest` is 0, or the length of a file that is
         // accepted itself.
         ensures largest { (s : State) → IsAt D.facts self.now s
             → (file : List ℕ) → IsFileSize (length file)

@@ -1,4 +1,4 @@
--- What the script of a dump does to a new registry (own).
+-- The effect of the script of a dump on a new registry (own).
 use Rattle.std.specs.Prelude.{◌≡◌, ◌⊎◌, ◌<◌, ◌≤◌, ◌+◌, ℕ, List, [], ◌∷◌, ◌++◌, map, length, fold, All, None, Some}
 use Rattle.std.specs.Int.{div_ceil}
 use Rattle.sector_disk.specs.Disk.{sector_bytes}
@@ -13,7 +13,7 @@ use Rattle.requests.specs.declared.refusal.Refusal.TheVariants.{Device, Reopen, 
 use Rattle.requests.specs.declared.reply.Reply.{Reply}
 use Rattle.requests.specs.declared.reply.Reply.TheVariants.{Refused}
 
--- a state of a registry, in whose files each byte is a number below 256
+-- a state of a registry whose files consist of bytes: each number in them is below 256
 pub record IsStateOfBytes (s : State) : Type 0 where
   pub state : IsState s
   pub bytes : All (λ l. All (λ byte. byte < 256) l.bytes) s.libraries
@@ -36,7 +36,7 @@ copy_of s = record { generation = length (requests_for s); libraries = s.librari
 abbrev pub sectors_for : State → ℕ
 sectors_for s = root_sectors + taken_by s
 
--- the state of the phase is the one to which the requests before lead from a new registry
+-- the state of the phase is the one to which the requests `front` lead from a new registry
 abbrev pub IsBehind : List Request → Phase → Type 0
 IsBehind front p = p.state ≡ fold accepted empty_state front
 
@@ -58,7 +58,7 @@ pub record HasRoomFor (s : State) (p : Phase) (request : Request) : Type 0 where
   pub sectors : sectors_for s + p.lone ≤ p.sectors
   pub runs : HasShortRuns p request → ⊥
 
--- the answer is S1 or S2, which a failing disk causes, or S11, for lack of memory
+-- the call was refused because the disk failed (S1, S2) or memory was refused (S11)
 abbrev pub IsFault : Reply → Type 0
 IsFault (Refused Device) = Unit
 IsFault (Refused Reopen) = Unit

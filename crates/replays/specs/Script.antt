@@ -1,4 +1,4 @@
--- What a text asks for as a script, and as an update (own).
+-- The requests of a text, as a script and as an update (own).
 use Rattle.std.specs.Prelude.{◌≡◌, ℕ, List, [], ◌∷◌, ◌++◌, map, All, Some}
 use Rattle.std.specs.List.{flat_map}
 use Rattle.requests.specs.Request.{Request}

@@ -1,4 +1,4 @@
--- What an update by the lines of a dump makes of a new registry (own).
+-- The effect of an update by the lines of a dump on a new registry (own).
 use Rattle.std.specs.Prelude.{◌≡◌, ◌⊎◌, ◌<◌, ◌++◌, ℕ, List, [], ◌∷◌, All}
 use Rattle.sector_disk.specs.Disk.{DiskFacts, Mixture, LeavesOnly}
 use Rattle.states.specs.State.{State, empty_state}
@@ -26,11 +26,11 @@ use Rattle.program_parts.specs.Streams.{Streams}
 use Rattle.updates.specs.Streams.{CannotWrite, SaysOnly, outputs_of}
 use Rattle.replays.specs.Replay.{IsFault, requests_for, sectors_for}
 
--- the state of the phase is the one to which the requests before lead a draft of a new registry
+-- the state of the phase is the one to which the requests `front` lead a draft of a new registry
 abbrev pub IsDraftBehind : List Request → Phase → Type 0
 IsDraftBehind front p = p.state ≡ drafted_by empty_state front
 
--- the number of changes that these requests are in an update: one, if there are any
+-- the number of changes that an update by these requests makes: one if there are any, and otherwise none
 abbrev pub changes_by : List Request → ℕ
 changes_by [] = 0
 changes_by (request ∷ requests) = 1
@@ -43,8 +43,8 @@ renewed s = record { generation = changes_by (requests_for s); libraries = s.lib
 abbrev pub LeavesAllOrNothing : {D : Type 0} → (D → DiskFacts) → State → D → D → Type 0
 LeavesAllOrNothing facts s disk left = LeavesOnly (facts disk) (facts left) (λ m. Mixture (facts disk) m ⊎ (Stands m empty_state ⊎ Stands m (renewed s)))
 
--- A line or the commit may be refused for this reason on a disk with `sectors` sectors: S7, only if they are
--- too few for the state; S8; S1, S2 and S11.
+-- A line or the commit may be refused with this refusal on a disk of `sectors` sectors: with S7 only if they
+-- are too few for the state; and with S8, S1, S2 and S11.
 abbrev pub IsHindrance : State → (sectors : ℕ) → Refusal → Type 0
 IsHindrance s sectors Full = sectors < sectors_for s
 IsHindrance s sectors Fragmented = Unit {0}

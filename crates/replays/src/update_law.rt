@@ -39,7 +39,7 @@ pub fn dump_updates<D: Disk, O: Write>()
         (request : Request) (p : Phase) → requests_for s ≡ front ++ request ∷ rest
         → IsDraftBehind front p → LacksRoomAtMost s p request }
 
-    // On a disk with fewer sectors the last library is refused.
+    // On a disk with too few sectors for the state, the last library is refused with S7.
     ensures least { (s : State) → IsStateOfBytes s → (libraries : List Library)
         (last : Library) (p : Phase) → s.libraries ≡ libraries ++ last ∷ []
         → IsDraftBehind (map (λ l. install l.bytes) libraries) p

@@ -45,7 +45,7 @@ impl Snapshot {
     pub fn take<D: Disk>(alloc: Global, store: &mut Store<D>) -> Result<Snapshot, StoreRefusal>
         ensures { Takes D.facts store.old store.new result }
     {
-        // Also after a refusal, a held byte string counts as listed exactly if it is.
+        // Also after a refusal, a held byte string counts as listed exactly if the state lists it.
         store.holds_are_sound();
         let count = store.count();
         if store.has_failed() {
@@ -92,9 +92,8 @@ impl Snapshot {
         held_name(store, &self.handles[position])
     }
 
-    /// Returns the position of the byte string with the name `name`. Searches the order of the
-    /// names by halving: at most 13 comparisons, each with a look-up in the store's table of held
-    /// byte strings.
+    /// Returns the position of the byte string with the name `name`. Makes a binary search by name:
+    /// at most 13 comparisons, each with a look-up in the store's table of held byte strings.
     pub fn position<D: Disk>(&self, store: &Store<D>, name: &[u8]) -> Option<usize>
         ensures within { IfSome result (λ i. i < length self.now.handles) }
         ensures few { length self.now.handles ≤ 2048 }
@@ -107,7 +106,7 @@ impl Snapshot {
         find(store, &self.handles, &self.order, name)
     }
 
-    /// Reads the byte string at `position`, as it was: each of its sectors once, and writes
+    /// Returns the byte string at `position`, as it was. Reads each of its sectors once, and writes
     /// nothing.
     pub fn read<D: Disk>(
         &self,

@@ -121,7 +121,7 @@ lone_row {held = held} {at = at} {place = place} {hold = hold} row isnt =
 released_then : (old mid new : List Bool) (some more : List ℕ) → IsReleased old mid some → IsReleased mid new more → IsReleased old new (some ++ more)
 released_then old mid new some more first second = released_rest old mid new (some ++ more) more (released_some old some more mid first) second
 
--- Of sectors that can be given back, some are, and others of them can still be given back.
+-- Some of the sectors that can be given back are, and others of them can still be given back.
 held_parts : (old mid : List Bool) (gone freed stay rest : List ℕ) → ((k : ℕ) → occurs k gone ≡ occurs k freed + occurs k stay + occurs k rest)
     → AreClaimedOnce old gone → IsReleased old mid freed → AreClaimedOnce mid rest
 held_parts old mid gone freed stay rest parts (kept, just, once, usable) released =

@@ -97,8 +97,8 @@ abbrev pub committed : Touched → (s d : State) → State
 committed Nothing s d = s
 committed touched s d = next s d.libraries d.preloads
 
--- the number of calls of a commit: a write for each catalogue and a sync, if the list was changed; then a write
--- of the root and a sync; none if nothing was changed
+-- the number of calls of a commit: 0 if nothing was changed; 2, for the root and a sync, if only preloads were
+-- set; otherwise also one for each catalogue and one for a sync
 abbrev pub commit_calls : Touched → ℕ → ℕ
 commit_calls Nothing libraries = 0
 commit_calls Preloads libraries = 2
@@ -121,8 +121,7 @@ pub record IsDraftedNamed {D : Type 0} (u : Drafted D) (name : List ℕ) (positi
 abbrev pub IsNoPreloadOfDraft : {D : Type 0} → Drafted D → List ℕ → Type 0
 IsNoPreloadOfDraft u name = All (λ position. (d : PlacedEntry) → name_of (slice_index_or u.entries position d).entry ≢ name) u.preloads
 
--- The current state is untouched, at any moment: on the disk, and in memory too, except for whether a call
--- failed.
+-- The current state is untouched: on the disk at any moment, and in memory, except for whether a call failed.
 pub record StaysBeside {D : Type 0} (facts : D → DiskFacts) (old new : Drafted D) : Type 0 where
   pub any_moment : (s : State) → IsAt facts old.store s → LeavesOnly (facts old.store.disk) (facts new.store.disk) (λ m. Stands m s)
   pub root : new.store.root ≡ old.store.root
@@ -136,8 +135,8 @@ pub record IsSameDraft {D : Type 0} (old new : Drafted D) : Type 0 where
   pub preloads : new.preloads ≡ old.preloads
   pub touched : new.touched ≡ old.touched
 
--- A line of an update made at most `most` calls on any disk, and refused only with these refusals. A refusal
--- leaves the draft as it was.
+-- A line of an update made at most `most` calls on any disk, and refused only with refusals that `Refuses`
+-- allows. A refusal leaves the draft as it was.
 pub record IsLine {D : Type 0} (facts : D → DiskFacts) (old new : Drafted D) (most : ℕ) (Refuses : StoreRefusal → Type 0)
     (result : Result (Unit {0}) StoreRefusal) : Type 0 where
   pub beside : StaysBeside facts old new
@@ -185,8 +184,8 @@ touched_preloads touched = touched
 abbrev pub listing : {D : Type 0} → Drafted D → Opened D
 listing u = record { disk = u.store.disk; root = u.store.root; entries = u.entries; held = u.store.held; failed = u.store.failed }
 
--- The byte string at a position of the draft was read as in a store that lists it: each of its sectors once,
--- and nothing was written.
+-- The byte string at a position of the draft was read, as in a store that lists it. Each of its sectors was
+-- read once, and nothing was written.
 pub record ReadsDraft {D : Type 0} (facts : D → DiskFacts) (old new : Drafted D) (position : ℕ) (result : Result (Vec ℕ) StoreRefusal) : Type 0 where
   pub read : ReadsBlob Two facts (listing old) (listing new) position result
   pub ok : (s d : State) → IsDraftedAt facts old s d → IfOk result (λ bytes. bytes.items ≡ (slice_index_or d.libraries position no_library).bytes)

@@ -102,8 +102,8 @@ pub record TakesHold {D : Type 0} (facts : D → DiskFacts) (old new : Opened D)
   pub err : OnErr result (new ≡ old)
   pub refusals : IfErr result (λ e. (e ≡ Reopen) ⊎ (e ≡ OutOfMemory))
 
--- The held byte string was read: each of its sectors once, and nothing was written. The call refuses with
--- Damaged if nobody holds the byte string in this store.
+-- The held byte string was read. Each of its sectors was read once, and nothing was written. The call refuses
+-- with Damaged if nobody holds the byte string in this store.
 pub record ReadsHeld {D : Type 0} (facts : D → DiskFacts) (old new : Opened D) (held : ℕ) (result : Result (Vec ℕ) StoreRefusal) : Type 0 where
   -- a stop at any moment leaves what it could leave before
   pub any_moment : IsTrue (facts old.disk).honest → LeavesOnly (facts old.disk) (facts new.disk) (Mixture (facts old.disk))

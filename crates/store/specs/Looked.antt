@@ -33,7 +33,8 @@ abbrev pub IsSeenOldAt : {D : Type 0} → (D → DiskFacts) → Look D → State
 IsSeenOldAt facts (Current store) s = ⊥
 IsSeenOldAt facts (Old store) s = IsOldAt facts store s
 
--- What the disk holds was found out, or the disk was refused and handed back. Nothing was written.
+-- The contents of the disk were found out, or the disk was refused and handed back. Nothing was
+-- written.
 pub record Looks {D : Type 0} (facts : D → DiskFacts) (disk : D) (looking : Result (Look D) (StoreRefusal × D)) : Type 0 where
   -- a stop at any moment leaves what it could leave before
   pub any_moment : IsTrue (facts disk).honest → LeavesOnly (facts disk) (facts (looked_after looking)) (Mixture (facts disk))

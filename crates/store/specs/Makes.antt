@@ -1,5 +1,5 @@
--- What making an empty store of version 2 on an honest disk does, whatever the caller requires of the state that the
--- disk holds (own).
+-- Making an empty store of version 2 on an honest disk, whatever the caller requires of the state that the disk holds
+-- (own).
 use Rattle.std.specs.Prelude.{◌≡◌, ◌≢◌, ◌⊎◌, List, Result, IsTrue, IfOk, IfErr, OnOk}
 use Rattle.sector_disk.specs.Disk.{Sector, DiskFacts, Mixture, LeavesOnly, GrowsBehindSync}
 use Rattle.states.specs.State.{State, empty_state}

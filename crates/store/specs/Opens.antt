@@ -1,5 +1,4 @@
--- What opening an honest disk of version 2 does, whatever the caller requires of the state that the disk holds
--- (own).
+-- Opening an honest disk of version 2, whatever the caller requires of the state that the disk holds (own).
 use Rattle.std.specs.Prelude.{◌≡◌, ◌+◌, ◌⊎◌, List, Result, IsTrue, IfOk, IfErr, MatchResult}
 use Rattle.sector_disk.specs.Disk.{Sector, DiskFacts, Mixture, LeavesOnly, MayAddSync, AreCallsExactly, AreCallsAtMost}
 use Rattle.roots.specs.Limits.{most_catalogues}
@@ -20,7 +19,7 @@ pub record Opens (StandsFor : List Sector → State → Type 0) {D : Type 0} (fa
   pub any_moment : IsTrue (facts disk).honest → LeavesOnly (facts disk) (facts (disk_after opening)) (Mixture (facts disk))
   -- reads return what they returned before, also if a call fails
   pub now : IsTrue (facts disk).honest → (facts (disk_after opening)).now ≡ (facts disk).now
-  -- the disk is told to sync at most once, and its log gets nothing else
+  -- the disk gets at most one sync, and its log nothing else
   pub log : IsTrue (facts disk).honest → MayAddSync (facts disk).log (facts (disk_after opening)).log
   -- the sectors that reads return hold one state and no other, and the store is at it: every mixture holds it
   -- too

@@ -1,4 +1,4 @@
--- What reading a byte string does, by its result.
+-- The effect of reading a byte string, by its result.
 use Rattle.std.specs.Prelude.{◌≡◌, ◌≢◌, ◌↔◌, ◌⊎◌, ◌<◌, ℕ, length, slice_index_or, IsTrue, Result, Err, IfOk, IfErr, OnOk}
 use Rattle.std.specs.Global.{Vec}
 use Rattle.std.specs.Int.{div_ceil}
@@ -12,8 +12,8 @@ use Rattle.store.specs.Opened.{Opened, IsAtBy}
 use Rattle.store.specs.Stands.{no_library}
 use Rattle.states.specs.State.{State}
 
--- The byte string at a position of a store of this version was read: each of its sectors once, and
--- nothing was written.
+-- The byte string at a position of a store of this version was read. Each of its sectors was read
+-- once, and nothing was written.
 pub record ReadsBlob (version : Version) {D : Type 0} (facts : D → DiskFacts) (old new : Opened D) (position : ℕ)
     (result : Result (Vec ℕ) StoreRefusal) : Type 0 where
   -- a stop at any moment leaves what it could leave before

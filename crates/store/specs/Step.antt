@@ -86,13 +86,15 @@ IsRefusalOfChange Reopen = Unit
 IsRefusalOfChange GenerationEnd = Unit
 IsRefusalOfChange other = ⊥
 
--- The refusals of a put in place of other bytes, on any disk: those above, Full and Fragmented.
+-- The refusals of a put in place of other bytes, on any disk: those of `IsRefusalOfChange`, Full
+-- and Fragmented.
 abbrev pub IsRefusalOfPutOver : StoreRefusal → Type 0
 IsRefusalOfPutOver Full = Unit
 IsRefusalOfPutOver Fragmented = Unit
 IsRefusalOfPutOver other = IsRefusalOfChange other
 
--- The refusals of a put with a new name, on any disk: those above, TooMany and OutOfMemory.
+-- The refusals of a put with a new name, on any disk: those of `IsRefusalOfPutOver`, TooMany and
+-- OutOfMemory.
 abbrev pub IsRefusalOfPutNew : StoreRefusal → Type 0
 IsRefusalOfPutNew TooMany = Unit
 IsRefusalOfPutNew OutOfMemory = Unit

@@ -1,4 +1,4 @@
--- What an upgrade makes of a disk of either version.
+-- The result of upgrading a disk of either version.
 use Rattle.std.specs.Prelude.{◌⊎◌, List}
 use Rattle.sector_disk.specs.Disk.{Sector, DiskFacts}
 use Rattle.states.specs.State.{State}

@@ -43,7 +43,7 @@ impl Singles {
         })
     }
 
-    /// The sectors, in their order.
+    /// Returns the sectors, in their order.
     pub(crate) fn as_slice(&self) -> &[SingleSector]
         ensures { result.now ≡ self.now }
     {

@@ -1,4 +1,4 @@
-// What a change writes: first what it stages, in unused sectors, and then the root that follows.
+// The writes of a change: first what it stages, in unused sectors, and then the root that follows.
 ghost use Rattle.std.specs.Prelude.{◌+◌, ◌<◌, ◌≤◌, ◌^◌, List, Contains, IsTrue, OnOk};
 ghost use Rattle.extents.specs.Limits.{root_sectors};
 ghost use Rattle.sector_disk.specs.Disk.{Sector, Mixture, IsMixtureBut, LeavesOnly};
@@ -18,7 +18,7 @@ use passes::{stage, switch_root};
 use roots::{Root, encode_root, slot_of};
 use sector_disk::{Disk, DiskFault};
 
-/// What a change stages, in unused sectors.
+/// The part of a change that is staged in unused sectors.
 #[derive(Drop)]
 pub(crate) enum Staged {
     /// Nothing: everything that the change's root lists is already on the disk.

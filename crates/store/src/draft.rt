@@ -19,7 +19,7 @@ use roots::Root;
 use states::MOST_PRELOADS;
 use std::alloc::{AllocError, Global};
 
-/// What an update has changed so far.
+/// How much of the draft an update has changed so far.
 #[derive(Clone, Copy, PartialEq, Eq)]
 pub enum Touched {
     /// Nothing: the commit writes nothing.
@@ -129,7 +129,7 @@ impl Draft {
         self.touched = Touched::List;
     }
 
-    /// Makes the byte strings at these positions the preloads.
+    /// Makes the byte strings at `positions` the preloads.
     pub(crate) fn choose(&mut self, positions: &[usize])
         requires few { length positions.now ≤ most_preloads }
         requires inside { All (λ position. position < 2 ^ 16) positions.now }

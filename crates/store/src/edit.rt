@@ -1,4 +1,4 @@
-// What a change does to the list of entries, and to everything that is kept about the list.
+// A change of the list of entries, and of everything that is kept about the list.
 ghost use Rattle.std.specs.Prelude.{◌≡◌, ◌^◌, ◌<◌, length};
 ghost use Rattle.roots.specs.Root.{RootHasSpelling};
 ghost use Rattle.store.specs.inside.Edit.{CanEdit, CanEditSectors, IsSettled, IsWithin};
@@ -15,7 +15,7 @@ use crate::room::{give_up, release_sectors};
 use extents::Layout;
 use roots::Root;
 
-/// What a change does to the list of entries.
+/// A change of the list of entries.
 #[derive(Clone, Copy)]
 pub(crate) enum Edit {
     /// Nothing: the same catalogues list the same entries.

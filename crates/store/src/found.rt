@@ -1,4 +1,4 @@
-// What a disk holds, as a store keeps it in memory.
+// The contents of a disk, as a store keeps them in memory.
 ghost use Rattle.std.specs.Prelude.{◌≡◌, ◌⊎◌, [], IfOk, IfErr, length, false};
 ghost use Rattle.roots.specs.Root.{RootHasSpelling, version_of};
 ghost use Rattle.roots.specs.declared.version.Version.TheVariants.{Two};
@@ -19,7 +19,7 @@ use roots::Root;
 use sector_disk::Disk;
 use std::alloc::{AllocError, Global};
 
-/// What a disk holds, as a store keeps it in memory.
+/// The contents of a disk, as a store keeps them in memory.
 #[derive(Drop)]
 pub(crate) struct Found {
     pub root: Root,

@@ -57,11 +57,11 @@ impl<D: Disk> Store<D> {
         Some(placed.entry.name_bytes())
     }
 
-    /// Reads the held byte string: each of its sectors once, and writes nothing. Refuses with
-    /// Damaged, without a call of the disk, if nobody holds the byte string in this store: the
-    /// handle is another store's, or from before the same disk was opened again. Such a handle is
-    /// only the sector of its entry: if somebody holds, in this store, a byte string whose entry
-    /// has the same sector, that byte string is read. Otherwise refuses with S2, S11 or S1.
+    /// Returns the held byte string. Reads each of its sectors once, and writes nothing. Refuses
+    /// with S2, S11 or S1. Refuses with Damaged, without a call of the disk, if nobody holds the
+    /// byte string in this store: the handle is another store's, or from before the same disk was
+    /// opened again. A handle is only the sector of an entry: if somebody holds, in this store,
+    /// another byte string whose entry is in that sector, that one is read.
     pub fn read_held(&mut self, alloc: Global, held: &Held) -> Result<Vec<u8>, StoreRefusal>
         ensures { ReadsHeld D.facts self.old self.new held.now result }
     {

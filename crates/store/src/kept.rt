@@ -1,4 +1,4 @@
-// What a store keeps in memory, beside its disk.
+// The part of a store that is kept in memory.
 use crate::catalogues::Singles;
 use crate::holds::Holds;
 use crate::name_index::NameIndex;
@@ -6,7 +6,7 @@ use crate::placed_entry::PlacedEntry;
 use extents::Layout;
 use roots::Root;
 
-/// What a store keeps in memory, beside its disk: the entries, but no bytes of byte strings.
+/// The part of a store that is kept in memory: the entries, but no bytes of byte strings.
 #[derive(Drop)]
 pub(crate) struct Kept {
     pub root: Root,

@@ -31,8 +31,7 @@ fn read_catalogue<D: Disk>(disk: &mut D, at: u32) -> Result<Option<Catalogue>, D
     requires { at < (D.facts disk.old).sectors }
     ensures calls { IsCall (D.facts disk.old) (D.facts disk.new) result }
 
-    // On any disk, the catalogue is that of some content; on an honest disk, of what sector `at`
-    // has.
+    // On any disk, the catalogue is that of some content; on an honest disk, that of sector `at`.
     ensures catalogue { (content : Sector) × IfOk result (λ found. (catalogue : Catalogue)
         → (found ≡ Some catalogue) ↔ SpellsCatalogue content catalogue)
         × (IsTrue (D.facts disk.old).honest
@@ -44,8 +43,8 @@ fn read_catalogue<D: Disk>(disk: &mut D, at: u32) -> Result<Option<Catalogue>, D
 }
 
 /// Returns the sectors of the entries that a root's catalogues list, in their order. Reads each
-/// catalogue once. Refuses with Damaged if a catalogue doesn't decode, or hasn't the count that it
-/// must have.
+/// catalogue once. Refuses with Damaged if a catalogue doesn't decode, or doesn't have the count
+/// that it must have.
 fn read_catalogues<D: Disk>(
     alloc: Global,
     disk: &mut D,

@@ -1,4 +1,4 @@
-// What a disk of either version holds.
+// Finding out what a disk of either version holds.
 use crate::find::find_store;
 use crate::old_store::OldStore;
 use crate::refusal::StoreRefusal;

@@ -1,5 +1,5 @@
-// The order of the entries' names, in which a name is found by halving, and guesses of where each
-// name is, by which most names are found at once.
+// The order of the entries' names, for binary searches, and guesses of where each name is, by which
+// most names are found at once.
 ghost use Rattle.std.specs.Prelude.{◌≡◌, ◌≢◌, ◌<◌, ◌≤◌, ◌^◌, ◌↔◌, [], ◌∷◌, ◌++◌, All, IsNone};
 ghost use Rattle.std.specs.Prelude.{IsTrue, IfOk, IfSome, OnOk, OnErr, length, map, slice_index_or};
 ghost use Rattle.std.specs.List.{range_with_len, remove};
@@ -229,8 +229,8 @@ impl NameIndex {
         }
     }
 
-    /// Returns the position of the entry with the name `name`. If the guess is wrong, searches by
-    /// halving: at most 12 comparisons, and one with the name at which the search ends.
+    /// Returns the position of the entry with the name `name`. If the guess is wrong, makes a
+    /// binary search: at most 12 comparisons, and one with the name at which the search ends.
     pub(crate) fn position_of(&self, entries: &[PlacedEntry], name: &[u8]) -> Option<usize>
         requires index { IsIndex entries.now self.now }
         requires spellings { HaveSpellings entries.now }

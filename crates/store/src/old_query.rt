@@ -1,5 +1,4 @@
-// What a store of version 1 reports about its state. These calls read what is kept in memory, and
-// make no call of the disk.
+// Queries of a store of version 1. They read what is kept in memory, and make no call of the disk.
 use crate::old_store::OldStore;
 use sector_disk::Disk;
 
@@ -52,7 +51,7 @@ impl<D: Disk> OldStore<D> {
     }
 
     /// Returns the position of the byte string with the name `name`. Tries a guess first, and then
-    /// searches the order of the names by halving: at most 9 comparisons in all.
+    /// a binary search by name: at most 9 comparisons in all.
     pub fn position(&self, name: &[u8]) -> Option<usize>
         ensures none { IsNone result → LacksName self.now name.now }
         ensures some { IfSome result (λ i. (i < length self.now.entries)

@@ -1,4 +1,4 @@
-// What a put takes: sectors for its bytes, and an entry for them.
+// The room of a put: sectors for its bytes, and an entry for them.
 ghost use Rattle.std.specs.Prelude.{◌≡◌, ◌+◌, ◌*◌, ◌<◌, ◌≤◌, ◌↔◌, All, Err, IfOk, OnOk, OnErr, length};
 ghost use Rattle.std.specs.Prelude.{vec_len, vec_capacity};
 ghost use Rattle.std.specs.Int.{div_ceil};

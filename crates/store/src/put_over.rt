@@ -94,7 +94,7 @@ impl<D: Disk> Store<D> {
         ensures refused { (s : State) → IsAt D.facts self.old s → IsExactAnswer
             (refusal_of_put (room_of self.old) (longest_unused self.old) s bytes.now) result }
 
-        // It takes the sectors for the bytes first, then one for the entry, and then those for the
+        // The put takes sectors for the bytes first, then one for the entry, and then those for the
         // catalogues. On an honest disk the sectors for the bytes then have the bytes, followed by
         // zeros.
         ensures placed { OnOk result

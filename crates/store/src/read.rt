@@ -52,8 +52,8 @@ pub(crate) fn read_file<D: Disk>(
 impl<D: Disk> Store<D> {
     ghost use Rattle.roots.specs.declared.version.Version.TheVariants.{Two};
 
-    /// Reads the byte string at `position`: each of its sectors once, and writes nothing. Refuses
-    /// with S2, S11 or S1.
+    /// Returns the byte string at `position`. Reads each of its sectors once, and writes nothing.
+    /// Refuses with S2, S11 or S1.
     pub fn read_blob(&mut self, alloc: Global, position: usize) -> Result<Vec<u8>, StoreRefusal>
         requires { position < length self.old.entries }
         ensures { ReadsBlob Two D.facts self.old self.new position result }
@@ -82,8 +82,8 @@ impl<D: Disk> Store<D> {
 impl<D: Disk> OldStore<D> {
     ghost use Rattle.roots.specs.declared.version.Version.TheVariants.{One};
 
-    /// Reads the byte string at `position`: each of its sectors once, and writes nothing. Refuses
-    /// with S11 or S1.
+    /// Returns the byte string at `position`. Reads each of its sectors once, and writes nothing.
+    /// Refuses with S11 or S1.
     pub fn read_blob(&mut self, alloc: Global, position: usize) -> Result<Vec<u8>, StoreRefusal>
         requires { position < length self.old.entries }
         ensures { ReadsBlob One D.facts self.old self.new position result }

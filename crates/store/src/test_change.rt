@@ -23,8 +23,8 @@ impl Kept {
         Ok(())
     }
 
-    /// Tests that the store is usable, has room for one more name, and has a next generation.
-    /// Refuses with S2, S9 or S10.
+    /// Tests that the store is usable, has fewer than 2,048 byte strings, and has a next
+    /// generation. Refuses with S2, S9 or S10.
     pub(crate) fn test_new(&self) -> Result<(), StoreRefusal>
         ensures usable { OnOk result (IsFalse self.now.failed) }
         ensures few { OnOk result (length self.now.entries.items < most_libraries) }

@@ -46,8 +46,8 @@ impl<D: Disk> Update<D> {
 
     /// Replaces the bytes that the draft has under the name `name` with `bytes`, which are 64 bytes
     /// to 16 MiB. The sectors of the old bytes become unused at once if the update wrote them, and
-    /// otherwise at the commit. Allocates nothing. Refuses with S2, S10, S7, S8 or S1; only S1 may
-    /// come after the first write.
+    /// otherwise at the commit, unless somebody holds them. Allocates nothing. Refuses with S2,
+    /// S10, S7, S8 or S1; only S1 may come after the first write.
     pub fn put_over(&mut self, name: &[u8], bytes: &[u8]) -> Result<(), StoreRefusal>
         requires present { (position : ℕ) × IsDraftedNamed self.old name.now position }
         requires size { IsFileSize (length bytes.now) }

@@ -1,4 +1,4 @@
-// What an update reports about its draft, and reading the draft's byte strings.
+// Queries of an update's draft, and reading the draft's byte strings.
 use crate::read::read_file;
 use crate::refusal::StoreRefusal;
 use crate::update::Update;
@@ -67,7 +67,7 @@ impl<D: Disk> Update<D> {
     }
 
     /// Returns the position of the draft's byte string with the name `name`. Tries a guess first,
-    /// and then searches the order of the names by halving.
+    /// and then a binary search by name.
     pub fn position(&self, name: &[u8]) -> Option<usize>
         ensures none { IsNone result → IsNewToDraft self.now name.now }
         ensures some { IfSome result (λ i. (i < length self.now.entries)
@@ -95,8 +95,8 @@ impl<D: Disk> Update<D> {
         self.draft.preloads.as_slice()
     }
 
-    /// Reads the byte string at `position` of the draft: each of its sectors once, and writes
-    /// nothing. Refuses with S2, S11 or S1.
+    /// Returns the byte string at `position` of the draft. Reads each of its sectors once, and
+    /// writes nothing. Refuses with S2, S11 or S1.
     pub fn read_blob(&mut self, alloc: Global, position: usize) -> Result<Vec<u8>, StoreRefusal>
         requires { position < length self.old.entries }
         ensures { ReadsDraft D.facts self.old self.new position result }

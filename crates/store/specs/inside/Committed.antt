@@ -1,4 +1,4 @@
--- What committing a draft does, by the draft.
+-- The effect of committing a draft.
 use Rattle.std.specs.Prelude.{◌≡◌, ◌≢◌, ◌⊎◌, length, Result, OnErr, OnOk}
 use Rattle.sector_disk.specs.Disk.{DiskFacts, LeavesOnly}
 use Rattle.roots.specs.Root.{listed_preloads}

@@ -1,4 +1,4 @@
--- What an update keeps beside what its store keeps, whatever the disk does.
+-- The data that an update keeps in addition to those of its store, whatever the disk does.
 use Rattle.std.specs.Prelude.{◌≡◌, ◌≢◌, ◌↔◌, ℕ, ◌+◌, ◌-◌, ◌*◌, ◌<◌, ◌≤◌, Bool, List, [], length, All, Contains, IsTrue, if◌then◌else◌}
 use Rattle.std.specs.Prelude.{Result, Ok, Err, IfOk, IfErr, OnErr}
 use Rattle.std.specs.List.{flat_map}
@@ -68,7 +68,7 @@ pub record IsStagedIn (kept : Kept) (entries : List PlacedEntry) : Type 0 where
   pub claimed : IsClaimedBeside standing kept.layout (own_sectors_in kept.entries.items entries)
   pub room : spare_of (length (catalogues_of kept.root)) (length entries) ≤ unused_count kept.layout
 
--- What an update keeps beside a disk of `sectors` sectors is consistent.
+-- The data that an update keeps beside a disk of `sectors` sectors are consistent.
 pub record IsDrafting (sectors : ℕ) (kept : Kept) (draft : Draft) : Type 0 where
   pub staged : IsStagedIn kept draft.entries.items
   pub indexed : IsIndex kept.entries.items kept.index
@@ -115,8 +115,8 @@ pub record TakesBeside (old new : Kept) (name bytes : List ℕ) (spare : ℕ) (R
   pub refusals : IfErr result Refuses
   pub early : IfErr result (λ e. e ≢ Device)
 
--- What is kept says the generation, the number of byte strings and the free sectors of a draft's
--- state, for a disk of `sectors` sectors.
+-- The generation, the number of byte strings and the free sectors of a draft's state, on a disk of
+-- `sectors` sectors, agree with what is kept.
 pub record IsDraftCounted (kept : Kept) (libraries sectors : ℕ) (d : State) : Type 0 where
   pub generation : d.generation ≡ kept.root.generation
   pub count : length d.libraries ≡ libraries

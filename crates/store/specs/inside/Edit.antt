@@ -1,4 +1,4 @@
--- What a change does to the list of entries, and which sectors it gives up.
+-- A change of the list of entries, and the sectors that it gives up.
 use Rattle.std.specs.Prelude.{◌≡◌, ◌≢◌, ℕ, ◌<◌, ◌≤◌, Bool, List, [], ◌∷◌, ◌++◌, length, set, slice_index_or, All, vec_len, vec_capacity}
 use Rattle.std.specs.Global.{Vec}
 use Rattle.std.specs.List.{remove}

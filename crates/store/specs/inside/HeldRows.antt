@@ -1,4 +1,5 @@
--- What the calls of the table of held byte strings do to it, and what a store keeps in it.
+-- The effects of the calls of the table of held byte strings, and the rows that a store keeps in
+-- it.
 use Rattle.std.specs.Prelude.{◌≡◌, ◌≢◌, ℕ, ◌+◌, ◌<◌, ◌≤◌, false, true, List}
 use Rattle.std.specs.Prelude.{length, set, insert, remove, slice_index_or, All, Contains}
 use Rattle.roots.specs.Entry.{EntryHasSpelling}

@@ -1,4 +1,4 @@
--- What a store keeps beside its disk, whatever the disk does.
+-- The data that a store keeps beside its disk, whatever the disk does.
 use Rattle.std.specs.Prelude.{◌≡◌, ◌-◌, ℕ, Bool, List, ◌++◌, length, All}
 use Rattle.extents.specs.Extent.{AreDistinct}
 use Rattle.extents.specs.Used.{ClaimsJust}

@@ -22,7 +22,7 @@ order_to names name position = slice_cmp nat_cmp (name_at names position) name
 abbrev pub IsIndex : List PlacedEntry → Index → Type 0
 IsIndex entries index = IsOrderOf (entry_names entries) index.positions
 
--- each position of these names occurs once, and no name comes before the one before it
+-- each position of these names occurs once, and no name is less than the one before it
 pub record IsSortedOrder (names : List (List ℕ)) (positions : List ℕ) : Type 0 where
   pub moved : IsPermutation (range_with_len 0 (length names)) positions
   pub sorted : IsSortedBy (λ a b. is_lt (name_order names a b)) positions

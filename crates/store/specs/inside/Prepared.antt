@@ -37,15 +37,15 @@ abbrev pub IsTestedChange : Kept → StoreRefusal → Type 0
 IsTestedChange kept e = ((e ≡ Reopen) × IsTrue kept.failed)
     ⊎ ((e ≡ GenerationEnd) × IsFalse kept.failed × (kept.root.generation ≡ last_generation))
 
--- why one more byte string is refused before anything is taken: as above, or because the store has the maximum
--- number of byte strings
+-- why one more byte string is refused before anything is taken: the store has to be opened again, it has the
+-- maximum number of byte strings, or there is no next generation
 abbrev pub IsTestedNew : Kept → StoreRefusal → Type 0
 IsTestedNew kept e = ((e ≡ Reopen) × IsTrue kept.failed)
     ⊎ ((e ≡ TooMany) × IsFalse kept.failed × (most_libraries ≤ length kept.entries.items))
     ⊎ ((e ≡ GenerationEnd) × IsFalse kept.failed × (length kept.entries.items < most_libraries) × (kept.root.generation ≡ last_generation))
 
--- What the change stages is claimed in the layout, beside what was claimed before. The next root lists the
--- entries that the change leaves, and then all other sectors of the list before are given up.
+-- The staged sectors are claimed in the layout, beside those that were claimed before. The next root lists the
+-- new list, and the sectors that only the old list used are given up then.
 pub record IsPrepared (root : Root) (entries : List PlacedEntry) (held : List HeldRow) (layout : List Bool) (prepared : Prepared) : Type 0 where
   pub before : List Bool
   pub kept : IsKept root entries held before
@@ -81,7 +81,8 @@ pub record IsMade (old new : Kept) (prepared : Prepared) : Type 0 where
   pub root : new.root ≡ prepared.change.root
   pub entries : new.entries.items ≡ edited prepared.edit old.entries.items
 
--- What preparing a change does, with these refusals. If it refuses, everything stays as it was.
+-- The effect of preparing a change, with refusals that `Refuses` allows. If preparing is refused, everything
+-- stays as it was.
 pub record Prepares (old new : Kept) (Refuses : StoreRefusal → Type 0) (result : Result Prepared StoreRefusal) : Type 0 where
   pub same : ShowsSame old new
   pub ready : IfOk result (IsReady old.root.sectors new)

@@ -1,4 +1,4 @@
--- What each part of the reading of a disk does to the disk, and how it may refuse.
+-- The effect of each step of reading a disk, and the refusals of each step.
 use Rattle.std.specs.Prelude.{◌≡◌, ◌⊎◌, List, length}
 use Rattle.sector_disk.specs.Disk.{Sector, sector, DiskFacts, Mixture, LeavesOnly, MayAddSync}
 use Rattle.roots.specs.declared.root.Root.{Root}

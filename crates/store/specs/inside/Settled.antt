@@ -1,4 +1,4 @@
--- What the commit of a draft's list leaves of the list before it.
+-- The old list after the commit of a draft's list: which of its sectors stay in use.
 use Rattle.std.specs.Prelude.{◌≡◌, ◌↔◌, ℕ, ◌+◌, ◌≤◌, Bool, List, [], ◌++◌, length}
 use Rattle.roots.specs.declared.root.Root.{Root}
 use Rattle.store.specs.declared.placed_entry.PlacedEntry.{PlacedEntry}
@@ -25,8 +25,8 @@ pub record CanSettle (root : Root) (standing drafted : List PlacedEntry) (held :
   pub list : IsDraftList standing drafted
   pub claimed : AreClaimedOnce layout (own_sectors_in drafted standing ++ catalogues_of root)
 
--- The sectors that the list before had beside the draft's are unused now, except those that
--- somebody holds: only their holders use these.
+-- The sectors that the old list has beside the draft's are unused now, except those that somebody
+-- holds: only their holders use them.
 pub record IsSettledIn (root : Root) (standing drafted : List PlacedEntry) (held left : List HeldRow) (old new : List Bool) : Type 0 where
   pub freed : List ℕ
   pub parts : (k : ℕ) → occurs k (lone_sectors left) + occurs k freed ≡ occurs k (lone_sectors held) + occurs k (own_sectors_in drafted standing)

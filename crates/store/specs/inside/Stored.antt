@@ -22,7 +22,7 @@ use Rattle.store.specs.inside.NameIndex.{IsIndex}
 abbrev pub opened : {D : Type 0} → D → Kept → Opened D
 opened disk kept = record { disk = disk; root = kept.root; entries = kept.entries.items; held = kept.held; failed = kept.failed }
 
--- what a store keeps beside a disk of `sectors` sectors is consistent
+-- the data that a store keeps beside a disk of `sectors` sectors are consistent
 abbrev pub IsStored : ℕ → Kept → Type 0
 IsStored sectors kept = IsKept kept.root kept.entries.items kept.held kept.layout
     × IsIndex kept.entries.items kept.index
@@ -45,8 +45,8 @@ pub record ShowsSame (old new : Kept) : Type 0 where
   pub held : new.held ≡ old.held
   pub failed : new.failed ≡ old.failed
 
--- What is kept says the generation, the number of libraries, the free sectors and the longest runs
--- of the state.
+-- The generation, the number of libraries, the free sectors and the longest runs of the state agree
+-- with what is kept.
 pub record IsCounted (root : Root) (entries : List PlacedEntry) (held : List HeldRow) (layout : List Bool) (s : State) : Type 0 where
   pub generation : s.generation ≡ root.generation
   pub count : length s.libraries ≡ length entries
