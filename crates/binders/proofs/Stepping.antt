@@ -63,7 +63,7 @@ module _ {D : Type 0} (facts : D → DiskFacts) (old new : Opened D) (slots : Li
         not_none : ◌≡◌ {A = Option ℕ} (Some slot) None → ⊥
         not_none is = cc
 
-  -- It is refused as the registry refuses it.
+  -- The begin is refused as the registry refuses it.
   pub refused_in : (e : Refusal) → IsFalse old.failed → (slot : ℕ) → lowest_free slots ≡ Some slot → Begins facts old new program base (Err e)
       → BeginsIn facts (with_slots old slots) (with_slots new slots) program base (Err e)
   refused_in e usable slot lowest begins = record {
@@ -171,7 +171,7 @@ module _ {D : Type 0} (facts : D → DiskFacts) (old : Opened D) (slots : List (
       moved : (flights : List (Option Flight)) → AreOn facts before flights → AreOn facts (with_slots new slots) flights
       moved flights on = are_on_moved facts old new slots flights advances.others on
 
-      -- the flight that it is on is bounded
+      -- the flight of the binder is bounded
       bounded_in : (flights : List (Option Flight)) (flight : Flight) → AreOn facts before flights → get_or flights slot None ≡ Some flight → IsBounded flight
       bounded_in flights flight on its = advances.bounds flight (binder_on facts old slots flights on slot flight its b there)
 
@@ -248,7 +248,8 @@ module _ {D : Type 0} (facts : D → DiskFacts) (old : Opened D) (slots : List (
       pub left_held : IsHeld mid slots → IsHeld new (set slots slot None)
       left_held held sector = omega (arith, held sector, held_less sector, ends.let_go.holders sector, its_times sector)
 
-      -- the holders become fewer by as many as the binder was
+      -- the number of holders of a byte string decreases by the number of times that this binder
+      -- holds it
       pub left_holders : IsHeld mid slots → (sector : ℕ) → holders_of new.held sector + held_by slots sector ≡ holders_of mid.held sector + held_by (set slots slot None) sector
       left_holders held sector = omega (arith, held sector, held_less sector, ends.let_go.holders sector, its_times sector)
 

@@ -112,17 +112,17 @@ module _ {first old new : DiskFacts} {catalogues : List ℕ} {libraries done : �
           (subst (SpellsCatalogue (sector first.now (get_or catalogues done 0))) (sym here_is)
           (subst (λ c. SpellsCatalogue c catalogue) (here honest) spells))
 
-  -- what is read if the catalogues list `sectors`
+  -- The next read, if the catalogues list `sectors`.
   module _ (honest : IsTrue first.honest) (sectors : List ℕ) (size : length sectors ≡ libraries) (catalogued : AreCatalogued first.now catalogues sectors) where
     pub found_is : found ≡ Some (catalogue_of_sectors (catalogue_part done sectors))
     found_is = (is (catalogue_of_sectors (catalogue_part done sectors))).1
         (subst (λ c. SpellsCatalogue c (catalogue_of_sectors (catalogue_part done sectors))) (sym (here honest)) (catalogued.each done lt))
 
-    -- the sector can't encode no catalogue
+    -- then the sector encodes a catalogue
     pub no_catalogue_there : found ≡ None → ⊥
     no_catalogue_there was = let e = found_is in absurd cc
 
-    -- the catalogue can't have another count than it must have
+    -- then the catalogue has the count that it must have
     pub wrong_count_there : (catalogue : Catalogue) → found ≡ Some catalogue → length (catalogued_sectors catalogue) ≢ min (libraries - length listed) 64 → ⊥
     wrong_count_there catalogue was other = other (
         ap (λ (c : Catalogue). length (catalogued_sectors c)) (let e = found_is in let e' : catalogue ≡ catalogue_of_sectors (catalogue_part done sectors) = cc in e')

@@ -33,7 +33,7 @@ part_fits catalogues sectors some can = record {
   distinct = distinct-take 64 sectors can.distinct;
 }
 
--- one catalogue less can list what comes after the first part
+-- one catalogue fewer can list what comes after the first part
 pub rest_fits : (catalogues fewer : ℕ) (sectors : List ℕ) → catalogues ≡ fewer + 1 → CanBeCatalogued catalogues sectors → CanBeCatalogued fewer (drop 64 sectors)
 rest_fits catalogues fewer sectors one_less can = record {
   enough = omega (arith, one_less, can.enough, length-drop 64 sectors);
@@ -42,7 +42,7 @@ rest_fits catalogues fewer sectors one_less can = record {
   distinct = distinct-drop 64 sectors can.distinct;
 }
 
--- The catalogues are at the given sectors.
+-- The sectors of the catalogues are the given ones.
 pub places-catalogue_singles : (catalogues sectors : List ℕ) → single_places (catalogue_singles catalogues sectors) ≡ catalogues
 places-catalogue_singles [] sectors = refl
 places-catalogue_singles (at ∷ catalogues) sectors = ap (λ l. at ∷ l) (places-catalogue_singles catalogues (drop 64 sectors))

@@ -265,7 +265,7 @@ module _ {sectors : ℕ} {kept : Kept} {draft : Draft} (is : IsDrafting sectors 
     by_now : StandsBy Two now kept.root standing s
     by_now = at.stands.stands now holds
 
-    -- Sectors in which the current state and what the draft wrote are as they are now.
+    -- Sectors that hold the current state, and in which what the draft wrote is as it is now.
     module _ {m : List Sector} (by : StandsBy Two m kept.root standing s) (written : AreWritten now (staged (drafting disk kept draft)) m) where
       wrote : (i : ℕ) (e : PlacedEntry) → i < length entries → lists standing (get_or entries i e) ≡ false
           → (k : ℕ) → Contains (sectors_of (get_or entries i e)) k → sector m k ≡ sector now k

@@ -30,7 +30,7 @@ fresh : (x : PlacedEntry) (entries : List PlacedEntry) → AreDistinct (entry_se
 fresh x entries once p same = list_any_none (λ (other : PlacedEntry). nat_eq other.at p.at) entries
     (λ i d lt. ne_eqb (get_or entries i d).at p.at (λ is. first_apart x entries once i d lt (same ∙ sym is)))
 
--- What is counted of sectors, which is 0 if there are none.
+-- A count of sectors, which is 0 if there are none.
 module _ (h : List ℕ → ℕ) (none : h [] ≡ 0) where
   abbrev all_of : PlacedEntry → ℕ
   all_of p = h (sectors_of p)
@@ -49,7 +49,7 @@ module _ (h : List ℕ → ℕ) (none : h [] ≡ 0) where
   beside_unlisted : (others : List PlacedEntry) (p : PlacedEntry) → lists others p ≡ false → beside others p ≡ all_of p
   beside_unlisted others p is = ap (λ b. h (if b then [] else sectors_of p)) is
 
-  -- one more entry in the list takes the entries in its sector from what is counted
+  -- with one more entry in the list, the count is less by the entries in that entry's sector
   one_less : (x : PlacedEntry) (xs ys : List PlacedEntry) → AreDistinct (entry_sectors (x ∷ xs)) → sum_by (beside xs) ys ≡ sum_by (beside (x ∷ xs)) ys + sum_by (there x) ys
   one_less x xs [] once = refl
   one_less x xs (y ∷ ys) once =

@@ -46,6 +46,6 @@ same_draft u = record { entries = refl; preloads = refl; touched = refl }
 
 -- What is known of a draft's state.
 module _ {D : Type 0} (facts : D → DiskFacts) (u : Drafted D) (holds : IsTrue (facts u.store.disk).honest → HoldsNow (facts u.store.disk)) {s d : State} (at : IsDraftedAt facts u s d) where
-  -- It has the current generation.
+  -- The draft's state has the current generation.
   pub generation_drafted : d.generation ≡ u.store.root.generation
   generation_drafted = ap (λ t. t.generation) at.is ∙ ap (λ t. t.generation) (at.stands.stands (facts u.store.disk).now (holds at.stands.honest)).is

@@ -57,7 +57,7 @@ module _ {kept : Kept} {entries : List PlacedEntry} (staged : IsStagedIn kept en
     );
   }
 
-  -- The sectors that it has beside the current list are claimed.
+  -- The sectors that the entry has beside the current list are claimed.
   pub left_held : AreClaimedOnce kept.layout (own_in kept.entries.items placed)
   left_held = restaged_held leaving
 

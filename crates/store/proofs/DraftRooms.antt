@@ -54,7 +54,7 @@ claimed_beside old new used more size before after apart inside = record {
   inside = inside;
 }
 
--- A count of the sectors that entries have beside a list's is the sum of the counts of the entries.
+-- The count of the sectors that entries have beside a list is the sum over the entries.
 module _ (h : List ℕ → ℕ) (none : h [] ≡ 0) (joined : (a b : List ℕ) → h (a ++ b) ≡ h a + h b) (others : List PlacedEntry) where
   own_sum : (entries : List PlacedEntry) → h (own_sectors_in others entries) ≡ sum_by (λ p. h (own_in others p)) entries
   own_sum [] = none
@@ -167,7 +167,7 @@ module _ {kept : Kept} {entries : List PlacedEntry} {mid : List Bool} {more gone
     new_size : length new ≡ kept.root.sectors
     new_size = released.size ∙ is.claimed.size ∙ size
 
-    -- The room that there is then.
+    -- The number of sectors that are unused then.
     pub restaged_free : unused_count new + length more ≡ unused_count kept.layout + length gone
     restaged_free = omega (
       arith,

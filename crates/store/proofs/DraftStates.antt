@@ -81,7 +81,7 @@ module _ {D : Type 0} (facts : D → DiskFacts) (old new : Drafted D) {s d : Sta
         ∙ libraries_with_is now name bytes old.entries place put lt (λ k e before same. own k place e before lt (same ∙ sym (named e))) named its)
         (preloads_still ∙ sym (names_at_with now old.entries place put old.preloads (λ e. named e ∙ sym its_name)))
 
-  -- the draft has one byte string less
+  -- the draft has one byte string fewer
   pub less_at : (name : List ℕ) (gone : ℕ) → gone < length old.entries → ((e : PlacedEntry) → name_of (get_or old.entries gone e).entry ≡ name) → HaveOwnNames old.entries
       → All (λ position. position ≢ gone) old.preloads → new.entries ≡ remove old.entries gone → new.preloads ≡ map (closed_up gone) old.preloads
       → IsDraftedAt facts new s (drafted d (without name d))

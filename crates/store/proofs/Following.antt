@@ -1,4 +1,4 @@
--- The root that follows another: it can be encoded, what is kept with it, and what it makes of the
+-- The root that follows another: its encoding, what is kept with it, and what it makes of the
 -- sectors.
 use Rattle.std.proofs.Common.{◌≡◌, ℕ, ◌+◌, ◌-◌, Bool, List, length, get_or, set, map, All, sym, ap, subst, ◌∙◌, arith}
 use Rattle.std.specs.List.{flat_map}

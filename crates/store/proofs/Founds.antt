@@ -48,12 +48,12 @@ module _ (m : List Sector) (root : Root) (listed : List ℕ) (are : AreListed m 
   entries_damaged size (Ok entries) unspelt = tt
   entries_damaged size (Err e) unspelt = λ is. not_spelt m root size listed are (unspelt is)
 
--- on any disk, nothing is found
+-- a refusal, on any disk
 pub none_found : {old new : DiskFacts} (calls : ℕ) (e : StoreRefusal) → AreCallsAtMost (calls + most_catalogues + most_libraries) old new
     → (e ≡ Device → old.failures < new.failures) → IsFoundAfter calls old new (Err e)
 none_found calls e most device = record { calls = most; all_calls = tt; kept = tt; device = device }
 
--- On any disk, what is kept of a root and its entries is what was found.
+-- What was found on any disk, by what is kept of a root and its entries.
 module _ (root : Root) (entries : List PlacedEntry) where
   pub found_after : {old new : DiskFacts} (P : Type 0) (r : Result Found StoreRefusal)
       → IfOk r (λ found. IsFound found.root found.entries.items found.sectors.items found.index found.layout)
@@ -91,7 +91,7 @@ module _ (root : Root) (entries : List PlacedEntry) where
         whole = ap (λ (r : Root). r.sectors) same.0 ∙ size
     found_intact current (Err e) kept same = tt
 
-    -- the sectors are intact by no entries
+    -- a refusal: if it is Damaged, the sectors are intact by no entries
     pub found_refused : (r : Result Found StoreRefusal)
         → IfErr r (λ e. (e ≡ OutOfMemory) ⊎ ((e ≡ Damaged) × (HaveOwnNames entries → UsesApart root.sectors root entries → HasRoom root.sectors root.list entries → ⊥)))
         → IfErr r (RefusesEntries m root)

@@ -227,7 +227,7 @@ pub holders_left : {old new : List HeldRow} {at : ℕ} → IsLeft old new at →
 holders_left left sector =
     omega (arith, ap (λ l. holders_of l sector) left.is, sum_set (holders_at sector) left.at (unlisted left.hold))
 
--- The number of holders is one less after a holder releases a byte string,
+-- The number of holders is one less after a holder releases a byte string.
 pub holders_less : {old new : List HeldRow} {at : ℕ} → IsHeldLess old new at → (sector : ℕ) → holders_of old sector ≡ holders_of new sector + (if at == sector then 1 else 0)
 holders_less less sector =
     let row = less.hold in
@@ -240,7 +240,7 @@ holders_less less sector =
       ap {B = ℕ} (λ k. if k == sector then 1 else 0) less.at.its,
     )
 
--- also if it is the last holder.
+-- The same, if it was the last holder.
 pub holders_gone : {entries : List PlacedEntry} {old new : List HeldRow} {at : ℕ} {hold : HeldRow} → AreHeldRows entries old
     → IsLetGo old new at hold → (sector : ℕ) → holders_of old sector ≡ holders_of new sector + (if at == sector then 1 else 0)
 holders_gone {hold = hold} are gone sector =
@@ -286,7 +286,7 @@ by_one {held = held} own first second =
     let is : first.place ≡ second.place = same_place held first.place second.place no_row own first.inside second.inside same in
     sym (first.is no_row) ∙ ap (λ k. (get_or held k no_row).placed) is ∙ second.is no_row
 
--- It is still in a row after another one is held.
+-- The entry of a held byte string stays in a row when another one is held.
 pub by_once : {old new : List HeldRow} {sector : ℕ} {p placed : PlacedEntry} → IsHeldOnce old new placed → IsHeldBy old sector p → IsHeldBy new sector p
 by_once {old = old} {sector = sector} {p = p} {placed = placed} once by =
     let row = first_row placed in
@@ -306,7 +306,7 @@ by_once {old = old} {sector = sector} {p = p} {placed = placed} once by =
     })
     (cases_lt by.place once.place))
 
--- It is still in a row after the row of one is replaced.
+-- The entry of a held byte string stays in a row when a row is replaced.
 by_set : {old : List HeldRow} {sector at place : ℕ} {p : PlacedEntry} {hold : HeldRow} → IsAtPlace old at place hold → (row : HeldRow)
     → row.placed ≡ hold.placed → IsHeldBy old sector p → IsHeldBy (set old place row) sector p
 by_set {old = old} {place = place} at row same by =
@@ -326,7 +326,7 @@ by_left {sector = sector} {p = p} left by = subst (λ l. IsHeldBy l sector p) (s
 pub by_less : {old new : List HeldRow} {sector at : ℕ} {p : PlacedEntry} → IsHeldLess old new at → IsHeldBy old sector p → IsHeldBy new sector p
 by_less {sector = sector} {p = p} less by = subst (λ l. IsHeldBy l sector p) (sym less.is) (by_set less.at (with_holders less.holders less.hold) refl by)
 
--- It is still in a row after the row of another one is gone.
+-- The entry of a held byte string stays in a row when the row of another one goes.
 pub by_gone_other : {old new : List HeldRow} {sector at : ℕ} {p : PlacedEntry} {hold : HeldRow} → IsLetGo old new at hold → sector ≢ at → IsHeldBy old sector p → IsHeldBy new sector p
 by_gone_other {old = old} {sector = sector} {at = at} {p = p} {hold = hold} gone apart by =
     let entry = λ (h : HeldRow). h.placed in

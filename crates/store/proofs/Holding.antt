@@ -39,7 +39,7 @@ use Rattle.store.proofs.HeldRows.{gone_listed_length, gone_listed_occurs, gone_o
 use Rattle.store.proofs.HeldRows.{holders_less, holders_more, holders_once, holders_unheld, lone_less, lone_more, lone_once}
 use Rattle.store.proofs.UsedAlone.{no_entry}
 
--- two equal results have the same refusal
+-- two equal Err results have the same refusal
 pub err_is : {T E : Type 0} {e other : E} → ◌≡◌ {A = Result T E} (Err e) (Err other) → e ≡ other
 err_is {e = e} is = subst (λ r. IfErr r (λ y. e ≡ y)) is refl
 
@@ -76,7 +76,7 @@ module _ {root : Root} {entries : List PlacedEntry} {held : List HeldRow} {layou
     claimed = subst (λ l. AreClaimed root.sectors layout (used root entries) l) (sym lone) kept.claimed;
   }
 
-  -- Of the sectors that only holders use, some are no longer in use. These can be given back, and then everything is
+  -- Some of the sectors that only holders use are no longer in use. They can be given back, and then everything is
   -- kept.
   module _ (new : List HeldRow) (freed : List ℕ) (parts : (k : ℕ) → occurs k (lone_sectors new) + occurs k freed ≡ occurs k (lone_sectors held)) where
     abbrev all : List ℕ

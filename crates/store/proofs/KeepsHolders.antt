@@ -77,7 +77,7 @@ module _ {root : Root} {entries : List PlacedEntry} {held : List HeldRow} {layou
       none = λ none. none;
     }
 
-    -- It does so too if the state no longer lists some of what is held.
+    -- A change of other sectors does so too if the state no longer lists some of what is held.
     pub keeps_rows : {new : List HeldRow} → KeepsRows held new → KeepsHolders before after held new
     keeps_rows rows = record {
       holders = rows.holders;
@@ -86,7 +86,7 @@ module _ {root : Root} {entries : List PlacedEntry} {held : List HeldRow} {layou
       none = rows.none;
     }
 
-    -- It does so too if the state no longer lists one byte string.
+    -- The same, if the state no longer lists one byte string.
     pub keeps_left : {new : List HeldRow} → {at : ℕ} → IsLeft held new at → KeepsHolders before after held new
     keeps_left {new = new} left = record {
       holders = holders_left left;

@@ -1,4 +1,4 @@
--- Where a change puts things, by the sectors in use.
+-- The sectors into which a change puts things, by the sectors in use.
 use Rattle.std.proofs.Common.{◌≡◌, ⊎_elim, inl, inr, ℕ, ◌<◌, Bool, true, List, [], ◌∷◌, ◌++◌, length, All, sym, subst, ◌∙◌, arith}
 use Rattle.std.proofs.lemmas.List.FromFn.{length-map-range_with_len}
 use Rattle.extents.specs.declared.extent.Extent.{Extent}
@@ -24,7 +24,7 @@ back same = record { size = sym same.size; each = λ s. ((same.each s).1, (same.
 lowest_same : (a b : List Bool) (at : ℕ) → ClaimsSame a b → IsLowestUnused a at → IsLowestUnused b at
 lowest_same a b at same lowest = (unused-same a b at same lowest.0, λ lower lt free. lowest.1 lower lt (unused-same b a lower (back same) free))
 
--- They are still the same once that sector is claimed in both.
+-- Two layouts are still the same once this sector is claimed in both.
 same_more : (a b : List Bool) (at : ℕ) → ClaimsSame a b → IsUnused a at → ClaimsSame (with_flag true (one_sector at) a) (with_flag true (one_sector at) b)
 same_more a b at same free =
     let lt : at < length a = (unused-inside a at free).1 in

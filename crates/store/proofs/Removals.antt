@@ -1,4 +1,4 @@
--- A store with one byte string less.
+-- A store with one byte string fewer.
 use Rattle.std.proofs.Common.{◌≡◌, ◌≢◌, ℕ, zero, suc, ◌+◌, ◌-◌, ◌^◌, ◌<◌, ◌≤◌, Bool, List, [], ◌∷◌, ◌++◌, length, get_or, map, All, refl, sym, ap, subst, ◌∙◌, arith}
 use Rattle.std.specs.Prelude.{bytes_eq}
 use Rattle.std.specs.List.{flat_map, remove}
@@ -113,7 +113,7 @@ module _ {root : Root} {entries : List PlacedEntry} {held : List HeldRow} {layou
   listed : catalogues_of next ≡ catalogues
   listed = ap catalogues_of removal.is_next ∙ listed_sectors-root_over_catalogues (root.generation + 1) root.sectors (length entries - 1) catalogues (map (closed_up gone) (listed_preloads root))
 
-  -- What was used and the new catalogues are still used, or go.
+  -- The sectors used before, and those of the new catalogues, are still used, or go.
   pub removal_moved : IsMoved (used root entries) catalogues (used next left) (sectors_of old ++ catalogues_of root)
   removal_moved = record {
     parts = λ k. omega (

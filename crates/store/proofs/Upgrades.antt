@@ -1,4 +1,4 @@
--- What an upgrade makes of what a look found.
+-- The result of an upgrade, by what a look found.
 use Rattle.std.proofs.Common.{◌≡◌, ◌⊎◌, inl, inr, ⊎_elim, ◌+◌, List, Option, Some, None, Result, Ok, Err, IfOk, length, ap, sym, subst, ◌∙◌, arith}
 use Rattle.sector_disk.specs.Disk.{Sector, DiskFacts, HoldsNow, Mixture, LeavesOnly, AreCallsExactly}
 use Rattle.sector_disk.proofs.Moments.{goes_on, weaken, exactly_sum}
@@ -20,14 +20,14 @@ use Rattle.store.specs.Taken.{AreTaken, IsRelisted}
 use Rattle.store.specs.Upgraded.{upgraded, IsRelistedFrom}
 use Rattle.states.specs.State.{State}
 
--- An upgrade answers what the commit answers.
+-- An answer of the commit is an answer of the upgrade.
 pub as_committed : (first : Option StoreRefusal) (answer : Result (Unit {0}) StoreRefusal) → IsExactAnswer first answer → IsUpgradeAnswer first answer
 as_committed None (Ok done) exact = tt
 as_committed None (Err refusal) exact = inl exact
 as_committed (Some first) (Ok done) exact = exact
 as_committed (Some first) (Err refusal) exact = inl exact
 
--- An upgrade answers what a look refused.
+-- A refusal of the look, by the device or for lack of memory, is an answer of the upgrade.
 pub as_looked : (first : Option StoreRefusal) (refusal : StoreRefusal) → (refusal ≡ Device) ⊎ (refusal ≡ OutOfMemory) → IsUpgradeAnswer first (Err refusal)
 as_looked None refusal which = which
 as_looked (Some first) refusal which = inr which
@@ -62,7 +62,7 @@ module _ {D : Type 0} (facts : D → DiskFacts) (look : Look D) (store : Opened 
   pub sectors_seen : (s : State) → IsOldAt facts store s → HoldsNow (facts store.disk) → store.root.sectors ≡ (facts store.disk).sectors
   sectors_seen s at holds = (at.stands (facts store.disk).now holds).intact.size ∙ holds.size
 
-  -- What a stop could leave before a commit, or leaves during it
+  -- what a stop could leave before the commit, or may leave during it
   pub then_committed : (old new : DiskFacts) (s : State) → look ≡ Old store → LeavesOnly old (facts (seen look).disk) (Mixture old)
       → LeavesOnly (facts store.disk) new (λ m. StandsOld m s ⊎ Stands m (upgraded s))
       → LeavesOnly old new (λ m. Mixture old m ⊎ StandsOld m s ⊎ Stands m (upgraded s))

@@ -47,7 +47,7 @@ pub record IsLeft (old new : List HeldRow) (sector : ℕ) : Type 0 where
   pub at : IsAtPlace old sector place hold
   pub is : new ≡ set old place (unlisted hold)
 
--- the byte string has one holder less, and still has at least one
+-- the byte string has one holder fewer, and still has at least one
 pub record IsHeldLess (old new : List HeldRow) (sector : ℕ) : Type 0 where
   pub place : ℕ
   pub hold : HeldRow

@@ -34,7 +34,7 @@ listed_are g c =
     ∙ ap (edited_by (λ (p : PlacedEntry). p.at) edit) (ready g c).listed
     ∙ edited_map (λ (p : PlacedEntry). p.at) edit c.args.self.now.entries.items
 
--- what is staged, and then the root, follow the current state
+-- the staged sectors, and then the root, make the next state of the current one
 following : (g : given.Over) (c : After-list g) (listed : List ℕ) → listed ≡ c.list.new.sectors.items → (written : List PlacedEntry) (s s' : State)
     → Makes (g.D.Disk.facts c.args.disk.now).now written c.args.self.now c.args.prepared.now c.args.bytes.now s s'
     → IsFollowed Two c.args.self.now.root c.args.self.now.entries.items s (g.D.Disk.facts c.args.disk.now).now written c.args.prepared.now.change
