@@ -59,9 +59,9 @@ impl<D: Disk> Binders<D> {
         self.registry.has_failed()
     }
 
-    /// Does nothing. Its clauses state that on any disk, after any event, the table of held byte
-    /// strings is sound, and that nothing is held if there is no binder and nobody else holds
-    /// anything.
+    /// Does nothing. One clause states that on any disk, after any event, the table of held byte
+    /// strings is sound. The other states that nothing is held if there is no binder and nobody
+    /// else holds anything.
     pub fn holds_are_sound(&self)
         ensures holds { AreHolds self.now.registry }
         ensures empty { HoldAlone self.now → All (λ slot. slot ≡ None) self.now.slots

@@ -43,8 +43,8 @@ renewed s = record { generation = changes_by (requests_for s); libraries = s.lib
 abbrev pub LeavesAllOrNothing : {D : Type 0} → (D → DiskFacts) → State → D → D → Type 0
 LeavesAllOrNothing facts s disk left = LeavesOnly (facts disk) (facts left) (λ m. Mixture (facts disk) m ⊎ (Stands m empty_state ⊎ Stands m (renewed s)))
 
--- A line or the commit may be refused with this refusal on a disk of `sectors` sectors: with S7 only if they
--- are too few for the state; and with S8, S1, S2 and S11.
+-- A line or the commit may be refused with this refusal on a disk of `sectors` sectors. S7 comes only if they
+-- are too few for the state; S8, S1, S2 and S11 may come too.
 abbrev pub IsHindrance : State → (sectors : ℕ) → Refusal → Type 0
 IsHindrance s sectors Full = sectors < sectors_for s
 IsHindrance s sectors Fragmented = Unit {0}

@@ -56,8 +56,8 @@ pub fn dump_updates<D: Disk, O: Write>()
     ensures end { (s : State) → IsStateOfBytes s
         → updated empty_state (requests_for s) ≡ renewed s }
 
-    // On a disk that held an empty registry, an update that reads the text ends with status 0, and
-    // the disk holds the same libraries, bytes, order and preloads; or the update was hindered.
+    // On a disk that held an empty registry, an update that reads the text ends with status 0 or is
+    // hindered. In the first case the disk holds the same libraries, bytes, order and preloads.
     ensures program { (s : State) → IsStateOfBytes s → (disk left : D) (io : Streams)
         (ends : Status) → IsTrue (D.facts disk).honest → Stands (D.facts disk).now empty_state
         → io.unread ≡ Some (script_text Update s)

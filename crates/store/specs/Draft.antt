@@ -97,8 +97,8 @@ abbrev pub committed : Touched → (s d : State) → State
 committed Nothing s d = s
 committed touched s d = next s d.libraries d.preloads
 
--- the number of calls of a commit: 0 if nothing was changed; 2, for the root and a sync, if only preloads were
--- set; otherwise also one for each catalogue and one for a sync
+-- the number of calls of a commit: 0 if nothing was changed, 2 if only preloads were set (the root and a sync),
+-- and otherwise one more for each catalogue and for a sync
 abbrev pub commit_calls : Touched → ℕ → ℕ
 commit_calls Nothing libraries = 0
 commit_calls Preloads libraries = 2

@@ -67,9 +67,9 @@ impl Edit {
         }
     }
 
-    /// Frees the sectors that the state no longer uses once the change is made: those of the old
-    /// catalogues, and those of the replaced or removed entry, unless somebody holds its byte
-    /// string.
+    /// Frees the sectors that the state no longer uses once the change is made. These are the
+    /// sectors of the old catalogues, and those of the replaced or removed entry, unless somebody
+    /// holds its byte string.
     pub(crate) fn settle(
         &self,
         root: &Root,

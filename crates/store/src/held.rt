@@ -59,8 +59,8 @@ impl<D: Disk> Store<D> {
 
     /// Returns the held byte string. Reads each of its sectors once, and writes nothing. Refuses
     /// with S2, S11 or S1. Refuses with Damaged, without a call of the disk, if nobody holds the
-    /// byte string in this store: the handle is another store's, or from before the same disk was
-    /// opened again. A handle is only the sector of an entry: if somebody holds, in this store,
+    /// byte string in this store. Then the handle is another store's, or from before the same disk
+    /// was opened again. A handle is only the sector of an entry: if somebody holds, in this store,
     /// another byte string whose entry is in that sector, that one is read.
     pub fn read_held(&mut self, alloc: Global, held: &Held) -> Result<Vec<u8>, StoreRefusal>
         ensures { ReadsHeld D.facts self.old self.new held.now result }

@@ -16,8 +16,8 @@ use Rattle.store.specs.inside.HeldRows.{AreHeldRows}
 abbrev pub HaveSpellings : List PlacedEntry → Type 0
 HaveSpellings entries = All (λ placed. EntryHasSpelling placed.entry) entries
 
--- In the layout of a disk of `sectors` sectors, exactly the sectors in use are claimed: those that
--- the state uses and those that only holders use, each of them once.
+-- In the layout of a disk of `sectors` sectors, exactly the sectors in use are claimed, each once:
+-- those that the state uses and those that only holders use.
 pub record AreClaimed (sectors : ℕ) (layout : List Bool) (used lone : List ℕ) : Type 0 where
   pub inside : All (IsUsable sectors) lone
   pub once : AreDistinct (used ++ lone)

@@ -37,8 +37,8 @@ abbrev pub IsTestedChange : Kept → StoreRefusal → Type 0
 IsTestedChange kept e = ((e ≡ Reopen) × IsTrue kept.failed)
     ⊎ ((e ≡ GenerationEnd) × IsFalse kept.failed × (kept.root.generation ≡ last_generation))
 
--- why one more byte string is refused before anything is taken: the store has to be opened again, it has the
--- maximum number of byte strings, or there is no next generation
+-- why one more byte string is refused before anything is taken: the store has to be opened again, has 2,048
+-- byte strings, or has no next generation
 abbrev pub IsTestedNew : Kept → StoreRefusal → Type 0
 IsTestedNew kept e = ((e ≡ Reopen) × IsTrue kept.failed)
     ⊎ ((e ≡ TooMany) × IsFalse kept.failed × (most_libraries ≤ length kept.entries.items))
