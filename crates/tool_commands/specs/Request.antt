@@ -50,8 +50,8 @@ pub record IsAnswered {D : Type 0} (facts : D → DiskFacts) (disk : D) (request
   pub opened : OpensByEntries facts disk (Ok old)
   pub new : Opened D
   pub step : DiskStep facts old request answer new
-  -- a stop at any moment leaves what it could leave before, the byte strings that an honest disk
-  -- held, those after the command, or those of the change that the command had begun
+  -- a stop at any moment leaves what it could leave before, the byte strings that an honest disk held, those
+  -- after the command, or, if a call failed within an accepted command, those that it would have made
   pub any_moment : IsTrue (facts disk).honest → (s : State) → sectors.Stands (facts disk).now s → (s' : State) × AppliedUntested facts old new s s' request answer
       × LeavesOnly (facts disk) (facts left) (λ m. Mixture (facts disk) m ⊎ MayLeaveBy sectors.Stands (phase_of facts old s) request answer s' m)
   -- a change that is refused wrote nothing, unless it is refused because a call failed
