@@ -70,7 +70,7 @@ planned_left steps plan text old answer status (inl (has, inl tells), unlisted, 
 planned_left steps plan text old answer status (inl (has, inr wants), unlisted, unbound) not_done no_room no_memory = absurd (no_memory wants.status)
 planned_left steps plan text old answer status (inr lacks, unlisted, unbound) not_done no_room no_memory = absurd (no_room lacks.0.status)
 
--- If the status of a change is 0, the buffer has its plan, if the request asks for a change.
+-- If the request asks for a change and the status is 0, the buffer has its plan.
 module _ (bytes : List ℕ) (request : Request) (not_listing : (s : State) (l : Listed) → registry.IsReply s request (reply.Listing l) → ⊥)
     (not_bound : (s : State) (image : MemoryImage) → registry.IsReply s request (reply.Bound image) → ⊥) (plan text : List ℕ) (answer : Answer)
     (status : ℕ) (zero : status ≡ 0) where
@@ -157,7 +157,7 @@ pub upgrade_given : (bytes plan text : List ℕ) (answer : Answer) (status : ℕ
 upgrade_given bytes plan text answer status zero (inl made) = record { state = made.0; steps = made.1; upgraded = made.2; plan = planned_done made.1 plan text answer status zero made.3 }
 upgrade_given bytes plan text answer status zero (inr refused) = absurd (turned_not_done refused.0 text answer status zero refused.2)
 
--- there is no refusal
+-- an option that a function maps to `None` is `None`
 pub none_mapped : {A B : Type 0} (f : A → B) (o : Option A) → option_map f o ≡ None → o ≡ None
 none_mapped f None e = refl
 none_mapped f (Some x) e = cc

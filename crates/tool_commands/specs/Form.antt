@@ -34,7 +34,7 @@ pub record CommandLine : Type 0 where
   pub disk : List ℕ
   pub deed : Deed
 
--- the arguments are only DISK
+-- the command line, if the arguments are only DISK
 abbrev pub of_one : Deed → List (List ℕ) → Option CommandLine
 of_one deed (disk ∷ []) = Some (record { disk = disk; deed = deed })
 of_one deed words = None
@@ -43,18 +43,18 @@ of_one deed words = None
 abbrev pub purpose_of : List ℕ → Option Purpose
 purpose_of word = if bytes_eq word (codes "commit") then Some Update else None
 
--- the arguments are DISK, or DISK `commit`
+-- the command line of a dump, if the arguments are DISK, or DISK `commit`
 abbrev pub of_dump : List (List ℕ) → Option CommandLine
 of_dump (disk ∷ []) = Some (record { disk = disk; deed = tell (dump Script) })
 of_dump (disk ∷ word ∷ []) = option_map (λ purpose. record { disk = disk; deed = tell (dump purpose) }) (purpose_of word)
 of_dump words = None
 
--- the arguments are DISK and one more
+-- the command line, if the arguments are DISK and one more
 abbrev pub of_two : (List ℕ → Deed) → List (List ℕ) → Option CommandLine
 of_two deed (disk ∷ word ∷ []) = Some (record { disk = disk; deed = deed word })
 of_two deed words = None
 
--- the arguments are DISK PROGRAM BASE
+-- the command line, if the arguments are DISK PROGRAM BASE
 abbrev pub of_program : (List ℕ → ℕ → Deed) → List (List ℕ) → Option CommandLine
 of_program deed (disk ∷ program ∷ base ∷ []) = option_map (λ at. record { disk = disk; deed = deed program at }) (base_of base)
 of_program deed words = None
@@ -101,7 +101,7 @@ abbrev pub reads_input : Deed → Bool
 reads_input update = true
 reads_input deed = false
 
--- the arguments are a command line, and what it asks for is such
+-- the arguments are a command line, and `is_such` is true of what it asks for
 abbrev pub asks_for : (Deed → Bool) → Option CommandLine → Bool
 asks_for is_such (Some line) = is_such line.deed
 asks_for is_such None = false

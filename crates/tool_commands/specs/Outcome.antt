@@ -1,4 +1,4 @@
--- How the program ends by its arguments, over the file of a disk about which nothing is known (own).
+-- How the program ends, depending on its arguments, over the file of any disk (own).
 use Rattle.std.specs.Prelude.{◌≡◌, ◌≢◌, ◌⊎◌, ◌<◌, ℕ, List, Option, Some, None, Bool, true, false, length}
 use Rattle.std.specs.declared.io.ErrorKind.{ErrorKind}
 use Rattle.std.specs.declared.io.ErrorKind.TheVariants.{OutOfMemory}

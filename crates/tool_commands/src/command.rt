@@ -53,8 +53,8 @@ pub fn run_words<R: Files<File = File> + Clock, I: Read, O: Write, E: Write>(
 ) -> u8
     ensures most { result ≤ 4 }
 
-    // How the arguments end: with which status, output and messages on standard error. The status
-    // is 2 exactly if the arguments are none of the forms.
+    // How the program ends with these arguments: with which status, output and messages on standard
+    // error. The status is 2 exactly if the arguments are none of the forms.
     ensures ends { LineEnds O.contents (command_line (map (λ word. string_bytes word) words.now))
         (record {
           unread = I.remaining input.old;

@@ -20,7 +20,7 @@ plan_text reply = reply_text reply
 abbrev pub plan_texts : List Reply → List ℕ
 plan_texts replies = flat_map plan_text replies
 
--- the text of why an update is refused
+-- the text that reports why an update is refused
 abbrev pub update_refusal_text : UpdateRefusal → List ℕ
 update_refusal_text update.BadLine = line_refusal_text line.BadLine
 update_refusal_text update.CutLine = line_refusal_text line.CutLine

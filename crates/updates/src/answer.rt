@@ -44,7 +44,7 @@ pub(crate) fn put_plan<W: Write>(
     Ok(())
 }
 
-/// Puts the text of why an update is refused after the buffered text. Returns the status.
+/// Puts the text that reports why an update is refused after the buffered text. Returns the status.
 pub(crate) fn put_refusal<W: Write>(
     waiting: &mut Line,
     out: &mut W,

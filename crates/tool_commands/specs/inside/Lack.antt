@@ -37,8 +37,8 @@ abbrev pub lack_line : Library → Lack → List ℕ
 lack_line l (Found finding) = said_line (finding_text l finding)
 lack_line l OutOfMemory = memory_line
 
--- how far the libraries of a script went: all, and each is a library of its entry's name; or until
--- the script was cut
+-- how far a script went: through all libraries, and each is a library of its entry's name; or to a
+-- library at which it was cut
 abbrev pub IsGone : State → Option Cut → Type 0
 IsGone s None = All IsLibrary s.libraries
 IsGone s (Some cut) = IsCut s cut.position cut.lack
