@@ -33,8 +33,8 @@ NAME = re.compile(r'[A-Za-z_][\w]*(?:::[A-Za-z_]\w*)*')
 PATH = re.compile(r'^[\w.{},*-]+(?:/[\w.{},*-]+)+/?$')
 BRACES = re.compile(r'\{([^{}]*)\}')
 OF_THE_ROOT, IN_A_CRATE = ('crates', 'docs', 'bench', 'c', 'python', '.ci'), ('src', 'specs', 'proofs', 'data', 'must-fail')
-# The folder that a build makes, and a path that is a pattern for many.
-MADE, ANY_FILE = 'out', 'proofs/FILE'
+# The folder that a build makes, and a path of a crate that stands for many: one of its names is a word in capitals.
+MADE, PATTERN = 'out', re.compile(r'(?:src|specs|proofs|must-fail)/.*\b[A-Z_]{4,}\b')
 
 
 def replaced(text, mark, lines):
@@ -57,7 +57,7 @@ def pages():
 
 def written():
     """Returns the documents that are written by hand."""
-    found = [ROOT / 'README.md', *sorted(ROOT.glob('docs/*.md')), *sorted(ROOT.glob('crates/*/README.md'))]
+    found = [ROOT / 'README.md', ROOT / 'CONTRIBUTING.md', *sorted(ROOT.glob('docs/*.md')), *sorted(ROOT.glob('crates/*/README.md'))]
     return [path.relative_to(ROOT).as_posix() for path in found if path not in (CLAUSES, DEFINITIONS, MAP)]
 
 
@@ -98,7 +98,7 @@ def unknown_names(text, words, crate):
     text = re.sub(r'^    .*$', '', text, flags=re.M)
     for quoted in QUOTED.findall(text):
         if PATH.match(quoted) and quoted.split('/')[0] in OF_THE_ROOT + IN_A_CRATE:
-            if MADE not in quoted.split('/') and not quoted.startswith(ANY_FILE):
+            if MADE not in quoted.split('/') and not PATTERN.match(quoted):
                 yield from (path for path in expanded(quoted) if not is_there(path.strip('/'), crate))
             continue
         for name in NAME.findall(quoted):

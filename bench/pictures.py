@@ -145,7 +145,7 @@ def start():
 def switch():
     """The steps of rlibreg-switch, and what a cut at each of them leaves."""
     it = Picture(860, 330, 'rlibreg-switch changes the partition that is not live, and then turns the link to it')
-    rows = [('before', 'A, live', 'B, old', 'a'), ('copy A to B', 'A, live', 'B, being copied', 'a'),
+    rows = [('before', 'A, live', 'B, old', 'a'), ('copy A to B', 'A, live', 'B, written', 'a'),
             ('change and check B', 'A, live', 'B, changed', 'a'), ('turn the link', 'A, unchanged', 'B, live', 'b')]
     for number, (step, first, second, live) in enumerate(rows):
         x = 24 + 208 * number

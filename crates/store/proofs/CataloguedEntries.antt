@@ -29,7 +29,7 @@ own_once k (e ∷ entries) = omega (
   own_once k entries,
 )
 
--- Entries whose sectors are used apart can be catalogued by as many catalogues as they need.
+-- Entries whose sectors are used apart can be listed by as many catalogues as they need.
 pub can_be_catalogued : (sectors catalogues : ℕ) (root : Root) (entries : List PlacedEntry) → sectors ≤ most_sectors
     → catalogues ≡ catalogues_for (length entries) → length entries ≤ most_libraries → UsesApart sectors root entries
     → CanBeCatalogued catalogues (entry_sectors entries)
@@ -50,6 +50,6 @@ can_be_catalogued sectors catalogues root entries fit enough few apart =
       distinct = occurs_distinct (entry_sectors entries) here;
     }
 
--- Single sectors are where their places are.
+-- What holds of all places holds of the single sectors at these places.
 pub all_singles : (P : ℕ → Type 0) (singles : List SingleSector) → All P (single_places singles) → All (λ single. P single.at) singles
 all_singles P singles all i d lt = All-contains P (single_places singles) (get_or singles i d).at all (place_among singles i d lt)

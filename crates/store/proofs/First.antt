@@ -1,4 +1,4 @@
--- An empty store's root stands for the empty state.
+-- The root of an empty store, by which sectors hold the empty state.
 use Rattle.std.proofs.Common.{◌≡◌, inl, inr, ⊎_elim, ◌⊎◌, ℕ, List, [], length, set, replicate, false, refl, sym, ap, subst, ◌∙◌, arith}
 use Rattle.std.proofs.lemmas.List.{length-replicate, length-set, get_or-set_same, get_or-set_other}
 use Rattle.sector_disk.specs.Disk.{Sector, sector, DiskFacts, Mixture, HoldsNow, IsSynced, LeavesOnly, IsMixtureOrSet}
@@ -52,7 +52,7 @@ first_stands m sectors geometry size lacks = record {
   is = refl;
 }
 
--- what is kept of an empty store
+-- what an empty store keeps
 pub first_kept : (sectors : ℕ) → IsGeometry sectors → IsKept (first_root sectors) [] [] (replicate sectors false)
 first_kept sectors geometry = record {
   root_fits = first_fits sectors geometry;
@@ -66,7 +66,8 @@ first_kept sectors geometry = record {
   claimed = none_beside [] (λ i j d lt fits. absurd (omega (arith, fits))) (claims-new sectors);
 }
 
--- the first root goes into a synced disk: each mixture is an old one, or stands for the empty state
+-- the first root is written to a synced disk: each mixture is one from before, or holds the empty
+-- state
 module _ {old mid : DiskFacts} (sectors : ℕ) (geometry : IsGeometry sectors) (before : LeavesOnly old mid (Mixture old)) (holds : HoldsNow mid)
     (synced : IsSynced mid) (size : length mid.now ≡ sectors) (lacks : LacksMagic (sector mid.now 1)) (content : Sector)
     (is : content ≡ root_bytes (first_root sectors)) where
@@ -98,7 +99,7 @@ slot_magic slot content is either = ⊎_elim
     (λ bad. let both : IsSlotOf content Bad = subst (IsSlotOf content) bad is in both.0)
     either
 
--- what stands by the first root stands
+-- sectors that hold the empty state by the first root hold it
 pub either_stands : {old new : DiskFacts} (sectors : ℕ)
     → LeavesOnly old new (λ m. Mixture old m ⊎ StandsBy Two m (first_root sectors) [] empty_state)
     → LeavesOnly old new (λ m. Mixture old m ⊎ Stands m empty_state)

@@ -1,4 +1,4 @@
--- Lists with one element more.
+-- Lists with one more element.
 use Rattle.std.proofs.Common.{◌≡◌, ⊎_elim, ℕ, zero, suc, ◌+◌, ◌-◌, ◌<◌, ◌≤◌, All, AllPairs, List, [], ◌∷◌, length, map, take, drop, get_or, arith, refl, sym, ap, subst, ◌∙◌}
 use Rattle.std.specs.List.{insert}
 use Rattle.std.proofs.lemmas.Bool.{cases_lt}
@@ -24,7 +24,7 @@ module _ {X : Type 0} (R : X → X → Type 0) (xs : List X) (i : ℕ) (y : X) w
       let is : k - 1 + 1 ≡ k = omega (arith, lt) in
       ap (λ n. get_or (insert xs i y) n d) (sym is) ∙ get_or-insert_above xs i y d (k - 1) (omega (arith, lt)) le
 
-  -- an element between those that it follows and those that follow it
+  -- an element between those that come before it and those that come after it
   pub all_pairs_insert : i ≤ length xs → AllPairs R xs → ((k : ℕ) (d : X) → k < i → R (get_or xs k d) y) → ((k : ℕ) (d : X) → i ≤ k → k < length xs → R y (get_or xs k d))
       → AllPairs R (insert xs i y)
   all_pairs_insert le pairs before behind j k d less lt =

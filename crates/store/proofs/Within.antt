@@ -1,4 +1,4 @@
--- An entry's sectors, by what is said of the used ones.
+-- An entry's sectors, by what is known of the used ones.
 use Rattle.std.proofs.Common.{ℕ, ◌+◌, ◌-◌, ◌<◌, ◌≤◌, List, [], ◌∷◌, length, get_or, All, arith}
 use Rattle.std.specs.Prelude.{Contains}
 use Rattle.std.proofs.lemmas.List.Elements.{All-contains, Contains-append_right}
@@ -12,7 +12,7 @@ use Rattle.store.specs.Stands.{UsesApart, extents_of, used}
 use Rattle.store.specs.inside.Kept.{HaveSpellings}
 use Rattle.store.proofs.UsedAlone.{among_used}
 
--- each of its bytes' lies behind the roots and on the disk
+-- each sector of its bytes lies on the disk, after the roots
 pub entry_inside : (sectors : ℕ) (root : Root) (entries : List PlacedEntry) → UsesApart sectors root entries → (i : ℕ) (d : PlacedEntry)
     → i < length entries → (k : ℕ) → Contains (places (extents_of (get_or entries i d).entry)) k → (root_sectors ≤ k) × (k < sectors)
 entry_inside sectors root entries apart i d lt k found =

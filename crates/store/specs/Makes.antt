@@ -1,4 +1,5 @@
--- What making an honest disk an empty one of version 2 does, whatever the maker wants of the state that it holds (own).
+-- Making an empty store of version 2 on an honest disk, whatever the caller requires of the state that the disk holds
+-- (own).
 use Rattle.std.specs.Prelude.{◌≡◌, ◌≢◌, ◌⊎◌, List, Result, IsTrue, IfOk, IfErr, OnOk}
 use Rattle.sector_disk.specs.Disk.{Sector, DiskFacts, Mixture, LeavesOnly, GrowsBehindSync}
 use Rattle.states.specs.State.{State, empty_state}
@@ -7,8 +8,8 @@ use Rattle.store.specs.Opening.{HasRootMagic, RefusesFormat}
 use Rattle.store.specs.declared.refusal.StoreRefusal.{StoreRefusal}
 use Rattle.store.specs.declared.refusal.StoreRefusal.TheVariants.{Device, AlreadyFormatted}
 
--- The empty state was made on the disk, or the disk was refused and handed back. StandsFor says
--- which states its sectors may hold, and AtFor when the store is at one.
+-- The empty state was made on the disk, or the disk was refused and handed back. `StandsFor` says which states the
+-- disk's sectors may hold, and `AtFor` when the store is at a state.
 pub record Makes (StandsFor : List Sector → State → Type 0) {D : Type 0} (facts : D → DiskFacts) (AtFor : Opened D → State → Type 0)
     (disk : D) (making : Result (Opened D) (StoreRefusal × D)) : Type 0 where
   -- a stop at any moment leaves what it could leave before, or the empty state

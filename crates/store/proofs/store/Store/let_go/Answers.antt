@@ -13,7 +13,7 @@ use Rattle.store.proofs.store.Store.let_go.Goals as goal
 abbrev before : (g : given.Over) (c : After-let_go g) → Opened g.row.D.Denot
 before g c = opened c.self.inside.disk c.self.inside.kept
 
--- by the caller's words for the store and the handle
+-- the same, in the terms of the caller's store and handle
 said : (g : given.Over) (c : After-let_go g) (after : Opened g.row.D.Denot) → LetsHoldGo g.D.Disk.facts (before g c) after c.held.inside.at
     → LetsHoldGo g.D.Disk.facts c.args.self.now after c.args.held
 said g c after done =
