@@ -215,7 +215,7 @@ impl<F: SectorFile> Buffered<F> {
             return Err(DiskFault::Failed);
         }
         self.check_length()?;
-        self.give()?; // what waits is let go only once it is synced
+        self.give()?; // the buffer is cleared only after the sync
         if self.file.sync().is_ok() {
             self.gathered.clear();
             self.compared = false;
