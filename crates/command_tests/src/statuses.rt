@@ -56,8 +56,9 @@ fn a_message_is_one_write_that_changes_no_status(rt: HostRuntime) {
     }
 }
 
-/// Returns whether the status of these words is 3 for each room below `length`, which is the length
-/// of their text, and `status` for that length and for one byte more. Standard error stays empty.
+/// Returns whether the status of these words is 3 for each room below `length`, and `status` for
+/// that length and for one byte more. `length` is the length of their text. Standard error has to
+/// stay empty.
 fn needs_room(rt: &HostRuntime, words: &[&str], length: usize, status: u8) -> bool {
     let mut holds = true;
     for room in 0..length.saturating_add(2) {

@@ -56,7 +56,7 @@ PT_INTERP = 3
 abbrev pub ARRAY_ENTRY_SIZE : ℕ
 ARRAY_ENTRY_SIZE = 8
 
--- the lowest address that the kernel lets a process map that isn't root's (vm.mmap_min_addr)
+-- the lowest address that the kernel lets a process map unless the process runs as root (vm.mmap_min_addr)
 abbrev pub LOWEST : ℕ
 LOWEST = 0x10000
 

@@ -65,7 +65,7 @@ own_header place n =
       alignment = PAGE;
     }
 
--- PT_PHDR, which says where the program headers are
+-- PT_PHDR, which has the place of the program headers
 abbrev pub table_header : ℕ → ℕ → ProgramHeader
 table_header place n =
     record {

@@ -34,7 +34,7 @@ pub record IsExecutable (file : List ℕ) : Type 0 where
   pub header_size : has_bad_header_size file ≡ false
   pub headers : has_bad_program_headers file ≡ false
 
--- the headers of a file in memory at address `place`, with the permission to read only
+-- the headers of a file in memory at address `place`, which may only be read
 abbrev pub headers_at : ℕ → List Loaded → List ℕ → Loaded
 headers_at place pieces file =
     let size = headers_size (header_count_of pieces) in

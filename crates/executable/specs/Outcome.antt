@@ -1,4 +1,4 @@
--- What an image becomes: its executable file, or the line of a refusal (own).
+-- The outcome of an image: its executable file, or the line of a refusal (own).
 use Rattle.std.specs.Prelude.{◌≡◌, ℕ, List, All, ◌++◌, Some, None, codes}
 use Rattle.elf_file.specs.Header.{entry_address}
 use Rattle.elf_file.specs.Segment.{loads}

@@ -61,8 +61,8 @@ abbrev pub without_zeros : List ℕ → List ℕ
 without_zeros [] = []
 without_zeros (b ∷ rest) = let kept = without_zeros rest in if (b == 0) && (length kept == 0) then [] else b ∷ kept
 
--- a piece as it is in the file: without the zeros at its end, if it may be written, because the kernel clears no other
--- piece's last page
+-- a piece as it is in the file: without the zeros at its end if it may be written (the kernel clears the rest of the
+-- last page only of such a piece)
 abbrev pub finished : Loaded → Loaded
 finished p =
     if bit_and p.heading.permissions PF_W == PF_W then record { heading = p.heading; contents = without_zeros p.contents } else p

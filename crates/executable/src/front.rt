@@ -161,7 +161,7 @@ fn own_header(place: u64, count: usize) -> ProgramHeader
     }
 }
 
-/// Returns PT_PHDR, which says where the program headers are.
+/// Returns PT_PHDR, which has the place of the program headers.
 fn table_header(place: u64, count: usize) -> ProgramHeader
     requires place { place ≤ MEMORY_LIMIT }
     requires count { count ≤ MOST_HEADERS }

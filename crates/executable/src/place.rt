@@ -13,7 +13,7 @@ use crate::piece::{Piece, page_of};
 pub(crate) const PAGE: u64 = 4096;
 /// The highest address at which memory may end: a page below 2^47.
 pub(crate) const MEMORY_LIMIT: u64 = 0x7fff_ffff_f000;
-/// The lowest address that the kernel lets a process map that isn't root's.
+/// The lowest address that the kernel lets a process map unless the process runs as root.
 const LOWEST: u64 = 0x10000;
 /// The maximum number of program headers that the kernel accepts.
 pub(crate) const MOST_HEADERS: usize = 1170;
@@ -26,7 +26,7 @@ pub(crate) fn headers_size(count: usize) -> u64
     64 + 56 * count as u64
 }
 
-/// Returns the number of bytes from offset `size` to the end of its page.
+/// Returns the number of bytes that have to follow `size` bytes to fill whole pages.
 pub(crate) fn padding(size: u64) -> u64
     ensures { result ≡ (PAGE - size % PAGE) % PAGE }
 {

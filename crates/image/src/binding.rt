@@ -18,9 +18,9 @@ use std::alloc::Global;
 /// Returns their image, or the first of these refusals: memory would end above 2^47 - 4,096 (B4); a
 /// relocation's symbol is undefined (B5).
 ///
-/// The time is linear in the files and in their memory, except for a search for each symbol by its
-/// name, and a binary search for each relocation that goes to another segment than the one before
-/// it.
+/// The time is linear in the files and in their memory, with two exceptions: a search for each
+/// symbol by its name, and a binary search for each relocation that goes to another segment than
+/// the relocation before it.
 pub fn bind(alloc: Global, order: &Order<'_>, base: u64) -> Result<Image, BindRefusal>
     requires { is_good_base (file_at order.now 0) base ≡ true }
 

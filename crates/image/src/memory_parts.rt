@@ -12,9 +12,9 @@ const PART: u64 = 1024;
 /// The maximum number of parts: they cover the 64 MiB that the memory of an object may reach.
 const PARTS: u64 = 65536;
 
-/// Guesses which of an object's many segments has a place. The memory from the first segment on is
-/// cut into parts, and for each part the number of segments that begin before it is kept. So a
-/// binary search is needed only among the segments that begin in one part. The caller tests the
+/// Guesses which of an object's many segments holds an address. The memory from the first segment
+/// on is cut into parts, and for each part the number of segments that begin before it is kept. So
+/// a binary search is needed only among the segments that begin in one part. The caller tests the
 /// guess, so this type's contracts say nothing about it.
 #[derive(Drop)]
 pub(crate) struct MemoryParts {

@@ -99,8 +99,8 @@ pub fn bind_program(
     ensures accepted { OnOk result (bind_refusal file.now base libraries.now preloads.now ≡ None) }
 
     // Otherwise returns the refusal of the first test that applies. Memory may be refused only if
-    // admission allocates. Admission comes before all refusals except those of the object by
-    // itself.
+    // admission allocates. Admission comes after the tests of the program's object, and before all
+    // others.
     ensures refused { IfErr result (IsAnswer file.now base libraries.now preloads.now) }
 
     // The image has the defined objects and segments, and their defined bytes.

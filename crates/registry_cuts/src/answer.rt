@@ -45,7 +45,7 @@ pub(crate) fn answers(alloc: Global, replies: &[Reply]) -> Result<Vec<Vec<u8>>> 
     Ok(answers)
 }
 
-/// The answers to the lines of an update, followed by the answer to its commit.
+/// Returns the answers to the lines of an update, followed by the answer to its commit.
 pub(crate) fn with_commit(
     alloc: Global,
     answers: Vec<Vec<u8>>,

@@ -65,7 +65,7 @@ impl Course {
     }
 
     /// Returns the cuts of each call of the opening and of each event, and of one call after all of
-    /// them, which nothing makes.
+    /// them, which is never made.
     pub(crate) fn cuts(&self, alloc: Global) -> Result<Vec<Cut>> {
         let mut before = Seen::of(alloc, self.sectors, &self.start, &self.probe)?.opening;
         let mut cuts = Vec::new(alloc);
@@ -167,7 +167,7 @@ impl Course {
         Ok(())
     }
 
-    // Opens the disk that is left again, where no binder lives, and binds there.
+    // Opens once more the disk that is left, on which no binder lives, and binds there.
     fn go_on(&self, tally: &mut Tally, plain: &Plain, disk: Memory) -> Result<()> {
         let alloc = tally.rt.alloc();
         let events = Event::all(alloc, AGAIN)?;

@@ -1,6 +1,6 @@
-//! The program `registry_cuts`: cuts the power of registries at every call of their disk, opens
-//! every mixture that is left, and compares its listing and its binds with those of the states that
-//! may be left.
+//! The program `registry_cuts`: cuts the power of registries at every call of their disk, and opens
+//! every mixture that is left. It compares the listing and the binds of each with those of the
+//! states that may be left.
 //!
 //! The arguments of the command line name the files that have the program's rows; its README has
 //! their format.

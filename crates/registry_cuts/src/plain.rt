@@ -24,8 +24,8 @@ struct Hold {
     until: usize,
 }
 
-// A binder: the event that began it, the number of changes that were made by then, the number of
-// sectors that each of its steps reads, with the next step last, and its last answer.
+// A binder: the event that began it; the number of changes that were made by then; the number of
+// sectors that each of its steps reads, with the next step last; and its last answer.
 #[derive(Drop)]
 struct Flight {
     event: Rc<Event>,
@@ -157,7 +157,7 @@ impl Plain {
         self.keeps && is_held
     }
 
-    // Returns the number of sectors without those that only holds of binders keep.
+    // Returns the number of sectors, less those that only the holds of binders keep.
     fn room(&self) -> u32 {
         let mut room = self.sectors;
         for hold in &self.holds {

@@ -111,7 +111,7 @@ impl<'a> Trial<'a> {
         Ok(())
     }
 
-    // Opens a disk that was left once more: with cuts, or with the fuse that it has.
+    // Opens once more a disk that was left: with cuts, or with the fuse that it has.
     fn open_again(&self, tally: &mut Tally, disk: &Memory, wanted: Wanted) -> Result<()> {
         if wanted.cut.forever {
             self.sides.cut_all(tally, disk, wanted)
@@ -123,7 +123,7 @@ impl<'a> Trial<'a> {
         }
     }
 
-    // Does this with each call of the disk, and with one call after them, which nothing makes.
+    // Does this with each call of the disk, and with one call after them, which is never made.
     fn cut_each(&self, tally: &mut Tally, further: bool) -> Result<()> {
         for at in 0..Cut::count(self.calls.saturating_add(1)) {
             self.cut_at(tally, Cut::nth(0, 0, at), further)?;

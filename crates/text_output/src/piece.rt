@@ -12,7 +12,8 @@ use crate::fault::WriteFault;
 use std::io::Write;
 use std::marker::Model;
 
-/// The maximum size of a piece in bytes: a pipe takes so much as a whole or not at all.
+/// The maximum size of a piece in bytes: a pipe takes a piece of this size as a whole or not at
+/// all.
 const PIECE_BYTES: usize = 4096;
 
 /// The maximum length of a text that is put at once, in bytes.

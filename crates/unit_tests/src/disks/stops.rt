@@ -75,8 +75,8 @@ fn left(disk: &Memory, at: u32, pick: usize) -> Option<u8> {
     }
 }
 
-// Returns whether a stop may leave exactly `contents` in a sector, in this order. Picks each by its
-// number, and by its number in the next round.
+// Returns whether a stop may leave exactly `contents` in a sector, in this order. Picks each
+// content by its number, and by this number plus the number of contents.
 fn leaves(disk: &Memory, at: u32, contents: &[u8]) -> bool {
     for (pick, content) in contents.iter().enumerate() {
         let higher = pick.saturating_add(contents.len());

@@ -68,8 +68,8 @@ fn filled(alloc: Global) -> Option<Fake> {
     filled.then_some(disk.into_file())
 }
 
-// Fills such a file. Returns how many writes that takes, how many writes there were at the sync,
-// how many reads that takes, and how many reads it then takes to read all of it.
+// Fills such a file. Returns four numbers: the writes that filling takes, the writes before the
+// sync, the reads that filling takes, and the reads that it then takes to read the whole file.
 fn fill_and_read(alloc: Global) -> Option<[u64; 4]> {
     let file = filled(alloc)?;
     let [writes, synced, reads] = [file.writes, file.synced, file.reads];
