@@ -12,7 +12,7 @@ use scope::Library;
 use std::alloc::Global;
 use std::io::Write;
 
-/// What a case asks about an image.
+/// The question of a case about an image.
 #[derive(Clone, Copy)]
 pub(crate) enum Told {
     /// Its whole text.

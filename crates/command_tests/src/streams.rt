@@ -3,7 +3,7 @@
 use std::io;
 use std::io::{ErrorKind, Read, Write};
 
-/// What a reader does when it is called.
+/// The effect of one call of a reader.
 #[derive(Clone, Copy)]
 pub(crate) enum Turn {
     /// It returns this number of bytes, or as many as are requested, if these are fewer.

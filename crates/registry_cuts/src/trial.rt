@@ -197,8 +197,8 @@ fn cut(tally: &mut Tally, task: &Task, under: Under) -> Result<()> {
     Trial::of(tally.rt.alloc(), task, under)?.cut_all(tally)
 }
 
-/// Cuts `events` as commands on a disk over a file, or as an update on both kinds of disks. The disk
-/// has `sectors` sectors, and the registry the changes `start`.
+/// Cuts `events` as commands on a disk over a file, or as an update on both kinds of disks. The
+/// disk has `sectors` sectors, and the registry the changes `start`.
 pub(crate) fn cut_task(
     tally: &mut Tally,
     asked: Asked,

@@ -50,7 +50,7 @@ fn put_sizes(file: &mut [u8]) {
 }
 
 /// Makes a file that needs libraries with names of one letter, `needs`. Their entries are followed
-/// by `entry`, which may be empty. The file is padded to `size` bytes.
+/// by `entry`, which may be empty. A file that is shorter than `size` bytes is padded to this size.
 pub fn needing_file(
     alloc: Global,
     needs: &[u8],

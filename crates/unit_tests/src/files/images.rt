@@ -1,5 +1,5 @@
-// What no clause and no stored case shows: calls to which memory may be refused succeed at their
-// limits, and a writer's failure is reported. The program `cases` tests rows, bases, values,
+// Facts that no clause and no stored case shows: calls to which memory may be refused succeed at
+// their limits, and a writer's failure is reported. The program `cases` tests rows, bases, values,
 // refusals and texts.
 
 use image::{Image, bind_alone};

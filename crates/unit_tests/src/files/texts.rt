@@ -1,5 +1,5 @@
-// What no clause shows: a writer's fault is reported, nothing is written to the writer after a
-// fault, and how many writes a text takes.
+// Facts that no clause shows: a writer's fault is reported, nothing is written to the writer after
+// a fault, and how many writes a text takes.
 
 use std::alloc::Global;
 use std::io::{self, ErrorKind, Write};

@@ -1,4 +1,4 @@
-// What a store reports and reads of a disk that was written by hand.
+// Reports and reads of a store on a disk that was written by hand.
 use crate::stores::byte_strings::opened;
 use crate::stores::disks::{write_catalogue, write_entry, write_root};
 use crate::stores::sectors::{memory, write};
