@@ -36,11 +36,11 @@ first_refusal (test ∷ others) = if test.0 then Some (refusal_of_room test.1) e
 abbrev pub room_at : (sectors longest : ℕ) → State → Room
 room_at sectors longest s = record { generation = s.generation; libraries = length s.libraries; free = free sectors s; longest = longest }
 
--- the first reason to refuse bytes in place of others, which need no more catalogues than before
+-- the first reason to refuse a put that replaces bytes, which needs no more catalogues than before
 abbrev pub refusal_of_put : (sectors longest : ℕ) → State → List ℕ → Option StoreRefusal
 refusal_of_put sectors longest s bytes = first_refusal (put_tests (room_at sectors longest s) 0 (length bytes))
 
--- the first reason to refuse bytes with a new name, which may need more catalogues
+-- the first reason to refuse a put under a new name, which may need more catalogues
 abbrev pub refusal_of_new : (sectors longest : ℕ) → State → List ℕ → Option StoreRefusal
 refusal_of_new sectors longest s bytes = first_refusal (new_tests (room_at sectors longest s) (length bytes))
 
@@ -86,15 +86,13 @@ IsRefusalOfChange Reopen = Unit
 IsRefusalOfChange GenerationEnd = Unit
 IsRefusalOfChange other = ⊥
 
--- The refusals of a put in place of other bytes, on any disk: those of `IsRefusalOfChange`, Full
--- and Fragmented.
+-- The refusals of a put that replaces bytes, on any disk: those of `IsRefusalOfChange`, Full and Fragmented.
 abbrev pub IsRefusalOfPutOver : StoreRefusal → Type 0
 IsRefusalOfPutOver Full = Unit
 IsRefusalOfPutOver Fragmented = Unit
 IsRefusalOfPutOver other = IsRefusalOfChange other
 
--- The refusals of a put with a new name, on any disk: those of `IsRefusalOfPutOver`, TooMany and
--- OutOfMemory.
+-- The refusals of a put under a new name, on any disk: those of `IsRefusalOfPutOver`, TooMany and OutOfMemory.
 abbrev pub IsRefusalOfPutNew : StoreRefusal → Type 0
 IsRefusalOfPutNew TooMany = Unit
 IsRefusalOfPutNew OutOfMemory = Unit

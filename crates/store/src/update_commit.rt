@@ -136,7 +136,7 @@ impl<D: Disk> Update<D> {
         ensures given_up { OnErr result.0 ((result.1.root ≡ self.store.root)
             × (result.1.entries ≡ self.store.entries) × (result.1.held ≡ self.store.held)) }
 
-        // If nothing was changed in the draft, the store stays as it was.
+        // If nothing was changed in the draft, the store is unchanged.
         ensures same { self.touched ≡ Touched.Nothing → result.1 ≡ self.store }
     {
         let Update { disk, kept, draft } = self;

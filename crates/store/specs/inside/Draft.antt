@@ -27,11 +27,11 @@ use Rattle.store.specs.inside.Stored.{opened}
 abbrev pub drafting : {D : Type 0} → D → Kept → Draft → Drafted D
 drafting disk kept draft = record { store = opened disk kept; entries = draft.entries.items; preloads = draft.preloads.items; touched = draft.touched }
 
--- the sectors that an entry has beside those of a list: none if the list has the entry
+-- the sectors of an entry that the list `others` doesn't use: none if the list has the entry
 abbrev pub own_in : (others : List PlacedEntry) → PlacedEntry → List ℕ
 own_in others placed = if lists others placed then [] else sectors_of placed
 
--- the sectors that entries have beside those of a list, one by one
+-- the sectors of `entries` that the list `others` doesn't use, one by one
 abbrev pub own_sectors_in : (others entries : List PlacedEntry) → List ℕ
 own_sectors_in others entries = flat_map (own_in others) entries
 
