@@ -1,4 +1,4 @@
--- What an update keeps of its draft, by the draft's state, and what reading one of its byte strings does.
+-- The data of an update's draft, compared with the draft's state, and the effect of reading one of its byte strings.
 use Rattle.std.proofs.Common.{◌≡◌, ◌⊎◌, ◌↔◌, ⊎_elim, ℕ, ◌+◌, ◌-◌, ◌<◌, ◌≤◌, List, ◌∷◌, [], ◌++◌, length, get_or, map, All, Option, Some, None, IsTrue, IsFalse, Result, Ok, Err, IfErr, IfOk, OnOk, refl, sym, ap, subst, ◌∙◌, arith}
 use Rattle.std.specs.Prelude.{Contains, IsNone, IfSome}
 use Rattle.std.specs.Global.{Vec}
@@ -32,7 +32,7 @@ use Rattle.store.proofs.DraftWrites.{drafted_sectors, drafted_usable}
 use Rattle.store.proofs.Libraries.{length-libraries, length-library}
 use Rattle.store.proofs.UsedAlone.{no_entry}
 
--- What is kept of a draft, by its state.
+-- The data that are kept of a draft, compared with the draft's state.
 module _ {D : Type 0} (facts : D → DiskFacts) {u : Drafted D} {s d : State} (at : IsDraftedAt facts u s d) where
   abbrev now : List Sector
   now = (facts u.store.disk).now
@@ -52,7 +52,7 @@ module _ {D : Type 0} (facts : D → DiskFacts) {u : Drafted D} {s d : State} (a
   pub preloads_drafted : d.preloads ≡ names_at d.libraries u.preloads
   preloads_drafted = ap (λ t. t.preloads) at.is ∙ ap (λ l. names_at l u.preloads) (sym libraries_are)
 
-  -- the position of a name, as an answer about the state
+  -- an answer to a search for a name that is right for the draft's entries is right for the draft's state
   pub position_drafted : (name : List ℕ) (result : Option ℕ) → HaveOwnNames u.entries → (IsNone result → IsNewToDraft u name)
       → IfSome result (λ i. (i < length u.entries) × ((p : PlacedEntry) → name_of (get_or u.entries i p).entry ≡ name))
       → (i : ℕ) → (result ≡ Some i) ↔ ((i < length d.libraries) × ((get_or d.libraries i no_library).name ≡ name))
@@ -112,7 +112,7 @@ drafted_on_disk {draft = draft} is i d lt j e in_extents =
     omega (arith, inside, filled)
 
 module _ {D : Type 0} (facts : D → DiskFacts) (u : Drafted D) where
-  -- What a draft whose store failed answers to a read.
+  -- An update whose store failed answers a read of its draft with Reopen.
   pub draft_refused : (position : ℕ) → IsTrue u.store.failed → ReadsDraft facts u u position (Err Reopen)
   draft_refused position failed = record {
     read = blob_refused Two facts (listing u) position failed;

@@ -1,5 +1,5 @@
--- The root that follows another: its encoding, what is kept with it, and what it makes of the
--- sectors.
+-- The root that follows another: its encoding, what is kept with it, and the state that the sectors hold once it is
+-- written.
 use Rattle.std.proofs.Common.{◌≡◌, ℕ, ◌+◌, ◌-◌, Bool, List, length, get_or, set, map, All, sym, ap, subst, ◌∙◌, arith}
 use Rattle.std.specs.List.{flat_map}
 use Rattle.std.proofs.lemmas.List.{length-map}

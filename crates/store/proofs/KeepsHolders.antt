@@ -29,7 +29,7 @@ use Rattle.store.proofs.UsedAlone.{among_used}
 pub listed_used : (root : Root) (entries : List PlacedEntry) (placed : PlacedEntry) → Contains entries placed → (k : ℕ) → Contains (sectors_of placed) k → Contains (used root entries) k
 listed_used root entries placed found k its = among_used root entries found.0 placed found.1 k (subst (λ p. Contains (sectors_of p) k) (sym found.2) its)
 
--- a change of root sectors and of sectors that aren't in use changes none that is in use
+-- changing only root sectors and sectors that aren't in use changes no sector in use
 pub apart_from : {root : Root} {entries : List PlacedEntry} {held : List HeldRow} {layout : List Bool} → (kept : IsKept root entries held layout)
     → (changed : List ℕ) → ((k : ℕ) → Contains changed k → Contains (in_use root entries held) k → ⊥) → (k : ℕ)
     → Contains (in_use root entries held) k → IsRootOr changed k → ⊥
@@ -77,7 +77,7 @@ module _ {root : Root} {entries : List PlacedEntry} {held : List HeldRow} {layou
       none = λ none. none;
     }
 
-    -- A change of other sectors does so too if the state no longer lists some of what is held.
+    -- The same holds if the state no longer lists some held byte strings.
     pub keeps_rows : {new : List HeldRow} → KeepsRows held new → KeepsHolders before after held new
     keeps_rows rows = record {
       holders = rows.holders;
@@ -86,7 +86,7 @@ module _ {root : Root} {entries : List PlacedEntry} {held : List HeldRow} {layou
       none = rows.none;
     }
 
-    -- The same, if the state no longer lists one byte string.
+    -- The same holds if the state no longer lists one held byte string.
     pub keeps_left : {new : List HeldRow} → {at : ℕ} → IsLeft held new at → KeepsHolders before after held new
     keeps_left {new = new} left = record {
       holders = holders_left left;

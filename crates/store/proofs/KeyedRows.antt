@@ -142,7 +142,7 @@ module _ (es : List (ℕ × HeldRow)) (own : keys_of es ≡ row_sectors (values_
       let at = row_found row is in
       absurd (absent (found row is).place row at.inside (ap (λ (h : HeldRow). h.placed.at) (at.is row) ∙ at.its))
 
-  -- A new row has its place too.
+  -- A new row has its place in the map too.
   module _ (row : HeldRow) (absent : IsUnheld (values_of es) sector) (new : List (ℕ × HeldRow)) (new_is : new ≡ insert_entry nat_cmp es sector row) where
     abbrev pub put : IsPut es (insert_entry nat_cmp es sector row) (sector, row)
     put = put_in es sector row (none_passes_from_lookup (is_sector sector) es (none_there (lookup (is_sector sector) es) refl absent))

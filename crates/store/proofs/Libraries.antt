@@ -14,7 +14,7 @@ use Rattle.store.specs.declared.placed_entry.PlacedEntry.{PlacedEntry}
 use Rattle.store.specs.Names.{IsName}
 use Rattle.store.specs.Stands.{extents_of, library_of, name_of}
 
--- the name of such an entry can be a name
+-- the name of an entry that can be encoded can be a name
 pub name_fits : (entry : Entry) → EntryHasSpelling entry → IsName (name_of entry)
 name_fits entry fits =
     let size : length (name_of entry) ≡ entry.name_length = length-take-le entry.name_length entry.name (omega (arith, fits.name.listed.size, fits.name.listed.room)) in
@@ -23,7 +23,7 @@ name_fits entry fits =
       bytes = fits.name.listed.used;
     }
 
--- the number of bytes of whole sectors
+-- whole sectors have 512 bytes each
 length-bytes_at : (m : List Sector) (ks : List ℕ) → All IsWhole m → ((k : ℕ) → Contains ks k → k < length m) → length (bytes_at m ks) ≡ 512 * length ks
 length-bytes_at m [] whole inside = refl
 length-bytes_at m (k ∷ ks) whole inside = omega (

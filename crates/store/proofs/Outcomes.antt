@@ -1,4 +1,4 @@
--- How a change is answered, and what it does on any disk, by how it ends.
+-- The answers of a change, and its effect on any disk, for each way in which it can end.
 use Rattle.std.proofs.Common.{◌≡◌, ◌≢◌, ◌<◌, ◌≤◌, ◌+◌, ◌-◌, ℕ, nat_eq, nat_lt, false, List, length, Bool, true}
 use Rattle.std.proofs.Common.{IsTrue, IsFalse, Some, None, inr, Ok, Err, refl, sym, ap, subst, ◌∙◌, arith}
 use Rattle.std.specs.Prelude.{nat_le, if◌then◌else◌}
@@ -43,7 +43,7 @@ pub take_no_reopen : (e : TakeRefusal) → refusal_of_take e ≢ Reopen
 take_no_reopen take.Full is = cc is
 take_no_reopen take.Fragmented is = cc is
 
--- a store that stays as it was made no call
+-- if a store is unchanged, no call was made
 pub still : {D : Type 0} (facts : D → DiskFacts) {old new : Opened D} {most : ℕ} → new ≡ old → AreCallsAtMost most (facts old.disk) (facts new.disk)
 still facts {old = old} {most = most} same = subst (λ store. AreCallsAtMost most (facts old.disk) (facts store.disk)) (sym same)
     (record { some = no_calls (facts old.disk); time = omega arith })
@@ -75,13 +75,13 @@ module _ {D : Type 0} (facts : D → DiskFacts) {old new : Opened D} {n : ℕ} (
     calls = in_row_at_most calls (omega arith);
   }
 
--- memory may be refused whether or not there is room
+-- OutOfMemory is an allowed answer, whether or not there is room
 pub memory_wants : (a b : Bool) → IsAnswer (if a then Some Full else if b then Some Fragmented else None) (Err OutOfMemory)
 memory_wants true b = inr refl
 memory_wants false true = inr refl
 memory_wants false false = inr refl
 
--- What a store that is at a state answers to an upgrade at the last generation.
+-- The answer of a store that is at a state to an upgrade at the last generation.
 module _ {D : Type 0} (facts : D → DiskFacts) (holds : (disk : D) → IsTrue (facts disk).honest → HoldsNow (facts disk))
     (whole : (disk : D) → IsTrue (facts disk).honest → HasWholeSectors (facts disk)) {store view : Opened D} (is : view ≡ store) {version : Version} {s : State}
     (at : IsAtBy version facts store s) where

@@ -88,7 +88,7 @@ module _ {sectors : ℕ} {catalogues : List ℕ} (singles : List SingleSector) (
   pub list_moment : {old new : DiskFacts} → LeavesOnly old new (IsMixtureBut (Contains (single_places singles ++ [])) old) → LeavesOnly old new (IsMixtureBut (Contains catalogues) old)
   list_moment = wider_leaves (Contains (single_places singles ++ [])) (Contains catalogues) alone
 
--- What was written elsewhere stays if a sync follows.
+-- Earlier writes to other sectors stay if a sync follows.
 pub still_written : (old new : DiskFacts) (staged : List ℕ) (written : List PlacedEntry) → SameBut (Contains staged) old.now new.now → IsSynced new
     → ((k : ℕ) → Contains staged k → Contains (flat_map sectors_of written) k → ⊥) → (m : List Sector) → Mixture new m → AreWritten old.now written m
 still_written old new staged written same is_synced apart m mixture = record { each = λ k found. ap (λ l. sector l k) (is_synced.each m mixture) ∙ same.others k (λ here. apart k here found) }

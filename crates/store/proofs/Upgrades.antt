@@ -62,7 +62,7 @@ module _ {D : Type 0} (facts : D → DiskFacts) (look : Look D) (store : Opened 
   pub sectors_seen : (s : State) → IsOldAt facts store s → HoldsNow (facts store.disk) → store.root.sectors ≡ (facts store.disk).sectors
   sectors_seen s at holds = (at.stands (facts store.disk).now holds).intact.size ∙ holds.size
 
-  -- what a stop could leave before the commit, or may leave during it
+  -- a stop leaves what it could leave before the commit, or what it may leave during the commit
   pub then_committed : (old new : DiskFacts) (s : State) → look ≡ Old store → LeavesOnly old (facts (seen look).disk) (Mixture old)
       → LeavesOnly (facts store.disk) new (λ m. StandsOld m s ⊎ Stands m (upgraded s))
       → LeavesOnly old new (λ m. Mixture old m ⊎ StandsOld m s ⊎ Stands m (upgraded s))

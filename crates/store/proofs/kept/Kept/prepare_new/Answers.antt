@@ -27,7 +27,7 @@ use Rattle.store.proofs.Refusals.{memory-device, memory-reopen}
 use Rattle.store.proofs.kept.Kept.prepare_new.Goals.{After-reserve_one, After-catalogues, After-next_root-root}
 use Rattle.store.proofs.kept.Kept.prepare_new.Goals as goal
 
--- in other memory, everything is kept as it was
+-- more memory is reserved, and everything else is kept as it was
 reserved : (c : After-reserve_one) → IsStored c.args.self.now.root.sectors (record {
   root = c.args.self.now.root;
   entries = c.reserve_one.new.entries;

@@ -22,7 +22,7 @@ use Rattle.store.proofs.update.Update.put_new.Given as given
 use Rattle.store.proofs.update.Update.put_new.Goals.{After-take_new, After-write_draft, After-edit}
 use Rattle.store.proofs.update.Update.put_new.Goals as goal
 
--- the draft has more memory, and is otherwise as it was
+-- the draft has more memory, and is otherwise unchanged
 same_draft : (g : given.Over) (c : After-take_new g)
     → IsSameDraft (drafting c.self.inside.disk c.self.inside.kept c.self.inside.draft) (drafting c.self.inside.disk c.take_new.new.self c.take_new.new.draft)
 same_draft g c = record { entries = c.take_new.ensures.entries; preloads = ap (λ v. v.items) c.take_new.ensures.preloads; touched = c.take_new.ensures.touched }
