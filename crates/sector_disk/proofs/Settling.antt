@@ -11,7 +11,8 @@ use Rattle.sector_disk.specs.inside.WrittenLaws.{written_to_same, written_to_oth
 abbrev pub settled : List Sector → List ℕ → List Written → ℕ → Sector
 settled sectors numbers writes k = sector (sector sectors k ∷ written_to k writes) (get_or numbers k 0)
 
--- the write is passed over, and the number counts down
+-- if a write isn't the one with this number, the content is found without this write under the number that is less by
+-- one
 countdown : (c x : Sector) (cs : List Sector) (r : ℕ) → r ≢ 1 → sector (c ∷ cs) (r - 1) ≡ sector (c ∷ x ∷ cs) r
 countdown c x cs zero not = refl
 countdown c x cs (suc zero) not = absurd (not refl)
