@@ -1,4 +1,5 @@
--- What reads return, and what a stop may leave, computed from past moments of a file with its buffers.
+-- The contents that reads return and those that a stop may leave, computed from past moments of a file with its
+-- buffers.
 use Rattle.std.specs.Prelude.{◌+◌, ◌≤◌, ℕ, List, [], ◌∷◌, slice_index_or, Contains}
 use Rattle.sector_disk.specs.Disk.{Sector}
 use Rattle.sector_disk.specs.declared.past.Past.{Past}

@@ -3,7 +3,7 @@ use Rattle.std.proofs.Common.{◌≡◌, ℕ, zero, suc, ◌+◌, ◌-◌, ◌�
 use Rattle.std.proofs.lemmas.List.{take-append-le}
 use Rattle.passes.specs.Bytes.{padded}
 
--- no bytes, and one more byte
+-- padding to 0 makes no bytes
 padded-zero : (bytes : List ℕ) → padded 0 bytes ≡ []
 padded-zero [] = refl
 padded-zero (b ∷ bytes) = refl

@@ -1,4 +1,4 @@
--- What a command does (own).
+-- The effect of a command: its answer, and the state that it leaves (own).
 use Rattle.std.specs.Prelude.{Result, Ok, Err, ◌≡◌, ◌<◌, ℕ, List, Option, Some, None, ◌⊎◌, IsTrue, IsFalse, Bool, true, false}
 use Rattle.std.specs.Option.{option_map}
 use Rattle.hash_check.specs.FileRefusal.{ReadNeedsMemory}

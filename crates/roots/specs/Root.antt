@@ -134,7 +134,7 @@ abbrev pub root_over_catalogues : ℕ → ℕ → ℕ → List ℕ → List ℕ 
 root_over_catalogues generation sectors libraries catalogues preloads =
     root_with generation sectors libraries (InCatalogues (length catalogues) (catalogues ++ zeros (most_catalogues - length catalogues))) preloads
 
--- What must be true of the parameters of a root of version 2 so that it can be encoded.
+-- With these parameters, a root of version 2 can be encoded.
 pub record CataloguesFit (generation sectors libraries : ℕ) (catalogues preloads : List ℕ) : Type 0 where
   pub generation_fits : generation < 2 ^ 64
   pub sectors_fit : IsInRange least_sectors most_sectors sectors

@@ -1,4 +1,4 @@
--- What the calls of a file with its buffers do, if the file is honest.
+-- The effects of the calls of a file with its buffers, if the file is honest.
 use Rattle.std.specs.Prelude.{◌≡◌, ◌≢◌, ◌<◌, ◌⊎◌, ℕ, None, true, false}
 use Rattle.sector_disk.specs.Disk.{Sector, sector}
 use Rattle.file_disk.specs.declared.buffered.Buffered.{Buffered}
