@@ -171,7 +171,7 @@ module _ {root : Root} {entries : List PlacedEntry} {held : List HeldRow} {layou
       claims = released.each after (claims_as mid all (after ++ gone) counts claims) (distinct_as all (after ++ gone) counts once);
     }
 
-    -- The same, if holders keep some of the sectors that the state gave up, and the others are given back.
+    -- Holders keep some of the sectors that the state gave up, and the others are given back.
     module _ (lone freed own catalogues : List ℕ) (is : gone ≡ own ++ catalogues) (parts : (k : ℕ) → occurs k lone + occurs k freed ≡ occurs k (lone_sectors held) + occurs k own) where
       abbrev left : List ℕ
       left = used next others ++ lone

@@ -47,7 +47,7 @@ pub places-catalogue_singles : (catalogues sectors : List ℕ) → single_places
 places-catalogue_singles [] sectors = refl
 places-catalogue_singles (at ∷ catalogues) sectors = ap (λ l. at ∷ l) (places-catalogue_singles catalogues (drop 64 sectors))
 
--- There are as many singles as places.
+-- The number of single sectors is the number of their places.
 pub length-singles : (singles : List SingleSector) (places : List ℕ) → single_places singles ≡ places → length singles ≡ length places
 length-singles singles places is = sym (length-map singles (λ (s : SingleSector). s.at)) ∙ ap length is
 

@@ -126,7 +126,7 @@ module _ {sectors : ℕ} {kept : Kept} {draft : Draft} (is : IsDrafting sectors 
       → sum_by (λ p. h (sectors_of p)) entries + sum_by (λ p. h (own_in entries p)) standing ≡ sum_by (λ p. h (sectors_of p)) standing + sum_by (λ p. h (own_in standing p)) entries
   both h none = swapped h none entries standing is.list.once standing_once is.list.each
 
-  -- There is a next generation if anything was changed.
+  -- If anything was changed, there is a next generation.
   pub commit_later : draft.touched ≢ touched.Nothing → kept.root.generation + 1 < 2 ^ 64
   commit_later changed = omega (arith, is.later changed, stands.root_fits.generation)
 
@@ -273,14 +273,14 @@ module _ {sectors : ℕ} {kept : Kept} {draft : Draft} (is : IsDrafting sectors 
           → (k : ℕ) → Contains (sectors_of (get_or entries i e)) k → sector m k ≡ sector now k
       wrote i e lt isnt k found = written.each k (subst (λ l. Contains l k) (own_apart standing entries) (own_has standing entries i e lt isnt k found))
 
-      -- These sectors encode the draft's entries.
+      -- Sectors that hold the current state and have what the draft wrote encode the draft's entries.
       draft_spelt : All (λ placed. SpellsEntry (sector m placed.at) placed.entry) entries
       draft_spelt i e lt = ⊎_elim
           (λ listed. All-contains (λ (p : PlacedEntry). SpellsEntry (sector m p.at) p.entry) standing (get_or entries i e) by.intact.listed.each (is.list.each i e lt listed))
           (λ isnt. subst (λ content. SpellsEntry content (get_or entries i e).entry) (sym (wrote i e lt isnt (get_or entries i e).at (0, omega arith, refl))) (at.spelt i e lt))
           (cases_Bool (lists standing (get_or entries i e)))
 
-      -- These sectors have the draft's byte strings.
+      -- Sectors that hold the current state and have what the draft wrote have the draft's byte strings.
       draft_library : All (λ p. library_of m p ≡ library_of now p) entries
       draft_library i e lt =
           let p = get_or entries i e in
@@ -303,7 +303,7 @@ module _ {sectors : ℕ} {kept : Kept} {draft : Draft} (is : IsDrafting sectors 
           let generation = ap (λ (t : State). t.generation + 1) by_now.is in
           λ i. record { generation = generation i; libraries = libraries i; preloads = preloads i }
 
-    -- So the catalogues and the next root turn the current state into the draft's state.
+    -- The catalogues and the next root turn the current state into the draft's state.
     module _ {mid : List Bool} {taken : List ℕ} {next : Root} (claimed : IsClaimedBeside kept.layout mid taken)
         (is_next : next ≡ next_root kept.root (length entries) taken draft.preloads.items)
         (count : length taken ≡ catalogues_for (length entries)) (later : kept.root.generation + 1 < 2 ^ 64) where

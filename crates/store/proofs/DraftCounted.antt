@@ -133,7 +133,7 @@ module _ {sectors : ℕ} {kept : Kept} {draft : Draft} (is : IsDrafting sectors 
           omega (arith, (All-contains (IsUsable kept.root.sectors) all k all_inside among).1, disk_size)) in
           ap taken_by at.is ∙ omega (arith, costs, length-libraries now entries)
 
-      -- So the numbers of a draft's state agree with what is kept.
+      -- The numbers of a draft's state agree with what is kept.
       pub draft_counted : (s d : State) → IsDraftedAt facts here s d → IsDraftCounted kept (length entries) (room_drafted here) d
       draft_counted s d at = record {
         generation = generation_drafted facts here holds at;

@@ -87,7 +87,7 @@ drafted_inside {kept = kept} {draft = draft} is i d lt k found =
     (drafted_sectors kept.root kept.entries.items kept.held draft.entries.items is.list.each i d lt k (Contains-append_right (placed.at ∷ []) (places (extents_of placed.entry)) k found)) in
     omega (arith, usable.1, is.size)
 
--- So its byte string is as long as the entry says.
+-- The byte string of a draft's entry is as long as the entry says.
 pub length_drafted : {D : Type 0} (facts : D → DiskFacts) {u : Drafted D} {s d : State} (at : IsDraftedAt facts u s d) → (IsTrue (facts u.store.disk).honest → HoldsNow (facts u.store.disk))
     → (IsTrue (facts u.store.disk).honest → HasWholeSectors (facts u.store.disk)) → {kept : Kept} {draft : Draft} → IsDrafting (facts u.store.disk).sectors kept draft
     → u.entries ≡ draft.entries.items → (i : ℕ) (p : PlacedEntry) → i < length draft.entries.items → (get_or draft.entries.items i p).entry.file_length ≡ length (get_or d.libraries i no_library).bytes

@@ -144,7 +144,7 @@ held_parts old mid gone freed stay rest parts (kept, just, once, usable) release
       occurs-append k ((kept ++ stay) ++ rest) freed,
     )
 
--- So far some entries are settled, and `rest` are left.
+-- Some entries are settled, and the entries `rest` are still to be settled.
 pub record IsSettledTo (standing drafted : List PlacedEntry) (held mid : List HeldRow) (old now : List Bool) (rest : List PlacedEntry) : Type 0 where
   pub freed : List ℕ
   pub stay : List ℕ

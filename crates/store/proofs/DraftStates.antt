@@ -45,7 +45,7 @@ module _ {D : Type 0} (facts : D → DiskFacts) (old new : Drafted D) {s d : Sta
   preloads_still : d.preloads ≡ names_at (map (library_of now) old.entries) old.preloads
   preloads_still = ap (λ t. t.preloads) at.is ∙ sym (ap (λ l. names_at l old.preloads) (libraries_same (facts old.store.disk).now now old.entries still))
 
-  -- So the state is the one that the new list and the new preloads make.
+  -- The draft's state is the one that the new list and the new preloads make.
   state_made : (entries : List PlacedEntry) (preloads : List ℕ) (made : State) → new.entries ≡ entries → new.preloads ≡ preloads
       → All (λ placed. SpellsEntry (sector now placed.at) placed.entry) entries
       → made.libraries ≡ map (library_of now) entries → made.preloads ≡ names_at (map (library_of now) entries) preloads → IsDraftedAt facts new s (drafted d made)

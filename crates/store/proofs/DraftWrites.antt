@@ -65,8 +65,7 @@ module _ {root : Root} {standing : List PlacedEntry} {held : List HeldRow} {befo
     pub beside_free : (k : ℕ) → Contains more k → Contains (in_use root standing held) k → ⊥
     beside_free k found there = more_free stands joined k (in_joined k found) there
 
-    -- these sectors lie apart from the current state, from what is held and from what was written
-    -- before
+    -- the sectors `more` aren't used by the current state, by held byte strings, or by what was written before
     pub beside_apart : (k : ℕ) → Contains (in_use root standing held ++ own) k → Contains more k → ⊥
     beside_apart k found here = distinct-parts (in_use root standing held ++ own) more k
         (taken.once (in_use root standing held ++ own) (claimed.each (in_use root standing held) stands.claimed.claims) (claimed.once (in_use root standing held) stands.claimed.claims stands.claimed.once))
@@ -75,7 +74,7 @@ module _ {root : Root} {standing : List PlacedEntry} {held : List HeldRow} {befo
     beside_low : (k : ℕ) → k < 2 → Contains more k → ⊥
     beside_low k low found = omega (arith, low, (All-contains (IsUsable root.sectors) (own ++ more) k (more_inside stands joined) (in_joined k found)).0)
 
-    -- So each mixture in which only these sectors were changed holds the current state.
+    -- Each mixture in which only the sectors `more` were changed holds the current state.
     pub beside_stands : {m m' : List Sector} {s : State} → StandsBy Two m root standing s → SameBut (Contains more) m m' → StandsBy Two m' root standing s
     beside_stands {m = m} {m' = m'} {s = s} by same = same_used Two m m' root standing s (Contains more) by same beside_low
         (λ k used here. beside_free k here (Contains-append_left _ (lone_sectors held) k used))
@@ -116,7 +115,7 @@ module _ {D : Type 0} (facts : D → DiskFacts) (old new : Drafted D) {before la
   }
 
   module _ {T E : Type 0} {n : ℕ} {result : Result T E} (calls : AreCallsInRow n (facts old.store.disk) (facts new.store.disk) result) where
-    -- So the store is at the state that it was at.
+    -- If no call failed, the store is at the state that it was at before the line.
     pub stands_beside : IsFalse new.store.failed → {s : State} → IsAt facts old.store s → IsAt facts new.store s
     stands_beside usable {s = s} at = record {
       honest = subst IsTrue (sym calls.honest) at.honest;

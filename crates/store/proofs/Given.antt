@@ -20,7 +20,7 @@ module _ {need : ℕ} {old mid : List Bool} {extents : List Extent} (given : IsG
   swap : (xs ys : List ℕ) (s : ℕ) → Contains (xs ++ ys) s → Contains (ys ++ xs) s
   swap xs ys s found = ⊎_elim (Contains-append_right ys xs s) (Contains-append_left ys xs s) (Contains-append_cases xs ys s found)
 
-  -- these sectors are claimed beside those that were claimed before
+  -- the sectors of the taken extents are claimed beside those that were claimed before
   pub given_claimed : mid ≡ with_flags true extents old → IsClaimedBeside old mid (places extents)
   given_claimed is = record {
     size = ap length is ∙ length-with_flags true extents old given.inside;

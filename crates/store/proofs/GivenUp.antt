@@ -76,7 +76,7 @@ module _ {root : Root} {entries : List PlacedEntry} {held : List HeldRow} {layou
       absurd (distinct-parts (used root entries) (lone_sectors held) at kept.claimed.once found lone))
       (cases_Bool hold.listed)
 
-  -- So each held byte string counts as listed exactly if it is one of the state's.
+  -- Each held byte string counts as listed exactly if it is one of the state's.
   pub flags : All (λ hold. (hold.listed ≡ true) ↔ Contains entries hold.placed) held
   flags i d lt =
       let row = get_or held i d in (

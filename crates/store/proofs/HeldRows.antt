@@ -240,7 +240,7 @@ holders_less less sector =
       ap {B = ℕ} (λ k. if k == sector then 1 else 0) less.at.its,
     )
 
--- The same, if it was the last holder.
+-- The number of holders is one less after the last holder releases the byte string.
 pub holders_gone : {entries : List PlacedEntry} {old new : List HeldRow} {at : ℕ} {hold : HeldRow} → AreHeldRows entries old
     → IsLetGo old new at hold → (sector : ℕ) → holders_of old sector ≡ holders_of new sector + (if at == sector then 1 else 0)
 holders_gone {hold = hold} are gone sector =
@@ -349,7 +349,7 @@ gone_unheld {old = old} {at = at} own gone =
     let stood = stood_at old gone.place k gone.at.inside lt in
     stood.2 (same_place old stood.0 gone.place d own stood.1 gone.at.inside (ap sector (sym (stood.3 d)) ∙ same ∙ sym (ap sector (gone.at.is d) ∙ gone.at.its))))
 
--- So a byte string that somebody holds still has its row.
+-- A byte string that somebody holds still has its row after a row is removed.
 pub by_gone : {old new : List HeldRow} {sector at : ℕ} {p : PlacedEntry} {hold : HeldRow} → HaveOwnRows old → IsLetGo old new at hold
     → 0 < holders_of new sector → IsHeldBy old sector p → IsHeldBy new sector p
 by_gone {new = new} {sector = sector} {at = at} own gone some by =

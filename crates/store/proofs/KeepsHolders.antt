@@ -59,7 +59,7 @@ module _ {root : Root} {entries : List PlacedEntry} {held : List HeldRow} {layou
 
   module _ {before after : DiskFacts} (changed : List ℕ) (apart : (k : ℕ) → Contains changed k → Contains (in_use root entries held) k → ⊥)
       (others : IsTrue before.honest → (m : List Sector) → Mixture after m → IsMixtureBut (IsRootOr changed) before m) where
-    -- So a held byte string keeps its bytes on a disk of which only other sectors were changed.
+    -- A held byte string keeps its bytes on a disk of which only other sectors were changed.
     held_bytes : IsTrue before.honest → {at : ℕ} {placed : PlacedEntry} → IsHeldBy held at placed → (library : Library)
         → ((m : List Sector) → Mixture before m → library_of m placed ≡ library) → (m : List Sector) → Mixture after m → library_of m placed ≡ library
     held_bytes honest {placed = placed} by library stands m mixture =
@@ -77,7 +77,8 @@ module _ {root : Root} {entries : List PlacedEntry} {held : List HeldRow} {layou
       none = λ none. none;
     }
 
-    -- The same holds if the state no longer lists some held byte strings.
+    -- A change of other sectors keeps everything that is held, also if the state no longer lists some held byte
+    -- strings.
     pub keeps_rows : {new : List HeldRow} → KeepsRows held new → KeepsHolders before after held new
     keeps_rows rows = record {
       holders = rows.holders;
@@ -86,7 +87,7 @@ module _ {root : Root} {entries : List PlacedEntry} {held : List HeldRow} {layou
       none = rows.none;
     }
 
-    -- The same holds if the state no longer lists one held byte string.
+    -- A change of other sectors keeps everything that is held, also if the state no longer lists one held byte string.
     pub keeps_left : {new : List HeldRow} → {at : ℕ} → IsLeft held new at → KeepsHolders before after held new
     keeps_left {new = new} left = record {
       holders = holders_left left;

@@ -42,6 +42,6 @@ length-library m placed whole fits inside =
     let sectors : length (places (extents_of entry)) ≡ div_ceil entry.file_length 512 = length-places (extents_of entry) ∙ fits.extents.sum in
     length-take-le entry.file_length (bytes_at m (places (extents_of entry))) (omega (arith, have, sectors, (div_ceil_times entry.file_length 512 (omega arith)).0))
 
--- there are as many byte strings as entries
+-- the number of byte strings is the number of entries
 pub length-libraries : (m : List Sector) (entries : List PlacedEntry) → length (map (library_of m) entries) ≡ length entries
 length-libraries m entries = length-map entries (library_of m)

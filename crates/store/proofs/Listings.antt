@@ -55,7 +55,7 @@ one_cataloguing m catalogues a b size enough in_a in_b = same_parts a b size (λ
     let lt' : i < length catalogues = omega (arith, lt, enough) in
     same_part (sector m (get_or catalogues i 0)) (catalogue_part i a) (catalogue_part i b) (in_a.each i lt') (in_b.each i lt'))
 
--- So a list that fits lists the sectors of only one list of entries.
+-- A list of a root that fits lists the sectors of only one list of entries.
 pub one_listing : (m : List Sector) (libraries disk : ℕ) (list : EntryList) (a b : List ℕ) → ListFits libraries disk list → AreListed m libraries list a → AreListed m libraries list b → a ≡ b
 one_listing m libraries disk (InRoot listed) a b fits in_a in_b = in_a ∙ sym in_b
 one_listing m libraries disk (InCatalogues count listed) a b fits in_a in_b =

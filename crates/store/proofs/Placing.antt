@@ -40,7 +40,7 @@ same_more a b at same free =
           );
     }
 
--- So the same single sectors are taken from them.
+-- The same single sectors are taken from layouts with the same claimed sectors.
 pub singles_same : (ks : List ℕ) (a b : List Bool) → ClaimsSame a b → AreTaken a ks → AreTaken b ks
 singles_same [] a b same taken = tt
 singles_same (k ∷ ks) a b same taken = (
@@ -99,7 +99,8 @@ module _ (root : Root) (entries : List PlacedEntry) (held : List HeldRow) (layou
       → IsTaken layout need extents at catalogues → IsTaken in_layout need extents at catalogues
   taken_in_use need extents at catalogues inside taken = taken_also layout in_layout sectors_in_use size kept.claimed.claims claims need extents at catalogues inside taken
 
-  -- The same, with equal values in place of the need and of what is taken.
+  -- What is taken from the kept layout is taken from the sectors that aren't in use, also if the need and the taken
+  -- sectors are given by equations.
   pub taken_so : {need n at here : ℕ} {extents its : List Extent} {catalogues listed : List ℕ} → need ≡ n → its ≡ extents → here ≡ at
       → listed ≡ catalogues → All IsDataExtent extents → All (IsOnDisk (length layout)) extents
       → IsTaken layout need extents at catalogues → IsTaken in_layout n its here listed

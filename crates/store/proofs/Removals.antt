@@ -165,7 +165,7 @@ module _ {root : Root} {entries : List PlacedEntry} {held : List HeldRow} {layou
         (closed_apart gone (get_or (listed_preloads root) i 0) (get_or (listed_preloads root) j 0) (others i 0 (omega (arith, lt, fewer))) (others j 0 fewer) (sym one_of ∙ same ∙ other));
   }
 
-  -- So the removal is prepared.
+  -- If the catalogues are claimed, the removal is prepared.
   pub removal_prepared : IsPrepared root entries held mid (record { change = record { staged = Catalogues catalogues; root = next }; edit = Out gone })
   removal_prepared = record {
     before = layout;

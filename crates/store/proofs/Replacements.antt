@@ -184,7 +184,7 @@ module _ {root : Root} {entries : List PlacedEntry} {held : List HeldRow} {layou
     preloads_once = kept.root_fits.preloads.distinct;
   }
 
-  -- So the replacement is prepared, if the entry has its place.
+  -- If the entry has its place, the replacement is prepared.
   pub replacement_prepared : HasPlace root.sectors put catalogues → IsPrepared root entries held mid (record { change = record { staged = Put put catalogues; root = next }; edit = Over place put })
   replacement_prepared has = record {
     before = layout;

@@ -19,7 +19,7 @@ entry_inside sectors root entries apart i d lt k found =
     All-contains (λ n. (root_sectors ≤ n) × (n < sectors)) (used root entries) k apart.inside
     (among_used root entries i d lt k (Contains-append_right ((get_or entries i d).at ∷ []) (places (extents_of (get_or entries i d).entry)) k found))
 
--- so the extents of an entry end on the disk
+-- the extents of an entry end on the disk
 pub entry_on_disk : (sectors : ℕ) (root : Root) (entries : List PlacedEntry) → UsesApart sectors root entries → HaveSpellings entries
     → (i : ℕ) (d : PlacedEntry) → i < length entries → All (IsOnDisk sectors) (extents_of (get_or entries i d).entry)
 entry_on_disk sectors root entries apart fit i d lt j e in_extents =

@@ -19,7 +19,7 @@ pub record Opens (StandsFor : List Sector → State → Type 0) {D : Type 0} (fa
   pub any_moment : IsTrue (facts disk).honest → LeavesOnly (facts disk) (facts (disk_after opening)) (Mixture (facts disk))
   -- reads return what they returned before, also if a call fails
   pub now : IsTrue (facts disk).honest → (facts (disk_after opening)).now ≡ (facts disk).now
-  -- the disk gets at most one sync, and its log nothing else
+  -- the log gets at most one sync, and nothing else
   pub log : IsTrue (facts disk).honest → MayAddSync (facts disk).log (facts (disk_after opening)).log
   -- the sectors that reads return hold exactly one state, and the store is at this state: every mixture holds it too
   pub ok : IsTrue (facts disk).honest → IfOk opening (λ opened.

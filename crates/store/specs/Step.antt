@@ -52,8 +52,7 @@ refusal_of_change s = first_refusal (change_tests s.generation)
 abbrev pub refusal_of_upgrade : (sectors : ℕ) → State → Option StoreRefusal
 refusal_of_upgrade sectors s = first_refusal (change_tests s.generation ++ (nat_lt sectors (root_sectors + taken_by s), room.Full) ∷ [])
 
--- this may be the answer to a put with this first refusal: S11 may replace Full, Fragmented and Ok,
--- and S1 may replace Ok
+-- a put with this first refusal may have this answer: S11 may replace Full, Fragmented and Ok, and S1 may replace Ok
 abbrev pub IsAnswer : Option StoreRefusal → Result (Unit {0}) StoreRefusal → Type 0
 IsAnswer None (Ok done) = Unit
 IsAnswer None (Err refusal) = (refusal ≡ Device) ⊎ (refusal ≡ OutOfMemory)
@@ -62,16 +61,15 @@ IsAnswer (Some Full) (Err refusal) = (refusal ≡ Full) ⊎ (refusal ≡ OutOfMe
 IsAnswer (Some Fragmented) (Err refusal) = (refusal ≡ Fragmented) ⊎ (refusal ≡ OutOfMemory)
 IsAnswer (Some first) (Err refusal) = refusal ≡ first
 
--- this may be the answer to an upgrade with this first refusal: S1 and S11 may replace each answer,
--- because the upgrade reads the disk before it makes these tests
+-- an upgrade with this first refusal may have this answer: S1 and S11 may replace each answer, because the upgrade
+-- reads the disk before it makes these tests
 abbrev pub IsUpgradeAnswer : Option StoreRefusal → Result (Unit {0}) StoreRefusal → Type 0
 IsUpgradeAnswer None (Ok done) = Unit
 IsUpgradeAnswer None (Err refusal) = (refusal ≡ Device) ⊎ (refusal ≡ OutOfMemory)
 IsUpgradeAnswer (Some first) (Ok done) = ⊥
 IsUpgradeAnswer (Some first) (Err refusal) = (refusal ≡ first) ⊎ (refusal ≡ Device) ⊎ (refusal ≡ OutOfMemory)
 
--- this may be the answer to a change that allocates nothing and has this first refusal: S1 may
--- replace Ok
+-- a change that allocates nothing and has this first refusal may have this answer: S1 may replace Ok
 abbrev pub IsExactAnswer : Option StoreRefusal → Result (Unit {0}) StoreRefusal → Type 0
 IsExactAnswer None (Ok done) = Unit
 IsExactAnswer None (Err refusal) = refusal ≡ Device

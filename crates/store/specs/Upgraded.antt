@@ -10,7 +10,7 @@ use Rattle.roots.specs.declared.version.Version.TheVariants.{One}
 use Rattle.store.specs.Stands.{Stands, StandsOld, StandsBy, catalogues_of, used}
 use Rattle.store.specs.Taken.{AreTaken}
 
--- the same libraries and preloads, with the next generation
+-- the state after an upgrade: the same libraries and preloads, with the next generation
 abbrev pub upgraded : State → State
 upgraded s = next s s.libraries s.preloads
 

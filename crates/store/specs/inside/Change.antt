@@ -53,7 +53,7 @@ HasBytes m (Catalogues catalogues) bytes = Unit
 HasBytes m (Put put catalogues) bytes =
     bytes_at m (places (extents_of put.entry)) ≡ padded (sector_bytes * sector_count (extents_of put.entry)) bytes
 
--- These sectors have everything that is staged.
+-- The sectors `m` have everything that is staged.
 abbrev pub IsStaged : List Sector → Staged → (bytes listed : List ℕ) → Type 0
 IsStaged m Nothing bytes listed = Unit
 IsStaged m (Catalogues catalogues) bytes listed = AreCatalogued m catalogues listed

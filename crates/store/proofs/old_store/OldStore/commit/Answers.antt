@@ -216,7 +216,7 @@ stays facts {store = store} s is at =
     subst (λ view. LeavesOnly (facts store.disk) (facts view.disk) (λ m. StandsOld m s ⊎ Stands m (upgraded s))) (sym is)
     (at_rest (facts store.disk) (λ m. StandsOld m s ⊎ Stands m (upgraded s)) (λ m mixture. inl (store.root, store.entries, at.stands m mixture)))
 
--- there are at most as many entries as a root of version 1 lists itself
+-- the number of entries is at most the number that a root of version 1 lists itself
 few_kept : (root : Root) (entries : List PlacedEntry) (layout : List Bool) → IsKept root entries [] layout → version_of root ≡ One → length entries ≤ most_root_entries
 few_kept root entries layout kept one = omega (arith, kept.counted, few_old root.library_count root.sectors root.list one kept.root_fits.list)
 
