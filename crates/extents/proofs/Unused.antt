@@ -18,7 +18,7 @@ earlier s t (run ∷ runs) le from = omega (arith, from)
 pub lengthened : (s : ℕ) (run : Extent) (runs : List Extent) → run.start ≡ s + 1 → with_unused s (run ∷ runs) ≡ record { start = s; count = run.count + 1 } ∷ runs
 lengthened s run runs at = cond-true (eqb run.start (s + 1)) (record { start = s; count = run.count + 1 } ∷ runs) (record { start = s; count = 1 } ∷ run ∷ runs) (eq-eqb run.start (s + 1) at)
 
--- otherwise the runs begin with a new run of only that sector
+-- if the first run doesn't begin right after one more unused sector, the runs begin with a new run of only that sector
 pub added : (s : ℕ) (run : Extent) (runs : List Extent) → (run.start ≡ s + 1 → ⊥) → with_unused s (run ∷ runs) ≡ record { start = s; count = 1 } ∷ run ∷ runs
 added s run runs at = cond-false (eqb run.start (s + 1)) (record { start = s; count = run.count + 1 } ∷ runs) (record { start = s; count = 1 } ∷ run ∷ runs) (ne_eqb run.start (s + 1) at)
 

@@ -43,7 +43,7 @@ in_no_run (run ∷ runs) s none =
     (cases_lt s (run.start + run.count)))
     (cases_lt s run.start)
 
--- so each sector is in a run, or in none
+-- each sector is in a run, or in none
 pub has_or_not : (runs : List Extent) (s : ℕ) → IsOfSome runs s ⊎ (IsOfSome runs s → ⊥)
 has_or_not [] s = inr (λ has. has)
 has_or_not (run ∷ runs) s = ⊎_elim

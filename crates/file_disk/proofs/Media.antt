@@ -76,7 +76,8 @@ written_more at given count old mid new inside before sectors now grows = record
   );
 }
 
--- the same, if the given sectors begin with these
+-- a write of the first sectors of a list is also a write of the first sectors of each list that begins with the same
+-- ones
 pub written_of : (at : ℕ) (given given' : List Sector) (count : ℕ) (old new : DiskFacts) → ((i : ℕ) → i < count → sector given' i ≡ sector given i) → HasWritten at given' count old new
     → HasWritten at given count old new
 written_of at given given' count old new same written = record {

@@ -6,7 +6,7 @@ use Rattle.roots.specs.Fields.{zeros}
 pub then_put : (front old new field : List ℕ) → new ≡ old ++ field → old ≡ front → new ≡ front ++ field
 then_put front old new field put known = put ∙ ap (λ fields. fields ++ field) known
 
--- the same, if the field is given by an equation
+-- if the fields so far are known, they are known after one more field that is equal to a known one
 pub then_spelt : (front old new field spelling : List ℕ) → new ≡ old ++ field → field ≡ spelling → old ≡ front → new ≡ front ++ spelling
 then_spelt front old new field spelling put spelt known = then_put front old new field put known ∙ ap (λ xs. front ++ xs) spelt
 

@@ -81,7 +81,7 @@ module _ (root : Root) (entries : List PlacedEntry) (held : List HeldRow) (layou
       let claims = layout_of-claims root.sectors sectors (λ k d lt. (all_usable kept k d lt).1) in
       same-from_used (layout_of root.sectors sectors) layout sectors (length-map-range_with_len _ 0 root.sectors ∙ sym kept.size) claims kept.claimed.claims
 
-  -- The longest unused runs of the sectors in use are those of the kept layout.
+  -- The longest unused runs of the kept layout are those of the layout in which exactly the sectors in use are claimed.
   pub longest_is : sector_count (longest_runs (layout_of root.sectors (in_use root entries held))) ≡ sector_count (longest_runs layout)
   longest_is = ap sector_count (longest_runs-same (layout_of root.sectors (in_use root entries held)) layout same_layout)
 
