@@ -1,4 +1,4 @@
--- The effect of reading a byte string, by the effect of reading its sectors.
+-- The effect of reading a byte string, derived from the effect of reading its sectors.
 use Rattle.std.proofs.Common.{◌≡◌, ◌⊎◌, inl, inr, ⊎_elim, ℕ, ◌<◌, length, get_or, IsTrue, IsFalse, Result, Ok, Err, IfErr, IfOk, OnOk, refl, sym, ap, subst, ◌∙◌, arith}
 use Rattle.std.specs.Global.{Vec}
 use Rattle.std.specs.Int.{div_ceil}

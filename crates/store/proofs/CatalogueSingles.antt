@@ -24,7 +24,7 @@ distinct-drop n xs once i j d before lt same =
     once (n + i) (n + j) d (omega (arith, before)) (omega (arith, lt, length-drop n xs))
     (sym (get_or-drop n xs i d) ∙ same ∙ get_or-drop n xs j d)
 
--- the first part of a list fits into a catalogue
+-- the first part of a list of sectors fits into one catalogue
 pub part_fits : (catalogues : ℕ) (sectors : List ℕ) → 0 < catalogues → CanBeCatalogued catalogues sectors → SectorsFit (take 64 sectors)
 part_fits catalogues sectors some can = record {
   some = omega (arith, some, can.enough, length-take 64 sectors);

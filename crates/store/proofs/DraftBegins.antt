@@ -49,7 +49,7 @@ module _ {sectors : ℕ} (kept : Kept) (stored : IsStored sectors kept) where
         once = stored.0.root_fits.preloads.distinct;
       }
 
-  -- nothing is written yet, and there is room for the next change
+  -- when an update begins, nothing is written yet, and there is room for the next change
   pub standing_staged : IsStagedIn kept kept.entries.items
   standing_staged = record {
     standing = kept.layout;

@@ -159,7 +159,7 @@ module _ {sectors : ℕ} {kept : Kept} {draft : Draft} (is : IsDrafting sectors 
         costs_are entries is.list.fit,
       )
 
-  -- Catalogues are taken, and by them the next root lists the draft.
+  -- Catalogues are claimed, and the next root lists the draft's entries by these catalogues.
   module _ {mid : List Bool} {taken : List ℕ} {next : Root} (claimed : IsClaimedBeside kept.layout mid taken)
       (is_next : next ≡ next_root kept.root (length entries) taken draft.preloads.items) where
     listed : catalogues_of next ≡ taken
@@ -259,7 +259,7 @@ module _ {sectors : ℕ} {kept : Kept} {draft : Draft} (is : IsDrafting sectors 
       (singles_same taken kept.layout here (same-from_used kept.layout here (before ++ own)
       (claimed.size ∙ stands.size ∙ sym (length-map-range_with_len _ 0 kept.root.sectors)) (claimed.each before stands.claimed.claims) claims) of_layout)
 
-  -- The current state, on the disk that a draft is at.
+  -- A disk with the current state `s` and the draft's state `d`.
   module _ {D : Type 0} {facts : D → DiskFacts} {disk : D} {s d : State} (at : IsDraftedAt facts (drafting disk kept draft) s d) (holds : HoldsNow (facts disk)) where
     abbrev now : List Sector
     now = (facts disk).now

@@ -65,7 +65,7 @@ module _ {sectors : ℕ} {kept : Kept} {draft : Draft} (is : IsDrafting sectors 
   size : length kept.layout ≡ kept.root.sectors
   size = is.staged.claimed.size ∙ is.staged.stands.size
 
-  -- the entries of the current list are each in a sector of their own
+  -- each entry of the current list is in a sector of its own
   pub standing_once : AreDistinct (entry_sectors standing)
   standing_once = own_places standing (occurs_distinct (flat_map sectors_of standing)
       (λ k. omega (arith, distinct_occurs k (used kept.root standing) is.staged.stands.apart.once, occurs-append k (catalogues_of kept.root) (flat_map sectors_of standing))))
@@ -110,7 +110,7 @@ module _ {sectors : ℕ} {kept : Kept} {draft : Draft} (is : IsDrafting sectors 
     layout_claims = subst (λ l. ClaimsJust (layout_of kept.root.sectors (in_use kept.root standing kept.held ++ l)) all) (own_apart standing entries)
         (layout_of-claims kept.root.sectors all (λ k d lt. (all_inside k d lt).1))
 
-    -- The longest unused runs are those of the layout.
+    -- The longest unused runs of the kept layout are those of the draft's layout.
     pub longest_is : longest_in kept ≡ longest_drafted here
     longest_is = ap sector_count (longest_runs-same kept.layout (layout_drafted here) (same-from_used kept.layout (layout_drafted here) all layout_size all_claims layout_claims))
 

@@ -23,7 +23,7 @@ same_at entries once i j d less lt same =
 pub rest_once : (x : PlacedEntry) (entries : List PlacedEntry) → AreDistinct (entry_sectors (x ∷ entries)) → AreDistinct (entry_sectors entries)
 rest_once x entries once i j d less lt = once (suc i) (suc j) d (omega (arith, less)) (omega (arith, lt))
 
--- none of the other entries is in the sector of the first
+-- if the entries' sectors are distinct, no later entry is in the sector of the first
 pub first_apart : (x : PlacedEntry) (entries : List PlacedEntry) → AreDistinct (entry_sectors (x ∷ entries)) → All (λ p. x.at ≢ p.at) entries
 first_apart x entries once i d lt same = same_at (x ∷ entries) once 0 (suc i) d (omega arith) (omega (arith, lt)) same
 

@@ -34,7 +34,7 @@ keeps_both first second = record {
   held = second.held ∙ first.held;
 }
 
--- The current list is kept, and the draft is another one.
+-- The current list is kept, and the draft is replaced by another one.
 module _ {sectors more : ℕ} {kept after : Kept} {old new : Draft} (is : IsDrafting sectors kept old) (same : KeepsList kept after) (size : more ≡ sectors) where
   pub redrafted : IsStagedIn after new.entries.items → IsDraftList kept.entries.items new.entries.items → IsIndex new.entries.items new.index
       → new.sectors.items ≡ entry_sectors new.entries.items → ArePreloads (length new.entries.items) new.preloads.items

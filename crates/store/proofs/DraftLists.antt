@@ -35,7 +35,7 @@ pairs_places entries pairs i j d less lt same =
     let before : i < length entries = omega (arith, less, fits) in
     pairs i j no_entry less fits (sym (get_or-map at entries i no_entry d before) ∙ same ∙ get_or-map at entries j no_entry d fits)
 
--- An entry in a sector that isn't in use isn't in the list.
+-- The current list has no entry in a sector that isn't in use.
 pub unlisted : (root : Root) (standing : List PlacedEntry) (put : PlacedEntry) → (Contains (used root standing) put.at → ⊥) → lists standing put ≡ false
 unlisted root standing put unused = list_any_none (λ (other : PlacedEntry). nat_eq other.at put.at) standing
     (λ i d lt. ne_eqb (get_or standing i d).at put.at (λ same. unused (subst (Contains (used root standing)) same (own_used root standing i d lt))))

@@ -62,7 +62,7 @@ module _ {kept : Kept} {entries : List PlacedEntry} (staged : IsStagedIn kept en
   pub left_held : AreClaimedOnce kept.layout (own_in kept.entries.items placed)
   left_held = restaged_held leaving
 
-  -- Once these sectors are free, there is as much room as before.
+  -- Once the entry's sectors are freed, the remaining entries are staged, and there is as much room as before.
   pub left_staged : {after : Kept} → KeepsList kept after → IsReleased kept.layout after.layout (own_in kept.entries.items placed) → IsStagedIn after (remove entries gone)
   left_staged same released = restaged leaving released same refl (
       let fewer = length-remove entries gone lt in
@@ -71,7 +71,7 @@ module _ {kept : Kept} {entries : List PlacedEntry} (staged : IsStagedIn kept en
       let less : catalogues_for (length (remove entries gone)) ≤ catalogues_for (length entries) = omega (arith, fewer, now.0, now.1, before.0, before.1) in
       omega (arith, less, staged.room))
 
--- Bytes got room.
+-- Room was taken for bytes beside the draft.
 module _ {sectors : ℕ} {kept : Kept} {draft : Draft} {mid : List Bool} {name bytes : List ℕ} {spare : ℕ} {put : PlacedEntry}
     (is : IsDrafting sectors kept draft) (taken : IsPutTaken kept.layout mid name bytes 0 spare put []) where
   abbrev entries : List PlacedEntry

@@ -52,7 +52,7 @@ module _ {D : Type 0} (facts : D → DiskFacts) {u : Drafted D} {s d : State} (a
   pub preloads_drafted : d.preloads ≡ names_at d.libraries u.preloads
   preloads_drafted = ap (λ t. t.preloads) at.is ∙ ap (λ l. names_at l u.preloads) (sym libraries_are)
 
-  -- an answer to a search for a name that is right for the draft's entries is right for the draft's state
+  -- if the answer to a search for a name is right for the draft's entries, it is right for the draft's state
   pub position_drafted : (name : List ℕ) (result : Option ℕ) → HaveOwnNames u.entries → (IsNone result → IsNewToDraft u name)
       → IfSome result (λ i. (i < length u.entries) × ((p : PlacedEntry) → name_of (get_or u.entries i p).entry ≡ name))
       → (i : ℕ) → (result ≡ Some i) ↔ ((i < length d.libraries) × ((get_or d.libraries i no_library).name ≡ name))

@@ -1,5 +1,4 @@
--- What is claimed in a layout beside the current state, after a line of an update took sectors and freed
--- others.
+-- The sectors that are claimed beside the current state, after a line of an update took sectors and freed others.
 use Rattle.std.proofs.Common.{◌≡◌, ⊎_elim, ℕ, ◌+◌, ◌<◌, ◌≤◌, Bool, List, [], ◌∷◌, ◌++◌, length, get_or, set, sum_by, All, sym, ap, subst, ◌∙◌, arith}
 use Rattle.std.specs.List.{remove}
 use Rattle.std.proofs.lemmas.List.{length-append}

@@ -1,4 +1,4 @@
--- The state of a draft that a line changed, by what reads return.
+-- The state of a draft after a line of the update, derived from what reads return.
 use Rattle.std.proofs.Common.{◌≡◌, ◌≢◌, ⊎_elim, ℕ, suc, ◌<◌, List, [], ◌∷◌, ◌++◌, length, get_or, map, set, All, refl, sym, ap, subst, ◌∙◌, arith}
 use Rattle.std.specs.Prelude.{Contains}
 use Rattle.std.specs.List.{flat_map, remove}

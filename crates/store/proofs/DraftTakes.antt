@@ -57,7 +57,7 @@ module _ {kept : Kept} {name bytes : List ℕ} {spare : ℕ} {Refuses : StoreRef
     early = tt;
   }
 
--- The first refusal of bytes in a draft, by the result of taking room.
+-- The first refusal of bytes in a draft, as determined by the result of taking room.
 module _ {kept : Kept} {libraries sectors : ℕ} {d : State} (counted : IsDraftCounted kept libraries sectors d) (bytes : List ℕ) (usable : kept.root.generation ≢ last_generation) where
   going_on : d.generation ≢ last_generation
   going_on last = usable (sym counted.generation ∙ last)

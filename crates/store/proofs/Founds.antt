@@ -1,4 +1,4 @@
--- What is found on a disk, by what was read of its entries.
+-- The contents that are found on a disk, derived from the entries that were read.
 use Rattle.std.proofs.Common.{◌≡◌, ◌⊎◌, inl, inr, ⊎_elim, IsTrue, ℕ, ◌+◌, ◌-◌, ◌<◌, List, length, All, Result, Ok, Err, IfOk, IfErr, OnOk, sym, ap, subst, ◌∙◌, arith}
 use Rattle.std.specs.Global.{Vec}
 use Rattle.std.proofs.lemmas.List.{length-map}
@@ -53,7 +53,7 @@ pub none_found : {old new : DiskFacts} (calls : ℕ) (e : StoreRefusal) → AreC
     → (e ≡ Device → old.failures < new.failures) → IsFoundAfter calls old new (Err e)
 none_found calls e most device = record { calls = most; all_calls = tt; kept = tt; device = device }
 
--- What was found on any disk, by what is kept of a root and its entries.
+-- The contents that were found on any disk, with this root and these entries.
 module _ (root : Root) (entries : List PlacedEntry) where
   pub found_after : {old new : DiskFacts} (P : Type 0) (r : Result Found StoreRefusal)
       → IfOk r (λ found. IsFound found.root found.entries.items found.sectors.items found.index found.layout)

@@ -1,4 +1,4 @@
--- How many sectors a state leaves free, and what follows for the refusals of a put and of an upgrade.
+-- The number of sectors that a state leaves free, and the resulting refusals of a put and of an upgrade.
 use Rattle.std.proofs.Common.{◌≡◌, ◌≢◌, inl, ⊎_elim, ℕ, suc, ◌+◌, ◌-◌, ◌*◌, ◌<◌, ◌≤◌, Bool, true, false, nat_lt, nat_eq, List, [], ◌∷◌, length, map}
 use Rattle.std.proofs.Common.{sum_by, All, IsTrue, Option, Some, None, Result, Ok, Err, OnErr, ◌↔◌, refl, sym, ap, subst, ◌∙◌, arith}
 use Rattle.std.specs.Prelude.{Contains, nat_le, if◌then◌else◌}
@@ -116,11 +116,11 @@ pub if_yes : {A : Type 0} (b : Bool) (x y : A) → (b ≡ false → ⊥) → (if
 if_yes true x y isnt = refl
 if_yes false x y isnt = absurd (isnt refl)
 
--- the first refusal of bytes beside which `more` sectors are taken
+-- the first refusal of a put of bytes for which `more` additional sectors are taken
 abbrev pub refusal_of_bytes : (sectors longest more : ℕ) → State → List ℕ → Option StoreRefusal
 refusal_of_bytes sectors longest more s bytes = first_refusal (put_tests (room_at sectors longest s) more (length bytes))
 
--- The first refusal, by the numbers that decide it.
+-- The first refusal, as determined by the numbers of the state.
 module _ (sectors longest more : ℕ) (s : State) (bytes : List ℕ) (usable : s.generation ≢ last_generation) where
   abbrev needed : ℕ
   needed = cost (length bytes) + more
@@ -152,7 +152,7 @@ module _ (sectors longest more : ℕ) (s : State) (bytes : List ℕ) (usable : s
 pub ok_or_err : {T E : Type 0} {x : T} {e : E} → ◌≡◌ {A = Result T E} (Ok x) (Err e) → ⊥
 ok_or_err is = subst (λ r. OnErr r ⊥) is tt
 
--- a refusal to take sectors is the first refusal of these bytes
+-- A refusal to take sectors is the first refusal of these bytes.
 module _ {T : Type 0} (sectors longest more : ℕ) (s : State) (bytes : List ℕ) (usable : s.generation ≢ last_generation) where
   pub bytes_refused : (e : TakeRefusal) → (◌≡◌ {A = Result T TakeRefusal} (Err e) (Err take.Full) ↔ (free sectors s < cost (length bytes) + more))
       → (◌≡◌ {A = Result T TakeRefusal} (Err e) (Err take.Fragmented) ↔ ((cost (length bytes) + more ≤ free sectors s) × (longest < cost (length bytes) - 1)))
@@ -225,12 +225,14 @@ module _ {D : Type 0} (facts : D → DiskFacts) (holds : (disk : D) → IsTrue (
           longest = longest_is view.root view.entries view.held layout kept;
         }
 
--- What the result of taking room says about a layout, if bytes need `sectors` sectors and `all` are needed in all.
+-- The result of taking room is right for a layout, if bytes need `sectors` sectors and `all` sectors are needed
+-- together.
 pub record Takes {T : Type 0} (layout : List Bool) (sectors all : ℕ) (result : Result T TakeRefusal) : Type 0 where
   pub full : (result ≡ Err take.Full) ↔ (unused_count layout < all)
   pub fragmented : (result ≡ Err take.Fragmented) ↔ ((all ≤ unused_count layout) × (sector_count (longest_runs layout) < sectors))
 
--- The first refusal of bytes that replace others or are put after the others, by the result of taking room.
+-- The first refusal of bytes that replace others or are put after the others, as determined by the result of taking
+-- room.
 module _ {root : Root} {entries : List PlacedEntry} {held : List HeldRow} {layout : List Bool} {s : State}
     (counted : IsCounted root entries held layout s) (bytes : List ℕ) (usable : root.generation ≢ last_generation) where
   abbrev all_sectors : ℕ

@@ -172,7 +172,7 @@ module _ (entries : List PlacedEntry) (place : ℕ) (lt : place < length entries
         );
   }
 
--- The rows are sound too if one more entry comes after the others.
+-- If the rows are sound, they are still sound after one more entry is put after the others.
 pub rows_more : {entries : List PlacedEntry} {held : List HeldRow} (put : PlacedEntry) → AreHeldRows entries held → AreHeldRows (entries ++ put ∷ []) held
 rows_more {entries = entries} put rows = record {
   each = λ k d lt. let row = rows.each k d lt in record {

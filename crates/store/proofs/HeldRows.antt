@@ -1,4 +1,4 @@
--- The rows of held byte strings: what each change of them keeps.
+-- The rows of held byte strings, and the facts that each change of the rows keeps.
 use Rattle.std.proofs.Common.{◌≡◌, ◌≢◌, ⊎_elim, ℕ, zero, suc, ◌+◌, ◌<◌, ◌==◌, nat_eq, Bool, true, false, if◌then◌else◌, sum_by, List, []}
 use Rattle.std.proofs.Common.{◌∷◌, ◌++◌, length, get_or, set, take, drop, refl, sym, ap, subst, ◌∙◌, arith}
 use Rattle.std.specs.Prelude.{Contains}
@@ -146,7 +146,7 @@ lone_once {old = old} {placed = placed} once =
     let behind = drop once.place old in
     ap lone_sectors once.is ∙ flat_map-append own_sectors before (first_row placed ∷ behind) ∙ sym (flat_map-append own_sectors before behind) ∙ ap lone_sectors (take-append-drop once.place old)
 
--- The number of holders doesn't change the sectors that they keep.
+-- A change of the number of holders doesn't change the sectors that they keep.
 lone_counted : {old : List HeldRow} {sector place : ℕ} {hold : HeldRow} (holders : ℕ) → IsAtPlace old sector place hold
     → lone_sectors (set old place (with_holders holders hold)) ≡ lone_sectors old
 lone_counted {old = old} {place = place} {hold = hold} holders at = flat_map-set_same own_sectors old place (with_holders holders hold) no_row (ap own_sectors (sym (at.is no_row)))
@@ -157,7 +157,7 @@ lone_more more = ap lone_sectors more.is ∙ lone_counted (more.hold.holders + 1
 pub lone_less : {old new : List HeldRow} {sector : ℕ} → IsHeldLess old new sector → lone_sectors new ≡ lone_sectors old
 lone_less less = ap lone_sectors less.is ∙ lone_counted less.holders less.at
 
--- A count of sectors, one by one.
+-- A function `f` that counts sectors, and is 0 for no sectors.
 module _ (f : List ℕ → ℕ) (none : f [] ≡ 0) (adds : (held : List HeldRow) → f (lone_sectors held) ≡ sum_by (λ hold. f (own_sectors hold)) held) where
   left_adds : {old new : List HeldRow} {sector : ℕ} (left : IsLeft old new sector) → left.hold.listed ≡ true → f (lone_sectors new) ≡ f (lone_sectors old) + f (sectors_of left.hold.placed)
   left_adds {old = old} {new = new} left listed =
@@ -182,7 +182,7 @@ pub left_length : {old new : List HeldRow} {sector : ℕ} (left : IsLeft old new
     → length (lone_sectors new) ≡ length (lone_sectors old) + length (sectors_of left.hold.placed)
 left_length left listed = left_adds length refl (length-flat_map own_sectors) left listed
 
--- When the last holder releases an unlisted byte string, its sectors are kept no longer.
+-- When the last holder releases an unlisted byte string, its sectors are no longer kept.
 pub gone_occurs : {old new : List HeldRow} {sector : ℕ} {hold : HeldRow} → IsLetGo old new sector hold → hold.listed ≡ false → (k : ℕ)
     → occurs k (lone_sectors new) + occurs k (sectors_of hold.placed) ≡ occurs k (lone_sectors old)
 gone_occurs gone listed k = gone_takes (occurs k) refl (occurs-flat_map k own_sectors) gone listed
@@ -199,7 +199,7 @@ gone_listed_occurs gone listed k = gone_leaves (occurs k) refl (occurs-flat_map 
 pub gone_listed_length : {old new : List HeldRow} {sector : ℕ} {hold : HeldRow} → IsLetGo old new sector hold → hold.listed ≡ true → length (lone_sectors new) ≡ length (lone_sectors old)
 gone_listed_length gone listed = gone_leaves length refl (length-flat_map own_sectors) gone listed
 
--- the number of holders of the byte string with this entry sector, by one row
+-- the number of holders that a row counts for the byte string with this entry sector
 abbrev holders_at : ℕ → HeldRow → ℕ
 holders_at sector hold = if hold.placed.at == sector then hold.holders else 0
 
@@ -341,7 +341,7 @@ by_gone_other {old = old} {sector = sector} {at = at} {p = p} {hold = hold} gone
       its = by.its;
     })
 
--- After a row is gone, no row has its sector.
+-- After the row of a sector is removed, no row has this sector.
 pub gone_unheld : {old new : List HeldRow} {at : ℕ} {hold : HeldRow} → HaveOwnRows old → IsLetGo old new at hold → IsUnheld new at
 gone_unheld {old = old} {at = at} own gone =
     let sector = λ (h : HeldRow). h.placed.at in

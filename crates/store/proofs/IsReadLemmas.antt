@@ -36,7 +36,7 @@ module _ {version : Version} {D : Type 0} {facts : D → DiskFacts} where
     calls = (reads.calls no_entry).some;
   }
 
-  -- if the store was only read, twice in a row, it was only read by both together
+  -- reads of a store, followed by other reads, only read the store
   pub read_more : {start mid new : Opened D} → IsReadBy version facts start mid → IsReadBy version facts mid new → IsReadBy version facts start new
   read_more {start = start} {mid = mid} first second = record {
     leaves = λ is.

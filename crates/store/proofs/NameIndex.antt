@@ -90,7 +90,7 @@ partitioned names positions name order i j d le lt before = ⊎_elim
     ap (λ k. is_lt (order_to names name (get_or positions k d))) is ∙ before)
     (cases_lt i j)
 
--- the place of the name is where the binary search ends
+-- the binary search ends at the place of the name
 pub place_from : (names : List (List ℕ)) (positions name : List ℕ) (place : ℕ) → place ≤ length positions
     → IsPartitionPoint (λ position. is_lt (order_to names name position) ≡ true) (λ position. is_lt (order_to names name position) ≡ false) positions place
     → IsPlace names positions name place

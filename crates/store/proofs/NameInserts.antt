@@ -32,7 +32,7 @@ module _ (names : List (List ℕ)) (name : List ℕ) where
       ap (λ n. slice_cmp nat_cmp n (name_at (names ++ name ∷ []) b)) (named-before a first)
       ∙ ap (slice_cmp nat_cmp (name_at names a)) (named-before b second) ∙ less
 
-  -- a position whose name comes before the new one comes before the new position
+  -- if the name at a position comes before the new name, the position comes before the new one in the order
   before-new : (p : ℕ) → p < length names → order_to names name p ≡ Less → name_order (names ++ name ∷ []) p (length names) ≡ Less
   before-new p lt less =
       ap (λ n. slice_cmp nat_cmp n (name_at (names ++ name ∷ []) (length names))) (named-before p lt)

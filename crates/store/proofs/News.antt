@@ -57,7 +57,7 @@ pub record IsNew (root : Root) (entries : List PlacedEntry) (held : List HeldRow
   pub room : cost put.entry.file_length + length catalogues + (length catalogues - length (catalogues_of root)) ≤ unused_count old
   pub is_next : next ≡ next_root root (length entries + 1) catalogues (listed_preloads root)
 
--- if room was taken, at least that much was free
+-- if room was taken, at least `needed` sectors were free
 pub free_room : {T : Type 0} {x : T} {free needed : ℕ} → (◌≡◌ {A = Result T TakeRefusal} (Ok x) (Err take.Full) ↔ (free < needed)) → needed ≤ free
 free_room {free = free} {needed = needed} full = ⊎_elim (λ few. absurd (ok_or_err (full.1 few))) (λ enough. enough) (cases_lt free needed)
 

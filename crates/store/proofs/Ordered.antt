@@ -83,7 +83,7 @@ module _ (xs ys : List ℕ) (alike : OccurAlike xs ys) where
           (λ behind. Contains-append_right front xs s (back s behind))
           (Contains-append_cases front ys s found)
 
--- Claims of extents, by the sectors that they have.
+-- Claims of extents, stated for their sectors.
 module _ (old : List Bool) (extents : List Extent) (sectors : List ℕ) (of : AreExtentsOf extents sectors) where
   there : OccurAlike (places extents) sectors
   there k = sym (alike-moved of.0 extents of.2 k) ∙ ap (occurs k) of.1

@@ -53,7 +53,7 @@ module _ (layout in_layout : List Bool) (used : List ℕ) (size : length layout 
   pub same_claims : ClaimsSame layout in_layout
   same_claims = same-from_used layout in_layout used size kept claims
 
-  -- the layouts are the same once these extents are taken
+  -- both layouts have the same claimed sectors once these extents are taken
   same_taken : (extents : List Extent) → All (IsInside layout) extents → ClaimsSame (with_flags true extents layout) (with_flags true extents in_layout)
   same_taken extents inside =
       let there : All (IsInside in_layout) extents = λ k d lt. let i = inside k d lt in (i.0, i.1, omega (arith, i.2, size)) in

@@ -87,7 +87,8 @@ module _ {root : Root} {entries : List PlacedEntry} {held left : List HeldRow} {
       (given_rows is.kept position within up (edited (edit.Out position) entries) (still_removed entries position within))
       (given_claimed is.kept position within up is.claimed change.root (edited (edit.Out position) entries) is.moved)
 
-  -- Held byte strings stay as they were, on a disk of which only the staged sectors and the roots were changed.
+  -- Held byte strings keep their holders and their bytes on a disk of which only the staged sectors and the roots were
+  -- changed.
   pub settled_keeps : (its : Edit) → IsPrepared root entries held layout (record { change = change; edit = its }) → IsWithin its (length entries) → IsSettled its root entries held left layout new → {before after : DiskFacts}
       → (IsTrue before.honest → (m : List Sector) → Mixture after m → IsMixtureBut (IsRootOr (staged_sectors change.staged)) before m) → KeepsHolders before after held left
   settled_keeps edit.Nothing is within settled {before = before} {after = after} others =
@@ -169,9 +170,9 @@ answered_exactly first (Ok done) accepted device = accepted
 answered_exactly None (Err e) accepted device = device
 answered_exactly (Some refusal) (Err e) accepted device = absurd accepted
 
--- What a store does whose change is prepared, or is refused before the first write.
+-- A store whose change is prepared, or is refused before the first write.
 module _ {D : Type 0} (facts : D → DiskFacts) {store : Opened D} {disk : D} {kept mid : Kept} (is : opened disk kept ≡ store) (same : ShowsSame kept mid) where
-  -- contracts see what they saw before
+  -- contracts see the same store as before preparing
   pub seen : opened disk mid ≡ store
   seen = (λ i. record { disk = disk; root = same.root i; entries = same.entries i; held = same.held i; failed = same.failed i }) ∙ is
 
@@ -194,7 +195,7 @@ module _ {D : Type 0} (facts : D → DiskFacts) {store : Opened D} {disk : D} {k
   pub made_held : {after : D} {left : List HeldRow} → KeepsHolders (facts disk) (facts after) mid.held left → KeepsHolders (facts store.disk) (facts after) store.held left
   made_held {after = after} {left = left} keeps = subst (λ o. KeepsHolders (facts o.disk) (facts after) o.held left) seen keeps
 
-  -- bytes were put
+  -- Bytes were put.
   module _ {prepared : Prepared} {how : PlacedEntry → Edit} {libraries : ℕ} {bytes : List ℕ} (puts : Puts kept prepared how libraries bytes) {new : Kept} (made : IsMade mid new prepared) where
     pub put_taken : IsTaken (layout_in_use store) (div_ceil (length bytes) sector_bytes) (extents_of puts.put.entry) puts.put.at (catalogues_of new.root)
     put_taken = subst (λ o. IsTaken (layout_in_use o) (div_ceil (length bytes) sector_bytes) (extents_of puts.put.entry) puts.put.at (catalogues_of new.root)) is
@@ -232,7 +233,7 @@ module _ {D : Type 0} (facts : D → DiskFacts) {store : Opened D} {disk : D} {k
           calls = still facts seen;
         }
 
-    -- the change is made, or a write or a sync failed
+    -- a change that is made, or that fails with a write or a sync, is a change of what contracts see
     pub made_changed : {new : Opened D} {n most : ℕ} (result : Result (Unit {0}) StoreRefusal) → Changed facts Device Reopen (opened disk mid) new n (λ e. e ≡ Device) result
         → n ≡ most → Refuses Device → Changed facts Device Reopen store new most Refuses result
     made_changed {new = new} {n = n} {most = most} result changed all may =

@@ -106,7 +106,7 @@ module _ {root : Root} {entries : List PlacedEntry} {held : List HeldRow} {layou
   abbrev left : List PlacedEntry
   left = remove entries gone
 
-  -- the number of entries that are left
+  -- one entry fewer is left
   pub count_left : length entries - 1 ≡ length left
   count_left = omega (arith, length-remove entries gone fits)
 

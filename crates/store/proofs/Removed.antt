@@ -27,7 +27,7 @@ closed-below gone p lt = grind (arith, nat_tests, lt)
 pub closed-above : (gone p : ℕ) → gone < p → closed_up gone p ≡ p - 1
 closed-above gone p lt = grind (arith, nat_tests, lt)
 
--- positions other than the removed one stay below the length, and different
+-- positions other than the removed one are below the new length, and they still differ
 pub closed_inside : (gone n p : ℕ) → p ≢ gone → p < n + 1 → gone < n + 1 → closed_up gone p < n
 closed_inside gone n p other lt fits = ⊎_elim
     (λ less. omega (arith, closed-below gone p less, less, fits))

@@ -116,7 +116,7 @@ impl<D: Disk> Update<D> {
         ensures ok { (s d : State) → IsDraftedAt D.facts self s d → OnOk result.0
             (IsAt D.facts result.1 (committed self.touched s d)) }
 
-        // Byte strings that somebody holds stay as they were.
+        // Byte strings that somebody holds keep their holders and their bytes.
         ensures held { KeepsHeld D.facts self.store result.1 }
 
         // This holds on any disk. After a failed call of the disk, the store has to be opened

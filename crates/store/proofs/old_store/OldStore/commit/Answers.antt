@@ -88,7 +88,7 @@ carry_out-requires-clause-room g c =
           (omega (arith, is.kept.root_fits.sectors)) is.enough next.few next.apart),
     )
 
--- a stop leaves the state before or the state after
+-- a stop leaves the state before the commit or the state after it
 leaves : (g : given.Over) (c : After-carry_out g) (s : State)
     → IsFollowed One c.self.inside.found.root c.self.inside.found.entries.items s (g.D.Disk.facts c.self.inside.disk).now [] (record { staged = Catalogues c.take_catalogues-taken.result; root = c.next_root-root.result })
     [] c.deref.result.now c.self.inside.found.entries.items (upgraded s)

@@ -31,7 +31,7 @@ same_draft g c = record { entries = c.take_new.ensures.entries; preloads = ap (�
 keeps : (g : given.Over) (c : After-write_draft g) → KeepsList c.self.inside.kept c.write_draft.new.self
 keeps g c = keeps_both (layout_keeps c.self.inside.kept c.take_new.new.self c.in_ok-put.ensures.takes.kept) c.write_draft.ensures.kept
 
--- the entry comes after the others
+-- the new entry is the last of the draft's entries
 behind : (g : given.Over) (c : After-edit g) → c.edit.new.self.entries.items ≡ c.self.inside.draft.entries.items ++ c.in_ok-put.put ∷ []
 behind g c = c.edit.ensures.entries ∙ ap (λ l. l ++ c.in_ok-put.put ∷ []) c.take_new.ensures.entries
 
