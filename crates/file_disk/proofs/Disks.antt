@@ -232,7 +232,7 @@ module _ {F : Type 0} {g : Ghosts F} where
       );
     }
 
-    -- whatever the medium has meanwhile, a stop of the disk may leave
+    -- a stop of the disk may leave everything that the medium has during the call
     pub covered : IsTrue g.is_honest → StaysWithin (Leaves old.buffered) (facts_below old) (g.facts b.file) → (u : ℕ) (m : List Sector)
         → (facts_below old).time ≤ u → u ≤ (g.facts b.file).time → MediumAt (g.facts b.file) u m → LeftSince (facts_of b files calls latest since past) (file_facts old).time m
     covered honest within u m low high medium = (

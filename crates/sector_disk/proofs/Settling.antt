@@ -76,7 +76,8 @@ module _ (sectors : List Sector) (numbers : List ℕ) (w : Written) (writes : Li
       (λ other. omega (arith, le, less_there k other, ap length (written_to_other k w writes other)))
       (cases_eq w.at k)
 
--- if each number is the number of writes to its sector, this also holds for the writes after the first one, once its sector's number has counted down
+-- if each number is the number of writes to its sector, the same is true of the writes after the first one, once 1 is
+-- subtracted at the first write's sector
 pub counted_less : (counts : List ℕ) (w : Written) (writes : List Written) → w.at < length counts → (k : ℕ) → get_or counts k 0 ≡ length (written_to k (w ∷ writes))
     → get_or (set counts w.at (get_or counts w.at 0 - 1)) k 0 ≡ length (written_to k writes)
 counted_less counts w writes inside k counted =

@@ -75,7 +75,7 @@ pub record HasWholeSectors (disk : DiskFacts) : Type 0 where
 pub record IsSynced (disk : DiskFacts) : Type 0 where
   pub each : (m : List Sector) → Mixture disk m → m ≡ disk.now
 
--- at each moment of `old`, the sets of the sectors stay as they were, and so does the mark
+-- at each moment of `old`, the sets of the sectors and the mark are the same in `new`
 pub record KeepsPast (old new : DiskFacts) : Type 0 where
   pub sectors : new.sectors ≡ old.sectors
   pub later : old.time ≤ new.time
