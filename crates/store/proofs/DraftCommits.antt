@@ -120,8 +120,8 @@ module _ {sectors : ℕ} {kept : Kept} {draft : Draft} (is : IsDrafting sectors 
   standing_once = own_places standing (occurs_distinct (flat_map sectors_of standing)
       (λ k. omega (arith, distinct_occurs k (used kept.root standing) stands.apart.once, occurs-append k (catalogues_of kept.root) (flat_map sectors_of standing))))
 
-  -- The sectors of the draft's entries and those that the commit gives up are, together, those of the current entries
-  -- and those that the update wrote.
+  -- The draft's entries and the sectors that the commit gives up have together the same sectors as the current entries
+  -- and what the update wrote.
   both : (h : List ℕ → ℕ) → h [] ≡ 0
       → sum_by (λ p. h (sectors_of p)) entries + sum_by (λ p. h (own_in entries p)) standing ≡ sum_by (λ p. h (sectors_of p)) standing + sum_by (λ p. h (own_in standing p)) entries
   both h none = swapped h none entries standing is.list.once standing_once is.list.each
@@ -134,8 +134,8 @@ module _ {sectors : ℕ} {kept : Kept} {draft : Draft} (is : IsDrafting sectors 
   pub commit_enough : catalogues_for (length entries) ≤ unused_count kept.layout
   commit_enough = omega (arith, is.staged.room)
 
-  -- These sectors are all sectors of the disk: the roots, the catalogues, those of the draft's entries, those that the
-  -- commit gives up, those that only holders use, and the unused ones.
+  -- The disk consists of the roots, the catalogues, the sectors of the draft's entries, the sectors that the commit
+  -- gives up, the sectors that only holders use, and the unused ones.
   pub commit_counted : root_sectors + length (catalogues_of kept.root) + entries_cost entries + length gone + length (lone_sectors kept.held) + unused_count kept.layout ≡ kept.root.sectors
   commit_counted =
       let before = in_use kept.root standing kept.held in

@@ -48,7 +48,7 @@ entry_name entries i d lt = get_or-map (λ (placed : PlacedEntry). name_of place
 pub entry_count : (entries : List PlacedEntry) → length (entry_names entries) ≡ length entries
 entry_count entries = length-map entries (λ (placed : PlacedEntry). name_of placed.entry)
 
--- entries whose names have an order have different names
+-- if the entries' names have an order, the entries have different names
 pub own_from_order : (entries : List PlacedEntry) (positions : List ℕ) → IsOrderOf (entry_names entries) positions → HaveOwnNames entries
 own_from_order entries positions order i j d less lt same =
     let n = entry_count entries in

@@ -1,4 +1,4 @@
--- The sectors of an entry, by what is known of all used sectors.
+-- The sectors of an entry, derived from the facts about all used sectors.
 use Rattle.std.proofs.Common.{ℕ, ◌+◌, ◌-◌, ◌<◌, ◌≤◌, List, [], ◌∷◌, length, get_or, All, arith}
 use Rattle.std.specs.Prelude.{Contains}
 use Rattle.std.proofs.lemmas.List.Elements.{All-contains, Contains-append_right}

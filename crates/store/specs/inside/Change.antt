@@ -85,8 +85,8 @@ pub record IsFollowed (version : Version) (root : Root) (entries : List PlacedEn
   pub stands : (m : List Sector) → StandsBy version m root entries s → IsStaged m change.staged bytes listed → AreWritten now written m
       → StandsBy Two (set m (slot_of change.root.generation) (root_bytes change.root)) change.root others s'
 
--- A state with its root and entries, what was written beside it since, and the state that a change
--- makes of it, with the entries of that state.
+-- A state with its root and its entries, the entries that were written beside it since, and the state after a change,
+-- with that state's entries.
 pub record Transition : Type 0 where
   pub version : Version
   pub root : Root

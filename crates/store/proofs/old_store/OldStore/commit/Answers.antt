@@ -40,7 +40,7 @@ use Rattle.store.proofs.old_store.OldStore.commit.Given as given
 use Rattle.store.proofs.old_store.OldStore.commit.Goals.{After-free_count, After-next_root-root, After-carry_out, After-beside}
 use Rattle.store.proofs.old_store.OldStore.commit.Goals as goal
 
--- the next root lists the same entries, by the catalogues that were taken
+-- the next root lists the same entries by the catalogues that were claimed
 relisted : (g : given.Over) (c : After-next_root-root g)
     → IsRelist c.self.inside.found.root c.self.inside.found.entries.items [] c.self.inside.found.layout c.take_catalogues-taken.new.layout
     c.take_catalogues-taken.result c.next_root-root.result
