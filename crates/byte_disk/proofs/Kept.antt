@@ -1,4 +1,4 @@
--- A call of a disk over given bytes: what it keeps of the past, and what it adds to what may be left.
+-- The effect of a call of a disk over given bytes, on the past and on the contents that a stop may leave.
 use Rattle.std.proofs.Common.{◌≡◌, ◌↔◌, ◌⊎◌, inl, inr, ⊎_elim, ℕ, ◌+◌, ◌-◌, ◌<◌, ◌≤◌, List, [], ◌∷◌, ◌++◌, length, map, set, take, drop, All, Result, Ok, Err, refl, sym, ◌∙◌, ap, subst, arith}
 use Rattle.std.proofs.lemmas.Bool.{cases_lt, cases_eq, lt-ltb, le-ltb}
 use Rattle.std.proofs.lemmas.List.{length-map, length_push, map_push, take_all, take_at, drop_at, take-append-le, drop-append-le, get_or-set_same, get_or-set_other}

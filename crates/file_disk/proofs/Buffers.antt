@@ -31,7 +31,7 @@ pub cases_option : {X : Type 0} (o : Option X) → (o ≡ None) ⊎ ((x : X) × 
 cases_option None = inl refl
 cases_option (Some x) = inr (x, refl)
 
--- adjacent sectors, described by the number of one of them
+-- if sector k is one of these adjacent sectors and has the content c, c is at the position of k among them
 row_at : (start count k : ℕ) (contents : List Sector) (c : Sector)
     → ◌≡◌ {A = Option Sector} (if nat_le start k && nat_lt (k - start) count then Some (sector contents (k - start)) else None) (Some c)
     → (start ≤ k) × (k - start < count) × (c ≡ sector contents (k - start))

@@ -1,4 +1,4 @@
--- A call of a disk over an honest file: what it keeps of the past, and what it leaves.
+-- The effect of a call of a disk over an honest file, on the past and on the contents that a stop may leave.
 use Rattle.std.proofs.Common.{◌≡◌, ◌≢◌, ◌<◌, ◌≤◌, ◌+◌, ◌⊎◌, inl, inr, ⊎_elim, ℕ, Bool, List, [], ◌∷◌, ◌++◌, length, map, get_or, set, true, false, refl, sym, ◌∙◌, ap, subst, arith, Option, Some, None, IsSome, IsTrue}
 use Rattle.std.proofs.Math.Logic.{∥∥₁_elim, ∥∥₁_prop}
 use Rattle.std.proofs.Props.{props}

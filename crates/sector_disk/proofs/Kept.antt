@@ -1,4 +1,4 @@
--- A call of a disk in memory: what it keeps of the past, and what it adds to the choices.
+-- The effect of a call of a disk in memory, on the past and on the choices of a stop.
 use Rattle.std.proofs.Common.{◌≡◌, inl, inr, ⊎_elim, ◌⊎◌, ℕ, ◌+◌, ◌%◌, ◌<◌, ◌≤◌, List, [], ◌∷◌, ◌++◌, length, get_or, set, take, drop, map, eqb, All, false, refl, sym, ◌∙◌, ap, subst, arith}
 use Rattle.std.proofs.lemmas.Bool.{cases_lt, cases_eq}
 use Rattle.std.proofs.lemmas.List.{length-append, get_or_append_left, get_or_default, get_or_past, get_or_push, get_or-set_same, get_or-set_other}

@@ -1,4 +1,4 @@
--- What calls keep of held byte strings.
+-- The facts about held byte strings that calls keep.
 use Rattle.std.proofs.Common.{◌≡◌, ⊎_elim, ℕ, Bool, List, [], ◌∷◌, length, get_or, take, IsTrue, refl, sym, ap, subst, ◌∙◌, arith}
 use Rattle.std.specs.Prelude.{Contains, if◌then◌else◌}
 use Rattle.std.proofs.lemmas.Bool.{cases_Bool}
