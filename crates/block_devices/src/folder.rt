@@ -1,4 +1,5 @@
-// What the files of /proc and the folders of sysfs report about block devices (proc(5), sysfs(5)).
+// Reads the files of /proc and the folders of sysfs that describe block devices (proc(5),
+// sysfs(5)).
 
 use crate::numbers::Numbers;
 use std::alloc::Global;

@@ -27,7 +27,7 @@ now_whole start steps k lt whole writes =
     (All-get_or IsWhole (carried_out start steps) k [] (omega (arith, lt, length-carried_out start steps))
     (carried_out_whole (length start) start steps whole writes)).size
 
--- the step that is read
+-- the step that is read is the step of the plan at this place
 pub step_read : (planned : List PlannedStep) (place : ℕ) (p : PlannedStep) → place < length planned → p ≡ get_or planned place p → get_or (plan_in planned) place Sync ≡ p.step
 step_read planned place p lt is = get_or-map (λ (x : PlannedStep). x.step) planned place p Sync lt ∙ ap (λ (x : PlannedStep). x.step) (sym is)
 

@@ -1,4 +1,4 @@
--- A call of a disk over given bytes: what it keeps of the past, and what it adds to what may be left.
+-- The effect of a call of a disk over given bytes, on the past and on the contents that a stop may leave.
 use Rattle.std.proofs.Common.{◌≡◌, ◌↔◌, ◌⊎◌, inl, inr, ⊎_elim, ℕ, ◌+◌, ◌-◌, ◌<◌, ◌≤◌, List, [], ◌∷◌, ◌++◌, length, map, set, take, drop, All, Result, Ok, Err, refl, sym, ◌∙◌, ap, subst, arith}
 use Rattle.std.proofs.lemmas.Bool.{cases_lt, cases_eq, lt-ltb, le-ltb}
 use Rattle.std.proofs.lemmas.List.{length-map, length_push, map_push, take_all, take_at, drop_at, take-append-le, drop-append-le, get_or-set_same, get_or-set_other}
@@ -22,7 +22,7 @@ carried_out-append start [] ys = refl
 carried_out-append start (Write at content ∷ xs) ys = carried_out-append (set start at content) xs ys
 carried_out-append start (Sync ∷ xs) ys = carried_out-append start xs ys
 
--- the number of calls for one more step
+-- one more step adds one call, and those since the step before it, to the number of calls
 pub calls_for-push : (planned : List PlannedStep) (p : PlannedStep) → calls_for (planned ++ p ∷ []) ≡ calls_for planned + calls_made p.idle + 1
 calls_for-push [] p = omega arith
 calls_for-push (x ∷ planned) p = omega (arith, calls_for-push planned p)
@@ -55,11 +55,11 @@ steps_at-push (x ∷ planned) p u le = ⊎_elim
     ∙ sym (ap (λ b. if b then steps_at planned rest + 1 else 0) (le-ltb (calls_made x.idle) u ge)))
     (cases_lt (calls_made x.idle) u)
 
--- the steps after one more step
+-- a step that is added at the end comes last in the plan
 pub plan_push : (planned : List PlannedStep) (p : PlannedStep) → plan_in (planned ++ p ∷ []) ≡ plan_in planned ++ p.step ∷ []
 plan_push planned p = map_push (λ (x : PlannedStep). x.step) planned p
 
--- the log after one more step
+-- a step that is added at the end comes last in the log
 longer_log : (planned planned' : List PlannedStep) (p : PlannedStep) → planned' ≡ planned ++ p ∷ [] → map logged (plan_in planned') ≡ map logged (plan_in planned) ++ logged p.step ∷ []
 longer_log planned planned' p items = ap (λ l. map logged (plan_in l)) items ∙ ap (map logged) (plan_push planned p) ∙ map_push logged (plan_in planned) p.step
 
@@ -90,7 +90,7 @@ module _ (start : List Sector) (steps : List Step) (step : Step) where
   abbrev more : List Step
   more = steps ++ step ∷ []
 
-  -- at a place before the new step, no sync has come since
+  -- if only writes come after a place, and the new step after them, the new step is a write too
   before : (i : ℕ) → i ≤ length steps → All IsWriteStep (drop i more) → All IsWriteStep (drop i steps) × IsWriteStep step
   before i le all =
       let rest = drop i steps in

@@ -23,7 +23,7 @@ writes_in-sync [] = refl
 writes_in-sync (Write a c ∷ steps) = ap (λ ws. (a, c) ∷ ws) (writes_in-sync steps)
 writes_in-sync (Sync ∷ steps) = writes_in-sync steps
 
--- one more step at the end is found only at its own place
+-- a step that is added at the end doesn't change the contents that are found at an earlier place
 found_before : (start : List Sector) (steps : List Step) (step : Step) (k : ℕ) (got : Option ℕ)
     → length (content_by start steps k got) ≡ sector_bytes → content_by start (steps ++ step ∷ []) k got ≡ content_by start steps k got
 found_before start steps step k None whole = refl

@@ -1,4 +1,4 @@
--- A plan and its disk: what callers need to know about what the disk stated for its moments.
+-- For callers: a plan leaves exactly what its disk stated for its moments.
 use Rattle.std.proofs.Common.{◌≡◌, ℕ, zero, suc, ◌+◌, ◌-◌, ◌<◌, ◌≤◌, List, [], ◌∷◌, length, take, refl, sym, ◌∙◌, ap, subst, arith}
 use Rattle.std.proofs.lemmas.Bool.{lt-ltb, le-ltb}
 use Rattle.std.proofs.lemmas.List.{length-map, take_all, ext_get_or}

@@ -12,7 +12,7 @@ is_whole content size bytes = record { size = size; bytes = All-from_get_or (λ 
 abbrev IsByte : ℕ → Type 0
 IsByte byte = byte < 256
 
--- the sectors of bytes are whole
+-- the sectors of bytes are whole, if there are enough bytes
 pub chunks_whole : (k : ℕ) (bytes : List ℕ) → sector_bytes * k ≤ length bytes → All IsByte bytes → All IsWhole (first_chunks sector_bytes k bytes)
 chunks_whole zero bytes le all = All-nil IsWhole
 chunks_whole (suc k) bytes le all =

@@ -1,4 +1,4 @@
--- A plan: steps to carry out on a disk in their order, and what a stop may leave meanwhile (own).
+-- A plan: steps to carry out on a disk in their order, and the contents that a stop may leave after each of them (own).
 use Rattle.std.specs.Prelude.{◌≡◌, ◌<◌, ◌≤◌, ℕ, List, [], ◌∷◌, length, set, take, drop, All}
 use Rattle.sector_disk.specs.Disk.{Sector, sector, IsWhole}
 use Rattle.byte_disk.specs.declared.step.Step.{Step}

@@ -34,7 +34,7 @@ in_some (next ∷ runs) run e contains is = ⊎_elim
     (λ later. inr (in_some runs run e later is))
     (cases_contains run next runs contains)
 
--- two facts of each extent
+-- if `P` holds for all extents and `Q` too, both together hold for all of them
 both : (P Q : Extent → Type 0) (es : List Extent) → AllByRecursion P es → AllByRecursion Q es → AllByRecursion (λ e. P e × Q e) es
 both P Q [] p q = tt
 both P Q (e ∷ es) p q = ((p.0, q.0), both P Q es p.1 q.1)

@@ -1,4 +1,4 @@
--- The flags of a disk with given unused runs; and its unused runs are the given ones.
+-- The flags of a disk that has given unused runs. The runs that are found from these flags are the given ones.
 use Rattle.std.proofs.Common.{◌≡◌, ℕ, suc, ◌+◌, ◌-◌, ◌<◌, ◌≤◌, ◌⊎◌, Bool, true, false, not, leb, ltb, cond, List, [], ◌∷◌, length, get_or, drop, refl, sym, ap, ◌∙◌, ⊎_elim, inl, inr, arith}
 use Rattle.std.proofs.lemmas.Bool.{cases_lt, le-leb, lt-leb, lt-ltb, le-ltb, cond-true, cond-false, true≢false}
 use Rattle.std.proofs.lemmas.List.{same_lists, get_or_past}
@@ -13,7 +13,7 @@ use Rattle.extents.proofs.Unused.{skip_claimed, whole_run, no_run}
 use Rattle.extents.proofs.Marks.{is_of, length-with_flag, flag_within, flag_without}
 use Rattle.extents.proofs.Sectors.{IsOfSome}
 
--- the test of a sector returns whether a run has it
+-- the test of a sector is true if a run has the sector
 in_run : (runs : List Extent) (s : ℕ) → IsOfSome runs s → is_in_run runs s ≡ true
 in_run [] s has = absurd has
 in_run (run ∷ runs) s has =
@@ -43,7 +43,7 @@ in_no_run (run ∷ runs) s none =
     (cases_lt s (run.start + run.count)))
     (cases_lt s run.start)
 
--- so this can be decided
+-- each sector is in a run, or in none
 pub has_or_not : (runs : List Extent) (s : ℕ) → IsOfSome runs s ⊎ (IsOfSome runs s → ⊥)
 has_or_not [] s = inr (λ has. has)
 has_or_not (run ∷ runs) s = ⊎_elim
@@ -129,7 +129,7 @@ flags_joined sectors old new e low high to back has_new =
     ∙ sym (flag_is sectors old k d inside) ∙ sym (flag_without false e (flags_of sectors old) k d fits without))
     (is_of e k))
 
--- the runs are found again from the flags
+-- the runs that are found from the flags are the given ones, from each sector on
 runs_again : (sectors from : ℕ) (all runs : List Extent) → 2 ≤ from → AreApart from sectors runs
     → ((s : ℕ) → from ≤ s → IsOfSome all s → IsOfSome runs s) → ((s : ℕ) → IsOfSome runs s → IsOfSome all s)
     → runs_from from (drop from (flags_of sectors all)) ≡ runs

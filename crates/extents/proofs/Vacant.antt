@@ -36,7 +36,7 @@ length_written a k xs ys le is = omega (
   length-drop a xs,
 )
 
--- so a vector holds exactly what was written
+-- a vector in the middle of which elements were written holds exactly what was written
 pub written : (a k n : ℕ) (xs ys more : List Extent) → a + k ≤ length xs → length ys ≡ k → length xs ≡ n
     → take n (put_mid a k xs ys ++ more) ≡ put_mid a k xs ys
 written a k n xs ys more le is size = take_at (put_mid a k xs ys) more n (length_written a k xs ys le is ∙ size)

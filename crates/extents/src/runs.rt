@@ -184,8 +184,8 @@ pub(crate) fn longest_run(runs: &[Extent]) -> Option<Extent>
 }
 
 /// Returns the longest runs, at most as many as a file may have extents, the longest first. The
-/// call makes one pass over the runs. It compares each run with a few of those kept so far, whose
-/// number is bounded.
+/// call makes one pass over the runs. It compares each run with only a bounded number of the runs
+/// that are kept so far.
 pub(crate) fn longest_of(runs: &[Extent]) -> Extents
     ensures { result ≡ take most_extents (longest_first runs.now) }
 {

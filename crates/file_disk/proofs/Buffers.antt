@@ -18,7 +18,7 @@ use Rattle.file_disk.specs.inside.Buffered.{IsStill, IsGiven}
 use Rattle.file_disk.specs.inside.Transfer.{StaysWithin, IsWrittenAt}
 use Rattle.file_disk.proofs.Transfers.{within_none, within_more, within_weaker, within_then}
 
--- there is an element exactly if the test holds
+-- if the test holds, there is an element
 some_true : {X : Type 0} (b : Bool) (x : X) → b ≡ true → ◌≡◌ {A = Option X} (if b then Some x else None) (Some x)
 some_true true x is = refl
 some_true false x is = absurd cc
@@ -31,7 +31,7 @@ pub cases_option : {X : Type 0} (o : Option X) → (o ≡ None) ⊎ ((x : X) × 
 cases_option None = inl refl
 cases_option (Some x) = inr (x, refl)
 
--- adjacent sectors, described by the number of one of them
+-- if sector k is one of these adjacent sectors and has the content c, c is at the position of k among them
 row_at : (start count k : ℕ) (contents : List Sector) (c : Sector)
     → ◌≡◌ {A = Option Sector} (if nat_le start k && nat_lt (k - start) count then Some (sector contents (k - start)) else None) (Some c)
     → (start ≤ k) × (k - start < count) × (c ≡ sector contents (k - start))
@@ -75,13 +75,13 @@ module _ {F : Type 0} {g : Ghosts F} where
       (λ has. within.each (g.facts new.file).time k c within.later (omega arith) has)
       left
 
-  -- the sectors were counted
+  -- counting the sectors leaves only what a stop may leave
   pub within_counted : {E : Type 0} (b : Buffered F g) (new : FileFacts) (result : Result ℕ E) → IsCounted (g.facts b.file) new result → StaysWithin (Leaves b) (g.facts b.file) new
   within_counted b new result counted =
       within_more (Leaves b) _ (g.facts b.file) (g.facts b.file) new (within_none (Leaves b) (g.facts b.file) (λ k c has. inr has)) counted.call
       (λ k c has. inr (counted.same.medium k c has))
 
-  -- some calls, followed by a sync
+  -- some calls, followed by a sync, leave only what a stop may leave
   pub within_synced : {T E : Type 0} (b : Buffered F g) (mid new : FileFacts) (result : Result T E) → StaysWithin (Leaves b) (g.facts b.file) mid → IsFileSync mid new result
       → StaysWithin (Leaves b) (g.facts b.file) new
   within_synced b mid new result within step =
@@ -112,7 +112,7 @@ module _ {F : Type 0} {g : Ghosts F} where
       ap (sector new.now) given.2 ∙ written.now.moved given.0 given.1 ∙ sym given.3 ∙ sym (shown_some b k some.0 some.1))
       (cases_option (gathered_at b.gathered k))
 
-  -- the file stayed as it is, and then some calls were made
+  -- The file stays the same, and then some calls are made.
   module _ (old mid new : Buffered F g) (still : IsStill old mid) (waits : mid.gathered ≡ old.gathered) where
     still_then : StaysWithin (Leaves mid) (g.facts mid.file) (g.facts new.file) → StaysWithin (Leaves old) (g.facts old.file) (g.facts new.file)
     still_then within = within_then (Leaves old) (Leaves mid) (g.facts old.file) (g.facts mid.file) (g.facts new.file) (leaves_before old mid still.within waits) still.within within

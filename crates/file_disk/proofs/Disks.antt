@@ -1,4 +1,4 @@
--- A call of a disk over an honest file: what it keeps of the past, and what it leaves.
+-- The effect of a call of a disk over an honest file, on the past and on the contents that a stop may leave.
 use Rattle.std.proofs.Common.{◌≡◌, ◌≢◌, ◌<◌, ◌≤◌, ◌+◌, ◌⊎◌, inl, inr, ⊎_elim, ℕ, Bool, List, [], ◌∷◌, ◌++◌, length, map, get_or, set, true, false, refl, sym, ◌∙◌, ap, subst, arith, Option, Some, None, IsSome, IsTrue}
 use Rattle.std.proofs.Math.Logic.{∥∥₁_elim, ∥∥₁_prop}
 use Rattle.std.proofs.Props.{props}
@@ -28,7 +28,7 @@ use Rattle.file_disk.specs.inside.FileDiskLaws.{read_of, left_now, now_left}
 use Rattle.file_disk.specs.inside.Transfer.{StaysWithin}
 use Rattle.file_disk.proofs.Buffers.{cases_option, shown_none, shown_some, leaves_before}
 
--- a content is equal to another one, or it isn't
+-- if a test decides a proposition, the proposition is true or false
 cases_decided : {P : Type 0} (test : Bool) → Decides test P → P ⊎ (P → ⊥)
 cases_decided true decides = inl (decides.0 refl)
 cases_decided false decides = inr (λ holds. absurd (let is : false ≡ true = decides.1 holds in cc))
@@ -40,7 +40,7 @@ cases_content c d = cases_decided _ (bytes_eq-Decides c d)
 same_some : (o : Option Sector) (c d : Sector) → o ≡ Some c → o ≡ Some d → c ≡ d
 same_some o c d one other = let both : ◌≡◌ {A = Option Sector} (Some c) (Some d) = sym one ∙ other in cc
 
--- a list, and the default past its end: one more element leaves both as they were
+-- if `x` is appended to a list, the values up to the old end are those of the old list with the default `x`
 pub before_push : {A : Type 0} (xs : List A) (x d : A) (v : ℕ) → v ≤ length xs → get_or (xs ++ x ∷ []) v d ≡ get_or xs v x
 before_push xs x d v le = ⊎_elim
     (λ lt. get_or_append_left xs (x ∷ []) d v lt ∙ get_or_default xs v d x lt)
@@ -79,7 +79,7 @@ module _ {F : Type 0} {g : Ghosts F} where
     held = old.held honest;
   }
 
-  -- a content that might be left at one of the moments
+  -- what might be left at one of the moments is among what these moments leave
   left_at : (since : List (Buffered F g)) (b : Buffered F g) (k : ℕ) (c : Sector) → Contains since b → Leaves b k c → LeftOf since k c
   left_at since b k c is_among left = ∣ (b, is_among, left) ∣₁
 
@@ -196,7 +196,7 @@ module _ {F : Type 0} {g : Ghosts F} where
     time_stays u le =
         ap (λ moments. time_at moments b u) kept ∙ ap (λ s. (g.facts s.file).time) (before_push old.files.items old.buffered b u (omega (arith, le, old.noted)))
 
-    -- the present moment
+    -- the entry of the present moment is `since`
     moment_now : get_or past.items (calls_made calls) since ≡ since
     moment_now = get_or_past past.items (calls_made calls) since (omega (arith, counted, old.counted, ap length marked, length_push old.past.items old.since))
 
@@ -232,7 +232,7 @@ module _ {F : Type 0} {g : Ghosts F} where
       );
     }
 
-    -- whatever the medium has meanwhile, a stop of the disk may leave
+    -- a stop of the disk may leave everything that the medium has during the call
     pub covered : IsTrue g.is_honest → StaysWithin (Leaves old.buffered) (facts_below old) (g.facts b.file) → (u : ℕ) (m : List Sector)
         → (facts_below old).time ≤ u → u ≤ (g.facts b.file).time → MediumAt (g.facts b.file) u m → LeftSince (facts_of b files calls latest since past) (file_facts old).time m
     covered honest within u m low high medium = (

@@ -16,7 +16,7 @@ use Rattle.file_disk.specs.inside.Transfer.{StaysWithin}
 use Rattle.file_disk.proofs.Disks.{before_push}
 
 module _ {F : Type 0} {g : Ghosts F} where
-  -- a disk at its start
+  -- at a disk's start, no earlier moment has a later time
   pub timed_first : (b : Buffered F g) (files : List (Buffered F g)) (now : ℕ) → files ≡ [] → IsTimed files b now
   timed_first b files now none v le = subst (λ l. time_at l b v ≤ (g.facts b.file).time) (sym none) (omega arith)
 
@@ -32,12 +32,12 @@ module _ {F : Type 0} {g : Ghosts F} where
   module _ (old : FileDisk F g) (honest : IsTrue g.is_honest) (b : Buffered F g) (files : List (Buffered F g)) (past : List (Past (Buffered F g))) (since : Past (Buffered F g)) (now : ℕ)
       (counted : now ≡ calls_made old.calls + 1) (kept : files ≡ old.files.items ++ old.buffered ∷ []) (marked : past ≡ old.past.items ++ old.since ∷ [])
       (within : StaysWithin (Leaves old.buffered) (g.facts old.buffered.file) (g.facts b.file)) where
-    -- the times of the earlier moments
+    -- the times of the earlier moments stay the same
     time_stays : (v : ℕ) → v ≤ calls_made old.calls → time_at files b v ≡ time_at old.files.items old.buffered v
     time_stays v le =
         ap (λ l. time_at l b v) kept ∙ ap (λ s. (g.facts s.file).time) (before_push old.files.items old.buffered b v (omega (arith, le, old.noted)))
 
-    -- the present time
+    -- the time of the present moment is the file's time
     time_now : (v : ℕ) → calls_made old.calls < v → time_at files b v ≡ (g.facts b.file).time
     time_now v lt = ap (λ s. (g.facts s.file).time) (get_or_past files v b (omega (arith, lt, old.noted, ap length kept, length_push old.files.items old.buffered)))
 

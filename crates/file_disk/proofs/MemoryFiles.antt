@@ -54,7 +54,7 @@ pub works : (file : MemoryFile) (turn : Turn) → file.sync_failed ≡ false →
 works file turn trusted passes =
     ap (λ (b : Bool). if b then false else (if turn.fails then nat_lt 0 turn.most else true)) trusted ∙ ap (λ (b : Bool). if b then nat_lt 0 turn.most else true) passes
 
--- a call that keeps the number of sectors, and whose moment is in the past afterwards
+-- A call that keeps the number of sectors, and adds its moment to the past.
 module _ (old new : MemoryFile) (past : new.past.items ≡ old.past.items ++ old.medium ∷ []) (sectors : (memory_facts new.medium).sectors ≡ (memory_facts old.medium).sectors) where
   is_call : (failed : Bool) → (memory_file_facts new).failures ≡ (if failed then (memory_file_facts old).failures + 1 else (memory_file_facts old).failures)
       → IsFileCall failed (memory_file_facts old) (memory_file_facts new)

@@ -16,7 +16,7 @@ turned : (b : Bool) (n m m' : ℕ) → (b ≡ false → 0 < n) → m' ≡ (if b 
 turned true n m m' some is = omega arith
 turned false n m m' some is = omega (arith, some refl)
 
--- no call was made
+-- if the present contents are allowed, making no call stays within what is allowed
 pub within_none : (Allowed : ℕ → Sector → Type 0) (old : FileFacts) → ((k : ℕ) (c : Sector) → MayHave old k c → Allowed k c) → StaysWithin Allowed old old
 within_none Allowed old now = record {
   sectors = refl;
@@ -26,7 +26,7 @@ within_none Allowed old now = record {
   each = λ u k c low high has. let is : u ≡ old.time = omega arith in now k c (subst (λ v. old.may_have v k c) is has);
 }
 
--- one more call
+-- one more call stays within what is allowed, if its contents are allowed
 pub within_more : (Allowed : ℕ → Sector → Type 0) (failed : Bool) (old mid new : FileFacts) → StaysWithin Allowed old mid → IsFileCall failed mid new
     → ((k : ℕ) (c : Sector) → MayHave new k c → Allowed k c) → StaysWithin Allowed old new
 within_more Allowed failed old mid new within call now = record {
@@ -40,7 +40,7 @@ within_more Allowed failed old mid new within call now = record {
       (cases_lt u new.time);
 }
 
--- the same, if more is allowed
+-- calls that stay within some contents also stay within more contents
 pub within_weaker : (Allowed Allowed' : ℕ → Sector → Type 0) (old new : FileFacts) → ((k : ℕ) (c : Sector) → Allowed k c → Allowed' k c) → StaysWithin Allowed old new
     → StaysWithin Allowed' old new
 within_weaker Allowed Allowed' old new weaker within = record {
@@ -51,7 +51,7 @@ within_weaker Allowed Allowed' old new weaker within = record {
   each = λ u k c low high has. weaker k c (within.each u k c low high has);
 }
 
--- some calls, and then some more
+-- some calls and then some more stay together within what is allowed
 pub within_then : (Allowed Allowed' : ℕ → Sector → Type 0) (old mid new : FileFacts) → ((k : ℕ) (c : Sector) → Allowed' k c → Allowed k c) → StaysWithin Allowed old mid
     → StaysWithin Allowed' mid new → StaysWithin Allowed old new
 within_then Allowed Allowed' old mid new weaker first second = record {
@@ -104,7 +104,7 @@ module _ (at : ℕ) (from rest : List Sector) (done : ℕ) (places : (j : ℕ) �
         (cases_lt i done);
   }
 
-  -- one more write
+  -- one more write continues the sectors that were written so far
   pub written_more : {E : Type 0} (tries : ℕ) (old mid new : FileFacts) (result : Result ℕ E) → moved result ≤ length rest → IsWrittenSoFar at from done tries old mid
       → IsFileWrite mid new (at + done) rest result → IsWrittenSoFar at from (done + moved result) (tries + 1) old new
   written_more tries old mid new result few before step =
@@ -144,7 +144,7 @@ read_none at into old trusted = record {
   counted = omega arith;
 }
 
--- one more read, after the sectors that were read
+-- one more read continues the sectors that were read so far
 pub read_more : {E : Type 0} (at : ℕ) (into part into' : List Sector) (count tries : ℕ) (old mid new : FileFacts) (result : Result ℕ E)
     → ((i : ℕ) → i < count → sector into' i ≡ sector into i) → ((j : ℕ) → j < moved result → sector into' (count + j) ≡ sector part j)
     → IsReadSoFar at into count tries old mid → IsFileRead mid new (at + count) part result → IsReadSoFar at into' (count + moved result) (tries + 1) old new

@@ -11,7 +11,7 @@ ahead_at ahead k =
     then Some (sector ahead.contents.items (k - ahead.start))
     else None
 
--- the kept content of sector k is as it was, or no content of sector k is kept
+-- sector k is kept with the same content as before, or it isn't kept
 abbrev pub IsForgotten : Ahead → Ahead → ℕ → Type 0
 IsForgotten old new k = (ahead_at new k ≡ ahead_at old k) ⊎ (ahead_at new k ≡ None)
 

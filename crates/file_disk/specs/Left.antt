@@ -1,4 +1,5 @@
--- What reads return, and what a stop may leave, computed from past moments of a file with its buffers.
+-- The contents that reads return and those that a stop may leave, computed from past moments of a file with its
+-- buffers.
 use Rattle.std.specs.Prelude.{◌+◌, ◌≤◌, ℕ, List, [], ◌∷◌, slice_index_or, Contains}
 use Rattle.sector_disk.specs.Disk.{Sector}
 use Rattle.sector_disk.specs.declared.past.Past.{Past}
@@ -25,8 +26,8 @@ module _ {F : Type 0} {g : Ghosts F} where
   abbrev pub IsTimed : List (Buffered F g) → Buffered F g → ℕ → Type 0
   IsTimed files b now = (v : ℕ) → v ≤ now → time_at files b v ≤ (g.facts b.file).time
 
-  -- Whatever the medium might have had between the file's times at a moment and at the next one, a stop at this
-  -- moment may leave.
+  -- A stop at a moment may leave everything that the medium might have had between the file's time at this moment and
+  -- the file's time at the next one.
   abbrev pub IsFollowed : List (Buffered F g) → Buffered F g → List (Past (Buffered F g)) → Past (Buffered F g) → ℕ → Type 0
   IsFollowed files b past since now = (v u k : ℕ) (c : Sector) → v ≤ now → time_at files b v ≤ u → u ≤ time_at files b (v + 1)
       → (g.facts b.file).may_have u k c → LeftOf (slice_index_or past v since).items k c

@@ -34,8 +34,8 @@ moved (Err e) = 0
 abbrev pub IsGivenTo : ℕ → List Sector → ℕ → Sector → Type 0
 IsGivenTo at given k c = (i : ℕ) × (i < length given) × (k ≡ at + i) × (c ≡ sector given i)
 
--- One call: time goes on by one, and a failure is counted. The size stays the same, and so does what the medium might
--- have had at each earlier moment.
+-- One call: the time is greater by one, and a failure is counted. The size stays the same, and so does what the medium
+-- might have had at each earlier moment.
 pub record IsFileCall (failed : Bool) (old new : FileFacts) : Type 0 where
   pub sectors : new.sectors ≡ old.sectors
   pub time : new.time ≡ old.time + 1

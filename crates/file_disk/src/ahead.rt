@@ -7,7 +7,7 @@ use crate::transfer::read_most;
 use sector_disk::{DiskFault, SECTOR_BYTES};
 use std::alloc::{AllocError, Global};
 
-/// The maximum number of sectors that are read at once: 128 KiB.
+/// The maximum number of sectors that one read asks for: 128 KiB.
 const MOST: usize = 256;
 
 /// The minimum number of sectors that a read asks for, unless fewer can be read: 4 KiB.

@@ -18,7 +18,7 @@ pub(crate) struct Buffered<F: SectorFile> {
     pub(crate) sectors: u32,
     pub(crate) gathered: Gathered,
     pub(crate) ahead: Ahead,
-    // Whether a write or a sync has failed. From then on the file isn't asked for anything.
+    // Whether a write or a sync has failed. From then on no call of the file is made.
     pub(crate) failed: bool,
     // Whether the file's length was compared since the file was opened, or since the last sync.
     compared: bool,
@@ -199,8 +199,8 @@ impl<F: SectorFile> Buffered<F> {
         Ok(())
     }
 
-    /// Brings everything that was written to the medium. The write buffer keeps its contents until
-    /// they are there.
+    /// Writes the write buffer to the file and syncs the file, so that the medium has all written
+    /// contents. The write buffer keeps its contents until then.
     pub(crate) fn settle(&mut self) -> Result<(), DiskFault>
         ensures sectors { self.new.sectors ≡ self.old.sectors }
         ensures ahead { self.new.ahead ≡ self.old.ahead }
@@ -250,8 +250,8 @@ impl<F: SectorFile> Buffered<F> {
         self.ahead.fill(&mut self.file, at, most)
     }
 
-    /// Copies the content of sector `at` to `into`. After a failed write or sync the file isn't
-    /// asked for it.
+    /// Copies the content of sector `at` to `into`. After a failed write or sync, no call of the
+    /// file is made.
     pub(crate) fn fetch(&mut self, at: u32, into: &mut [u8; SECTOR_BYTES]) -> Result<(), DiskFault>
         requires inside { at < self.old.sectors }
         ensures sectors { self.new.sectors ≡ self.old.sectors }

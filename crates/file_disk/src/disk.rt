@@ -15,11 +15,11 @@ use std::alloc::{AllocError, Global};
 
 /// A disk over a file. It is an honest disk if the file is honest.
 ///
-/// What is written is buffered in memory until a sector is written that isn't a neighbour, until
-/// 128 KiB are buffered, or until the next sync. Reads return it from the time of its write on. If
-/// the disk is dropped, the write buffer is lost, as by a power cut. After a failed write or sync,
-/// all later ones fail, and so do reads of what isn't in memory. The reason is that the system may
-/// have dropped what it couldn't write, without reporting it at the next sync.
+/// Written sectors are buffered in memory until a sector is written that isn't a neighbour, until
+/// 128 KiB are buffered, or until the next sync. Reads return buffered sectors too. If the disk is
+/// dropped, the write buffer is lost, as in a power cut. After a failed write or sync, all later
+/// ones fail, and so do reads of sectors that aren't in memory. The reason is that the system may
+/// have dropped data that it couldn't write, without reporting it at the next sync.
 #[derive(Drop)]
 pub struct FileDisk<F: SectorFile> {
     buffered: Buffered<F>,
@@ -83,14 +83,14 @@ impl<F: SectorFile> FileDisk<F> {
     ghost use Rattle.file_disk.specs.FileDisk.{file_of, FollowsTheFile, HoldsOfTheMedium};
 
     /// A law. The medium of an honest file has, at every moment, only contents that a stop of the
-    /// disk might have left at the disk's moment then. This also holds within the disk's calls.
+    /// disk might have left at that time. This also holds within the disk's calls.
     pub fn follows_its_file(&self)
         ensures { IsTrue F.is_honest → FollowsTheFile self.now }
     {}
 
-    /// A law. Suppose a property holds of all that a stop of the disk may leave, from an earlier
-    /// moment to now. Then it holds of whatever the medium of an honest file may have had between
-    /// them.
+    /// A law. Suppose a property holds of everything that a stop of the disk may leave, from an
+    /// earlier moment to now. Then it holds of everything that the medium of an honest file may
+    /// have had since that moment.
     pub fn holds_of_its_medium<P: Property>(&self)
         ensures { IsTrue F.is_honest → HoldsOfTheMedium self.now P.holds }
     {}
@@ -131,7 +131,7 @@ impl<F: SectorFile> Disk for FileDisk<F> {
         ensures honest { IsTrue (file_facts self.old).honest
             → IsRead (file_facts self.old) (file_facts self.new) at into.new result }
 
-        // Meanwhile the file's medium has only what a stop of the disk may leave.
+        // During the call, the file's medium has only what a stop of the disk may leave.
         ensures any_moment { IsTrue F.is_honest → IsCovered self.old self.new }
 
         // The read fails only if a call of the file failed, or if a write or a sync had failed

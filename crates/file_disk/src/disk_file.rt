@@ -70,7 +70,7 @@ fn place_of(at: u32) -> u64 {
     u64::from(at) * SECTOR_BYTES as u64
 }
 
-/// Nothing is known about its honesty.
+/// Nothing is known about the honesty of such a file.
 impl SectorFile for DiskFile {
     ghost is_honest = { false };
 

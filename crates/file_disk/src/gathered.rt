@@ -1,4 +1,5 @@
-// The write buffer: adjacent sectors that were written, and are written to the file at once.
+// The write buffer: adjacent sectors that were written to the disk, and are written to the file
+// together.
 ghost use Rattle.std.specs.Prelude.{◌≡◌, ◌≤◌, ◌<◌, All, vec_len, vec_capacity};
 ghost use Rattle.sector_disk.specs.Disk.{IsWhole};
 

@@ -15,8 +15,8 @@ use std::thread::sleep;
 use std::time::Duration;
 use std::{fs, io};
 
-/// The number of tries to open a file that is replaced before it is locked, and of tries with
-/// another name that other processes make and remove.
+/// The number of tries to open a file that is replaced before it is locked, and to make a file
+/// under another name that other processes make and remove.
 pub(crate) const TRIES: u32 = 16;
 
 /// The number of tries to lock a device, and the milliseconds between two tries: two seconds in

@@ -29,8 +29,8 @@ pub struct FilePlan {
 }
 
 /// An honest file in memory. Its medium is a disk that can be stopped. Contents that were written
-/// since the last sync reach it sector by sector, in any order, or not at all. After a failed sync,
-/// later syncs succeed and bring nothing to the medium.
+/// since the last sync reach the medium sector by sector, in any order, or not at all. After a
+/// failed sync, later syncs succeed and bring nothing to the medium.
 pub struct MemoryFile {
     medium: Memory,
     plan: FilePlan,
@@ -59,7 +59,7 @@ impl MemoryFile {
         ensures failures { (memory_file_facts result).failures ≡ 0 }
         ensures sync_failed { (memory_file_facts result).sync_failed ≡ false }
 
-        // Over a disk at its start, the file is found with the sectors of the disk.
+        // If the disk is at its start, the file is found with the disk's sectors.
         ensures reopen { (contents : List Sector) → StartsWith (memory_facts medium) contents
             → IsFoundWith (memory_file_facts result) contents }
     {

@@ -29,8 +29,8 @@ pub enum NameFault {
 
 /// The name that a file is still to get. The file stays locked as long as this value exists.
 ///
-/// The other name is in the same folder. Only a process that holds the lock of the file under this
-/// name gives or removes the name.
+/// The other name is in the same folder. Only a process that holds the lock of the file under the
+/// other name gives the file its own name, or removes the other name.
 #[derive(Drop)]
 pub struct NewName<'a> {
     file: File,
@@ -131,7 +131,7 @@ fn lacks_links(kind: ErrorKind) -> bool {
     )
 }
 
-/// Returns whether the new name is on the medium.
+/// Returns Ok if both syncs succeeded: the new name is on the medium.
 fn both(first: io::Result<()>, second: io::Result<()>) -> Result<(), NameFault> {
     match (first, second) {
         (Ok(()), Ok(())) => Ok(()),

@@ -92,7 +92,7 @@ impl<F: SectorFile + Drop> FileDisk<F> {
         // Over a file that is found after a stop, the disk starts with the sectors of its medium.
         ensures reopen { IsTrue F.is_honest → IfOk result (λ disk. StartsAsFound file disk) }
 
-        // It fails only if memory is refused or the file's sectors can't be counted.
+        // The call fails only if memory is refused or the file's sectors can't be counted.
         ensures cause { IsTrue F.is_honest → IfErr result (λ fault. HasCause F.facts file fault) }
     {
         let mut file = file;

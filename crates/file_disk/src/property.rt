@@ -11,7 +11,7 @@ pub trait Property {
     ghost holds: { List Sector → Type 0 };
 }
 
-/// The property for a caller of a law, who picks it in the proof.
+/// The property that a caller of a law picks in the proof.
 impl Property for Brand {
     ghost holds = { λ sectors. ⊥ };
 }

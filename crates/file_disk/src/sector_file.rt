@@ -10,10 +10,10 @@ use std::io;
 
 /// A file of sectors of `SECTOR_BYTES` bytes, numbered from 0. It is open and keeps its length.
 ///
-/// Reads see at once what is written. The system brings it to the medium at any time, sector by
-/// sector and in any order, and all of it before a sync succeeds. Clauses under `honest` hold for a
-/// file that does so, which is called honest. A failed sync may have lost what was written, and
-/// later successful syncs don't report that.
+/// Reads return written contents at once. The system brings written contents to the medium at any
+/// time, sector by sector and in any order, and all of them before a sync succeeds. A file that
+/// does so is called honest; the clauses under `honest` hold for it. A failed sync may have lost
+/// written contents, and later successful syncs don't report that.
 pub trait SectorFile {
     /// Whether files of this type are honest.
     ghost is_honest: { Bool };
@@ -41,7 +41,7 @@ pub trait SectorFile {
         ensures honest { IsTrue is_honest
             → IsFileWrite (facts self.old) (facts self.new) at from.now result };
 
-    /// Brings everything that was written to the medium.
+    /// Brings all written contents to the medium.
     fn sync(&mut self) -> io::Result<()>
         ensures honest { IsTrue is_honest
             → IsFileSync (facts self.old) (facts self.new) result };

@@ -7,7 +7,7 @@ use sector_disk::{DiskFault, SECTOR_BYTES};
 use std::io::ErrorKind;
 
 /// Writes all sectors of `from`, from sector `at` on, even if the file accepts only a few at a time
-/// or a signal interrupts.
+/// or a signal interrupts a call.
 pub(crate) fn write_all<F: SectorFile>(
     file: &mut F,
     at: u32,

@@ -3,7 +3,7 @@ use Rattle.std.proofs.Common.{ℕ, List}
 use Rattle.sector_disk.specs.Disk.{Sector, DiskFacts, LeavesOnly, SameBut, IsMixtureBut}
 use Rattle.sector_disk.proofs.Moments.{weaken}
 
--- lists that are the same except for some sectors are the same except for more sectors
+-- lists that differ only in some sectors differ only in these and more sectors
 pub wider : {some more : ℕ → Type 0} {old new : List Sector} → ((k : ℕ) → some k → more k) → SameBut some old new → SameBut more old new
 wider among same = record { size = same.size; others = λ k not. same.others k (λ here. not (among k here)) }
 

@@ -30,7 +30,7 @@ pub record Progress (first current : DiskFacts) (extents : List Extent) (done : 
   pub holds : IsTrue first.honest → bytes_at current.now (places (take done extents)) ≡ padded (512 * sector_count (take done extents)) bytes
 
 module _ {first old : DiskFacts} {extents : List Extent} {done : ℕ} {bytes rest : List ℕ} (so_far : Progress first old extents done bytes rest) (d : Extent) (lt : done < length extents) where
-  -- one more extent is written
+  -- writing one more extent changes only sectors of the extents
   pub more_extent_leaves : {new : DiskFacts} → IsTrue first.honest → LeavesOnly old new (IsMixtureBut (Has (get_or extents done d)) old)
       → LeavesOnly first new (IsMixtureBut (Contains (places extents)) first)
   more_extent_leaves honest leaves = more_leaves (Has (get_or extents done d)) (Contains (places extents)) (run_in_places extents done d lt) (so_far.leaves honest) leaves

@@ -10,7 +10,7 @@ use Rattle.passes.specs.Singles.{single_places, HoldsSingles}
 use Rattle.passes.specs.declared.single.SingleSector.{SingleSector}
 use Rattle.passes.proofs.Singles.{no_single, place_among}
 
--- distinct numbers aren't in both parts of a list
+-- if the numbers of two joined lists are distinct, no number is in both lists
 pub distinct-parts : (xs ys : List ℕ) (s : ℕ) → AreDistinct (xs ++ ys) → Contains xs s → Contains ys s → ⊥
 distinct-parts xs ys s distinct (i, in_xs, at_i) (j, in_ys, at_j) =
     let lt : i < length xs + j = omega (arith, in_xs) in

@@ -18,7 +18,7 @@ no_reads disk = record {
   leaves = at_rest disk (Mixture disk) (λ m mixture. mixture);
 }
 
--- one more read
+-- reads, followed by one more read, are reads
 pub more_reads : {first old new : DiskFacts} {at : ℕ} {content : Sector} {T E : Type 0} {result : Result T E} → AreReads first old
     → IsCall old new result → IsRead old new at content result → AreReads first new
 more_reads {first = first} before call read = record {
@@ -38,7 +38,7 @@ still_mixture reads m mixture = record {
   each = λ k lt. (reads.same.stop k (sector m k)).0 (mixture.each k (subst (λ n. k < n) (sym reads.past.sectors) lt));
 }
 
--- some reads, and then others
+-- reads, followed by other reads, are reads
 pub then_reads : {first old new : DiskFacts} → AreReads first old → AreReads old new → AreReads first new
 then_reads {first = first} {old = old} before after = record {
   past = keeps_past before.past after.past;
@@ -50,7 +50,7 @@ then_reads {first = first} {old = old} before after = record {
   leaves = goes_on (Mixture first) before.leaves (weaken (Mixture old) (Mixture first) (still_mixture before) after.leaves);
 }
 
--- a list stays as long as it was if its front is overwritten
+-- overwriting the front of a list keeps its length
 pub length_kept : (l xs ys : List ℕ) (a n : ℕ) → take n l ≡ take a xs ++ ys → drop n l ≡ drop n xs → n ≡ a + length ys → n ≤ length xs → length l ≡ length xs
 length_kept l xs ys a n front back is le = omega (
   arith,

@@ -16,7 +16,7 @@ use Rattle.passes.proofs.Rows.{CallsSoFar}
 abbrev pub no_single : SingleSector
 no_single = record { at = 0; content = [] }
 
--- the place of one single sector
+-- place number i in the list is the place of single sector number i
 place_is : (singles : List SingleSector) (i : ℕ) (d : SingleSector) → i < length singles → get_or (single_places singles) i 0 ≡ (get_or singles i d).at
 place_is singles i d lt = get_or-map (λ (s : SingleSector). s.at) singles i d 0 lt
 
@@ -44,14 +44,14 @@ module _ {first old new : DiskFacts} {singles : List SingleSector} {done : ℕ} 
   abbrev this : SingleSector
   this = get_or singles done no_single
 
-  -- one more write leaves nothing else
+  -- one more write changes only the single sectors
   pub single_leaves : IsTrue first.honest → HoldsNow old → IsWrite old new this.at this.content result → LeavesOnly first new (IsMixtureBut (Contains (single_places singles)) first)
   single_leaves honest holds write = write_leaves call (Contains (single_places singles)) (place_among singles done no_single lt) holds write (so_far.leaves honest)
 
   pub single_others : IsTrue first.honest → new.now ≡ set old.now this.at this.content → SameBut (Contains (single_places singles)) first.now new.now
   single_others honest is = write_others (Contains (single_places singles)) this.at this.content (place_among singles done no_single lt) (so_far.others honest) is
 
-  -- this sector is written, and those before it stay as they were
+  -- the written sector holds its content, and those before it still hold theirs
   pub single_holds : AreDistinct (single_places singles) → this.at < old.sectors → IsTrue first.honest → HoldsNow old → new.now ≡ set old.now this.at this.content
       → (i : ℕ) → i < done + 1 → sector new.now (get_or singles i no_single).at ≡ (get_or singles i no_single).content
   single_holds once in_old honest holds is i le = ⊎_elim earlier last (cases_lt i done)

@@ -7,6 +7,6 @@ use Rattle.passes.specs.declared.single.SingleSector.{SingleSector}
 abbrev pub single_places : List SingleSector → List ℕ
 single_places singles = map (λ single. single.at) singles
 
--- each of them holds its content
+-- each single sector holds its content
 abbrev pub HoldsSingles : List Sector → List SingleSector → Type 0
 HoldsSingles m singles = All (λ single. sector m single.at ≡ single.content) singles

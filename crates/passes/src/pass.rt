@@ -52,7 +52,7 @@ pub fn write_unsynced<D: Disk>(
         (IsMixtureBut (Contains (single_places singles.now ++ places extents.now))
         (D.facts disk.old)) }
 
-    // The contents that reads return change only there.
+    // Reads of all other sectors return what they returned before.
     ensures now { IsTrue (D.facts disk.old).honest → OnOk result
         (SameBut (Contains (single_places singles.now ++ places extents.now))
         (D.facts disk.old).now (D.facts disk.new).now) }
@@ -92,7 +92,7 @@ pub fn stage<D: Disk>(
         (IsMixtureBut (Contains (single_places singles.now ++ places extents.now))
         (D.facts disk.old)) }
 
-    // The contents that reads return change only there.
+    // Reads of all other sectors return what they returned before.
     ensures now { IsTrue (D.facts disk.old).honest → OnOk result
         (SameBut (Contains (single_places singles.now ++ places extents.now))
         (D.facts disk.old).now (D.facts disk.new).now) }

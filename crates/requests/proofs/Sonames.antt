@@ -1,4 +1,4 @@
--- What holds for a library's file.
+-- Facts about a library's file.
 use Rattle.std.proofs.Common.{◌≡◌, ◌≤◌, ℕ, Bool, true, false, List, [], ◌∷◌, length, Some, None, Option, refl, sym, ap, arith}
 use Rattle.std.specs.Prelude.{◌||◌, not, nat_lt, unwrap_or}
 use Rattle.std.specs.Option.{option_map_or}
@@ -36,7 +36,7 @@ badly_named file h bad =
 pub taken_memory : (file : List ℕ) → library_refusal file ≡ None → ReadNeedsMemory file
 taken_memory file h = taken_with_memory file (file_taken file h)
 
--- a library has its SONAME
+-- the name of a library is its SONAME
 pub named_so : (file : List ℕ) → library_refusal file ≡ None → soname file ≡ Some (name_of file)
 unfolding has_bad_soname name_of
 named_so file h = by (soname file) (soname_fine file h)

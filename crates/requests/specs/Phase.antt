@@ -13,7 +13,7 @@ pub record Phase : Type 0 where
   pub longest : ℕ
   -- the number of calls of the disk that have failed
   pub failures : ℕ
-  -- a write or a sync has failed: the contents of the disk are known again after it is opened again
+  -- a write or a sync has failed: only another opening finds out what the disk holds
   pub failed : Bool
   pub state : State
 

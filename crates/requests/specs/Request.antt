@@ -1,4 +1,4 @@
--- The requests of commands. A command borrows its bytes, and so is no plain value; a request is one.
+-- The requests of commands. A command borrows its bytes, so it isn't a plain value; a request is.
 use Rattle.std.specs.Prelude.{ℕ, List, map}
 use Rattle.requests.specs.declared.command.Command.{Command}
 use Rattle.requests.specs.declared.command.Command.TheVariants as command

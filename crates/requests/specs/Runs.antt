@@ -17,6 +17,6 @@ module _ {S Q R : Type 0} (Step : S → Q → R → S → Type 0) where
   Steps s (q ∷ qs) (r ∷ rs) (t ∷ ts) = Step s q r t × Steps t qs rs ts
   Steps s qs rs ts = ⊥
 
-  -- the same, with the state at the end
+  -- The requests may be answered like this, one after the other, and lead to the state `s'` at the end.
   abbrev pub Run : S → List Q → List R → S → Type 0
   Run s qs rs s' = (states : List S) × Steps s qs rs states × (s' ≡ last_of s states)

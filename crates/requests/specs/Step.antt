@@ -1,4 +1,4 @@
--- What a command does (own).
+-- The effect of a command: its answer, and the state that it leaves (own).
 use Rattle.std.specs.Prelude.{Result, Ok, Err, ◌≡◌, ◌<◌, ℕ, List, Option, Some, None, ◌⊎◌, IsTrue, IsFalse, Bool, true, false}
 use Rattle.std.specs.Option.{option_map}
 use Rattle.hash_check.specs.FileRefusal.{ReadNeedsMemory}
@@ -33,7 +33,7 @@ reply_of s (bind program base) = reply.Bound (bound_image s program base)
 reply_of s list = reply.Listing (listed s)
 reply_of s request = Done
 
--- This is the answer. If it is an image, each address has the byte that is defined for it.
+-- The answer is the one that `reply_of` returns. If it is an image, each address has the byte that is defined for it.
 abbrev pub IsReply : State → Request → Reply → Type 0
 IsReply s (bind program base) (reply.Bound image) = (image ≡ bound_image s program base)
     × ((a : ℕ) → image_byte image a ≡ byte_of (bound_objects s program base) a)

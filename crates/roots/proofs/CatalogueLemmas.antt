@@ -7,7 +7,7 @@ use Rattle.roots.specs.Fields.{zeros}
 use Rattle.roots.specs.Catalogue.{catalogue_of_sectors, catalogued_sectors, SectorsFit, CatalogueHasSpelling}
 use Rattle.roots.proofs.Placed.{lists_sectors}
 
--- The catalogue lists the sectors of which it was made.
+-- A catalogue that is made from sectors lists these sectors.
 pub catalogued_sectors-catalogue_of_sectors : (sectors : List ℕ) → catalogued_sectors (catalogue_of_sectors sectors) ≡ sectors
 catalogued_sectors-catalogue_of_sectors sectors = take_at sectors (zeros (most_catalogue_entries - length sectors)) (length sectors) refl
 

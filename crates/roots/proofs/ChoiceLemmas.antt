@@ -1,4 +1,4 @@
--- For readers and callers: two sectors have at most one current root, and how a commit's write changes it.
+-- For readers and callers: two sectors have at most one current root, and a commit's write makes the next root current.
 use Rattle.std.proofs.Common.{◌≡◌, ℕ, ◌+◌, ◌<◌, ◌≤◌, ◌%◌, List, ltb, sym, ap, subst, ◌∙◌, ⊎_elim, inl, inr, arith}
 use Rattle.std.proofs.lemmas.Bool.{cases_lt, lt-ltb, le-ltb, cond-true, cond-false}
 use Rattle.roots.specs.declared.root.Root.{Root}
@@ -16,14 +16,14 @@ one_current s0 s1 a b (inr (even, odd, spells0, spells1, successive, keeps, is))
     let same1 : odd ≡ odd' = one_root s1 odd odd' spells1 spells1' in
     is ∙ ap (λ r. later r odd) same0 ∙ ap (later even') same1 ∙ sym is'
 
--- the later of two roots is one of them, by their generations
+-- the later of two roots is the one with the greater generation
 later_first : (a b : Root) → b.generation ≤ a.generation → later a b ≡ a
 later_first a b le = cond-false (ltb a.generation b.generation) b a (le-ltb a.generation b.generation le)
 
 later_second : (a b : Root) → a.generation < b.generation → later a b ≡ b
 later_second a b lt = cond-true (ltb a.generation b.generation) b a (lt-ltb a.generation b.generation lt)
 
--- the earlier of two roots is the other one
+-- the earlier of two roots is the one with the lesser generation
 earlier_first : (a b : Root) → a.generation < b.generation → earlier a b ≡ a
 earlier_first a b lt = cond-true (ltb a.generation b.generation) a b (lt-ltb a.generation b.generation lt)
 

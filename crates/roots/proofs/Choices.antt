@@ -39,7 +39,7 @@ test_from_keeps One newer keeps = refl
 test_from_keeps Two One keeps = let gone : Two ≡ One = keeps refl in absurd cc
 test_from_keeps Two Two keeps = refl
 
--- an answer that is Ok only if a test holds
+-- if an answer that depends on a test is Ok, the test holds
 ok_from_test : (test : Bool) (a b : Root) → ◌≡◌ {A = Answer} (cond test (Ok a) (Err Damaged)) (Ok b) → (test ≡ true) × (a ≡ b)
 ok_from_test true a b e = (refl, cc)
 ok_from_test false a b e = absurd cc
@@ -96,7 +96,7 @@ not_formatted s0 s1 Empty Bad is0 is1 lacks0 lacks1 = absurd (lacks1 is1.0)
 not_formatted s0 s1 (Good root) slot1 is0 is1 lacks0 lacks1 = absurd (lacks0 (spelt_has_magic s0 root is0))
 not_formatted s0 s1 Bad slot1 is0 is1 lacks0 lacks1 = absurd (lacks0 is0.0)
 
--- a test never answers NotFormatted
+-- an answer that depends on a test is never NotFormatted
 not_by_test : (test : Bool) (a : Root) → ◌≡◌ {A = Answer} (cond test (Ok a) (Err Damaged)) (Err NotFormatted) → ⊥
 not_by_test true a e = absurd cc
 not_by_test false a e = absurd cc

@@ -31,7 +31,7 @@ drop-pieces spell step len (suc k) (x ∷ xs) rest inside =
     ∙ ap (drop (step * k)) first
     ∙ drop-pieces spell step len k xs rest (omega arith)
 
--- a list that is encoded from byte `at` on
+-- a list that is encoded from byte `at` on is read back
 pub values_at-pieces : {A : Type 0} (read : List ℕ → A) (spell : A → List ℕ) (step : ℕ) (Fits : A → Type 0) → IsReadAgain read spell step Fits
     → (front : List ℕ) (xs : List A) (rest : List ℕ) (n at : ℕ) (d : A) → length front ≡ at → length xs ≡ n → All Fits xs
     → values_at read step n at (front ++ flat_map spell xs ++ rest) ≡ xs

@@ -138,7 +138,7 @@ fields_again root a b c d e f g h same fits list =
     let preload_count : number_at w16 22 bytes ≡ root.preload_count = ap (number_at w16 22) same ∙ from_le_bytes-to_le_bytes_2 root.preload_count (omega (arith, fits.preloads.listed.room)) in
     same_root root _ _ _ _ _ _ generation sectors library_count preload_count (preloads_again root fits) list
 
--- so the fields are the root's for each magic
+-- the fields of a root's sector are the root's, whichever magic the root has
 by_magic : (root : Root) (list : EntryList) → root.list ≡ list → RootHasSpelling root → root_of (root_bytes root) ≡ root
 by_magic root (InRoot places) is fits =
     fields_again root 82 76 73 66 82 69 71 49 (spelt root (InRoot places) is ∙ ap (λ l. spelt_by (InRoot places) root l) (sym is)) fits (list_again root (InRoot places) is fits)

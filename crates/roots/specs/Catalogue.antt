@@ -38,7 +38,8 @@ catalogue_of_sectors sectors = record {
   entry_sectors = sectors ++ zeros (most_catalogue_entries - length sectors);
 }
 
--- What must be true of a list of sectors so that its catalogue can be encoded.
+-- The sectors can be listed by one catalogue: there are 1 to 64, they lie after the roots on the largest disk, and none
+-- occurs twice.
 pub record SectorsFit (sectors : List ℕ) : Type 0 where
   pub some : 1 ≤ length sectors
   pub few : length sectors ≤ most_catalogue_entries

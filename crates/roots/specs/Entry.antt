@@ -38,12 +38,12 @@ entry_bytes entry =
     ++ entry.name  -- 16
     ++ flat_map extent_bytes entry.extents  -- 256
 
--- places for the bytes of a name, which isn't empty
+-- the name isn't empty, and its bytes fit into their places
 pub record NameFits (entry : Entry) : Type 0 where
   pub some : 1 ≤ entry.name_length
   pub listed : UsesFirst most_name_bytes entry.name_length IsNameByte 0 entry.name
 
--- places for the extents, which have exactly the sectors of the file; the last sector may be used in part
+-- the extents fit into their places, and have exactly the sectors of the file; the last sector may be used in part
 pub record ExtentsFit (entry : Entry) : Type 0 where
   pub some : 1 ≤ entry.extent_count
   pub listed : UsesFirst most_extents entry.extent_count IsDataExtent no_extent entry.extents

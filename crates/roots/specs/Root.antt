@@ -70,20 +70,20 @@ root_bytes root =
     ++ numbers w16 root.preloads  -- 24
     ++ list_bytes root.list  -- 56
 
--- places for the preloads, each by its position in the list of libraries
+-- the preloads fit into their places: each is a position in the list of libraries, and none occurs twice
 pub record PreloadsFit (root : Root) : Type 0 where
   pub listed : UsesFirst most_preloads root.preload_count (λ position. position < root.library_count) 0 root.preloads
   pub distinct : AreDistinct (take root.preload_count root.preloads)
 
--- Places for the catalogues' sectors, which lie on the disk. There are exactly as many catalogues as list these
+-- The catalogues' sectors fit into their places and lie on the disk. There are exactly as many catalogues as list these
 -- libraries.
 pub record CatalogueListFits (libraries disk count : ℕ) (sectors : List ℕ) : Type 0 where
   pub few : libraries ≤ most_libraries
   pub enough : count ≡ catalogues_for libraries
   pub listed : ListsSectors most_catalogues count disk sectors
 
--- places for the sectors that a root of `libraries` libraries lists, on a disk of `disk` sectors: in version 1 those
--- of the libraries' entries, in version 2 those of the catalogues
+-- the sectors that a root of `libraries` libraries lists fit into their places, on a disk of `disk` sectors: in version
+-- 1 those of the libraries' entries, in version 2 those of the catalogues
 abbrev pub ListFits : ℕ → ℕ → EntryList → Type 0
 ListFits libraries disk (InRoot sectors) = ListsSectors most_root_entries libraries disk sectors
 ListFits libraries disk (InCatalogues count sectors) = CatalogueListFits libraries disk count sectors
@@ -134,7 +134,7 @@ abbrev pub root_over_catalogues : ℕ → ℕ → ℕ → List ℕ → List ℕ 
 root_over_catalogues generation sectors libraries catalogues preloads =
     root_with generation sectors libraries (InCatalogues (length catalogues) (catalogues ++ zeros (most_catalogues - length catalogues))) preloads
 
--- What must be true of the parameters of a root of version 2 so that it can be encoded.
+-- With these parameters, a root of version 2 can be encoded.
 pub record CataloguesFit (generation sectors libraries : ℕ) (catalogues preloads : List ℕ) : Type 0 where
   pub generation_fits : generation < 2 ^ 64
   pub sectors_fit : IsInRange least_sectors most_sectors sectors

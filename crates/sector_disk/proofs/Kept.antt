@@ -1,4 +1,4 @@
--- A call of a disk in memory: what it keeps of the past, and what it adds to the choices.
+-- The effect of a call of a disk in memory, on the past and on the choices of a stop.
 use Rattle.std.proofs.Common.{◌≡◌, inl, inr, ⊎_elim, ◌⊎◌, ℕ, ◌+◌, ◌%◌, ◌<◌, ◌≤◌, List, [], ◌∷◌, ◌++◌, length, get_or, set, take, drop, map, eqb, All, false, refl, sym, ◌∙◌, ap, subst, arith}
 use Rattle.std.proofs.lemmas.Bool.{cases_lt, cases_eq}
 use Rattle.std.proofs.lemmas.List.{length-append, get_or_append_left, get_or_default, get_or_past, get_or_push, get_or-set_same, get_or-set_other}
@@ -67,7 +67,7 @@ module _ (start : List Sector) (writes : List Written) (synced : ℕ) (past : Li
     );
   }
 
--- the same, stated for what a call ensures
+-- what a stop might have left at past moments stays the same after a call, as the call's contract states it
 pub keeps_past_to : (start : List Sector) (writes : List Written) (synced : ℕ) (past : List Moment)
     → All (λ (moment : Moment). moment.writes ≤ length writes) past → (writes' : List Written) (synced' : ℕ) (past' : List Moment) (moment : Moment)
     → SameMoment moment (record { writes = length writes; synced = synced; failed = false })
@@ -217,7 +217,7 @@ fresh start writes past no_writes no_past =
     (subst (λ p. StartsWith (facts_of start [] 0 p) start) (sym no_past)
     (record { honest = refl; sectors = refl; now = refl; alone = alone start [] 0 [] []; time = refl; failures = refl; log = refl }))
 
--- the same sectors, writes and past make a copy
+-- two disks with the same sectors, writes and past are copies of each other
 pub copied : (start start' : List Sector) (writes writes' : List Written) (synced : ℕ) (past past' : List Moment)
     → start' ≡ start → writes' ≡ writes → past' ≡ past → IsCopy (facts_of start writes synced past) (facts_of start' writes' synced past')
 copied start start' writes writes' synced past past' starts writes_are pasts =

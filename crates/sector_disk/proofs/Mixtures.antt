@@ -16,7 +16,8 @@ same_more among first second = record { size = second.size ∙ first.size; other
 pub same_set : (l : List Sector) (at : ℕ) (content : Sector) → SameBut (λ k. k ≡ at) l (set l at content)
 same_set l at content = record { size = length-set l at content; others = λ k other. get_or-set_other l at k content [] other }
 
--- a mixture except for some sectors, of a disk whose mixtures are those of an older disk except for more sectors
+-- if each mixture of a disk is one of an older disk except for the sectors `more`, so is each of its mixtures except
+-- for some of these sectors
 pub mixture_but : {first old : DiskFacts} (places more : ℕ → Type 0) → ((k : ℕ) → places k → more k)
     → ((m : List Sector) → Mixture old m → IsMixtureBut more first m) → (m : List Sector) → IsMixtureBut places old m → IsMixtureBut more first m
 mixture_but places more among so_far m but = let was = so_far but.0 but.1 in (was.0, was.1, same_more among was.2 but.2)

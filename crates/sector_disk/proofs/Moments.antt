@@ -11,7 +11,7 @@ past_mixture keeps u le m mixture = record {
   each = λ k lt. (keeps.past u k _ le).0 (mixture.each k (subst (λ n. k < n) (sym keeps.sectors) lt));
 }
 
--- two calls that each keep the past keep it together
+-- if two calls each keep the past, both together keep it
 pub keeps_past : {old mid new : DiskFacts} → KeepsPast old mid → KeepsPast mid new → KeepsPast old new
 keeps_past {mid = mid} first second = record {
   sectors = second.sectors ∙ first.sectors;
@@ -22,7 +22,8 @@ keeps_past {mid = mid} first second = record {
       (λ now. (first.past u k c le).0 ((second.past u k c le').0 now), λ was. (second.past u k c le').1 ((first.past u k c le).1 was));
 }
 
--- one call leads from old to new
+-- if all mixtures before and after one call have the property, a stop at any moment of the call leaves only such
+-- mixtures
 pub one_call : {old new : DiskFacts} {T E : Type 0} {result : Result T E} (P : List Sector → Type 0) → IsCall old new result → KeepsPast old new
     → ((m : List Sector) → Mixture old m → P m) → ((m : List Sector) → Mixture new m → P m) → LeavesOnly old new P
 one_call {old = old} {new = new} P call keeps before after = record {
@@ -33,7 +34,8 @@ one_call {old = old} {new = new} P call keeps before after = record {
       (cases_lt old.time left.0);
 }
 
--- more calls follow
+-- if a stop during some calls leaves only such mixtures, and so does a stop during later calls, the same is true of all
+-- these calls
 pub goes_on : {old mid new : DiskFacts} (P : List Sector → Type 0) → LeavesOnly old mid P → LeavesOnly mid new P → LeavesOnly old new P
 goes_on {mid = mid} P first second = record {
   past = keeps_past first.past second.past;
@@ -47,7 +49,7 @@ goes_on {mid = mid} P first second = record {
 pub weaken : {old new : DiskFacts} (P Q : List Sector → Type 0) → ((m : List Sector) → P m → Q m) → LeavesOnly old new P → LeavesOnly old new Q
 weaken P Q to leaves = record { past = leaves.past; each = λ m left. to m (leaves.each m left) }
 
--- no call was made
+-- if no call was made, and all mixtures have the property, a stop leaves only such mixtures
 pub at_rest : (disk : DiskFacts) (P : List Sector → Type 0) → ((m : List Sector) → Mixture disk m → P m) → LeavesOnly disk disk P
 at_rest disk P now = record {
   past = record { sectors = refl; later = omega arith; marks = λ u le. refl; past = λ u k c le. (λ x. x, λ x. x) };
@@ -58,11 +60,11 @@ at_rest disk P now = record {
 pub left_now : {old new : DiskFacts} (P : List Sector → Type 0) → LeavesOnly old new P → (m : List Sector) → Mixture new m → P m
 left_now {new = new} P leaves m mixture = leaves.each m (new.time, leaves.past.later, omega arith, mixture)
 
--- a log that stayed the same
+-- a log that stayed the same grew by at most `most` calls
 pub same_log : {old new : List Logged} {most : ℕ} → new ≡ old → LogGrows most old new
 same_log {old = old} same = record { more = []; few = omega arith; grown = same ∙ sym (append-nil old) }
 
--- a log that grew, and then grew more
+-- if a log grew twice, it grew by at most the sum of the calls
 pub longer_log : {old mid new : List Logged} {few more most : ℕ} → LogGrows few old mid → LogGrows more mid new → few + more ≤ most → LogGrows most old new
 longer_log {old = old} first second le = record {
   more = first.more ++ second.more;
@@ -70,15 +72,15 @@ longer_log {old = old} first second le = record {
   grown = second.grown ∙ ap (λ l. l ++ second.more) first.grown ∙ append_assoc old first.more second.more;
 }
 
--- a higher bound
+-- a log that grew by at most `few` calls grew by at most any greater number of calls
 pub log_at_most : {few most : ℕ} {old new : List Logged} → LogGrows few old new → few ≤ most → LogGrows most old new
 log_at_most grows le = record { more = grows.more; few = omega (arith, grows.few, le); grown = grows.grown }
 
--- no call at all counts as some calls
+-- if no call was made, `AreCalls` holds
 pub no_calls : (disk : DiskFacts) → AreCalls disk disk
 no_calls disk = record { honest = refl; sectors = refl; plans = refl; log = same_log refl; later = omega arith; failures = omega arith; few_failures = omega arith }
 
--- some calls, and then more
+-- some calls, followed by more calls, are some calls
 pub more_calls : {old mid new : DiskFacts} → AreCalls old mid → AreCalls mid new → AreCalls old new
 more_calls first second = record {
   honest = second.honest ∙ first.honest;

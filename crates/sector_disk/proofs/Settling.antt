@@ -11,7 +11,8 @@ use Rattle.sector_disk.specs.inside.WrittenLaws.{written_to_same, written_to_oth
 abbrev pub settled : List Sector → List ℕ → List Written → ℕ → Sector
 settled sectors numbers writes k = sector (sector sectors k ∷ written_to k writes) (get_or numbers k 0)
 
--- the write is passed over, and the number counts down
+-- if a write isn't the one with this number, the content is found without this write under the number that is less by
+-- one
 countdown : (c x : Sector) (cs : List Sector) (r : ℕ) → r ≢ 1 → sector (c ∷ cs) (r - 1) ≡ sector (c ∷ x ∷ cs) r
 countdown c x cs zero not = refl
 countdown c x cs (suc zero) not = absurd (not refl)
@@ -75,7 +76,8 @@ module _ (sectors : List Sector) (numbers : List ℕ) (w : Written) (writes : Li
       (λ other. omega (arith, le, less_there k other, ap length (written_to_other k w writes other)))
       (cases_eq w.at k)
 
--- if each number is the number of writes to its sector, this also holds for the writes after the first one, once its sector's number has counted down
+-- if each number is the number of writes to its sector, the same is true of the writes after the first one, once 1 is
+-- subtracted at the first write's sector
 pub counted_less : (counts : List ℕ) (w : Written) (writes : List Written) → w.at < length counts → (k : ℕ) → get_or counts k 0 ≡ length (written_to k (w ∷ writes))
     → get_or (set counts w.at (get_or counts w.at 0 - 1)) k 0 ≡ length (written_to k writes)
 counted_less counts w writes inside k counted =

@@ -37,7 +37,7 @@ pub commit_leaves : {old new : DiskFacts} {T E : Type 0} {result : Result T E} {
 commit_leaves {old = old} {at = at} {content = content} call in_old holds is_synced write =
     one_call (IsOldOrSet old.now at content) call write.past (λ m mixture. inl (is_synced.each m mixture)) (λ m mixture. one_write holds write m mixture in_old is_synced)
 
--- what reads return after one more write, into one of these sectors
+-- after one more write into one of these sectors, reads still return the same in all other sectors
 pub write_others : {first old new : List Sector} (places : ℕ → Type 0) (at : ℕ) (content : Sector) → places at → SameBut places first old → new ≡ set old at content → SameBut places first new
 write_others {first = first} {old = old} places at content here so_far is =
     subst (SameBut places first) (sym is) (same_more (λ k same. subst places (sym same) here) so_far (same_set old at content))

@@ -75,7 +75,7 @@ pub record HasWholeSectors (disk : DiskFacts) : Type 0 where
 pub record IsSynced (disk : DiskFacts) : Type 0 where
   pub each : (m : List Sector) → Mixture disk m → m ≡ disk.now
 
--- at each moment of `old`, the sets of the sectors stay as they were, and so does the mark
+-- at each moment of `old`, the sets of the sectors and the mark are the same in `new`
 pub record KeepsPast (old new : DiskFacts) : Type 0 where
   pub sectors : new.sectors ≡ old.sectors
   pub later : old.time ≤ new.time
@@ -124,7 +124,7 @@ pub record GrowsBehindSync (most : ℕ) (old new : List Logged) : Type 0 where
   pub sync : MayAddSync old begun
   pub more : LogGrows most begun new
 
--- One call, on any disk: time goes on by one, and a failure is counted. Size and honesty stay the same.
+-- One call, on any disk: the time is greater by one, and a failure is counted. Size and honesty stay the same.
 pub record IsCall {T E : Type 0} (old new : DiskFacts) (result : Result T E) : Type 0 where
   pub honest : new.honest ≡ old.honest
   pub sectors : new.sectors ≡ old.sectors

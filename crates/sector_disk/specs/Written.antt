@@ -1,4 +1,4 @@
--- What a list of writes leaves, and which contents a stop may leave after it.
+-- The contents that a list of writes leaves, and the contents that a stop may leave after it.
 use Rattle.std.specs.Prelude.{◌==◌, ℕ, List, [], ◌∷◌, set, take, drop, map, filter}
 use Rattle.sector_disk.specs.declared.written.Written.{Written}
 use Rattle.sector_disk.specs.Disk.{Sector, sector}

@@ -58,8 +58,8 @@ fn choose<F: Fn(u32, usize) -> usize>(counts: &mut [usize], pick: F)
     }
 }
 
-/// Gives each sector the content of one of its writes: the one whose number, counted from 1, is in
-/// `numbers`. A sector with number 0 keeps its content. All numbers are 0 afterwards.
+/// Sets each sector `at` to the content of its write number `numbers[at]`, counted from 1. A sector
+/// for which this number is 0 keeps its content. All numbers are 0 afterwards.
 fn settle(sectors: &mut [[u8; SECTOR_BYTES]], numbers: &mut [usize], writes: &[Written])
     requires in_range { All (λ write. write.at < length sectors.old) writes.now }
     requires numbered { length numbers.old ≡ length sectors.old }

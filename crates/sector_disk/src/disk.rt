@@ -45,8 +45,8 @@ pub trait Disk {
         ensures honest { IsTrue (facts self.old).honest
             → IsWrite (facts self.old) (facts self.new) at from.now result };
 
-    /// Brings everything that was written to the medium. If the result is `Err`, reads return what
-    /// they returned before, and a stop may leave no more than before.
+    /// Brings all written contents to the medium. If the result is `Err`, reads return what they
+    /// returned before, and a stop may leave no more than before.
     fn sync(&mut self) -> Result<(), DiskFault>
         ensures calls { IsCall (facts self.old) (facts self.new) result }
         ensures honest { IsTrue (facts self.old).honest

@@ -41,7 +41,7 @@ none_after old (row ∷ rows) back none =
     absurd (omega (arith, was.inside, ap length none))
 
 module _ {D : Type 0} (facts : D → DiskFacts) {old : Opened D} where
-  -- a store that is as it was keeps everything that was held
+  -- an unchanged store keeps everything that was held
   pub stays : AreFlagged old → StaysBeside facts old old
   stays flags = record {
     others = λ sector library is. is;
@@ -51,7 +51,7 @@ module _ {D : Type 0} (facts : D → DiskFacts) {old : Opened D} where
     same = λ s at. at;
   }
 
-  -- no byte string is held yet
+  -- at the beginning, no handle holds a byte string
   pub none_held : AreFlagged old → HoldsFirst facts old old 0 []
   none_held flags = record {
     size = refl;

@@ -14,8 +14,7 @@ same_honest : {D : Type 0} (facts : D → DiskFacts) {old new : D} → new ≡ o
 same_honest facts same = subst (λ disk. IsTrue (facts disk).honest) (sym same)
 
 module _ {D : Type 0} (facts : D → DiskFacts) {taken now new : Opened D} {snapshot : Taken} (is : IsSnapshotOf facts taken now snapshot) where
-  -- A snapshot stays valid if its byte strings are held as they were. On an honest disk they must also keep their
-  -- bytes.
+  -- A snapshot stays valid if its byte strings are still held. On an honest disk they must also keep their bytes.
   moved : (IsTrue (facts now.disk).honest → IsTrue (facts new.disk).honest)
       → ((i : ℕ) (placed : PlacedEntry) → i < length snapshot.handles → IsHeldBy now.held (get_or snapshot.handles i 0) placed → IsHeldBy new.held (get_or snapshot.handles i 0) placed)
       → (IsTrue (facts now.disk).honest → (i : ℕ) (library : Library) → i < length snapshot.handles

@@ -23,7 +23,7 @@ module _ {D : Type 0} (facts : D → DiskFacts) {old : Opened D} where
     same = λ s at. at;
   }
 
-  -- one more handle is released
+  -- releasing one more handle releases it together with those before
   pub one_gone : {between new : Opened D} (handle : ℕ) (gone : List ℕ) → LetsAllGo facts old between gone → LetsHoldGo facts between new handle → LetsAllGo facts old new (handle ∷ gone)
   one_gone {between = between} {new = new} handle gone before now = record {
     holders = λ sector. omega (arith, now.holders sector, before.holders sector, times-cons sector handle gone);

@@ -41,8 +41,7 @@ pub record AreHeldAs {D : Type 0} (facts : D → DiskFacts) (store : Opened D) (
   pub count : length handles ≡ length libraries
   pub each : (i : ℕ) → i < length libraries → HeldIs facts store (slice_index_or handles i 0) (slice_index_or libraries i no_library)
 
--- The snapshot was taken of the store `taken`, and in the store as it is `now` it holds what that
--- one had.
+-- The snapshot was taken of the store `taken`. In the store `now` it still holds the byte strings that `taken` had.
 pub record IsSnapshotOf {D : Type 0} (facts : D → DiskFacts) (taken now : Opened D) (snapshot : Taken) : Type 0 where
   pub entries : IsTakenOf now.held snapshot taken.entries
   pub preloads : snapshot.preloads ≡ listed_preloads taken.root

@@ -121,8 +121,8 @@ impl Snapshot {
         store.read_held(alloc, &self.handles[position])
     }
 
-    /// Releases all its byte strings. Allocates nothing and makes no call of the disk, also after
-    /// S2.
+    /// Releases all byte strings of the snapshot. Allocates nothing and makes no call of the disk,
+    /// also after S2.
     pub fn let_go<D: Disk>(self, store: &mut Store<D>)
         ensures { LetsAllGo D.facts store.old store.new self.handles }
     {

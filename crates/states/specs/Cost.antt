@@ -1,4 +1,4 @@
--- What a state costs in sectors, and how many sectors it leaves free (own).
+-- The cost of a state in sectors, and the number of sectors that it leaves free (own).
 use Rattle.std.specs.Prelude.{ℕ, ◌+◌, ◌-◌, ◌*◌, length, sum_by}
 use Rattle.std.specs.Int.{div_ceil}
 use Rattle.sector_disk.specs.Disk.{sector_bytes}

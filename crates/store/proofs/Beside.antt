@@ -20,11 +20,11 @@ none_beside {layout = layout} used once claims = record {
   claims = subst (ClaimsJust layout) (sym (append-nil used)) claims;
 }
 
--- if nothing is held, exactly what the state uses is in use
+-- if nothing is held, exactly the sectors that the state uses are in use
 pub in_use_alone : (root : Root) (entries : List PlacedEntry) (held : List HeldRow) → held ≡ [] → in_use root entries held ≡ used root entries
 in_use_alone root entries held unheld = ap (in_use root entries) unheld ∙ append-nil (used root entries)
 
--- what has room on few sectors has room on more
+-- entries that have room on a disk have room on a larger disk
 pub room_more : (few many : ℕ) (list : EntryList) (entries : List PlacedEntry) → few ≤ many → HasRoom few list entries → HasRoom many list entries
 room_more few many (InRoot listed) entries more room = tt
 room_more few many (InCatalogues count listed) entries more room = omega (arith, more, room)

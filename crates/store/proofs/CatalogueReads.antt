@@ -45,7 +45,7 @@ catalogue_again catalogue fits = λ i. record { count = size i; entry_sectors = 
     tail : catalogued_sectors catalogue ++ zeros rest ≡ catalogued_sectors catalogue ++ unused
     tail = ap (λ l. catalogued_sectors catalogue ++ l) zero_there
 
--- some calls were made, and then one more
+-- after fewer than `most` calls and one more call, at most `most` calls were made
 pub one_call_more : {first old new : DiskFacts} {T E : Type 0} {result : Result T E} {done most : ℕ} → CallsSoFar done first old → IsCall old new result → done < most → AreCallsAtMost most first new
 one_call_more so_far call le = in_row_at_most (then_in_row so_far (one_in_row call)) (omega (arith, le))
 
@@ -81,7 +81,7 @@ module _ {first old new : DiskFacts} {catalogues : List ℕ} {libraries done : �
   full : length listed ≡ 64 * done
   full = omega (arith, so_far.count, enough, lt)
 
-  -- one more catalogue is read, and it has the count that it must have
+  -- if one more catalogue is read, and it has the count that it must have, the reading is one catalogue further
   pub next_catalogue : (catalogue : Catalogue) → found ≡ Some catalogue → length (catalogued_sectors catalogue) ≡ min (libraries - length listed) 64
       → CataloguesSoFar first new catalogues libraries (done + 1) (listed ++ catalogued_sectors catalogue)
   next_catalogue catalogue was size = record {
@@ -118,11 +118,11 @@ module _ {first old new : DiskFacts} {catalogues : List ℕ} {libraries done : �
     found_is = (is (catalogue_of_sectors (catalogue_part done sectors))).1
         (subst (λ c. SpellsCatalogue c (catalogue_of_sectors (catalogue_part done sectors))) (sym (here honest)) (catalogued.each done lt))
 
-    -- then the sector encodes a catalogue
+    -- if the catalogues list `sectors`, the next catalogue's sector encodes a catalogue
     pub no_catalogue_there : found ≡ None → ⊥
     no_catalogue_there was = let e = found_is in absurd cc
 
-    -- then the catalogue has the count that it must have
+    -- if the catalogues list `sectors`, the next catalogue has the count that it must have
     pub wrong_count_there : (catalogue : Catalogue) → found ≡ Some catalogue → length (catalogued_sectors catalogue) ≢ min (libraries - length listed) 64 → ⊥
     wrong_count_there catalogue was other = other (
         ap (λ (c : Catalogue). length (catalogued_sectors c)) (let e = found_is in let e' : catalogue ≡ catalogue_of_sectors (catalogue_part done sectors) = cc in e')

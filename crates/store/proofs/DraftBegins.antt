@@ -49,7 +49,7 @@ module _ {sectors : ℕ} (kept : Kept) (stored : IsStored sectors kept) where
         once = stored.0.root_fits.preloads.distinct;
       }
 
-  -- nothing is written yet, and there is room for the next change
+  -- when an update begins, nothing is written yet, and there is room for the next change
   pub standing_staged : IsStagedIn kept kept.entries.items
   standing_staged = record {
     standing = kept.layout;
@@ -81,7 +81,7 @@ module _ {sectors : ℕ} (kept : Kept) (stored : IsStored sectors kept) where
       first = λ _. preloads;
     }
 
-    -- reads return the current state
+    -- when an update begins, the draft's state is the current state
     pub begins_at : {D : Type 0} (facts : D → DiskFacts) (disk : D) → (IsTrue (facts disk).honest → HoldsNow (facts disk)) → (s : State) → IsAt facts (opened disk kept) s
         → IsDraftedAt facts (drafting disk kept draft) s s
     begins_at facts disk holds s at =
@@ -95,7 +95,7 @@ module _ {sectors : ℕ} (kept : Kept) (stored : IsStored sectors kept) where
               ∙ (λ i. draft_state now s.generation (sym its i) (sym preloads i));
         }
 
--- once the sectors that a draft wrote are free, everything is kept as it was before the update
+-- once the sectors that a draft wrote are free, the store keeps what it kept before the update
 pub given_up : {sectors : ℕ} (kept : Kept) (draft : Draft) → IsDrafting sectors kept draft → (layout : List Bool)
     → IsReleased kept.layout layout (own_sectors_in kept.entries.items draft.entries.items) → IsStored sectors (with_layout kept layout)
 given_up kept draft is layout released = (

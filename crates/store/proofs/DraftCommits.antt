@@ -1,4 +1,4 @@
--- Committing a draft: the next root, what is kept with it, and what it makes of the sectors.
+-- Committing a draft: the next root, what is kept with it, and the state that the sectors then hold.
 use Rattle.std.proofs.Common.{◌≡◌, ◌≢◌, ◌⊎◌, ⊎_elim, IsFalse, Ok, ℕ, zero, suc, ◌+◌, ◌-◌, ◌^◌, ◌<◌, ◌≤◌, Bool, false, List, [], ◌∷◌, ◌++◌, length, get_or, map, take, sum_by, All, refl, sym, ap, subst, ◌∙◌, arith}
 use Rattle.std.specs.Prelude.{Contains}
 use Rattle.std.specs.List.{flat_map}
@@ -66,7 +66,7 @@ use Rattle.store.proofs.Releases.{held_rest, released_rest, released_some}
 use Rattle.store.proofs.Rooms.{costs_are}
 use Rattle.store.proofs.Untouched.{untouched}
 
--- the sectors of an entry that the list doesn't have are among those that the entries have beside the list
+-- if the list `others` doesn't have an entry, the entry's sectors are among those that `others` doesn't use
 own_has : (others entries : List PlacedEntry) (i : ℕ) (d : PlacedEntry) → i < length entries → lists others (get_or entries i d) ≡ false
     → (k : ℕ) → Contains (sectors_of (get_or entries i d)) k → Contains (own_sectors_in others entries) k
 own_has others [] i d lt isnt k found = absurd (omega (arith, lt))
@@ -106,7 +106,7 @@ module _ {sectors : ℕ} {kept : Kept} {draft : Draft} (is : IsDrafting sectors 
   abbrev entries : List PlacedEntry
   entries = draft.entries.items
 
-  -- what the update wrote, and the sectors that go
+  -- the sectors that the update wrote, and the sectors that the commit gives up
   abbrev own : List ℕ
   own = own_sectors_in standing entries
 
@@ -120,21 +120,22 @@ module _ {sectors : ℕ} {kept : Kept} {draft : Draft} (is : IsDrafting sectors 
   standing_once = own_places standing (occurs_distinct (flat_map sectors_of standing)
       (λ k. omega (arith, distinct_occurs k (used kept.root standing) stands.apart.once, occurs-append k (catalogues_of kept.root) (flat_map sectors_of standing))))
 
-  -- The sectors of the draft's entries and those that go are, together, those of the current entries and those
-  -- that the update wrote.
+  -- The draft's entries and the sectors that the commit gives up have together the same sectors as the current entries
+  -- and what the update wrote.
   both : (h : List ℕ → ℕ) → h [] ≡ 0
       → sum_by (λ p. h (sectors_of p)) entries + sum_by (λ p. h (own_in entries p)) standing ≡ sum_by (λ p. h (sectors_of p)) standing + sum_by (λ p. h (own_in standing p)) entries
   both h none = swapped h none entries standing is.list.once standing_once is.list.each
 
-  -- There is a next generation if anything was changed.
+  -- If anything was changed, there is a next generation.
   pub commit_later : draft.touched ≢ touched.Nothing → kept.root.generation + 1 < 2 ^ 64
   commit_later changed = omega (arith, is.later changed, stands.root_fits.generation)
 
-  -- There is room for the catalogues.
+  -- The unused sectors are enough for the catalogues of the draft's list.
   pub commit_enough : catalogues_for (length entries) ≤ unused_count kept.layout
   commit_enough = omega (arith, is.staged.room)
 
-  -- All sectors of the disk are counted.
+  -- The disk consists of the roots, the catalogues, the sectors of the draft's entries, the sectors that the commit
+  -- gives up, the sectors that only holders use, and the unused ones.
   pub commit_counted : root_sectors + length (catalogues_of kept.root) + entries_cost entries + length gone + length (lone_sectors kept.held) + unused_count kept.layout ≡ kept.root.sectors
   commit_counted =
       let before = in_use kept.root standing kept.held in
@@ -158,7 +159,7 @@ module _ {sectors : ℕ} {kept : Kept} {draft : Draft} (is : IsDrafting sectors 
         costs_are entries is.list.fit,
       )
 
-  -- Catalogues are taken, and by them the next root lists the draft.
+  -- Catalogues are claimed, and the next root lists the draft's entries by these catalogues.
   module _ {mid : List Bool} {taken : List ℕ} {next : Root} (claimed : IsClaimedBeside kept.layout mid taken)
       (is_next : next ≡ next_root kept.root (length entries) taken draft.preloads.items) where
     listed : catalogues_of next ≡ taken
@@ -186,11 +187,12 @@ module _ {sectors : ℕ} {kept : Kept} {draft : Draft} (is : IsDrafting sectors 
       );
     }
 
-    -- There is room for the list, even if holders keep everything that goes.
+    -- There is room for the list, even if holders keep all sectors that the commit gives up.
     pub commit_room : (size : ℕ) → kept.root.sectors ≤ size + (length (lone_sectors kept.held) + length gone) → HasRoom size next.list entries
     commit_room size enough = subst (λ r. HasRoom size r.list entries) (sym is_next) (omega (arith, commit_counted, is.staged.room, enough))
 
-    -- If a call fails, everything that was taken is given back.
+    -- The catalogues and the update's sectors are claimed beside the current state, so that they can be given back if a
+    -- call fails.
     turned : IsClaimedBeside is.staged.standing mid (taken ++ own)
     turned = claimed_as is.staged.standing mid (own ++ taken) (taken ++ own) (λ k. omega (arith, occurs-append k own taken, occurs-append k taken own)) with_own
 
@@ -228,7 +230,7 @@ module _ {sectors : ℕ} {kept : Kept} {draft : Draft} (is : IsDrafting sectors 
             can_be_catalogued kept.root.sectors (length taken) next entries (omega (arith, stands.root_fits.sectors)) count is.list.few commit_next.apart,
           ))
 
-      -- The sectors that go can be settled.
+      -- The sectors that the commit gives up can be settled.
       pub commit_can : CanSettle kept.root standing entries kept.held mid
       commit_can = record {
         before = is.staged.standing;
@@ -237,7 +239,7 @@ module _ {sectors : ℕ} {kept : Kept} {draft : Draft} (is : IsDrafting sectors 
         claimed = moved_held stands with_own next entries commit_moved;
       }
 
-      -- Once they are settled, everything is kept.
+      -- Once they are settled, the store keeps the draft's list.
       pub commit_kept : {left : List HeldRow} {new : List Bool} → IsSettledIn kept.root standing entries kept.held left mid new → IsKept next entries left new
       commit_kept {left = left} {new = new} settled = following_kept commit_next stands.root_fits left new
           (moved_size stands with_own new settled.released)
@@ -257,7 +259,7 @@ module _ {sectors : ℕ} {kept : Kept} {draft : Draft} (is : IsDrafting sectors 
       (singles_same taken kept.layout here (same-from_used kept.layout here (before ++ own)
       (claimed.size ∙ stands.size ∙ sym (length-map-range_with_len _ 0 kept.root.sectors)) (claimed.each before stands.claimed.claims) claims) of_layout)
 
-  -- The current state, on the disk that a draft is at.
+  -- A disk with the current state `s` and the draft's state `d`.
   module _ {D : Type 0} {facts : D → DiskFacts} {disk : D} {s d : State} (at : IsDraftedAt facts (drafting disk kept draft) s d) (holds : HoldsNow (facts disk)) where
     abbrev now : List Sector
     now = (facts disk).now
@@ -265,20 +267,20 @@ module _ {sectors : ℕ} {kept : Kept} {draft : Draft} (is : IsDrafting sectors 
     by_now : StandsBy Two now kept.root standing s
     by_now = at.stands.stands now holds
 
-    -- Sectors that hold the current state, and in which what the draft wrote is as it is now.
+    -- Sectors that hold the current state and have what the draft wrote.
     module _ {m : List Sector} (by : StandsBy Two m kept.root standing s) (written : AreWritten now (staged (drafting disk kept draft)) m) where
       wrote : (i : ℕ) (e : PlacedEntry) → i < length entries → lists standing (get_or entries i e) ≡ false
           → (k : ℕ) → Contains (sectors_of (get_or entries i e)) k → sector m k ≡ sector now k
       wrote i e lt isnt k found = written.each k (subst (λ l. Contains l k) (own_apart standing entries) (own_has standing entries i e lt isnt k found))
 
-      -- These sectors encode the draft's entries.
+      -- Sectors that hold the current state and have what the draft wrote encode the draft's entries.
       draft_spelt : All (λ placed. SpellsEntry (sector m placed.at) placed.entry) entries
       draft_spelt i e lt = ⊎_elim
           (λ listed. All-contains (λ (p : PlacedEntry). SpellsEntry (sector m p.at) p.entry) standing (get_or entries i e) by.intact.listed.each (is.list.each i e lt listed))
           (λ isnt. subst (λ content. SpellsEntry content (get_or entries i e).entry) (sym (wrote i e lt isnt (get_or entries i e).at (0, omega arith, refl))) (at.spelt i e lt))
           (cases_Bool (lists standing (get_or entries i e)))
 
-      -- These sectors have the draft's byte strings.
+      -- Sectors that hold the current state and have what the draft wrote have the draft's byte strings.
       draft_library : All (λ p. library_of m p ≡ library_of now p) entries
       draft_library i e lt =
           let p = get_or entries i e in
@@ -301,7 +303,7 @@ module _ {sectors : ℕ} {kept : Kept} {draft : Draft} (is : IsDrafting sectors 
           let generation = ap (λ (t : State). t.generation + 1) by_now.is in
           λ i. record { generation = generation i; libraries = libraries i; preloads = preloads i }
 
-    -- So the catalogues and the next root make the draft's state of the current state.
+    -- The catalogues and the next root turn the current state into the draft's state.
     module _ {mid : List Bool} {taken : List ℕ} {next : Root} (claimed : IsClaimedBeside kept.layout mid taken)
         (is_next : next ≡ next_root kept.root (length entries) taken draft.preloads.items)
         (count : length taken ≡ catalogues_for (length entries)) (later : kept.root.generation + 1 < 2 ^ 64) where
@@ -354,7 +356,7 @@ module _ {sectors : ℕ} {kept : Kept} {draft : Draft} (is : IsDrafting sectors 
           usable = usable;
         }
 
-    -- The new preloads make the draft's state of the current state.
+    -- The new preloads turn the current state into the draft's state.
     pub chosen_makes : {D : Type 0} {facts : D → DiskFacts} {disk : D} {s d : State} → IsDraftedAt facts (drafting disk kept draft) s d → HoldsNow (facts disk)
         → Makes (facts disk).now [] kept choice [] s (next_state s d.libraries d.preloads)
     chosen_makes {facts = facts} {disk = disk} {s = s} {d = d} at holds =
@@ -366,7 +368,7 @@ module _ {sectors : ℕ} {kept : Kept} {draft : Draft} (is : IsDrafting sectors 
         subst (λ t. Makes now [] kept choice [] s t) (λ i. next_state s (libraries i) (preloads i))
         (preloads_followed chosen_next stands.root_fits is.two now s [] (entry_sectors standing))
 
--- The commit of a draft in which nothing was changed makes no call, and the store stays as it was.
+-- The commit of a draft in which nothing was changed makes no call, and the store is unchanged.
 module _ {D : Type 0} (facts : D → DiskFacts) (disk : D) {sectors : ℕ} {kept : Kept} {draft : Draft} (is : IsDrafting sectors kept draft)
     (nothing : draft.touched ≡ touched.Nothing) where
   not_list : draft.touched ≢ touched.List

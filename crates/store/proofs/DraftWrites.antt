@@ -1,5 +1,4 @@
--- What is written beside the current state, beside what is held and beside what a draft wrote
--- before.
+-- Writes to sectors that aren't used by the current state, by held byte strings, or by what the draft wrote before.
 use Rattle.std.proofs.Common.{◌≡◌, inr, ⊎_elim, ℕ, zero, suc, ◌<◌, Bool, List, [], ◌∷◌, ◌++◌, length, get_or, All, IsTrue, IsFalse, Result, Ok, Err, sym, subst, ◌∙◌, arith}
 use Rattle.std.specs.Prelude.{Contains}
 use Rattle.std.proofs.lemmas.Bool.{cases_Bool, false≢true}
@@ -51,7 +50,7 @@ drafted_sectors root standing held entries each i d lt k found = ⊎_elim
 -- The current state, and what a draft wrote beside it.
 module _ {root : Root} {standing : List PlacedEntry} {held : List HeldRow} {before layout : List Bool} {own : List ℕ}
     (stands : IsKept root standing held before) (claimed : IsClaimedBeside before layout own) where
-  -- all of it lies on the disk, after the roots
+  -- all these sectors lie on the disk, after the roots
   pub drafted_usable : All (IsUsable root.sectors) (in_use root standing held ++ own)
   drafted_usable = All-append (IsUsable root.sectors) (in_use root standing held) own (all_usable stands) (more_inside stands claimed)
 
@@ -66,8 +65,7 @@ module _ {root : Root} {standing : List PlacedEntry} {held : List HeldRow} {befo
     pub beside_free : (k : ℕ) → Contains more k → Contains (in_use root standing held) k → ⊥
     beside_free k found there = more_free stands joined k (in_joined k found) there
 
-    -- these sectors lie apart from the current state, from what is held and from what was written
-    -- before
+    -- the sectors `more` aren't used by the current state, by held byte strings, or by what was written before
     pub beside_apart : (k : ℕ) → Contains (in_use root standing held ++ own) k → Contains more k → ⊥
     beside_apart k found here = distinct-parts (in_use root standing held ++ own) more k
         (taken.once (in_use root standing held ++ own) (claimed.each (in_use root standing held) stands.claimed.claims) (claimed.once (in_use root standing held) stands.claimed.claims stands.claimed.once))
@@ -76,7 +74,7 @@ module _ {root : Root} {standing : List PlacedEntry} {held : List HeldRow} {befo
     beside_low : (k : ℕ) → k < 2 → Contains more k → ⊥
     beside_low k low found = omega (arith, low, (All-contains (IsUsable root.sectors) (own ++ more) k (more_inside stands joined) (in_joined k found)).0)
 
-    -- So each mixture in which only these sectors were changed holds the current state.
+    -- Each mixture in which only the sectors `more` were changed holds the current state.
     pub beside_stands : {m m' : List Sector} {s : State} → StandsBy Two m root standing s → SameBut (Contains more) m m' → StandsBy Two m' root standing s
     beside_stands {m = m} {m' = m'} {s = s} by same = same_used Two m m' root standing s (Contains more) by same beside_low
         (λ k used here. beside_free k here (Contains-append_left _ (lone_sectors held) k used))
@@ -91,14 +89,14 @@ module _ {root : Root} {standing : List PlacedEntry} {held : List HeldRow} {befo
           let but = left_now (IsMixtureBut (Contains more) before_it) leaves m mixture in
           beside_stands (is but.0 but.1) but.2
 
-    -- What is held stays what it was.
+    -- Held byte strings keep their holders and their bytes.
     pub beside_held : {before_it after : DiskFacts} → (IsTrue before_it.honest → LeavesOnly before_it after (IsMixtureBut (Contains more) before_it)) → KeepsHolders before_it after held held
     beside_held {before_it = before_it} leaves = keeps_table stands more beside_free
         (λ honest m mixture.
         let but = left_now (IsMixtureBut (Contains more) before_it) (leaves honest) m mixture in
         (but.0, but.1, wider {more = IsRootOr more} (λ k found. inr found) but.2))
 
-    -- Reads return what they returned of what was in use.
+    -- Reads of the sectors that were in use return what they returned before.
     pub beside_now : {now now' : List Sector} → SameBut (Contains more) now now' → (k : ℕ) → Contains (in_use root standing held ++ own) k → sector now' k ≡ sector now k
     beside_now same k found = same.others k (λ here. beside_apart k found here)
 
@@ -117,7 +115,7 @@ module _ {D : Type 0} (facts : D → DiskFacts) (old new : Drafted D) {before la
   }
 
   module _ {T E : Type 0} {n : ℕ} {result : Result T E} (calls : AreCallsInRow n (facts old.store.disk) (facts new.store.disk) result) where
-    -- So the store is at the state that it was at.
+    -- If no call failed, the store is at the state that it was at before the line.
     pub stands_beside : IsFalse new.store.failed → {s : State} → IsAt facts old.store s → IsAt facts new.store s
     stands_beside usable {s = s} at = record {
       honest = subst IsTrue (sym calls.honest) at.honest;
@@ -127,7 +125,7 @@ module _ {D : Type 0} (facts : D → DiskFacts) (old new : Drafted D) {before la
     }
 
   module _ {T E : Type 0} {n most : ℕ} {Refuses : StoreRefusal → Type 0} (usable : IsFalse old.store.failed) (all : n ≡ most) where
-    -- The line is done.
+    -- If all writes succeed, the line is done.
     pub line_wrote : {x : T} → AreCallsInRow {E = E} n (facts old.store.disk) (facts new.store.disk) (Ok x) → IsFalse new.store.failed → IsLine facts old new most Refuses (Ok tt)
     line_wrote calls still_usable = record {
       beside = stays_beside;
@@ -143,7 +141,7 @@ module _ {D : Type 0} (facts : D → DiskFacts) (old new : Drafted D) {before la
       refused = tt;
     }
 
-    -- A write of the line failed.
+    -- If a write fails, the line is refused with Device.
     pub line_failed : {x : E} (e : StoreRefusal) → e ≡ Device → AreCallsInRow {T = T} n (facts old.store.disk) (facts new.store.disk) (Err x) → IsTrue new.store.failed → Refuses Device
         → IsSameDraft old new → IsLine facts old new most Refuses (Err e)
     line_failed e device calls failed may same = record {

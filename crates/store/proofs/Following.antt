@@ -1,5 +1,5 @@
--- The root that follows another: its encoding, what is kept with it, and what it makes of the
--- sectors.
+-- The root that follows another: its encoding, what is kept with it, and the state that the sectors hold once it is
+-- written.
 use Rattle.std.proofs.Common.{◌≡◌, ℕ, ◌+◌, ◌-◌, Bool, List, length, get_or, set, map, All, sym, ap, subst, ◌∙◌, arith}
 use Rattle.std.specs.List.{flat_map}
 use Rattle.std.proofs.lemmas.List.{length-map}
@@ -80,7 +80,7 @@ module _ {root : Root} {others : List PlacedEntry} {catalogues preloads : List �
     claimed = subst (λ n. AreClaimed n new (used next others) (lone_sectors held)) (sym sectors_are) claimed;
   }
 
-  -- the entry sectors that the catalogues list in these sectors are those that the root lists
+  -- if the catalogues list the entry sectors, the next root lists them too
   listed_is : (m : List Sector) → AreCatalogued m catalogues (entry_sectors others) → AreListed m next.library_count next.list (entry_sectors others)
   listed_is m listed = subst (λ r. AreListed m r.library_count r.list (entry_sectors others)) (sym is.is_next) (
     length-map others (λ (p : PlacedEntry). p.at),

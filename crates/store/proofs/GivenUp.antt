@@ -28,14 +28,14 @@ use Rattle.store.proofs.HeldRows.{held_left, held_unheld, left_length, left_occu
 use Rattle.store.proofs.Removed.{at_closed, closed_inside}
 use Rattle.store.proofs.UsedAlone.{among_entries, no_entry, own_used}
 
--- an entry after another has another sector
+-- if the sectors of `e` and of the entries are distinct, no entry is in the sector of `e`
 twice : (e : PlacedEntry) (entries : List PlacedEntry) → AreDistinct (sectors_of e ++ flat_map sectors_of entries) → (j : ℕ) (d : PlacedEntry) → j < length entries → e.at ≡ (get_or entries j d).at → ⊥
 twice e entries once j d lt same =
     let first = contains_occurs e.at (sectors_of e) (0, omega arith, refl) in
     let there = contains_occurs e.at (flat_map sectors_of entries) (among_entries entries j d lt e.at (0, omega arith, sym same)) in
     omega (arith, first, there, occurs-append e.at (sectors_of e) (flat_map sectors_of entries), distinct_occurs e.at (sectors_of e ++ flat_map sectors_of entries) once)
 
--- of entries whose sectors lie apart, two in the same sector are one
+-- if the sectors of entries are distinct, two entries in the same sector are the same entry
 pub same_place : (entries : List PlacedEntry) → AreDistinct (flat_map sectors_of entries) → (i j : ℕ) (d : PlacedEntry) → i < length entries
     → j < length entries → (get_or entries i d).at ≡ (get_or entries j d).at → i ≡ j
 same_place [] once i j d lt lt' same = absurd (omega (arith, lt))
@@ -54,7 +54,7 @@ same_place (e ∷ entries) once (suc i) (suc j) d lt lt' same =
     ap suc (same_place entries rest i j d (omega (arith, lt)) (omega (arith, lt')) same)
 
 module _ {root : Root} {entries : List PlacedEntry} {held : List HeldRow} {layout : List Bool} (kept : IsKept root entries held layout) where
-  -- the sectors of the entries lie apart
+  -- the sectors of the entries are distinct
   entries_once : AreDistinct (flat_map sectors_of entries)
   entries_once = occurs_distinct (flat_map sectors_of entries)
       (λ k. omega (arith, distinct_occurs k (used root entries) kept.apart.once, occurs-append k (catalogues_of root) (flat_map sectors_of entries)))
@@ -76,7 +76,7 @@ module _ {root : Root} {entries : List PlacedEntry} {held : List HeldRow} {layou
       absurd (distinct-parts (used root entries) (lone_sectors held) at kept.claimed.once found lone))
       (cases_Bool hold.listed)
 
-  -- So each held byte string counts as listed exactly if it is one of the state's.
+  -- Each held byte string counts as listed exactly if it is one of the state's.
   pub flags : All (λ hold. (hold.listed ≡ true) ↔ Contains entries hold.placed) held
   flags i d lt =
       let row = get_or held i d in (
@@ -88,7 +88,7 @@ module _ {root : Root} {entries : List PlacedEntry} {held : List HeldRow} {layou
     abbrev old : PlacedEntry
     old = get_or entries gone no_entry
 
-    -- The row of the entry's sector has the entry.
+    -- The row of the entry's sector is the entry's row.
     pub row_is : {place : ℕ} {hold : HeldRow} → IsAtPlace held old.at place hold → hold.placed ≡ old
     row_is {place = place} {hold = hold} row =
         let listed = row_listed row (own_used root entries gone no_entry lt) in
@@ -172,7 +172,7 @@ module _ (entries : List PlacedEntry) (place : ℕ) (lt : place < length entries
         );
   }
 
--- The rows are sound too if one more entry comes after the others.
+-- If the rows are sound, they are still sound after one more entry is put after the others.
 pub rows_more : {entries : List PlacedEntry} {held : List HeldRow} (put : PlacedEntry) → AreHeldRows entries held → AreHeldRows (entries ++ put ∷ []) held
 rows_more {entries = entries} put rows = record {
   each = λ k d lt. let row = rows.each k d lt in record {

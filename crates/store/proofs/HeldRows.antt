@@ -1,4 +1,4 @@
--- The rows of held byte strings: what each change of them keeps.
+-- The rows of held byte strings, and the facts that each change of the rows keeps.
 use Rattle.std.proofs.Common.{◌≡◌, ◌≢◌, ⊎_elim, ℕ, zero, suc, ◌+◌, ◌<◌, ◌==◌, nat_eq, Bool, true, false, if◌then◌else◌, sum_by, List, []}
 use Rattle.std.proofs.Common.{◌∷◌, ◌++◌, length, get_or, set, take, drop, refl, sym, ap, subst, ◌∙◌, arith}
 use Rattle.std.specs.Prelude.{Contains}
@@ -25,7 +25,7 @@ use Rattle.store.proofs.Inserted.{all_insert, all_pairs_insert}
 use Rattle.store.proofs.KeyedRows.{no_row}
 use Rattle.store.proofs.Removed.{all_remove, at_closed, closed_inside, stood_at}
 
--- two places with the same sector are one place
+-- if each held byte string has one row, two places with the same sector are the same place
 pub same_place : (held : List HeldRow) (i j : ℕ) (d : HeldRow) → HaveOwnRows held → i < length held → j < length held → (get_or held i d).placed.at ≡ (get_or held j d).placed.at → i ≡ j
 same_place held i j d own first second same = ⊎_elim
     (λ less. absurd (own i j d less second same))
@@ -35,7 +35,7 @@ same_place held i j d own first second same = ⊎_elim
     (cases_lt j i))
     (cases_lt i j)
 
--- a field of the rows stays the same if a row is replaced by one with the same field
+-- if a row is replaced by one with the same field `f`, the field `f` stays the same in all rows
 pub field_set : {A : Type 0} (f : HeldRow → A) (held : List HeldRow) (place : ℕ) (row : HeldRow) → ((d : HeldRow) → f row ≡ f (get_or held place d))
     → (k : ℕ) (d : HeldRow) → f (get_or (set held place row) k d) ≡ f (get_or held k d)
 field_set f held place row same k d =
@@ -48,11 +48,11 @@ own_set held place row same own i j d less fits = λ equal.
 
 -- The rows of a store.
 module _ {entries : List PlacedEntry} {old : List HeldRow} (are : AreHeldRows entries old) where
-  -- the row of a sector
+  -- the row at a place of the table is sound
   pub row_of : {sector place : ℕ} {hold : HeldRow} → IsAtPlace old sector place hold → IsHeldRow entries hold
   row_of {place = place} at = subst (IsHeldRow entries) (at.is no_row) (are.each place no_row at.inside)
 
-  -- a listed byte string is held for the first time
+  -- if a listed byte string is held for the first time, the rows stay sound
   pub held_once : {new : List HeldRow} → {placed : PlacedEntry} → IsHeldOnce old new placed → EntryHasSpelling placed.entry → Contains entries placed → AreHeldRows entries new
   held_once {placed = placed} once fits listed =
       let row = first_row placed in
@@ -63,7 +63,7 @@ module _ {entries : List PlacedEntry} {old : List HeldRow} (are : AreHeldRows en
             (λ k d behind lt same. once.absent k d lt (sym same));
       })
 
-  -- the same row with another count
+  -- if a row gets another number of holders, which isn't 0, the rows stay sound
   counted : {sector place : ℕ} {hold : HeldRow} (holders : ℕ) → 0 < holders → IsAtPlace old sector place hold → AreHeldRows entries (set old place (with_holders holders hold))
   counted {place = place} {hold = hold} holders some at =
       let was = row_of at in
@@ -78,7 +78,7 @@ module _ {entries : List PlacedEntry} {old : List HeldRow} (are : AreHeldRows en
   pub held_less : {new : List HeldRow} → {sector : ℕ} → IsHeldLess old new sector → AreHeldRows entries new
   held_less less = subst (AreHeldRows entries) (sym less.is) (counted less.holders less.some less.at)
 
-  -- the last holder releases a byte string
+  -- if the last holder releases a byte string, the rows stay sound
   pub held_gone : {new : List HeldRow} → {sector : ℕ} {hold : HeldRow} → IsLetGo old new sector hold → AreHeldRows entries new
   held_gone gone = subst (AreHeldRows entries) (sym gone.is) (record {
     each = all_remove (IsHeldRow entries) old gone.place are.each;
@@ -114,16 +114,16 @@ module _ {entries : List PlacedEntry} {old : List HeldRow} (are : AreHeldRows en
       own = are.own;
     }
 
--- A sum over the rows, after one more row.
+-- One more row raises a sum over the rows by the new row's value.
 sum_once : (f : HeldRow → ℕ) {old new : List HeldRow} {placed : PlacedEntry} → IsHeldOnce old new placed → sum_by f new ≡ sum_by f old + f (first_row placed)
 sum_once f {old = old} {placed = placed} once = omega (arith, ap (sum_by f) once.is, sum_by-insert f old once.place (first_row placed))
 
--- A sum over the rows, after another row is put in a place.
+-- Replacing a row changes a sum over the rows by the difference of the two values.
 sum_set : (f : HeldRow → ℕ) {old : List HeldRow} {sector place : ℕ} {hold : HeldRow} → IsAtPlace old sector place hold → (row : HeldRow)
     → sum_by f (set old place row) + f hold ≡ sum_by f old + f row
 sum_set f {old = old} {place = place} at row = omega (arith, ap f (at.is no_row), sum_by-set f old place row no_row at.inside)
 
--- A sum over the rows, after a row is gone.
+-- Removing a row lowers a sum over the rows by the removed row's value.
 sum_gone : (f : HeldRow → ℕ) {old new : List HeldRow} {sector : ℕ} {hold : HeldRow} → IsLetGo old new sector hold → sum_by f new + f hold ≡ sum_by f old
 sum_gone f {old = old} gone = omega (arith, ap (sum_by f) gone.is, sum_by-remove f old gone.place no_row gone.at.inside, ap f (gone.at.is no_row))
 
@@ -146,7 +146,7 @@ lone_once {old = old} {placed = placed} once =
     let behind = drop once.place old in
     ap lone_sectors once.is ∙ flat_map-append own_sectors before (first_row placed ∷ behind) ∙ sym (flat_map-append own_sectors before behind) ∙ ap lone_sectors (take-append-drop once.place old)
 
--- The number of holders doesn't change the sectors that they keep.
+-- A change of the number of holders doesn't change the sectors that they keep.
 lone_counted : {old : List HeldRow} {sector place : ℕ} {hold : HeldRow} (holders : ℕ) → IsAtPlace old sector place hold
     → lone_sectors (set old place (with_holders holders hold)) ≡ lone_sectors old
 lone_counted {old = old} {place = place} {hold = hold} holders at = flat_map-set_same own_sectors old place (with_holders holders hold) no_row (ap own_sectors (sym (at.is no_row)))
@@ -157,7 +157,7 @@ lone_more more = ap lone_sectors more.is ∙ lone_counted (more.hold.holders + 1
 pub lone_less : {old new : List HeldRow} {sector : ℕ} → IsHeldLess old new sector → lone_sectors new ≡ lone_sectors old
 lone_less less = ap lone_sectors less.is ∙ lone_counted less.holders less.at
 
--- A count of sectors, one by one.
+-- A function `f` that counts sectors, and is 0 for no sectors.
 module _ (f : List ℕ → ℕ) (none : f [] ≡ 0) (adds : (held : List HeldRow) → f (lone_sectors held) ≡ sum_by (λ hold. f (own_sectors hold)) held) where
   left_adds : {old new : List HeldRow} {sector : ℕ} (left : IsLeft old new sector) → left.hold.listed ≡ true → f (lone_sectors new) ≡ f (lone_sectors old) + f (sectors_of left.hold.placed)
   left_adds {old = old} {new = new} left listed =
@@ -182,7 +182,7 @@ pub left_length : {old new : List HeldRow} {sector : ℕ} (left : IsLeft old new
     → length (lone_sectors new) ≡ length (lone_sectors old) + length (sectors_of left.hold.placed)
 left_length left listed = left_adds length refl (length-flat_map own_sectors) left listed
 
--- When the last holder releases an unlisted byte string, its sectors are kept no longer.
+-- When the last holder releases an unlisted byte string, its sectors are no longer kept.
 pub gone_occurs : {old new : List HeldRow} {sector : ℕ} {hold : HeldRow} → IsLetGo old new sector hold → hold.listed ≡ false → (k : ℕ)
     → occurs k (lone_sectors new) + occurs k (sectors_of hold.placed) ≡ occurs k (lone_sectors old)
 gone_occurs gone listed k = gone_takes (occurs k) refl (occurs-flat_map k own_sectors) gone listed
@@ -199,7 +199,7 @@ gone_listed_occurs gone listed k = gone_leaves (occurs k) refl (occurs-flat_map 
 pub gone_listed_length : {old new : List HeldRow} {sector : ℕ} {hold : HeldRow} → IsLetGo old new sector hold → hold.listed ≡ true → length (lone_sectors new) ≡ length (lone_sectors old)
 gone_listed_length gone listed = gone_leaves length refl (length-flat_map own_sectors) gone listed
 
--- the number of holders of the byte string with this entry sector, by one row
+-- the number of holders that a row counts for the byte string with this entry sector
 abbrev holders_at : ℕ → HeldRow → ℕ
 holders_at sector hold = if hold.placed.at == sector then hold.holders else 0
 
@@ -207,7 +207,7 @@ one_more : (b : Bool) (n : ℕ) → (if b then n + 1 else 0) ≡ (if b then n el
 one_more true n = refl
 one_more false n = refl
 
--- The number of holders, if a byte string is held for the first time.
+-- If a byte string is held for the first time, its number of holders grows by one.
 pub holders_once : {old new : List HeldRow} {placed : PlacedEntry} → IsHeldOnce old new placed → (sector : ℕ) → holders_of new sector ≡ holders_of old sector + (if placed.at == sector then 1 else 0)
 holders_once once sector = sum_once (holders_at sector) once
 
@@ -240,7 +240,7 @@ holders_less less sector =
       ap {B = ℕ} (λ k. if k == sector then 1 else 0) less.at.its,
     )
 
--- The same, if it was the last holder.
+-- The number of holders is one less after the last holder releases the byte string.
 pub holders_gone : {entries : List PlacedEntry} {old new : List HeldRow} {at : ℕ} {hold : HeldRow} → AreHeldRows entries old
     → IsLetGo old new at hold → (sector : ℕ) → holders_of old sector ≡ holders_of new sector + (if at == sector then 1 else 0)
 holders_gone {hold = hold} are gone sector =
@@ -286,7 +286,7 @@ by_one {held = held} own first second =
     let is : first.place ≡ second.place = same_place held first.place second.place no_row own first.inside second.inside same in
     sym (first.is no_row) ∙ ap (λ k. (get_or held k no_row).placed) is ∙ second.is no_row
 
--- The entry of a held byte string stays in a row when another one is held.
+-- The entry of a held byte string stays in a row when another byte string is held for the first time.
 pub by_once : {old new : List HeldRow} {sector : ℕ} {p placed : PlacedEntry} → IsHeldOnce old new placed → IsHeldBy old sector p → IsHeldBy new sector p
 by_once {old = old} {sector = sector} {p = p} {placed = placed} once by =
     let row = first_row placed in
@@ -326,7 +326,7 @@ by_left {sector = sector} {p = p} left by = subst (λ l. IsHeldBy l sector p) (s
 pub by_less : {old new : List HeldRow} {sector at : ℕ} {p : PlacedEntry} → IsHeldLess old new at → IsHeldBy old sector p → IsHeldBy new sector p
 by_less {sector = sector} {p = p} less by = subst (λ l. IsHeldBy l sector p) (sym less.is) (by_set less.at (with_holders less.holders less.hold) refl by)
 
--- The entry of a held byte string stays in a row when the row of another one goes.
+-- The entry of a held byte string stays in a row when the row of another one is removed.
 pub by_gone_other : {old new : List HeldRow} {sector at : ℕ} {p : PlacedEntry} {hold : HeldRow} → IsLetGo old new at hold → sector ≢ at → IsHeldBy old sector p → IsHeldBy new sector p
 by_gone_other {old = old} {sector = sector} {at = at} {p = p} {hold = hold} gone apart by =
     let entry = λ (h : HeldRow). h.placed in
@@ -341,7 +341,7 @@ by_gone_other {old = old} {sector = sector} {at = at} {p = p} {hold = hold} gone
       its = by.its;
     })
 
--- After a row is gone, no row has its sector.
+-- After the row of a sector is removed, no row has this sector.
 pub gone_unheld : {old new : List HeldRow} {at : ℕ} {hold : HeldRow} → HaveOwnRows old → IsLetGo old new at hold → IsUnheld new at
 gone_unheld {old = old} {at = at} own gone =
     let sector = λ (h : HeldRow). h.placed.at in
@@ -349,13 +349,13 @@ gone_unheld {old = old} {at = at} own gone =
     let stood = stood_at old gone.place k gone.at.inside lt in
     stood.2 (same_place old stood.0 gone.place d own stood.1 gone.at.inside (ap sector (sym (stood.3 d)) ∙ same ∙ sym (ap sector (gone.at.is d) ∙ gone.at.its))))
 
--- So a byte string that somebody holds still has its row.
+-- A byte string that somebody holds still has its row after a row is removed.
 pub by_gone : {old new : List HeldRow} {sector at : ℕ} {p : PlacedEntry} {hold : HeldRow} → HaveOwnRows old → IsLetGo old new at hold
     → 0 < holders_of new sector → IsHeldBy old sector p → IsHeldBy new sector p
 by_gone {new = new} {sector = sector} {at = at} own gone some by =
     by_gone_other gone (λ same. absurd (omega (arith, some, ap (holders_of new) same, holders_unheld new at (gone_unheld own gone)))) by
 
--- What is in a row after a row is replaced was in a row before.
+-- An entry that is in a row after a row is replaced was in a row before.
 by_set_back : {old : List HeldRow} {sector at place : ℕ} {p : PlacedEntry} {hold : HeldRow} → IsAtPlace old at place hold → (row : HeldRow)
     → row.placed ≡ hold.placed → IsHeldBy (set old place row) sector p → IsHeldBy old sector p
 by_set_back {old = old} {place = place} at row same by =

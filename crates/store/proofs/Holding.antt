@@ -129,7 +129,7 @@ module _ {root : Root} {entries : List PlacedEntry} {held : List HeldRow} {layou
     }
 
 module _ {D : Type 0} (facts : D → DiskFacts) (store : Opened D) {layout : List Bool} (kept : IsKept store.root store.entries store.held layout) where
-  -- What is left after a hold is refused.
+  -- If a hold is refused, nothing changes.
   pub hold_refused : (position : ℕ) (e : StoreRefusal) → ((e ≡ Reopen) ↔ IsTrue store.failed) → (e ≡ Reopen) ⊎ (e ≡ OutOfMemory) → TakesHold facts store store position (Err e)
   hold_refused position e reopen which = record {
     ok = λ s at. tt;
@@ -192,7 +192,7 @@ module _ {D : Type 0} (facts : D → DiskFacts) (store : Opened D) {layout : Lis
       refusals = tt;
     }
 
-  -- What is left after a read that makes no call.
+  -- A read that is refused without a call changes nothing.
   pub read_refused : (held : ℕ) (e : StoreRefusal) → ((e ≡ Reopen) ↔ IsTrue store.failed)
       → ((e ≡ Damaged) ↔ (IsFalse store.failed × (holders_of store.held held ≡ 0))) → (e ≡ Reopen) ⊎ (e ≡ Damaged) ⊎ (e ≡ OutOfMemory)
       → ReadsHeld facts store store held (Err e)
@@ -215,7 +215,7 @@ module _ {D : Type 0} (facts : D → DiskFacts) (store : Opened D) {layout : Lis
     called = no_calls (facts store.disk);
   }
 
-  -- What is left after a read of a held byte string.
+  -- The effect of reading a held byte string.
   module _ (after : D) (held : ℕ) {placed : PlacedEntry} (by : IsHeldBy store.held held placed) (usable : IsFalse store.failed)
       (holds : IsTrue (facts store.disk).honest → HoldsNow (facts store.disk))
       (calls : AreCallsAtMost (div_ceil placed.entry.file_length sector_bytes) (facts store.disk) (facts after))
@@ -285,7 +285,7 @@ module _ {D : Type 0} (facts : D → DiskFacts) (store : Opened D) {layout : Lis
         other_than : (y : StoreRefusal) → (y ≡ Device → ⊥) → (y ≡ OutOfMemory → ⊥) → e ≡ y → ⊥
         other_than y device memory is = ⊎_elim (λ both. device (sym is ∙ both.0)) (λ both. memory (sym is ∙ both.0)) refused
 
-  -- What is left after the release of a byte string that nobody holds.
+  -- Releasing a byte string that nobody holds changes nothing.
   pub none_done : {at : ℕ} → IsUnheld store.held at → LetsHoldGo facts store store at
   none_done {at = at} absent = record {
     holders = λ sector. none_less sector;
@@ -302,7 +302,7 @@ module _ {D : Type 0} (facts : D → DiskFacts) (store : Opened D) {layout : Lis
           (λ other. omega (arith, ap {B = ℕ} (λ b. if b then 1 else 0) other))
           (cases_Bool (at == sector))
 
-  -- A byte string that others still hold is released, or its last holder releases it.
+  -- A holder releases a byte string: others still hold it, or this was its last holder.
   module _ {at : ℕ} {new : List HeldRow} where
     pub less_done : IsHeldLess store.held new at → LetsHoldGo facts store (with_held store new) at
     less_done less =

@@ -1,4 +1,4 @@
--- What calls keep of held byte strings.
+-- The facts about held byte strings that calls keep.
 use Rattle.std.proofs.Common.{◌≡◌, ⊎_elim, ℕ, Bool, List, [], ◌∷◌, length, get_or, take, IsTrue, refl, sym, ap, subst, ◌∙◌, arith}
 use Rattle.std.specs.Prelude.{Contains, if◌then◌else◌}
 use Rattle.std.proofs.lemmas.Bool.{cases_Bool}
@@ -29,7 +29,7 @@ use Rattle.store.proofs.UsedAlone.{among_used}
 pub listed_used : (root : Root) (entries : List PlacedEntry) (placed : PlacedEntry) → Contains entries placed → (k : ℕ) → Contains (sectors_of placed) k → Contains (used root entries) k
 listed_used root entries placed found k its = among_used root entries found.0 placed found.1 k (subst (λ p. Contains (sectors_of p) k) (sym found.2) its)
 
--- a change of root sectors and of sectors that aren't in use changes none that is in use
+-- changing only root sectors and sectors that aren't in use changes no sector in use
 pub apart_from : {root : Root} {entries : List PlacedEntry} {held : List HeldRow} {layout : List Bool} → (kept : IsKept root entries held layout)
     → (changed : List ℕ) → ((k : ℕ) → Contains changed k → Contains (in_use root entries held) k → ⊥) → (k : ℕ)
     → Contains (in_use root entries held) k → IsRootOr changed k → ⊥
@@ -59,7 +59,7 @@ module _ {root : Root} {entries : List PlacedEntry} {held : List HeldRow} {layou
 
   module _ {before after : DiskFacts} (changed : List ℕ) (apart : (k : ℕ) → Contains changed k → Contains (in_use root entries held) k → ⊥)
       (others : IsTrue before.honest → (m : List Sector) → Mixture after m → IsMixtureBut (IsRootOr changed) before m) where
-    -- So a held byte string keeps its bytes on a disk of which only other sectors were changed.
+    -- A held byte string keeps its bytes on a disk of which only other sectors were changed.
     held_bytes : IsTrue before.honest → {at : ℕ} {placed : PlacedEntry} → IsHeldBy held at placed → (library : Library)
         → ((m : List Sector) → Mixture before m → library_of m placed ≡ library) → (m : List Sector) → Mixture after m → library_of m placed ≡ library
     held_bytes honest {placed = placed} by library stands m mixture =
@@ -77,7 +77,8 @@ module _ {root : Root} {entries : List PlacedEntry} {held : List HeldRow} {layou
       none = λ none. none;
     }
 
-    -- A change of other sectors does so too if the state no longer lists some of what is held.
+    -- A change of other sectors keeps everything that is held, also if the state no longer lists some held byte
+    -- strings.
     pub keeps_rows : {new : List HeldRow} → KeepsRows held new → KeepsHolders before after held new
     keeps_rows rows = record {
       holders = rows.holders;
@@ -86,7 +87,7 @@ module _ {root : Root} {entries : List PlacedEntry} {held : List HeldRow} {layou
       none = rows.none;
     }
 
-    -- The same, if the state no longer lists one byte string.
+    -- A change of other sectors keeps everything that is held, also if the state no longer lists one held byte string.
     pub keeps_left : {new : List HeldRow} → {at : ℕ} → IsLeft held new at → KeepsHolders before after held new
     keeps_left {new = new} left = record {
       holders = holders_left left;

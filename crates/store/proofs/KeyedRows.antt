@@ -32,7 +32,7 @@ row_sectors rows = map (λ h. h.placed.at) rows
 abbrev pub is_sector : ℕ → ℕ → Bool
 is_sector sector key = is_at (nat_cmp sector) key
 
--- What a look-up finds: its place, and what the map's calls make of the list of the map's entries.
+-- The row that a look-up finds: its place, and the map's entries after the map's calls change this row.
 pub record IsFound (es : List (ℕ × HeldRow)) (sector : ℕ) (row : HeldRow) : Type 0 where
   pub place : ℕ
   pub key : ℕ
@@ -98,7 +98,7 @@ module _ (es : List (ℕ × HeldRow)) (own : keys_of es ≡ row_sectors (values_
       (λ key some is. absurd (false≢true (sym (ap is_some none) ∙ subst (λ k. IsSome (lookup (is_sector k) es)) is some)))
       place sector (omega (arith, lt, length-map es (λ (e : ℕ × HeldRow). e.0), length-map es (λ (e : ℕ × HeldRow). e.1))) (key_is place d lt ∙ same)
 
-  -- What a look-up finds has its place, at which the map's calls write and remove it.
+  -- A row that a look-up finds has a place, at which the map's calls write and remove it.
   module _ (row : HeldRow) (is : lookup (is_sector sector) es ≡ Some row) where
     abbrev pub found : IsFound es sector row
     found = found_in es sector row is
@@ -142,7 +142,7 @@ module _ (es : List (ℕ × HeldRow)) (own : keys_of es ≡ row_sectors (values_
       let at = row_found row is in
       absurd (absent (found row is).place row at.inside (ap (λ (h : HeldRow). h.placed.at) (at.is row) ∙ at.its))
 
-  -- A new row has its place too.
+  -- A new row has its place in the map too.
   module _ (row : HeldRow) (absent : IsUnheld (values_of es) sector) (new : List (ℕ × HeldRow)) (new_is : new ≡ insert_entry nat_cmp es sector row) where
     abbrev pub put : IsPut es (insert_entry nat_cmp es sector row) (sector, row)
     put = put_in es sector row (none_passes_from_lookup (is_sector sector) es (none_there (lookup (is_sector sector) es) refl absent))

@@ -1,4 +1,4 @@
--- Which entry sectors a root's list has.
+-- The entry sectors that a root's list has.
 use Rattle.std.proofs.Common.{◌≡◌, ◌↔◌, ℕ, ◌<◌, List, [], length, get_or, take, All, refl, sym, ap, ◌∙◌, arith}
 use Rattle.std.proofs.lemmas.List.{length-take-le}
 use Rattle.sector_disk.specs.Disk.{Sector, sector}
@@ -41,21 +41,21 @@ pub places_inside : (libraries disk : ℕ) (list : EntryList) → ListFits libra
 places_inside libraries disk (InRoot sectors) fits k d lt = (fits.listed.used k d lt).1
 places_inside libraries disk (InCatalogues count sectors) fits k d lt = (fits.listed.listed.used k d lt).1
 
--- two lists that the same sector encodes as a catalogue are the same
+-- if one sector encodes the catalogues of two lists, the lists are the same
 same_part : (content : Sector) (a b : List ℕ) → SpellsCatalogue content (catalogue_of_sectors a) → SpellsCatalogue content (catalogue_of_sectors b) → a ≡ b
 same_part content a b in_a in_b =
     sym (catalogued_sectors-catalogue_of_sectors a)
     ∙ ap catalogued_sectors (one_catalogue content (catalogue_of_sectors a) (catalogue_of_sectors b) in_a in_b)
     ∙ catalogued_sectors-catalogue_of_sectors b
 
--- the catalogues of a list of this length list only one list
+-- catalogues list only one list of a given length
 one_cataloguing : (m : List Sector) (catalogues a b : List ℕ) → length a ≡ length b → length catalogues ≡ catalogues_for (length a)
     → AreCatalogued m catalogues a → AreCatalogued m catalogues b → a ≡ b
 one_cataloguing m catalogues a b size enough in_a in_b = same_parts a b size (λ i lt.
     let lt' : i < length catalogues = omega (arith, lt, enough) in
     same_part (sector m (get_or catalogues i 0)) (catalogue_part i a) (catalogue_part i b) (in_a.each i lt') (in_b.each i lt'))
 
--- So a list that fits lists the sectors of only one list of entries.
+-- A list of a root that fits lists the sectors of only one list of entries.
 pub one_listing : (m : List Sector) (libraries disk : ℕ) (list : EntryList) (a b : List ℕ) → ListFits libraries disk list → AreListed m libraries list a → AreListed m libraries list b → a ≡ b
 one_listing m libraries disk (InRoot listed) a b fits in_a in_b = in_a ∙ sym in_b
 one_listing m libraries disk (InCatalogues count listed) a b fits in_a in_b =

@@ -22,7 +22,7 @@ within names positions sorted =
     let n = length-range_with_len 0 (length names) in
     omega (arith, lt, n, get_or-range_with_len 0 (length names) k d (omega (arith, lt, n))))
 
--- sorted names of which each comes before the next are in order, and none occurs twice
+-- if positions are sorted and each name comes before the next one, they are an order, and no name occurs twice
 pub order_from_rises : (names : List (List ℕ)) (positions : List ℕ) → IsSortedOrder names positions → Rises names positions → IsOrderOf names positions
 order_from_rises names positions sorted rises = record {
   size = length_permutation (range_with_len 0 (length names)) positions sorted.moved ∙ length-range_with_len 0 (length names);

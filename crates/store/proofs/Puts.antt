@@ -95,7 +95,7 @@ module _ (version : Version) {old mid : DiskFacts} (root : Root) (entries : List
   abbrev IsOld : List Sector → Type 0
   IsOld m = StandsBy version m root entries s
 
-  -- staging in unused sectors leaves the state as it is
+  -- staging in unused sectors keeps the state
   pub staged_stands : LeavesOnly old mid IsOld
   staged_stands = weaken (IsMixtureBut changed old) IsOld
       (λ m but. same_used version but.0 m root entries s changed (stands but.0 but.1) but.2
@@ -128,7 +128,7 @@ module _ (version : Version) {old : DiskFacts} (root : Root) (entries : List Pla
   pub followed_done : HoldsNow old → {new : DiskFacts} → IsSynced new → new.now ≡ set old.now at content → (m : List Sector) → Mixture new m → StandsBy Two m change.root others s'
   followed_done holds is_synced is_set m mixture = subst (λ l. StandsBy Two l change.root others s') (sym (is_synced.each m mixture ∙ is_set)) (after_stands old.now holds)
 
--- what follows from two facts of an Ok result
+-- if two facts hold of an Ok result, what follows from both holds of it
 pub ok_both : {T E P Q R : Type 0} (result : Result T E) → (P → Q → R) → OnOk result P → OnOk result Q → OnOk result R
 ok_both (Ok x) to p q = to p q
 ok_both (Err e) to p q = tt

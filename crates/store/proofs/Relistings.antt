@@ -60,7 +60,7 @@ module _ {root : Root} {entries : List PlacedEntry} {held : List HeldRow} {layou
   listed : catalogues_of next ≡ catalogues
   listed = ap catalogues_of is.is_next ∙ listed_sectors-root_over_catalogues (root.generation + 1) root.sectors (length entries) catalogues (listed_preloads root)
 
-  -- what is used then is what was used before, and the catalogues
+  -- the sectors in use then are those in use before, and the catalogues
   pub relist_moved : IsMoved (used root entries) catalogues (used next entries) []
   relist_moved = record {
     parts = λ k. omega (
@@ -95,7 +95,7 @@ module _ {root : Root} {entries : List PlacedEntry} {held : List HeldRow} {layou
     preloads_once = is.kept.root_fits.preloads.distinct;
   }
 
-  -- What the next root makes of the sectors.
+  -- The next root turns the state into the upgraded state.
   pub relist_followed : (now : List Sector) (s : State) (bytes : List ℕ) → IsFollowed One root entries s now [] (record { staged = Catalogues catalogues; root = next }) bytes (entry_sectors entries) entries (upgraded s)
   relist_followed now s bytes = record {
     unused = more_unused is.kept is.claimed;

@@ -68,8 +68,7 @@ module _ {sectors : ℕ} {put : PlacedEntry} {catalogues : List ℕ} (singles : 
   pub put_now : {old now : List Sector} → SameBut (Contains (single_places singles ++ places extents)) old now → SameBut (Contains (sectors_of put ++ catalogues)) old now
   put_now = wider staged_among
 
-  -- so a stop during the staging changes only the sectors of the bytes, of the entry and of the
-  -- catalogues
+  -- a stop during the staging changes only the sectors of the bytes, of the entry and of the catalogues
   pub put_moment : {old new : DiskFacts} → LeavesOnly old new (IsMixtureBut (Contains (single_places singles ++ places extents)) old)
       → LeavesOnly old new (IsMixtureBut (Contains (sectors_of put ++ catalogues)) old)
   put_moment = wider_leaves (Contains (single_places singles ++ places extents)) (Contains (sectors_of put ++ catalogues)) staged_among
@@ -88,7 +87,7 @@ module _ {sectors : ℕ} {catalogues : List ℕ} (singles : List SingleSector) (
   pub list_moment : {old new : DiskFacts} → LeavesOnly old new (IsMixtureBut (Contains (single_places singles ++ [])) old) → LeavesOnly old new (IsMixtureBut (Contains catalogues) old)
   list_moment = wider_leaves (Contains (single_places singles ++ [])) (Contains catalogues) alone
 
--- What was written elsewhere stays if a sync follows.
+-- Earlier writes to other sectors stay if a sync follows.
 pub still_written : (old new : DiskFacts) (staged : List ℕ) (written : List PlacedEntry) → SameBut (Contains staged) old.now new.now → IsSynced new
     → ((k : ℕ) → Contains staged k → Contains (flat_map sectors_of written) k → ⊥) → (m : List Sector) → Mixture new m → AreWritten old.now written m
 still_written old new staged written same is_synced apart m mixture = record { each = λ k found. ap (λ l. sector l k) (is_synced.each m mixture) ∙ same.others k (λ here. apart k here found) }
@@ -99,7 +98,7 @@ staged_behind sectors Nothing listed room k found = omega (arith, found.1)
 staged_behind sectors (Catalogues catalogues) listed room k found = (All-contains (IsUsable sectors) catalogues k room.0.inside found).0
 staged_behind sectors (Put put catalogues) listed room k found = (All-contains (IsUsable sectors) (sectors_of put ++ catalogues) k room.0.inside found).0
 
--- So the bytes stay once the root is written and synced.
+-- The staged bytes stay once the root is written and synced.
 pub bytes_stay : (sectors : ℕ) (staged : Staged) (listed : List ℕ) → CanBeStaged sectors staged listed → (mid new : DiskFacts) (contents : List ℕ) (at : ℕ) (content : Sector)
     → at < root_sectors → IsStaged mid.now staged contents listed → IsSynced new → new.now ≡ set mid.now at content → (m : List Sector) → Mixture new m → HasBytes m staged contents
 bytes_stay sectors Nothing listed room mid new contents at content low is synced now m mixture = tt

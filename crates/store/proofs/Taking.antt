@@ -14,7 +14,7 @@ pub singles_more : (ks : List ℕ) (at : ℕ) (layout : List Bool) → with_sing
 singles_more [] at layout = refl
 singles_more (k ∷ ks) at layout = singles_more ks at (with_flag true (one_sector k) layout)
 
--- if it is the lowest unused sector, it is taken with the others
+-- if the next sector is the lowest unused one, it is taken with the others
 pub taken_more : (ks : List ℕ) (at : ℕ) (layout : List Bool) → AreTaken layout ks → IsLowestUnused (with_singles ks layout) at → AreTaken layout (ks ++ at ∷ [])
 taken_more [] at layout taken lowest = (lowest, tt)
 taken_more (k ∷ ks) at layout taken lowest = (taken.0, taken_more ks at (with_flag true (one_sector k) layout) taken.1 lowest)

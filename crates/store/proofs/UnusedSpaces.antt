@@ -30,7 +30,7 @@ accepted_iff sectors longest more s bytes usable = (
   λ both. bytes_accepted sectors longest more s bytes usable both.0 both.1,
 )
 
--- bytes of this length fit into this number of sectors exactly if they take no more sectors
+-- `size` bytes are accepted in `sectors` sectors exactly if they need at most `sectors` sectors
 fit_iff : (size sectors : ℕ) → size ≤ 16777216 → (size ≤ min (512 * sectors) 16777216) ↔ (div_ceil size 512 ≤ sectors)
 fit_iff size sectors few =
     let bounds = div_ceil_times size 512 (omega arith) in
@@ -39,7 +39,7 @@ fit_iff size sectors few =
 some_sectors : (size : ℕ) → 64 ≤ size → 1 ≤ div_ceil size 512
 some_sectors size some = omega (arith, some, (div_ceil_times size 512 (omega arith)).0)
 
--- the maximum number of sectors that bytes may take, by the unused sectors and the longest runs
+-- a need of sectors is at most the maximum exactly if there is room for it and the longest runs have enough sectors
 room_iff : (need all longest count spare more listed left : ℕ) → 1 ≤ need → left + listed ≡ all → count + spare ≡ more + listed
     → (need ≤ min (all - (1 + count + spare)) longest) ↔ ((need + 1 + more ≤ left) × (need ≤ longest))
 room_iff need all longest count spare more listed left some counted same = (

@@ -1,4 +1,4 @@
--- The result of an upgrade, by what a look found.
+-- The result of an upgrade, derived from what `look` found.
 use Rattle.std.proofs.Common.{◌≡◌, ◌⊎◌, inl, inr, ⊎_elim, ◌+◌, List, Option, Some, None, Result, Ok, Err, IfOk, length, ap, sym, subst, ◌∙◌, arith}
 use Rattle.sector_disk.specs.Disk.{Sector, DiskFacts, HoldsNow, Mixture, LeavesOnly, AreCallsExactly}
 use Rattle.sector_disk.proofs.Moments.{goes_on, weaken, exactly_sum}
@@ -27,20 +27,20 @@ as_committed None (Err refusal) exact = inl exact
 as_committed (Some first) (Ok done) exact = exact
 as_committed (Some first) (Err refusal) exact = inl exact
 
--- A refusal of the look, by the device or for lack of memory, is an answer of the upgrade.
+-- A refusal of `look`, by the device or for lack of memory, is an answer of the upgrade.
 pub as_looked : (first : Option StoreRefusal) (refusal : StoreRefusal) → (refusal ≡ Device) ⊎ (refusal ≡ OutOfMemory) → IsUpgradeAnswer first (Err refusal)
 as_looked None refusal which = which
 as_looked (Some first) refusal which = inr which
 
 module _ {D : Type 0} (facts : D → DiskFacts) (look : Look D) (store : Opened D) where
-  -- If a store of version 2 was found, the look didn't find one of version 1.
+  -- If `look` found a store of version 2, it didn't find one of version 1.
   pub seen_current : look ≡ Current store → (s : State) → IsSeenOldAt facts look s → ⊥
   seen_current is s at = subst (λ l. IsSeenOldAt facts l s) is at
 
   pub current_at : look ≡ Current store → (s : State) → IsSeenAt facts look s → IsAt facts store s
   current_at is s at = subst (λ l. IsSeenAt facts l s) is at
 
-  -- If a store of version 1 was found, the look didn't find one of version 2.
+  -- If `look` found a store of version 1, it didn't find one of version 2.
   pub seen_old : look ≡ Old store → (s : State) → IsSeenAt facts look s → ⊥
   seen_old is s at = subst (λ l. IsSeenAt facts l s) is at
 
@@ -62,7 +62,7 @@ module _ {D : Type 0} (facts : D → DiskFacts) (look : Look D) (store : Opened 
   pub sectors_seen : (s : State) → IsOldAt facts store s → HoldsNow (facts store.disk) → store.root.sectors ≡ (facts store.disk).sectors
   sectors_seen s at holds = (at.stands (facts store.disk).now holds).intact.size ∙ holds.size
 
-  -- what a stop could leave before the commit, or may leave during it
+  -- a stop leaves what it could leave before the commit, or what it may leave during the commit
   pub then_committed : (old new : DiskFacts) (s : State) → look ≡ Old store → LeavesOnly old (facts (seen look).disk) (Mixture old)
       → LeavesOnly (facts store.disk) new (λ m. StandsOld m s ⊎ Stands m (upgraded s))
       → LeavesOnly old new (λ m. Mixture old m ⊎ StandsOld m s ⊎ Stands m (upgraded s))
@@ -82,7 +82,7 @@ relisted_from facts store s at holds m same new is = record {
   taken = subst (λ es. AreTaken (layout_of store.root.sectors (used store.root es)) (catalogues_of new.root)) (sym is.entries) is.taken;
 }
 
--- The calls of the look, and those of the commit after it.
+-- The calls of `look`, and those of the commit after it.
 module _ {D E : Type 0} (facts : D → DiskFacts) (start : DiskFacts) (old : Opened D)
     (looked : AreCallsExactly (3 + length (catalogues_of old.root) + length old.entries) start (facts old.disk))
     (one : version_of old.root ≡ One) where

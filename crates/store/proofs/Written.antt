@@ -14,7 +14,7 @@ use Rattle.roots.specs.declared.entry.Entry.{Entry}
 use Rattle.store.specs.Stands.{extents_of}
 use Rattle.store.specs.Taken.{HaveBytes}
 
--- if the entry has their length, they are the bytes of its byte string
+-- if the entry has the length of the bytes, its byte string has these bytes
 pub written_bytes : (m : List Sector) (entry : Entry) (bytes : List ℕ)
     → bytes_at m (places (extents_of entry)) ≡ padded (sector_bytes * sector_count (extents_of entry)) bytes → entry.file_length ≡ length bytes
     → length bytes ≤ 512 * sector_count (extents_of entry) → take entry.file_length (bytes_at m (places (extents_of entry))) ≡ bytes
@@ -23,7 +23,7 @@ written_bytes m entry bytes written its_length enough =
     ∙ ap (λ n. take n (padded (sector_bytes * sector_count (extents_of entry)) bytes)) its_length
     ∙ take-padded (512 * sector_count (extents_of entry)) bytes enough
 
--- What was written after the roots is in every mixture once a root is written and synced after it.
+-- Bytes in sectors after the roots are in every mixture once a root is written and synced.
 pub written_stays : (before : List Sector) (new : DiskFacts) (ks bytes : List ℕ) (at : ℕ) (content : Sector) → at < root_sectors → ((k : ℕ) → Contains ks k → root_sectors ≤ k)
     → bytes_at before ks ≡ bytes → IsSynced new → new.now ≡ set before at content → (m : List Sector) → Mixture new m → bytes_at m ks ≡ bytes
 written_stays before new ks bytes at content low behind written synced is m mixture =

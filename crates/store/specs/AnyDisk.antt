@@ -1,4 +1,4 @@
--- How opening, making or upgrading a store ends on any disk, also on one that isn't honest (own).
+-- The results of opening, making or upgrading a store on any disk, honest or not (own).
 use Rattle.std.specs.Prelude.{◌≡◌, ◌<◌, [], Result, IsFalse, IfOk, IfErr}
 use Rattle.sector_disk.specs.Disk.{DiskFacts, AreCalls, AreCallsExactly, AreCallsAtMost}
 use Rattle.states.specs.Geometry.{IsGeometry}

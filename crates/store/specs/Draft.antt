@@ -29,11 +29,11 @@ use Rattle.store.specs.Taken.{IsTaken}
 
 -- what an update keeps
 pub record Drafted (D : Type 0) : Type 0 where
-  -- the current store: no line of the update changes it, except its disk, and whether a call failed
+  -- the current store: the lines of the update change only its disk, and whether a call failed
   pub store : Opened D
   -- the draft's list: entries of the store, and others that the update wrote
   pub entries : List PlacedEntry
-  -- the positions of its preloads in this list
+  -- the positions of the draft's preloads in the draft's list
   pub preloads : List ℕ
   -- what was changed in the draft
   pub touched : Touched
@@ -63,17 +63,17 @@ layout_drafted u = layout_of u.store.root.sectors (in_use u.store.root u.store.e
 abbrev pub longest_drafted : {D : Type 0} → Drafted D → ℕ
 longest_drafted u = sector_count (longest_runs (layout_drafted u))
 
--- the number of sectors that the draft's state can't use: those in use beside the draft, and two for each
--- catalogue that the current list has more than the draft's
+-- the number of sectors that the draft's state can't use: sectors in use that aren't the draft's, and two for each
+-- catalogue by which the current list exceeds the draft's
 abbrev pub beside : {D : Type 0} → Drafted D → ℕ
 beside u = entries_cost (left_out u) + length (lone_sectors u.store.held)
     + 2 * (length (catalogues_of u.store.root) - catalogues_for (length u.entries))
 
--- the number of sectors that there are for the draft's state
+-- the number of sectors that the draft's state can use
 abbrev pub room_drafted : {D : Type 0} → Drafted D → ℕ
 room_drafted u = u.store.root.sectors - beside u
 
--- the state that a draft's entries and preloads have in these sectors, with the current generation
+-- the state that the entries and preloads of a draft describe in the sectors `m`, with the generation `generation`
 abbrev pub draft_state : List Sector → (generation : ℕ) → List PlacedEntry → (preloads : List ℕ) → State
 draft_state m generation entries preloads = record {
   generation = generation;
@@ -87,7 +87,8 @@ pub record IsDraftedAt {D : Type 0} (facts : D → DiskFacts) (u : Drafted D) (s
   pub spelt : All (λ placed. SpellsEntry (sector (facts u.store.disk).now placed.at) placed.entry) u.entries
   pub is : d ≡ draft_state (facts u.store.disk).now s.generation u.entries u.preloads
 
--- a draft's state after a change: what the change makes, but with the same generation
+-- a draft's state after a change that makes the state `changed`: the libraries and preloads of `changed`, with the
+-- draft's generation
 abbrev pub drafted : (d changed : State) → State
 drafted d changed = record { generation = d.generation; libraries = changed.libraries; preloads = changed.preloads }
 
@@ -97,8 +98,8 @@ abbrev pub committed : Touched → (s d : State) → State
 committed Nothing s d = s
 committed touched s d = next s d.libraries d.preloads
 
--- the number of calls of a commit: 0 if nothing was changed, 2 if only preloads were set (the root and a sync),
--- and otherwise one more for each catalogue and for a sync
+-- the number of calls of a commit: 0 if nothing was changed; 2 if only preloads were set (the root and a sync);
+-- otherwise one for each catalogue, and 3 (a sync, the root and a sync)
 abbrev pub commit_calls : Touched → ℕ → ℕ
 commit_calls Nothing libraries = 0
 commit_calls Preloads libraries = 2
@@ -129,14 +130,14 @@ pub record StaysBeside {D : Type 0} (facts : D → DiskFacts) (old new : Drafted
   pub table : new.store.held ≡ old.store.held
   pub held : KeepsHeld facts old.store new.store
 
--- the draft is as it was
+-- the draft's entries and preloads, and what was changed in the draft, are the same
 pub record IsSameDraft {D : Type 0} (old new : Drafted D) : Type 0 where
   pub entries : new.entries ≡ old.entries
   pub preloads : new.preloads ≡ old.preloads
   pub touched : new.touched ≡ old.touched
 
--- A line of an update made at most `most` calls on any disk, and refused only with refusals that `Refuses`
--- allows. A refusal leaves the draft as it was.
+-- A line of an update made at most `most` calls on any disk, and refused only with refusals that `Refuses` allows. A
+-- refusal leaves the draft unchanged.
 pub record IsLine {D : Type 0} (facts : D → DiskFacts) (old new : Drafted D) (most : ℕ) (Refuses : StoreRefusal → Type 0)
     (result : Result (Unit {0}) StoreRefusal) : Type 0 where
   pub beside : StaysBeside facts old new

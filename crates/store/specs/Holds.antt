@@ -37,12 +37,12 @@ in_use root entries held = used root entries ++ lone_sectors held
 abbrev pub layout_in_use : {D : Type 0} → Opened D → List Bool
 layout_in_use store = layout_of store.root.sectors (in_use store.root store.entries store.held)
 
--- the number of sectors that there are for the state: all except those that only holders use
+-- the number of sectors that the state can use: all except those that only holders use
 abbrev pub room_of : {D : Type 0} → Opened D → ℕ
 room_of store = store.root.sectors - length (lone_sectors store.held)
 
--- The number of holders of the byte string whose entry is in `sector`. As long as it is held, no other byte
--- string has this entry sector.
+-- The number of holders of the byte string whose entry is in `sector`. As long as that byte string is held, no other
+-- byte string has this entry sector.
 abbrev pub holders_of : List HeldRow → ℕ → ℕ
 holders_of held sector = sum_by (λ hold. if hold.placed.at == sector then hold.holders else 0) held
 
@@ -86,7 +86,8 @@ pub record AreHolds {D : Type 0} (store : Opened D) : Type 0 where
   pub holders : (sector : ℕ) (placed : PlacedEntry) → IsHeldBy store.held sector placed → 0 < holders_of store.held sector
   pub flags : AreFlagged store
 
--- The byte string at a position is held as it is now. No call is made, and no sector is taken.
+-- The byte string at a position has one more holder, who holds its present bytes. No call of the disk is made, and no
+-- sector is claimed.
 pub record TakesHold {D : Type 0} (facts : D → DiskFacts) (old new : Opened D) (position : ℕ) (result : Result ℕ StoreRefusal) : Type 0 where
   pub ok : (s : State) → IsAt facts old s → IfOk result (λ held. HeldIs facts new held (slice_index_or s.libraries position no_library))
   pub same : (s : State) → IsAt facts old s → IsAt facts new s
@@ -108,7 +109,7 @@ pub record ReadsHeld {D : Type 0} (facts : D → DiskFacts) (old new : Opened D)
   -- a stop at any moment leaves what it could leave before
   pub any_moment : IsTrue (facts old.disk).honest → LeavesOnly (facts old.disk) (facts new.disk) (Mixture (facts old.disk))
   pub ok : IsTrue (facts old.disk).honest → (library : Library) → HeldIs facts old held library → IfOk result (λ bytes. bytes.items ≡ library.bytes)
-  -- reads return the same, and a stop may leave the same
+  -- reads return what they returned before, and a stop may leave what it could leave before
   pub unchanged : IsTrue (facts old.disk).honest → IsUnchanged (facts old.disk) (facts new.disk)
   pub others : KeepsHeld facts old new
   pub same : (s : State) → IsAt facts old s → IsAt facts new s

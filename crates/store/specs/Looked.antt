@@ -1,4 +1,4 @@
--- What `look` finds out about a disk.
+-- The result of `look` on a disk.
 use Rattle.std.specs.Prelude.{◌≡◌, ◌+◌, ◌<◌, ◌⊎◌, [], IsTrue, IsFalse, IfOk, IfErr, MatchResult, Result, Ok, Err}
 use Rattle.sector_disk.specs.Disk.{DiskFacts, Mixture, LeavesOnly, MayAddSync, AreCallsExactly, AreCallsAtMost}
 use Rattle.roots.specs.Limits.{most_catalogues}

@@ -21,7 +21,7 @@ name_at names position = slice_index_or names position []
 abbrev pub name_order : List (List ℕ) → ℕ → ℕ → Ordering
 name_order names a b = slice_cmp nat_cmp (name_at names a) (name_at names b)
 
--- These are all positions of the names, each once, in the order of the names. No name occurs twice.
+-- The positions are all positions of the names, each once, in the order of the names. No name occurs twice.
 pub record IsOrderOf (names : List (List ℕ)) (positions : List ℕ) : Type 0 where
   pub size : length positions ≡ length names
   pub within : All (λ position. position < length names) positions

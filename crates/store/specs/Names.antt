@@ -8,7 +8,7 @@ use Rattle.store.specs.declared.placed_entry.PlacedEntry.{PlacedEntry}
 use Rattle.store.specs.Opened.{Opened}
 use Rattle.store.specs.Stands.{name_of}
 
--- it can be a name: it has 1 to 240 visible characters, none of them `/`
+-- these bytes can be a name: 1 to 240 visible characters, none of them `/`
 pub record IsName (name : List ℕ) : Type 0 where
   pub size : IsInRange 1 most_name_bytes (length name)
   pub bytes : All IsNameByte name

@@ -1,4 +1,4 @@
--- A store in memory, and when it is at a state.
+-- A store in memory, and what it means that the store is at a state.
 use Rattle.std.specs.Prelude.{ℕ, ◌+◌, Bool, List, length, IsTrue, IsFalse, Result, Ok, Err}
 use Rattle.sector_disk.specs.Disk.{Sector, DiskFacts, Mixture}
 use Rattle.roots.specs.declared.root.Root.{Root}

@@ -1,4 +1,4 @@
--- The effect of reading a byte string, by its result.
+-- The effect of reading a byte string, for each of its results.
 use Rattle.std.specs.Prelude.{◌≡◌, ◌≢◌, ◌↔◌, ◌⊎◌, ◌<◌, ℕ, length, slice_index_or, IsTrue, Result, Err, IfOk, IfErr, OnOk}
 use Rattle.std.specs.Global.{Vec}
 use Rattle.std.specs.Int.{div_ceil}
@@ -19,7 +19,7 @@ pub record ReadsBlob (version : Version) {D : Type 0} (facts : D → DiskFacts) 
   -- a stop at any moment leaves what it could leave before
   pub any_moment : IsTrue (facts old.disk).honest → LeavesOnly (facts old.disk) (facts new.disk) (Mixture (facts old.disk))
   pub ok : (s : State) → IsAtBy version facts old s → IfOk result (λ bytes. bytes.items ≡ (slice_index_or s.libraries position no_library).bytes)
-  -- reads return the same, and a stop may leave the same
+  -- reads return what they returned before, and a stop may leave what it could leave before
   pub unchanged : IsTrue (facts old.disk).honest → IsUnchanged (facts old.disk) (facts new.disk)
   pub same : (s : State) → IsAtBy version facts old s → IsAtBy version facts new s
   -- on any disk: a read that fails doesn't make the store fail

@@ -36,11 +36,11 @@ first_refusal (test ∷ others) = if test.0 then Some (refusal_of_room test.1) e
 abbrev pub room_at : (sectors longest : ℕ) → State → Room
 room_at sectors longest s = record { generation = s.generation; libraries = length s.libraries; free = free sectors s; longest = longest }
 
--- the first reason to refuse bytes in place of others, which need no more catalogues than before
+-- the first reason to refuse a put that replaces bytes, which needs no more catalogues than before
 abbrev pub refusal_of_put : (sectors longest : ℕ) → State → List ℕ → Option StoreRefusal
 refusal_of_put sectors longest s bytes = first_refusal (put_tests (room_at sectors longest s) 0 (length bytes))
 
--- the first reason to refuse bytes with a new name, which may need more catalogues
+-- the first reason to refuse a put under a new name, which may need more catalogues
 abbrev pub refusal_of_new : (sectors longest : ℕ) → State → List ℕ → Option StoreRefusal
 refusal_of_new sectors longest s bytes = first_refusal (new_tests (room_at sectors longest s) (length bytes))
 
@@ -52,8 +52,7 @@ refusal_of_change s = first_refusal (change_tests s.generation)
 abbrev pub refusal_of_upgrade : (sectors : ℕ) → State → Option StoreRefusal
 refusal_of_upgrade sectors s = first_refusal (change_tests s.generation ++ (nat_lt sectors (root_sectors + taken_by s), room.Full) ∷ [])
 
--- this may be the answer to a put with this first refusal: S11 may replace Full, Fragmented and Ok,
--- and S1 may replace Ok
+-- a put with this first refusal may have this answer: S11 may replace Full, Fragmented and Ok, and S1 may replace Ok
 abbrev pub IsAnswer : Option StoreRefusal → Result (Unit {0}) StoreRefusal → Type 0
 IsAnswer None (Ok done) = Unit
 IsAnswer None (Err refusal) = (refusal ≡ Device) ⊎ (refusal ≡ OutOfMemory)
@@ -62,16 +61,15 @@ IsAnswer (Some Full) (Err refusal) = (refusal ≡ Full) ⊎ (refusal ≡ OutOfMe
 IsAnswer (Some Fragmented) (Err refusal) = (refusal ≡ Fragmented) ⊎ (refusal ≡ OutOfMemory)
 IsAnswer (Some first) (Err refusal) = refusal ≡ first
 
--- this may be the answer to an upgrade with this first refusal: S1 and S11 may replace each answer,
--- because the upgrade reads the disk before it makes these tests
+-- an upgrade with this first refusal may have this answer: S1 and S11 may replace each answer, because the upgrade
+-- reads the disk before it makes these tests
 abbrev pub IsUpgradeAnswer : Option StoreRefusal → Result (Unit {0}) StoreRefusal → Type 0
 IsUpgradeAnswer None (Ok done) = Unit
 IsUpgradeAnswer None (Err refusal) = (refusal ≡ Device) ⊎ (refusal ≡ OutOfMemory)
 IsUpgradeAnswer (Some first) (Ok done) = ⊥
 IsUpgradeAnswer (Some first) (Err refusal) = (refusal ≡ first) ⊎ (refusal ≡ Device) ⊎ (refusal ≡ OutOfMemory)
 
--- this may be the answer to a change that allocates nothing and has this first refusal: S1 may
--- replace Ok
+-- a change that allocates nothing and has this first refusal may have this answer: S1 may replace Ok
 abbrev pub IsExactAnswer : Option StoreRefusal → Result (Unit {0}) StoreRefusal → Type 0
 IsExactAnswer None (Ok done) = Unit
 IsExactAnswer None (Err refusal) = refusal ≡ Device
@@ -86,15 +84,13 @@ IsRefusalOfChange Reopen = Unit
 IsRefusalOfChange GenerationEnd = Unit
 IsRefusalOfChange other = ⊥
 
--- The refusals of a put in place of other bytes, on any disk: those of `IsRefusalOfChange`, Full
--- and Fragmented.
+-- The refusals of a put that replaces bytes, on any disk: those of `IsRefusalOfChange`, Full and Fragmented.
 abbrev pub IsRefusalOfPutOver : StoreRefusal → Type 0
 IsRefusalOfPutOver Full = Unit
 IsRefusalOfPutOver Fragmented = Unit
 IsRefusalOfPutOver other = IsRefusalOfChange other
 
--- The refusals of a put with a new name, on any disk: those of `IsRefusalOfPutOver`, TooMany and
--- OutOfMemory.
+-- The refusals of a put under a new name, on any disk: those of `IsRefusalOfPutOver`, TooMany and OutOfMemory.
 abbrev pub IsRefusalOfPutNew : StoreRefusal → Type 0
 IsRefusalOfPutNew TooMany = Unit
 IsRefusalOfPutNew OutOfMemory = Unit

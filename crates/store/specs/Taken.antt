@@ -33,8 +33,8 @@ HaveBytes disk extents bytes = (m : List Sector) → Mixture disk m
     → bytes_at m (places extents)
     ≡ padded (sector_bytes * div_ceil (length bytes) sector_bytes) bytes
 
--- There is one more entry, the last. The entry, its bytes and the catalogues are in sectors that
--- weren't in use.
+-- The list has one more entry, which comes last. The entry, its bytes and the catalogues are in sectors that weren't in
+-- use.
 pub record IsPutBehind {D : Type 0} (facts : D → DiskFacts) (old new : Opened D)
     (bytes : List ℕ) : Type 0 where
   pub put : PlacedEntry

@@ -10,7 +10,7 @@ use Rattle.roots.specs.declared.version.Version.TheVariants.{One}
 use Rattle.store.specs.Stands.{Stands, StandsOld, StandsBy, catalogues_of, used}
 use Rattle.store.specs.Taken.{AreTaken}
 
--- the same libraries and preloads, with the next generation
+-- the state after an upgrade: the same libraries and preloads, with the next generation
 abbrev pub upgraded : State → State
 upgraded s = next s s.libraries s.preloads
 
@@ -18,8 +18,8 @@ upgraded s = next s s.libraries s.preloads
 abbrev pub IsNotOld : List Sector → Type 0
 IsNotOld m = (s : State) → StandsOld m s → ⊥
 
--- The store is at the state that these sectors held or, if they held it by the rules of version 1,
--- at the state after it.
+-- The store is at the state that these sectors held. If they held it by the rules of version 1, the store is at the
+-- upgraded state.
 abbrev pub IsUpgradeOf : {D : Type 0} → (D → DiskFacts) → Opened D → List Sector → State → Type 0
 IsUpgradeOf facts store m s = (Stands m s × IsAt facts store s) ⊎ (StandsOld m s × IsAt facts store (upgraded s))
 

@@ -1,4 +1,4 @@
-// The writes of a change: first what it stages, in unused sectors, and then the root that follows.
+// The writes of a change: first the staged sectors, which were unused before, and then the root.
 ghost use Rattle.std.specs.Prelude.{◌+◌, ◌<◌, ◌≤◌, ◌^◌, List, Contains, IsTrue, OnOk};
 ghost use Rattle.extents.specs.Limits.{root_sectors};
 ghost use Rattle.sector_disk.specs.Disk.{Sector, Mixture, IsMixtureBut, LeavesOnly};
@@ -29,7 +29,7 @@ pub(crate) enum Staged {
     Put(PlacedEntry, CatalogueSectors),
 }
 
-/// A planned change: what it stages, and the root that follows.
+/// A planned change: the part that is staged, and the root that is written after it.
 #[derive(Drop)]
 pub(crate) struct Change {
     pub staged: Staged,
@@ -57,7 +57,7 @@ fn write_staged<D: Disk>(
         → OnOk result ((m : List Sector) → Mixture (D.facts disk.new) m
         → IsStaged m staged.now bytes.now listed.now) }
 
-    // If anything is staged, the sync also covers what was written to other sectors before.
+    // If anything is staged, the sync also covers earlier writes to other sectors.
     ensures written { IsTrue (D.facts disk.old).honest
         → OnOk result ((written : List PlacedEntry) → IsApartFrom staged.now written
         → HasSync staged.now written → (m : List Sector) → Mixture (D.facts disk.new) m
@@ -100,7 +100,8 @@ impl Change {
             → OnOk result ((m : List Sector) → Mixture (D.facts disk.new) m
             → HasBytes m self.now.staged bytes.now) }
 
-        // A stop leaves each other sector as a stop could leave it before.
+        // Outside the root sectors and the staged sectors, a stop leaves what a stop before the
+        // call could leave.
         ensures others { IsTrue (D.facts disk.old).honest
             → (m : List Sector) → Mixture (D.facts disk.new) m
             → IsMixtureBut (IsRootOr (staged_sectors self.now.staged)) (D.facts disk.old) m }

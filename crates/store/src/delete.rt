@@ -88,7 +88,7 @@ impl<D: Disk> Store<D> {
         // The catalogues of the remaining list are in sectors that were unused before.
         ensures placed { OnOk result (IsTakenOut self.old self.new name.now) }
 
-        // Byte strings that somebody holds stay as they were.
+        // Byte strings that somebody holds keep their holders and their bytes.
         ensures held { KeepsHeld D.facts self.old self.new }
 
         // This holds on any disk. After a failed call of the disk, the store has to be opened

@@ -38,9 +38,9 @@ fn sectors_of_entries(alloc: Global, entries: &[PlacedEntry]) -> Result<Vec<u32>
 }
 
 impl Found {
-    /// Returns what is kept of the entries that were read, and of their root. Refuses with Damaged
-    /// if two entries have the same name, if a sector is used twice or can't be used, or if too few
-    /// sectors are unused.
+    /// Returns the contents of a disk with the root `root` and the entries `entries`. Refuses with
+    /// Damaged if two entries have the same name, if a sector is used twice or can't be used, or if
+    /// too few sectors are unused.
     pub(crate) fn over(
         alloc: Global,
         root: Root,
@@ -74,7 +74,8 @@ impl Found {
         })
     }
 
-    /// Returns what was found as a store of version 2 on the disk `disk`, on which it was found.
+    /// Makes a store of version 2 from these contents and the disk `disk`, on which they were
+    /// found.
     pub(crate) fn beside<D: Disk>(self, alloc: Global, disk: D) -> Store<D>
         requires version { version_of self.root ≡ Two }
         requires found { IsFound self.root self.entries.items self.sectors.items

@@ -31,9 +31,9 @@ impl<D: Disk> Store<D> {
     ghost use Rattle.store.specs.Holds.{TakesHold, ReadsHeld, LetsHoldGo};
     ghost use Rattle.store.specs.Stands.{name_of};
 
-    /// Holds the byte string at `position` as it is now. Makes no call of the disk, and copies no
-    /// bytes. The first holder of a byte string allocates memory, and later holders don't. Refuses
-    /// with S2 or S11.
+    /// Makes the caller a holder of the byte string at `position`, with its present bytes. Makes no
+    /// call of the disk, and copies no bytes. The first holder of a byte string allocates memory,
+    /// and later holders don't. Refuses with S2 or S11.
     pub fn hold(&mut self, position: usize) -> Result<Held, StoreRefusal>
         requires { position < length self.old.entries }
         ensures { TakesHold D.facts self.old self.new position result }

@@ -94,7 +94,7 @@ impl Holds {
     }
 
     /// Notes that the state no longer lists the byte string whose entry is in `sector`. Returns
-    /// whether it is held.
+    /// whether the byte string is held.
     pub(crate) fn leave(&mut self, sector: u32) -> bool
         ensures no { IsFalse result → (IsUnheld self.old sector) × (self.new ≡ self.old) }
         ensures yes { IsTrue result → IsLeft self.old self.new sector }

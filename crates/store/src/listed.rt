@@ -1,4 +1,5 @@
-// Reading which entries a root lists: by itself in version 1, and by catalogues in version 2.
+// Reading the list of entries. A root of version 1 lists the entries itself; a root of version 2
+// lists catalogues, which list the entries.
 ghost use Rattle.std.specs.Prelude.{◌≡◌, ◌<◌, ◌↔◌, ℕ, All, List, Some, IsTrue, IfOk, IfErr};
 ghost use Rattle.std.specs.Prelude.{OnOk, length};
 ghost use Rattle.sector_disk.specs.Disk.{Sector, IsCall, IsRead, AreCallsExactly, AreCallsAtMost};
@@ -31,7 +32,8 @@ fn read_catalogue<D: Disk>(disk: &mut D, at: u32) -> Result<Option<Catalogue>, D
     requires { at < (D.facts disk.old).sectors }
     ensures calls { IsCall (D.facts disk.old) (D.facts disk.new) result }
 
-    // On any disk, the catalogue is that of some content; on an honest disk, that of sector `at`.
+    // On any disk, the catalogue is the one that some content encodes. On an honest disk, this
+    // content is that of sector `at`.
     ensures catalogue { (content : Sector) × IfOk result (λ found. (catalogue : Catalogue)
         → (found ≡ Some catalogue) ↔ SpellsCatalogue content catalogue)
         × (IsTrue (D.facts disk.old).honest

@@ -1,5 +1,5 @@
-// The order of the entries' names, for binary searches, and guesses of where each name is, by which
-// most names are found at once.
+// The order of the entries' names, for binary searches. A guess of each name's position finds most
+// names without a search.
 ghost use Rattle.std.specs.Prelude.{◌≡◌, ◌≢◌, ◌<◌, ◌≤◌, ◌^◌, ◌↔◌, [], ◌∷◌, ◌++◌, All, IsNone};
 ghost use Rattle.std.specs.Prelude.{IsTrue, IfOk, IfSome, OnOk, OnErr, length, map, slice_index_or};
 ghost use Rattle.std.specs.List.{range_with_len, remove};
@@ -157,7 +157,7 @@ pub(crate) fn close_up(positions: &mut [u16], gone: u16)
 }
 
 impl NameIndex {
-    /// Makes the order of no names. Allocates nothing.
+    /// Makes the order of an empty list. Allocates nothing.
     pub(crate) fn empty(alloc: Global) -> NameIndex
         ensures { IsIndex [] result }
     {

@@ -58,8 +58,8 @@ impl<D: Disk> OldStore<D> {
             × ((d : PlacedEntry)
             → name_of (slice_index_or self.now.entries i d).entry ≡ name.now)) }
 
-        // No two byte strings have the same name, so the position of one with this name is the
-        // answer.
+        // No two byte strings have the same name, so the answer is the position of the only one
+        // with this name.
         ensures own_names { HaveOwnNames self.now.entries }
         ensures state { (s : State) → IsOldAt D.facts self.now s
             → (i : ℕ) → (result ≡ Some i)

@@ -85,7 +85,7 @@ impl<D: Disk> Store<D> {
         ensures catalogues { OnOk result
             (catalogues_of self.new.root ≡ catalogues_of self.old.root) }
 
-        // Byte strings that somebody holds stay as they were.
+        // Byte strings that somebody holds keep their holders and their bytes.
         ensures held { KeepsHeld D.facts self.old self.new }
 
         // This holds on any disk. After a failed call of the disk, the store has to be opened

@@ -100,7 +100,7 @@ impl<D: Disk> Store<D> {
         ensures placed { OnOk result
             (IsPutOver D.facts self.old self.new name.now bytes.now) }
 
-        // Byte strings that somebody holds stay as they were.
+        // Byte strings that somebody holds keep their holders and their bytes.
         ensures held { KeepsHeld D.facts self.old self.new }
 
         // This holds on any disk. After a failed call of the disk, the store has to be opened

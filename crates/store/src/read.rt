@@ -16,8 +16,8 @@ use passes::read_bytes;
 use sector_disk::{Disk, SECTOR_BYTES};
 use std::alloc::Global;
 
-/// Reads the byte string of an entry into the vector `buffer`, whatever it holds, and returns the
-/// vector. Reads each sector of the byte string once.
+/// Reads the byte string of the entry `placed` into the vector `buffer`, whatever `buffer` holds,
+/// and returns the vector. Reads each sector of the byte string once.
 pub(crate) fn read_file<D: Disk>(
     disk: &mut D,
     placed: &PlacedEntry,
@@ -61,9 +61,9 @@ impl<D: Disk> Store<D> {
         self.read_blob_into(position, Vec::new(alloc))
     }
 
-    /// Reads the byte string at `position` into the vector `buffer`, whatever it holds, and returns
-    /// the vector. The vector grows only if it is too small, so byte strings that are read one
-    /// after the other need memory only for the largest of them. Refuses with S2, S11 or S1.
+    /// Reads the byte string at `position` into the vector `buffer`, whatever `buffer` holds, and
+    /// returns the vector. The vector grows only if it is too small, so byte strings that are read
+    /// one after the other need memory only for the largest of them. Refuses with S2, S11 or S1.
     pub fn read_blob_into(
         &mut self,
         position: usize,

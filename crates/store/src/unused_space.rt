@@ -95,8 +95,8 @@ impl<D: Disk> Store<D> {
             → (result.free ≡ free (room_of self.now) s)
             × (result.sectors ≡ free (room_of self.now) s + catalogues_for (length s.libraries)) }
 
-        // A put under a new name has no reason to refuse bytes exactly if they aren't longer than
-        // `largest`. `largest` is 0, or a length that is accepted itself.
+        // Bytes pass the tests of a put under a new name exactly if they aren't longer than
+        // `largest`. `largest` is 0, or a length that passes the tests itself.
         ensures largest { (s : State) → IsAt D.facts self.now s
             → (bytes : List ℕ) → IsFileSize (length bytes)
             → (length bytes ≤ result.largest)

@@ -116,7 +116,7 @@ impl<D: Disk> Update<D> {
         ensures ok { (s d : State) → IsDraftedAt D.facts self s d → OnOk result.0
             (IsAt D.facts result.1 (committed self.touched s d)) }
 
-        // Byte strings that somebody holds stay as they were.
+        // Byte strings that somebody holds keep their holders and their bytes.
         ensures held { KeepsHeld D.facts self.store result.1 }
 
         // This holds on any disk. After a failed call of the disk, the store has to be opened
@@ -136,7 +136,7 @@ impl<D: Disk> Update<D> {
         ensures given_up { OnErr result.0 ((result.1.root ≡ self.store.root)
             × (result.1.entries ≡ self.store.entries) × (result.1.held ≡ self.store.held)) }
 
-        // If nothing was changed in the draft, the store stays as it was.
+        // If nothing was changed in the draft, the store is unchanged.
         ensures same { self.touched ≡ Touched.Nothing → result.1 ≡ self.store }
     {
         let Update { disk, kept, draft } = self;

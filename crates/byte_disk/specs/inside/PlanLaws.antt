@@ -1,4 +1,4 @@
--- What follows about the contents that a plan leaves, and about the moments at which its steps are made.
+-- Consequences of the definitions: the contents that a plan leaves, and the moments at which its steps are made.
 use Rattle.std.proofs.Common.{◌≡◌, ℕ, zero, suc, ◌+◌, ◌-◌, ◌<◌, List, [], ◌∷◌}
 use Rattle.std.proofs.Common.{length, set, take, refl, sym, ◌∙◌, ap, subst, arith}
 use Rattle.std.proofs.lemmas.Bool.{lt-ltb}

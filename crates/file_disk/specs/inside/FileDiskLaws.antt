@@ -18,7 +18,7 @@ use Rattle.file_disk.specs.Gathered.{gathered_at}
 use Rattle.file_disk.specs.Left.{LeftOf, shown_of}
 use Rattle.file_disk.specs.SectorFile.{HasWholeContents}
 
--- there is an element only if the test holds
+-- if there is an element, the test holds, and so `P` holds of the element
 some_holds : {X : Type 0} (b : Bool) (x y : X) (P : X → Type 0) → (b ≡ true → P x) → ◌≡◌ {A = Option X} (if b then Some x else None) (Some y) → P y
 some_holds true x y P holds is = let same : x ≡ y = cc in subst P same (holds refl)
 some_holds false x y P holds is = absurd (none-some y is)
@@ -32,7 +32,7 @@ waits_whole gathered k c is = some_holds (nat_le gathered.start k && nat_lt (k -
     is
 
 module _ {F : Type 0} {g : Ghosts F} where
-  -- what reads return of a sector that the disk has
+  -- reads of a sector that the disk has return its content at the last moment without a failure
   pub read_of : (disk : FileDisk F g) (k : ℕ) → k < disk.buffered.sectors → sector (file_facts disk).now k ≡ shown_of disk.latest.items k
   read_of disk k lt = get_or-map-range_with_len (shown_of disk.latest.items) 0 disk.buffered.sectors k k [] lt (omega arith)
 

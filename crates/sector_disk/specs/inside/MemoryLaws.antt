@@ -13,7 +13,7 @@ use Rattle.sector_disk.specs.Written.{contents, written_to, choices}
 use Rattle.sector_disk.specs.inside.WrittenLaws.{length-contents, now_chosen}
 use Rattle.sector_disk.specs.Memory.{memory_facts}
 
--- the present moment
+-- moment number `length past` is the present moment
 pub present : (writes : List Written) (synced : ℕ) (past : List Moment)
     → moment_at writes synced past (length past) ≡ record { writes = length writes; synced = synced; failed = false }
 present writes synced past = get_or_past past (length past) _ (omega arith)

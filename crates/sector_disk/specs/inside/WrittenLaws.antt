@@ -1,4 +1,4 @@
--- What follows from the definitions of the contents and the choices after some writes.
+-- Consequences of the definitions of the contents and the choices after some writes.
 use Rattle.std.proofs.Common.{◌≡◌, ◌≢◌, ⊎_elim, ℕ, zero, suc, ◌<◌, List, [], ◌∷◌}
 use Rattle.std.proofs.Common.{length, set, take, drop, refl, sym, ◌∙◌, ap, subst, arith}
 use Rattle.std.proofs.lemmas.Bool.{cases_eq, eq-eqb, ne_eqb}
@@ -19,7 +19,7 @@ contents_split start writes zero = refl
 contents_split start [] (suc n) = refl
 contents_split start (w ∷ writes) (suc n) = contents_split (set start w.at w.content) writes n
 
--- one more write, to this sector or to another one
+-- one more write at the front counts for its own sector, and not for another one
 pub written_to_same : (k : ℕ) (w : Written) (writes : List Written) → w.at ≡ k → written_to k (w ∷ writes) ≡ w.content ∷ written_to k writes
 written_to_same k w writes same = rw (eq-eqb w.at k same) refl
 

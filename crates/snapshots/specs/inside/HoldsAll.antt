@@ -11,7 +11,7 @@ use Rattle.store.specs.Opened.{Opened, IsAt}
 use Rattle.store.specs.Stands.{no_library}
 use Rattle.snapshots.specs.Snapshot.{times}
 
--- everything that was held is held as it was, and everything else of the store is as it was
+-- all held byte strings are still held with the same bytes, and everything else in the store is unchanged
 pub record StaysBeside {D : Type 0} (facts : D → DiskFacts) (old new : Opened D) : Type 0 where
   pub others : (sector : ℕ) (library : Library) → HeldIs facts old sector library → HeldIs facts new sector library
   pub holds : (sector : ℕ) (placed : PlacedEntry) → IsHeldBy old.held sector placed → IsHeldBy new.held sector placed
@@ -19,7 +19,7 @@ pub record StaysBeside {D : Type 0} (facts : D → DiskFacts) (old new : Opened 
   pub kept : (new.disk ≡ old.disk) × (new.root ≡ old.root) × (new.entries ≡ old.entries) × (new.failed ≡ old.failed)
   pub same : (s : State) → IsAt facts old s → IsAt facts new s
 
--- These handles hold the first `count` byte strings of a store.
+-- The handles hold the first `count` byte strings of a store.
 pub record HoldsFirst {D : Type 0} (facts : D → DiskFacts) (old new : Opened D) (count : ℕ) (handles : List ℕ) : Type 0 where
   pub size : length handles ≡ count
   pub each : (i : ℕ) (d : PlacedEntry) → i < count → IsHeldBy new.held (slice_index_or handles i 0) (slice_index_or old.entries i d)

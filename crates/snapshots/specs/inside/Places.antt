@@ -2,8 +2,8 @@
 use Rattle.std.specs.Prelude.{ℕ, ◌<◌, ◌≤◌, List, All, length, nat_eq}
 use Rattle.std.specs.List.{IsDistinct}
 
--- There are at most as many handles as a store can list byte strings, and each preload's position
--- is that of a handle. No position occurs twice.
+-- The number of handles is at most the maximum number of byte strings of a store. Each preload's position is that of a
+-- handle, and no position occurs twice.
 pub record AreInside (handles preloads : List ℕ) : Type 0 where
   pub few : length handles ≤ 2048
   pub inside : All (λ p. p < length handles) preloads

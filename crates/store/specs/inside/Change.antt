@@ -39,8 +39,8 @@ HasSpelling Nothing = Unit
 HasSpelling (Catalogues catalogues) = Unit
 HasSpelling (Put put catalogues) = EntryHasSpelling put.entry
 
--- What is staged has its places on a disk of `sectors` sectors, and the catalogues have exactly the
--- room for these entry sectors.
+-- What is staged fits on a disk of `sectors` sectors, and the number of catalogues is the number that these entry
+-- sectors need.
 abbrev pub CanBeStaged : ℕ → Staged → List ℕ → Type 0
 CanBeStaged sectors Nothing listed = Unit
 CanBeStaged sectors (Catalogues catalogues) listed = HavePlaces sectors catalogues × CanBeCatalogued (length catalogues) listed
@@ -53,19 +53,19 @@ HasBytes m (Catalogues catalogues) bytes = Unit
 HasBytes m (Put put catalogues) bytes =
     bytes_at m (places (extents_of put.entry)) ≡ padded (sector_bytes * sector_count (extents_of put.entry)) bytes
 
--- These sectors have everything that is staged.
+-- The sectors `m` have everything that is staged.
 abbrev pub IsStaged : List Sector → Staged → (bytes listed : List ℕ) → Type 0
 IsStaged m Nothing bytes listed = Unit
 IsStaged m (Catalogues catalogues) bytes listed = AreCatalogued m catalogues listed
 IsStaged m (Put put catalogues) bytes listed =
     HasBytes m (Put put catalogues) bytes × SpellsEntry (sector m put.at) put.entry × AreCatalogued m catalogues listed
 
--- What is staged lies apart from the sectors of these entries and their bytes.
+-- No staged sector is a sector of these entries or of their bytes.
 abbrev pub IsApartFrom : Staged → List PlacedEntry → Type 0
 IsApartFrom staged written = (k : ℕ) → Contains (staged_sectors staged) k → Contains (flat_map sectors_of written) k → ⊥
 
--- A sync comes between what was written before and the root: it is made if anything is staged, and
--- otherwise nothing was written before.
+-- Earlier writes are synced before the root is written: staging makes a sync, and if nothing is staged, nothing was
+-- written earlier.
 abbrev pub HasSync : Staged → (written : List PlacedEntry) → Type 0
 HasSync Nothing written = written ≡ []
 HasSync staged written = Unit
@@ -85,8 +85,8 @@ pub record IsFollowed (version : Version) (root : Root) (entries : List PlacedEn
   pub stands : (m : List Sector) → StandsBy version m root entries s → IsStaged m change.staged bytes listed → AreWritten now written m
       → StandsBy Two (set m (slot_of change.root.generation) (root_bytes change.root)) change.root others s'
 
--- A state with its root and entries, what was written beside it since, and the state that a change
--- makes of it, with the entries of that state.
+-- A state with its root and its entries, the entries that were written beside it since, and the state after a change,
+-- with that state's entries.
 pub record Transition : Type 0 where
   pub version : Version
   pub root : Root
@@ -96,13 +96,14 @@ pub record Transition : Type 0 where
   pub others : List PlacedEntry
   pub after : State
 
--- Every mixture of the disk holds the state before, and the state after follows by this change.
+-- Every mixture of the disk holds the transition's state before the change, and the change makes the transition's state
+-- after it.
 pub record IsBegun (disk : DiskFacts) (change : Change) (bytes listed : List ℕ) (t : Transition) : Type 0 where
   pub stands : (m : List Sector) → Mixture disk m → StandsBy t.version m t.root t.entries t.before
   pub followed : IsFollowed t.version t.root t.entries t.before disk.now t.written change bytes listed t.others t.after
 
--- A change was carried out, or a call failed. Whichever states the change leads from and to, a stop
--- at any moment leaves one of the two, and at the end every mixture holds only the second.
+-- A change was carried out, or a call failed. For each transition that the change can make, a stop at any moment leaves
+-- the state before or the state after. If no call failed, every mixture then holds the state after.
 pub record IsCarriedOut (old new : DiskFacts) (change : Change) (bytes listed : List ℕ) (result : Result (Unit {0}) DiskFault) : Type 0 where
   pub any_moment : (t : Transition) → IsBegun old change bytes listed t → LeavesOnly old new (λ m. StandsAs t.version m t.before ⊎ Stands m t.after)
   pub done : (t : Transition) → IsBegun old change bytes listed t

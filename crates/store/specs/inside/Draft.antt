@@ -27,11 +27,11 @@ use Rattle.store.specs.inside.Stored.{opened}
 abbrev pub drafting : {D : Type 0} → D → Kept → Draft → Drafted D
 drafting disk kept draft = record { store = opened disk kept; entries = draft.entries.items; preloads = draft.preloads.items; touched = draft.touched }
 
--- the sectors that an entry has beside those of a list: none if the list has the entry
+-- the sectors of an entry that the list `others` doesn't use: none if the list has the entry
 abbrev pub own_in : (others : List PlacedEntry) → PlacedEntry → List ℕ
 own_in others placed = if lists others placed then [] else sectors_of placed
 
--- the sectors that entries have beside those of a list, one by one
+-- the sectors of `entries` that the list `others` doesn't use, one by one
 abbrev pub own_sectors_in : (others entries : List PlacedEntry) → List ℕ
 own_sectors_in others entries = flat_map (own_in others) entries
 
@@ -39,8 +39,7 @@ own_sectors_in others entries = flat_map (own_in others) entries
 abbrev pub IsOneOrApart : List PlacedEntry → PlacedEntry → Type 0
 IsOneOrApart others placed = IsTrue (lists others placed) → Contains others placed
 
--- This can be a draft's list: each of its entries is in the current list, or in a sector of its
--- own.
+-- The entries can be a draft's list: each of them is in the current list, or in a sector of its own.
 pub record IsDraftList (standing entries : List PlacedEntry) : Type 0 where
   pub fit : HaveSpellings entries
   pub names : HaveOwnNames entries
@@ -48,7 +47,7 @@ pub record IsDraftList (standing entries : List PlacedEntry) : Type 0 where
   pub once : AreDistinct (entry_sectors entries)
   pub each : All (IsOneOrApart standing) entries
 
--- these can be the positions of a draft's preloads, in a list of `libraries` entries
+-- the positions can be those of a draft's preloads, in a list of `libraries` entries
 pub record ArePreloads (libraries : ℕ) (preloads : List ℕ) : Type 0 where
   pub few : length preloads ≤ most_preloads
   pub inside : All (λ position. position < libraries) preloads

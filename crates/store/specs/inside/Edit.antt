@@ -15,7 +15,7 @@ use Rattle.store.specs.inside.Room.{IsGivenUp, IsReleased}
 abbrev pub no_entry : PlacedEntry
 no_entry = record { at = 0; entry = record { file_length = 0; name_length = 0; extent_count = 0; name = []; extents = [] } }
 
--- a list of what belongs to each entry, after the edit
+-- a list with one element for each entry, after the edit
 abbrev pub edited_by : {A : Type 0} → (PlacedEntry → A) → Edit → List A → List A
 edited_by of Nothing list = list
 edited_by of (Behind put) list = list ++ of put ∷ []

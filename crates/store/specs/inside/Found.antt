@@ -19,7 +19,7 @@ pub record IsFound (root : Root) (entries : List PlacedEntry) (sectors : List �
   -- the sectors of the entries, in their order
   pub listed : sectors ≡ entry_sectors entries
 
--- The contents of any disk were found. That took `before` calls, and then one for each catalogue and each
+-- The contents of a disk, honest or not, were found. That took `before` calls, and then one for each catalogue and each
 -- entry.
 pub record IsFoundAfter (before : ℕ) (old new : DiskFacts) (result : Result Found StoreRefusal) : Type 0 where
   pub calls : AreCallsAtMost (before + most_catalogues + most_libraries) old new

@@ -26,7 +26,7 @@ pub record IsAtPlace (held : List HeldRow) (sector place : ℕ) (hold : HeldRow)
   pub is : (d : HeldRow) → slice_index_or held place d ≡ hold
   pub its : hold.placed.at ≡ sector
 
--- a byte string that nobody held has a holder, and a row at some place
+-- a byte string that nobody held now has one holder, and a row at some place of the table
 pub record IsHeldOnce (old new : List HeldRow) (placed : PlacedEntry) : Type 0 where
   pub absent : IsUnheld old placed.at
   pub place : ℕ

@@ -1,4 +1,4 @@
--- A prepared change, what it makes of a state, and what preparing one does.
+-- A prepared change, its effect on a state, and the effect of preparing one.
 use Rattle.std.specs.Prelude.{◌≡◌, ◌≢◌, ◌⊎◌, ◌↔◌, ℕ, ◌+◌, ◌-◌, ◌<◌, ◌≤◌, Bool, List, length, slice_index_or, IsTrue, IsFalse, Result, Ok, Err, IfOk, IfErr, OnErr}
 use Rattle.std.specs.Int.{div_ceil}
 use Rattle.sector_disk.specs.Disk.{Sector, sector_bytes}
@@ -71,7 +71,8 @@ pub record IsReady (sectors : ℕ) (kept : Kept) (prepared : Prepared) : Type 0 
   pub listed : kept.sectors.items ≡ entry_sectors kept.entries.items
   pub usable : IsFalse kept.failed
 
--- With these bytes, the change makes the state `s'` of the state `s`, if `written` was written before.
+-- With these bytes, the prepared change makes the state `s'` from the state `s`, if the entries `written` were written
+-- before.
 abbrev pub Makes : (now : List Sector) (written : List PlacedEntry) → Kept → Prepared → (bytes : List ℕ) → (s s' : State) → Type 0
 Makes now written kept prepared bytes s s' = IsFollowed Two kept.root kept.entries.items s now written prepared.change
     bytes (entry_sectors (edited prepared.edit kept.entries.items)) (edited prepared.edit kept.entries.items) s'
@@ -81,8 +82,8 @@ pub record IsMade (old new : Kept) (prepared : Prepared) : Type 0 where
   pub root : new.root ≡ prepared.change.root
   pub entries : new.entries.items ≡ edited prepared.edit old.entries.items
 
--- The effect of preparing a change, with refusals that `Refuses` allows. If preparing is refused, everything
--- stays as it was.
+-- The effect of preparing a change, with refusals that `Refuses` allows. If preparing is refused, nothing changes that
+-- contracts see.
 pub record Prepares (old new : Kept) (Refuses : StoreRefusal → Type 0) (result : Result Prepared StoreRefusal) : Type 0 where
   pub same : ShowsSame old new
   pub ready : IfOk result (IsReady old.root.sectors new)

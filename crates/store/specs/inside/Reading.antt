@@ -9,8 +9,8 @@ use Rattle.store.specs.declared.refusal.StoreRefusal.TheVariants.{NotFormatted, 
 use Rattle.store.specs.Opening.{HasRootMagic}
 use Rattle.store.specs.Stands.{IsIntact}
 
--- An honest disk was told to sync, and was read. A stop at any moment leaves what it could leave before, and
--- reads return what they returned before.
+-- A sync was tried on an honest disk, and the disk was read. A stop at any moment leaves what it could leave before,
+-- and reads return what they returned before.
 pub record AreReadsBehindSync (old new : DiskFacts) : Type 0 where
   pub leaves : LeavesOnly old new (Mixture old)
   pub now : new.now ≡ old.now

@@ -20,11 +20,11 @@ use Rattle.store.specs.inside.HeldRows.{IsLeft, IsUnheld}
 abbrev pub IsRootOr : List ℕ → ℕ → Type 0
 IsRootOr places k = (k < root_sectors) ⊎ Contains places k
 
--- these sectors are claimed, beside others, and each of them once
+-- the sectors `gone` are claimed, each once, perhaps beside others
 abbrev pub AreClaimedOnce : List Bool → List ℕ → Type 0
 AreClaimedOnce layout gone = (kept : List ℕ) × ClaimsJust layout (kept ++ gone) × AreDistinct (kept ++ gone) × All (IsUsable (length layout)) gone
 
--- These sectors are unused now, and the others are claimed as they were.
+-- The sectors `gone` are unused now, and all other claims are unchanged.
 pub record IsReleased (old new : List Bool) (gone : List ℕ) : Type 0 where
   pub size : length new ≡ length old
   pub each : (kept : List ℕ) → ClaimsJust old (kept ++ gone) → AreDistinct (kept ++ gone) → ClaimsJust new kept

@@ -17,16 +17,15 @@ pub record KeepsRows (old new : List HeldRow) : Type 0 where
   pub holds : (sector : ℕ) (placed : PlacedEntry) → IsHeldBy old sector placed ↔ IsHeldBy new sector placed
   pub none : old ≡ [] → new ≡ []
 
--- The current list is kept. The sectors that it has beside a draft's list are still claimed, and so
--- are those of its catalogues.
+-- The current list is kept. Its sectors that the draft's list doesn't use are still claimed, and so are those of its
+-- catalogues.
 pub record CanSettle (root : Root) (standing drafted : List PlacedEntry) (held : List HeldRow) (layout : List Bool) : Type 0 where
   pub before : List Bool
   pub kept : IsKept root standing held before
   pub list : IsDraftList standing drafted
   pub claimed : AreClaimedOnce layout (own_sectors_in drafted standing ++ catalogues_of root)
 
--- The sectors that the old list has beside the draft's are unused now, except those that somebody
--- holds: only their holders use them.
+-- The sectors of the old list that the draft's list doesn't use are unused now, except those that somebody holds.
 pub record IsSettledIn (root : Root) (standing drafted : List PlacedEntry) (held left : List HeldRow) (old new : List Bool) : Type 0 where
   pub freed : List ℕ
   pub parts : (k : ℕ) → occurs k (lone_sectors left) + occurs k freed ≡ occurs k (lone_sectors held) + occurs k (own_sectors_in drafted standing)

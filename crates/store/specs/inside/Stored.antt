@@ -30,7 +30,7 @@ IsStored sectors kept = IsKept kept.root kept.entries.items kept.held kept.layou
     × (IsFalse kept.failed → kept.sectors.items ≡ entry_sectors kept.entries.items)
     × (version_of kept.root ≡ Two)
 
--- the number of sectors that there are for the state: all except those that only holders use
+-- the number of sectors that the state can use: all except those that only holders use
 abbrev pub sectors_for : Kept → ℕ
 sectors_for kept = kept.root.sectors - length (lone_sectors kept.held)
 
@@ -38,7 +38,8 @@ sectors_for kept = kept.root.sectors - length (lone_sectors kept.held)
 abbrev pub longest_in : Kept → ℕ
 longest_in kept = sector_count (longest_runs kept.layout)
 
--- Contracts see the same of both.
+-- Contracts see no difference between `old` and `new`: root, entries, held byte strings, and whether a call failed are
+-- the same.
 pub record ShowsSame (old new : Kept) : Type 0 where
   pub root : new.root ≡ old.root
   pub entries : new.entries.items ≡ old.entries.items

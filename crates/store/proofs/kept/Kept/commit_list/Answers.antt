@@ -30,7 +30,7 @@ use Rattle.store.proofs.kept.Kept.commit_list.Given as given
 use Rattle.store.proofs.kept.Kept.commit_list.Goals.{After-root_over-root}
 use Rattle.store.proofs.kept.Kept.commit_list.Goals as goal
 
--- the next root
+-- the result of `root_over` is the next root
 root_is : (g : given.Over) (c : After-root_over-root g)
     → c.root_over-root.result ≡ next_root c.args.self.now.root (length c.args.draft.entries.items) c.take_catalogues-taken.result c.args.draft.preloads.items
 root_is g c =
@@ -54,7 +54,7 @@ listing : (g : given.Over) (c : After-root_over-root g)
     → IsNext c.args.self.now.root c.args.draft.entries.items c.take_catalogues-taken.result c.args.draft.preloads.items c.root_over-root.result
 listing g c = commit_next c.requires.drafting c.take_catalogues-taken.ensures.claimed (root_is g c) (count_is g c) (later g c)
 
--- what the next root makes of the current state
+-- the catalogues and the next root turn the current state into the draft's state
 follows : (g : given.Over) (c : After-root_over-root g) (places : List ℕ) → places ≡ c.args.draft.sectors.items → (s d : State)
     → IsDraftedAt g.D.Disk.facts (drafting c.args.disk.now c.args.self.now c.args.draft) s d
     → IsFollowed Two c.args.self.now.root c.args.self.now.entries.items s (g.D.Disk.facts c.args.disk.now).now (staged (drafting c.args.disk.now c.args.self.now c.args.draft))

@@ -24,7 +24,7 @@ use Rattle.store.proofs.kept.Kept.commit_preloads.Goals as goal
 same : (g : given.Over) (c : After-root_over-root g) → c.args.draft.now.entries.items ≡ c.args.self.now.entries.items
 same g c = c.requires.drafting.same (preloads_alone c.args.draft.now.touched c.requires.preloads)
 
--- the next root
+-- the result of `root_over` is the next root
 root_is : (g : given.Over) (c : After-root_over-root g)
     → c.root_over-root.result ≡ next_root c.args.self.now.root (length c.args.self.now.entries.items) (catalogues_of c.args.self.now.root) c.args.draft.now.preloads.items
 root_is g c =

@@ -26,7 +26,7 @@ ready g c = c.requires
 abbrev others : (g : given.Over) (c : After-list g) → List PlacedEntry
 others g c = edited c.args.prepared.now.edit c.args.self.now.entries.items
 
--- their sectors are listed
+-- the sectors of these entries are listed
 listed_are : (g : given.Over) (c : After-list g) → c.list.new.sectors.items ≡ entry_sectors (others g c)
 listed_are g c =
     let edit = c.args.prepared.now.edit in
@@ -34,7 +34,7 @@ listed_are g c =
     ∙ ap (edited_by (λ (p : PlacedEntry). p.at) edit) (ready g c).listed
     ∙ edited_map (λ (p : PlacedEntry). p.at) edit c.args.self.now.entries.items
 
--- the staged sectors, and then the root, make the next state of the current one
+-- the staged sectors, and then the root, turn the current state into the next one
 following : (g : given.Over) (c : After-list g) (listed : List ℕ) → listed ≡ c.list.new.sectors.items → (written : List PlacedEntry) (s s' : State)
     → Makes (g.D.Disk.facts c.args.disk.now).now written c.args.self.now c.args.prepared.now c.args.bytes.now s s'
     → IsFollowed Two c.args.self.now.root c.args.self.now.entries.items s (g.D.Disk.facts c.args.disk.now).now written c.args.prepared.now.change

@@ -27,7 +27,7 @@ use Rattle.store.proofs.Refusals.{memory-device, memory-reopen}
 use Rattle.store.proofs.kept.Kept.prepare_new.Goals.{After-reserve_one, After-catalogues, After-next_root-root}
 use Rattle.store.proofs.kept.Kept.prepare_new.Goals as goal
 
--- in other memory, everything is kept as it was
+-- more memory is reserved, and everything else is kept as it was
 reserved : (c : After-reserve_one) → IsStored c.args.self.now.root.sectors (record {
   root = c.args.self.now.root;
   entries = c.reserve_one.new.entries;
@@ -59,7 +59,7 @@ rest c =
     ap (λ n. c.catalogues_for-count.result - n)
     (ap length c.catalogues.ensures ∙ catalogues_enough kept.root kept.entries.items kept.held kept.layout c.requires.stored.0 c.requires.stored.4)
 
--- what is put is one more entry
+-- the put adds one entry at the end
 newly : (c : After-next_root-root)
     → IsNew c.args.self.now.root c.args.self.now.entries.items c.args.self.now.held c.args.self.now.layout c.take_put.new.layout
     c.in_ok-room.room.catalogues c.in_ok-room.room.put c.next_root-root.result

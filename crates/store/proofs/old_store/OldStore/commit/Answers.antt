@@ -40,7 +40,7 @@ use Rattle.store.proofs.old_store.OldStore.commit.Given as given
 use Rattle.store.proofs.old_store.OldStore.commit.Goals.{After-free_count, After-next_root-root, After-carry_out, After-beside}
 use Rattle.store.proofs.old_store.OldStore.commit.Goals as goal
 
--- the next root lists the same entries, by the catalogues that were taken
+-- the next root lists the same entries by the catalogues that were claimed
 relisted : (g : given.Over) (c : After-next_root-root g)
     → IsRelist c.self.inside.found.root c.self.inside.found.entries.items [] c.self.inside.found.layout c.take_catalogues-taken.new.layout
     c.take_catalogues-taken.result c.next_root-root.result
@@ -88,7 +88,7 @@ carry_out-requires-clause-room g c =
           (omega (arith, is.kept.root_fits.sectors)) is.enough next.few next.apart),
     )
 
--- a stop leaves the state before or the state after
+-- a stop leaves the state before the commit or the state after it
 leaves : (g : given.Over) (c : After-carry_out g) (s : State)
     → IsFollowed One c.self.inside.found.root c.self.inside.found.entries.items s (g.D.Disk.facts c.self.inside.disk).now [] (record { staged = Catalogues c.take_catalogues-taken.result; root = c.next_root-root.result })
     [] c.deref.result.now c.self.inside.found.entries.items (upgraded s)
@@ -216,7 +216,7 @@ stays facts {store = store} s is at =
     subst (λ view. LeavesOnly (facts store.disk) (facts view.disk) (λ m. StandsOld m s ⊎ Stands m (upgraded s))) (sym is)
     (at_rest (facts store.disk) (λ m. StandsOld m s ⊎ Stands m (upgraded s)) (λ m mixture. inl (store.root, store.entries, at.stands m mixture)))
 
--- there are at most as many entries as a root of version 1 lists itself
+-- the number of entries is at most the number that a root of version 1 lists itself
 few_kept : (root : Root) (entries : List PlacedEntry) (layout : List Bool) → IsKept root entries [] layout → version_of root ≡ One → length entries ≤ most_root_entries
 few_kept root entries layout kept one = omega (arith, kept.counted, few_old root.library_count root.sectors root.list one kept.root_fits.list)
 

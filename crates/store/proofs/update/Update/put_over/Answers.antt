@@ -22,7 +22,7 @@ use Rattle.store.proofs.update.Update.put_over.Given as given
 use Rattle.store.proofs.update.Update.put_over.Goals.{After-take_over, After-write_draft, After-index, After-leave}
 use Rattle.store.proofs.update.Update.put_over.Goals as goal
 
--- the position of the entry with the name
+-- the position of the entry with the name is in the list
 there : (g : given.Over) (c : After-take_over g) → c.in-Some.position < length c.self.inside.draft.entries.items
 there g c = omega (arith, c.in-Some.ensures.some.0, ap length c.deref.ensures.value)
 
