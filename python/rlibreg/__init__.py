@@ -424,7 +424,7 @@ class _Handle:
         while True:
             begun = time.monotonic()
             piece = max(0, min(end - begun, _PIECE))
-            _library.rlibreg_wait_limit(self.struct, math.ceil(piece * 1000))
+            _library.rlibreg_set_wait_limit(self.struct, math.ceil(piece * 1000))
             try:
                 return self.call(name, *words, flags)
             except Held:
@@ -452,7 +452,7 @@ class _Handle:
         error = _error(Refusal if status > 100 else Held if status == Status.HELD else Error,
                        status, _library.rlibreg_status_name(status).decode())
         error.text = _library.rlibreg_text(self.struct).decode('ascii', 'replace').rstrip('\n')
-        error.file_refusal = _library.rlibreg_last(self.struct).contents.file_refusal
+        error.file_refusal = _library.rlibreg_last_answer(self.struct).contents.file_refusal
         if error.file_refusal:
             named = _library.rlibreg_file_refusal_name(error.file_refusal)
             error.file_refusal_name = named.decode()
@@ -660,7 +660,7 @@ class Update:
         """Makes a call. Returns its error, which says which change is refused, or None."""
         error = self._handle.ask(name, *words)
         if error and _is_of_a_change(error.number):
-            error.change = _library.rlibreg_last(self._handle.struct).contents.count
+            error.change = _library.rlibreg_last_answer(self._handle.struct).contents.count
         return error
 
     def install(self, file: Content) -> None:
