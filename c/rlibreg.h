@@ -613,7 +613,7 @@ int rlibreg_errno(const rlibreg *registry);
  * readers share, and without waiting for the lock. A sum of them changes that. */
 enum {
     RLIBREG_READ_WRITE = 1, /* for changes too: the lock is exclusive */
-    RLIBREG_WAIT = 2     /* if the file is locked, wait (rlibreg_set_wait_limit) */
+    RLIBREG_WAIT = 2        /* if the file is locked, wait (rlibreg_set_wait_limit) */
 };
 
 /* Sets how long the following calls wait that are given RLIBREG_WAIT. Each waits up to
