@@ -7,7 +7,7 @@ prefix=/opt/rlibreg
 list=$target$prefix/share/rlibreg/installed
 export DESTDIR=$target
 want 'where nothing is built' \
-    'c/install.sh: there is no nowhere/rlibreg: run c/build.sh first
+    'c/install.sh: nowhere/rlibreg doesn'\''t exist: run c/build.sh first
 = 1' "$(ended "$install" $prefix nowhere | grep -v '^left out')"
 want 'what it left' '' "$(ls -A "$target" 2> /dev/null)"
 
