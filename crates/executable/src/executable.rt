@@ -137,7 +137,7 @@ fn writable_code(alloc: Global, name: &[u8]) -> ExecutableRefusal
 }
 
 /// The entry of an image whose program doesn't relocate itself, and none of whose objects has
-/// functions that nobody would call: the program may say that it calls them.
+/// functions that nobody would call. The program may say by a note that it calls them.
 fn entry_to_call(alloc: Global, image: &Image) -> Result<u64, ExecutableRefusal>
     ensures entry { IfOk result (λ entry. entry_of image.now ≡ Some entry) }
     ensures called { OnOk result (HasNoCalls image.now) }
