@@ -111,6 +111,18 @@ for linker in bfd gold lld; do
     done
 done
 
+# Static objects in C++.
+if command -v g++ > told; then
+    rlibreg-g++ -shared -o libbase.so driver_base.cc
+    rlibreg-g++ -shared -o libderived.so driver_derived.cc libbase.so
+    rlibreg-g++ -o shapes driver_shapes.cc libderived.so libbase.so
+    for name in base derived; do "$built/rlibreg" install disk lib$name.so > told; done
+    says 'C++' "$(cat driver_shapes.txt)
+= 0" shapes
+else
+    echo 'skipped: constructors in C++, for want of g++'
+fi
+
 # A program of another entry begins as it says, and makes no promise.
 for words in '-e first' -efirst --entry=first '--entry first'; do
     $gcc -o entered main.c -Wl,${words/ /,} -x c - <<< 'void _start(void); void first(void) { _start(); }'
