@@ -128,6 +128,8 @@ for words in '-e first' -efirst --entry=first '--entry first'; do
     $gcc -o entered main.c -Wl,${words/ /,} -x c - <<< 'void _start(void); void first(void) { _start(); }'
     want "$words" '' "$(readelf -nW entered | grep rlibreg || true)"
 done
+$gcc -rdynamic -o entered main.c -Wl,-enable-new-dtags,-exclude-libs,ALL
+want 'words that are no entry' 1 "$(readelf -nW entered | grep -c 'rlibreg ')"
 
 # wrong WHAT WANTED WORD..: the driver links no such library.
 wrong() {
