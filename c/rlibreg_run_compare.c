@@ -61,15 +61,16 @@ static int read_pages(const struct kept_file *it, int kept) {
 struct window {
     int fd;
     uint64_t from, to; /* offsets in the file */
-    uint8_t bytes[AT_ONCE];
+    _Alignas(64) uint8_t bytes[AT_ONCE];
 };
 
 /* Moves a window to the offset `at`, unless it already has that byte. Reads nothing from the offset
  * `end` on. */
 static int move_window(struct window *it, uint64_t at, uint64_t end) {
     if (it->from <= at && at < it->to) return 0;
+    uint64_t most = at / PAGE * PAGE + AT_ONCE;
     it->from = at;
-    it->to = end - at < AT_ONCE ? end : at + AT_ONCE;
+    it->to = end < most ? end : most;
     return read_exactly(it->fd, it->bytes, it->to - at, at);
 }
 

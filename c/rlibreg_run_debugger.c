@@ -18,18 +18,6 @@ struct told {
     struct link_map objects[];
 };
 
-size_t read_path(const struct program *it, char *to, size_t room) {
-    char link[32] = "/proc/self/fd/", *at = link + strlen(link);
-    int unit = 1;
-    while (it->fd / unit >= 10) unit *= 10;
-    for (; unit; unit /= 10) *at++ = (char)('0' + it->fd / unit % 10);
-    *at = 0;
-    int64_t length = kernel_link(link, to, room);
-    if (length < 0) return 0;
-    if ((size_t)length < room) to[length] = 0;
-    return (size_t)length;
-}
-
 size_t room_of_list(const struct program *it) {
     return sizeof(struct told) + it->image.object_count * sizeof(struct link_map);
 }

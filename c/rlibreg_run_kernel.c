@@ -83,8 +83,8 @@ int64_t kernel_read(int fd, void *to, size_t length, uint64_t at) {
     return ASK(SYS_pread64, NUMBER(fd), PLACE(to), length, at);
 }
 
-int64_t kernel_link(const char *path, char *to, size_t room) {
-    return ASK(SYS_readlink, PLACE(path), PLACE(to), room);
+int64_t kernel_folder(char *to, size_t room) {
+    return ASK(SYS_getcwd, PLACE(to), room);
 }
 
 /* ---- Memory */
