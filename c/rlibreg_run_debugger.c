@@ -35,11 +35,18 @@ static void tell_state(struct r_debug *list, int state) {
     if (list->r_brk != (ElfW(Addr))r_debug_state) ((void (*)(void))list->r_brk)();
 }
 
+/* Writes to a page without a change. If it was read first, the system would be asked for it twice:
+ * once to read it, and once to write it. */
+static void expect_write(void *at) {
+    __asm__ volatile("lock orb $0, %0" : "+m"(*(uint8_t *)at) : : "cc");
+}
+
 /* Returns the list of the C library. As long as there is none, returns a list that has only the
  * loader. */
 static struct r_debug *list_of_objects(const struct program *it, struct told *room) {
     extern const char __ehdr_start[] __attribute__((visibility("hidden")));
     ElfW(Dyn) *entry = _DYNAMIC;
+    if (it->is_early) expect_write(entry);
     while (entry->d_tag != DT_NULL && entry->d_tag != DT_DEBUG) entry++;
     if (entry->d_tag == DT_NULL) return NULL;
     if (entry->d_un.d_ptr || !it->is_early) return (struct r_debug *)entry->d_un.d_ptr;

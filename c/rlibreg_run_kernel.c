@@ -135,14 +135,14 @@ int has_fixed_bases(void) {
 /* ---- Bytes */
 
 void *memcpy(void *to, const void *from, size_t length) {
-    uint8_t *at = to;
-    for (size_t i = 0; i < length; i++) at[i] = ((const uint8_t *)from)[i];
+    void *at = to;
+    __asm__ volatile("rep movsb" : "+D"(at), "+S"(from), "+c"(length) : : "memory");
     return to;
 }
 
 void *memset(void *to, int byte, size_t length) {
-    uint8_t *at = to;
-    for (size_t i = 0; i < length; i++) at[i] = (uint8_t)byte;
+    void *at = to;
+    __asm__ volatile("rep stosb" : "+D"(at), "+c"(length) : "a"(byte) : "memory");
     return to;
 }
 
