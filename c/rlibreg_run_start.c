@@ -128,18 +128,19 @@ static void *room_for(size_t bytes) {
     return (void *)map;
 }
 
-/* Writes the path of the folder in which the program's path begins, with a slash at its end: nothing
- * if the program's path is absolute. Returns the length in bytes, or an error, less than 0. */
+/* If the program's path is relative, writes the path of the current folder to `to`, with a slash at
+ * its end. Returns the number of bytes that were written, or an error, less than 0. */
 static int64_t read_folder(const struct program *it, char *to, size_t room) {
     if (*it->path == '/') return 0;
     int64_t length = kernel_folder(to, room); /* with the byte 0 at the end */
-    if (length > 0 && *to != '/') return -ENOENT; /* this process can't reach that folder */
+    if (length > 0 && *to != '/') return -ENOENT; /* the root doesn't lead to that folder */
     if (length > 0) to[length - 1] = '/';
     return length;
 }
 
-/* Returns a copy of the program's whole path, or null if the system doesn't report it. The copy is
- * in `room` if it is short enough. */
+/* Returns a copy of the program's path, made absolute, or null if the system doesn't report the
+ * current folder. The copy is in `room` if it is short enough. The system would report the path of
+ * the open file too, but takes twenty times as long for that. */
 static char *path_of(const struct program *it, char *room, size_t length) {
     size_t own = strlen(it->path) + 1;
     int64_t folder = own < length ? read_folder(it, room, length - own) : -ERANGE;
