@@ -1,5 +1,5 @@
-/* Opens and syncs a disk for the programs, in place of their language's open and fsync, over which
- * build.sh links it. rlibreg_disk_file.c does the same for the calls over a file. */
+/* Opens, writes and syncs a disk for the programs, in place of their language's open, pwrite and
+ * fsync, over which build.sh links it. rlibreg_disk_file.c does the same for the calls over a file. */
 #define _GNU_SOURCE
 #include "rlibreg_disk_file.h"
 #include "rlibreg_turn.h"
@@ -19,7 +19,7 @@ int __wrap_fsync(int fd);
 
 enum { NUMBERS = 64, ROOTS = 1024 };
 
-/* What was written since the last sync. */
+/* What was written since the last sync. The roots are the first two sectors. */
 enum written { NOTHING, NO_ROOT, A_ROOT };
 
 /* The disk that is open for changes, and the path by which it was opened. The program opens nothing
@@ -69,7 +69,10 @@ static int meet_front_once(int fd) {
 }
 
 ssize_t __wrap_pwrite(int fd, const void *bytes, size_t length, off_t at) {
-    if (fd == changed.fd && changed.written != A_ROOT) changed.written = at < ROOTS ? A_ROOT : NO_ROOT;
+    if (fd == changed.fd && at < ROOTS)
+        changed.written = A_ROOT;
+    else if (fd == changed.fd && changed.written == NOTHING)
+        changed.written = NO_ROOT;
     return __real_pwrite(fd, bytes, length, at);
 }
 
