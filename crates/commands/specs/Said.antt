@@ -10,7 +10,7 @@ words_text = codes "rlibreg: bad command line\n"
 abbrev pub base_text : List ℕ
 base_text = codes "rlibreg: bad base\n"
 
--- the line for arguments that are turned away
+-- the line for arguments that are refused with status 2
 abbrev pub bad_text : Option CommandLine → List ℕ
 bad_text None = words_text
 bad_text (Some line) = base_text

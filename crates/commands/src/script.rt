@@ -21,11 +21,11 @@ use scripts::{Got, ScriptFault, next_line};
 use std::alloc::Global;
 use std::io::{BufReader, Read, Write};
 
-/// The number of bytes that are read at once.
+/// The number of bytes that are read from the script at once.
 const PAGE: usize = 0x10000;
 
-/// Buffers the answer to a line after the answers that wait already. If this answer
-/// may not wait, sends them all.
+/// Appends the answer to a line to the buffered answers. If this answer may not be sent later,
+/// sends all of them.
 fn tell_answer<W: Write>(
     waiting: &mut Line,
     writer: &mut W,
@@ -75,7 +75,7 @@ fn answer_whole<W: Write, G: TakesEvents>(
     Ok(is_refused(&answer))
 }
 
-/// Answers the lines of a script. Some of the answers may still wait at the end.
+/// Answers the lines of a script. Some of the answers may not be sent yet at the end.
 fn run_lines<R: Read, W: Write, G: TakesEvents>(
     alloc: Global,
     pages: &mut BufReader<&mut R>,
@@ -157,7 +157,7 @@ pub fn run_script<R: Read, W: Write, G: TakesEvents>(
     })
         binders.old binders.new) }
 
-    // What the writer held before a failed write.
+    // What the writer held before a write failed.
     ensures sent { IfErr result (λ fault. fault ≡ ScriptFault.Write
         → (held : W) × StopsWriting G.step (record {
           unread = R.remaining reader.old;
