@@ -1,2 +1,2 @@
--- What lies between the parts of an answer: nothing here has to be believed.
+-- What the parts of an answer hand to each other. Nobody has to believe these definitions.
 pub mod Bindings
