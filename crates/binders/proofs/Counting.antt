@@ -68,7 +68,7 @@ lone_each (row ∷ rows) =
     let later : All Within rows = λ k d lt unlisted. later_in row.listed row.placed (get_or rows k d).placed (lone_holds rows) (lone_each rows k d lt unlisted) in
     All-cons Within row rows (first_in row.listed row.placed (lone_holds rows)) later
 
--- the two entries are at different sectors
+-- no two of the entries are at the same sector
 abbrev Apart : PlacedEntry → PlacedEntry → Type 0
 Apart a b = a.at ≢ b.at
 

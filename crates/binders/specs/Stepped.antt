@@ -81,7 +81,8 @@ pub record AdvancesIn {D : Type 0} (facts : D → DiskFacts) (old new : Slotted 
       → slice_index_or flights slot None ≡ Some flight → SteppedIn facts old new slot flights flight result
   pub bounds : (flights : List (Option Flight)) (flight : Flight) → AreOn facts old flights
       → slice_index_or flights slot None ≡ Some flight → IsBounded flight
-  -- during and after the step, a stop leaves only what it could leave before the step
+  -- during the step, a stop leaves only what it could leave before; after the step, it may leave exactly
+  -- the same as before
   pub any_moment : IsTrue (facts old.registry.disk).honest
       → LeavesOnly (facts old.registry.disk) (facts new.registry.disk) (Mixture (facts old.registry.disk))
   pub unchanged : IsTrue (facts old.registry.disk).honest → IsUnchanged (facts old.registry.disk) (facts new.registry.disk)

@@ -116,7 +116,7 @@ module _ (bytes : List ℕ) (opened : Opened ByteDisk) (on : IsOpenedOn bytes op
     leads_registry after held =
         leads Stands (λ m stands. record { stored = stands; libraries = held.stands.libraries }) (λ m stands. record { stored = stands; libraries = after })
 
-  -- the number of sectors of the opened registry is that of the bytes
+  -- the number of sectors and the phase of the opened registry follow from the bytes
   same_sectors : (byte_facts opened.disk).sectors ≡ length start
   same_sectors = on.any_moment.past.sectors ∙ is.starts.sectors
 

@@ -42,7 +42,7 @@ pub refused_in : (old new : Drafted ByteDisk) (request : Request) (answer : Repl
 refused_in old new request answer (Ok done) did is = tt
 refused_in old new request answer (Err refusal) did is = subst (λ (a : Reply). DraftAnswers byte_facts old request a new) is did
 
--- No request is planned without a change of the draft.
+-- Lemmas about requests to a draft that are planned one after the other.
 pub plans_none : (u : Drafted ByteDisk) → Plans byte_facts u u [] []
 plans_none u = record { run = ([], tt, refl); accepted = All-nil (λ (a : Reply). is_refusal a ≡ false) }
 
@@ -172,7 +172,7 @@ module _ (bytes : List ℕ) (opened : Opened ByteDisk) (on : IsOpenedOn bytes op
     steps = few_synced (plan_of opened.disk) (subst (λ log. MayAddSync log (byte_facts opened.disk).log) on.of_bytes.starts.log on.log);
   }
 
-  -- the opened registry with these held byte strings
+  -- the opened registry, with these held byte strings and this failure flag
   abbrev opened_by : List HeldRow → Bool → Opened ByteDisk
   opened_by held failed = record { disk = opened.disk; root = opened.root; entries = opened.entries; held = held; failed = failed }
 

@@ -74,7 +74,7 @@ only-undefined : (objects : List Placed) → OnlyUndefined (undefined_refusal ob
 unfolding undefined_refusal
 only-undefined objects = undefined-among objects _
 
--- if no symbol is undefined, the report of the bindings has the number 0
+-- if no symbol is undefined, the report of the bindings has the number 0; otherwise it has that of B5
 pub whole-number : (o : Option BindRefusal) → true ≡ is_none o → 0 ≡ bound_number o
 whole-number None h = refl
 whole-number (Some e) h = cc
@@ -95,7 +95,8 @@ pub symbols-number : (objects : List Placed) (bound : Bool) → bound ≡ is_non
 symbols-number objects true h = whole-number (undefined_refusal objects) h
 symbols-number objects false h = undefined-number objects h
 
--- a report of the bindings of placed objects is the text that `IsPlacedText` defines
+-- a report of the bindings of placed objects is the text that `IsPlacedText` defines, and a refusal is
+-- one for which `IsUnplaced` holds
 pub placed-told : (objects others : List Placed) (r : Result Told Refusal) → others ≡ objects → lacks_room objects ≡ false
     → IfOk r (λ told. told.number ≡ bound_number (undefined_refusal others)) → IfOk r (λ told. told.text.items ≡ bindings_text others)
     → IfOk r (λ told. IsPlacedText objects told.number told.text.items)
@@ -112,7 +113,7 @@ pub unplaced-as : (objects : List Placed) (e : BindRefusal) (why : Refusal) → 
 unplaced-as objects e why (inl (full, lacks)) is = inl (is ∙ ap of_bind full, lacks)
 unplaced-as objects e why (inr (memory, wants)) is = inr (is ∙ ap of_bind memory)
 
--- if no name is noted as missing, none is missing
+-- an option that isn't `Some` is `None`, so no name is missing
 pub lacks-none : (o : Option Need) → is_some o ≡ false → o ≡ None
 lacks-none None none = refl
 lacks-none (Some need) none = absurd (let no : true ≡ false = none in cc)
@@ -206,7 +207,7 @@ module _ (s : State) (program : List ℕ) (base : ℕ) where
           number_is = numbered ∙ ap bound_number (sym refused);
         }
 
-    -- a report about the libraries that were found is a report about the installed libraries
+    -- a report about the libraries that were found, or its refusal, is one about the installed libraries
     pub found-said : (number : ℕ) (said : List ℕ) → IsFoundText program base found number said → IsText s program base number said
     found-said number said (inl (none, placed)) = whole-said none number said (subst (λ os. IsPlacedText os number said) placed-objects placed)
     found-said number said (inr (some, numbered, text)) = by found.missing refl

@@ -28,7 +28,7 @@ use Rattle.c_answers.specs.Contents.{refusal_of, IsDigestAnswered, IsFileAnswere
 use Rattle.c_answers.specs.Executable.{IsBoundTold, IsExecutableAnswered, executable_number}
 use Rattle.c_answers.specs.Numbers.{store_number, bind_number, refusal_number, reply_number}
 
--- only S1 has the number 301
+-- no refusal other than S1 has the number 301
 store_not_device : (why : StoreRefusal) → why ≢ store.Device → store_number why ≡ 301 → ⊥
 store_not_device store.Device other e = other refl
 store_not_device why other e = omega (arith, e)

@@ -36,7 +36,7 @@ use Rattle.c_answers.specs.Names.{AreNames}
 use Rattle.c_answers.specs.Numbers.{store_number, bind_number, refusal_number}
 use Rattle.c_answers.specs.Unsaid.{IsSilent, IsUncounted}
 
--- no refusal of a disk has the number 0
+-- no refusal has the number 0
 store_not_done : (why : StoreRefusal) → store_number why ≡ 0 → ⊥
 store_not_done store.Device e = omega (arith, e)
 store_not_done why e = omega (arith, e)
@@ -140,7 +140,7 @@ told_other (reply.Listing l) steps plan text answer status not said = said
 told_other (reply.Bound image) steps plan text answer status not said = said
 told_other (reply.Refused why) steps plan text answer status not said = said
 
--- a listing isn't the reply Done
+-- neither a listing nor an image is the reply Done
 pub no_listing : (l : Listed) → reply.Listing l ≡ reply.Done → ⊥
 no_listing l e = cc
 

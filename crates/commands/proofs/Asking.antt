@@ -37,7 +37,7 @@ use Rattle.commands.specs.inside.WithFile.{AsksWith}
 use Rattle.commands.specs.inside.Ends.{BindEnds, IsFormatted, IsNoRegistry, IsNotRead, IsTurnedAway, IsWritten, Replied, IsUpgradedOver}
 use Rattle.commands.proofs.Ending.{reply_answers}
 
--- the line of a refusal whose status is NoMemory is the line for refused memory
+-- a refusal whose status is NoMemory has the line for refused memory
 memory_refusal : (r : Refusal) → refusal_status r ≡ NoMemory → command_refusal_text r ≡ memory_text
 memory_refusal refusal.OutOfMemory h = refl
 memory_refusal (refusal.Bind bind_refusal.OutOfMemory) h = refl
@@ -68,7 +68,7 @@ memory_reply reply.Done h = cc
 memory_reply (reply.Listing listing) h = cc
 memory_reply (reply.Bound bound) h = cc
 
--- the status Done isn't the status Failed
+-- the statuses Done, Refused, BadWords and NoMemory differ from Failed
 done_fails : Done ≡ Failed → ⊥
 done_fails h = cc
 
@@ -81,7 +81,8 @@ words_fail h = cc
 memory_fails : NoMemory ≡ Failed → ⊥
 memory_fails h = cc
 
--- the status of a disk's refusal isn't Done
+-- the status of a disk's refusal is neither Done nor that of bad arguments; if it is NoMemory, the line
+-- is the one for refused memory
 disk_done : (r : StoreRefusal) → disk_status r ≡ Done → ⊥
 disk_done store.Device h = cc
 disk_done store.Reopen h = cc
@@ -124,7 +125,7 @@ disk_memory store.GenerationEnd h = cc
 disk_memory store.OutOfMemory h = refl
 disk_memory store.OldFormat h = cc
 
--- the status Refused isn't the status Done
+-- the statuses Refused, BadWords and NoMemory differ from Done
 done_refuses : Refused ≡ Done → ⊥
 done_refuses h = cc
 
@@ -265,7 +266,7 @@ module _ (before after : Option (List ℕ)) where
   pub replied_as : (IsAsked : Request → Type 0) (q : Request) (status : Status) → IsAsked q → Replied (λ asked. asked ≡ q) before after status → Replied IsAsked before after status
   replied_as IsAsked q status is h = replied_also (λ asked. asked ≡ q) IsAsked (λ asked e. subst IsAsked (sym e) is) status h
 
-  -- if memory is refused for a file or for names, the command ends as one of a registry
+  -- if a file can't be read, or memory is refused, the command ends as one of a registry
   pub memory_replied : (IsAsked : Request → Type 0) (status : Status) → IsTold NoMemory memory_text before after status → Replied IsAsked before after status
   memory_replied IsAsked status h = away_told IsAsked status (told_away IsOpenRefusal store.OutOfMemory status (8, refl) h)
 
@@ -306,7 +307,7 @@ module _ (before after : Option (List ℕ)) where
   bind_ends at asked IsAsked NoMemory e h = (ap is_some e, h)
 
 module _ (io : Streams) where
-  -- a command whose request is the one of its arguments ends as `CommandEnds` defines
+  -- each command whose request is the one of its arguments ends as `CommandEnds` defines
   ends_as : (line : CommandLine) → are_bad (Some line) ≡ false → (Replies (Asks line) Done io.before io.after → IsDone (Some line) io)
       → (Replies (Asks line) Refused io.before io.after ⊎ TurnsAway IsOpenRefusal Refused io.before io.after → IsRefused (Some line) io)
       → (Appends io.before io.after memory_text → LacksMemory (Some line) io) → (status : Status) → Replied (Asks line) io.before io.after status → CommandEnds (Some line) io status

@@ -75,7 +75,7 @@ pub said_front : (text : List ℕ) (before after errors errors' : Option (List �
 said_front text before after errors errors' status (inl same) is = (0, subst (λ k. Appends errors k []) (sym same) (nothing_said errors))
 said_front text before after errors errors' status (inr said) is = ⊎_elim (λ front. front.1) (λ failed. absurd (cc (sym is ∙ failed))) said.1
 
--- the status of a refusal isn't that of bad arguments
+-- the status of a refusal or of a reply isn't that of bad arguments
 refusal_answers : (r : Refusal) → refusal_status r ≢ BadWords
 refusal_answers refusal.OutOfMemory h = cc
 refusal_answers (refusal.Bind bind_refusal.OutOfMemory) h = cc

@@ -21,7 +21,7 @@ use Rattle.program_parts.specs.declared.status.Status.TheVariants.{Done}
 use Rattle.commands.specs.declared.summary.Summary.{Summary}
 use Rattle.commands.proofs.Seen.{run_seen}
 
--- a line that asks for an event adds one event to the list
+-- a line that asks for an event adds one event to the list, and any other line adds none
 asks : {X Y : Type 0} (f : X → Option Y) (x : X) (xs : List X) (y : Y) → f x ≡ Some y → filter_map f (x ∷ xs) ≡ y ∷ filter_map f xs
 asks f x xs y e = rw e refl
 
@@ -67,7 +67,7 @@ module _ {D : Type 0} (facts : D → DiskFacts) (io : Streams) (old new : Slotte
   lines_seen lines answers run =
       lines_ran facts old new lines answers (run_seen (λ (p : Slotted D × Status). p.0) (Worsens (EventStep facts)) (EventStep facts) (λ s s' q r k. k.0) (old, Done) (new, worst) lines answers run)
 
-  -- a script that was read to its end, with its status, is a run
+  -- a script with a status, which was read to its end or ended early, is a run
   pub runs_on_disk : (summary : Summary) → Finishes (Worsens (EventStep facts)) io (old, Done) (new, worst) summary → status ≡ greatest worst (lines_status summary.refused)
       → RunsOnDisk facts io old new status
   runs_on_disk summary e is = (worst, summary, e.0, e.1, e.2, e.3, lines_seen e.0 e.2 e.3.run, is)

@@ -97,7 +97,8 @@ module _ {S : Type 0} (step : S → Happening → EventReply → S → Type 0) w
       written = λ h. absurd (h is);
     }
 
-    -- if a whole line was read and not applied, the script ended early
+    -- if a whole line was read and not applied, or applied and its answer not written, the script ended
+    -- early
     pub breaks_unapplied : (r : Place) (u : S) (line : List ℕ) (fault : ScriptFault) → Consumes q.unread r.unread (ended line) → IsLine line → u ≡ t
         → (fault ≢ Write → Appends q.written r.written []) → Breaks step (streams p r) s u fault whole (ended line) answers
     breaks_unapplied r u line fault read is_line same written =

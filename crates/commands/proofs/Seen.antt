@@ -73,7 +73,8 @@ module _ {G : Type 0} (step : G → Happening → EventReply → G → Type 0) (
   abbrev seen_of : Watched G → G × Status
   seen_of v = (v.binders, v.worst)
 
-  -- a script that starts with the status Done and is read to its end is a script over the observed part
+  -- a script that starts with the status Done is a script over the observed part, if it is read to its
+  -- end or ends early
   pub runs_through : (summary : Summary) → w.worst ≡ Done → Finishes (WatchedStep step) io w w' summary → Finishes (Worsens step) io (w.binders, Done) (seen_of w') summary
   runs_through summary e h =
       subst (λ s. Finishes (Worsens step) io (w.binders, s) (seen_of w') summary) e (finishes_seen seen_of (WatchedStep step) (Worsens step) (λ s s' q r k. k) io w w' summary h)

@@ -170,7 +170,7 @@ module _ {S W : Type 0} (contents : W → Option (List ℕ)) (step : S → Happe
       (w, whole ++ line ∷ [], [], answers ++ h.0 ∷ [], breaks_applied step p q s t m whole answers so_far r u line h.0 read is_line h.1, held_more p.written (contents w) whole answers told line h.0)
 
 module _ {S W : Type 0} (contents : W → Option (List ℕ)) (step : S → Happening → EventReply → S → Type 0) (p : Place) (s u : S) where
-  -- after a line, either no answer waits or the last answer may be sent later
+  -- if the answer to one more line was sent, or may be sent later, the lines so far count as answered
   pub tells_on : (unread : Option (List ℕ)) (n : Summary) (held now : W) (waiting : List ℕ) (whole : List (List ℕ)) (answers : List Answer) (line : List ℕ) (answer : Answer)
       → Told p.written (contents held) whole answers → Answered step p (record { unread = unread; written = append_known (contents now) waiting }) s u n (whole ++ line ∷ []) (answers ++ answer ∷ [])
       → (waiting ≡ []) ⊎ MayWait line answer
@@ -220,7 +220,7 @@ module _ {S : Type 0} (step : S → Happening → EventReply → S → Type 0) (
       written = λ h. send _ (e.written h);
     }
 
-    -- a script that ended early has also ended if the writer failed
+    -- a script has also ended early if the writer failed
     pub breaks_writing : (fault : ScriptFault) (now : Option (List ℕ)) → Breaks step io s s' fault whole part answers → Breaks step (holding now) s s' Write whole part answers
     breaks_writing fault now e = record {
       read = e.read;
@@ -244,7 +244,7 @@ module _ {S : Type 0} (step : S → Happening → EventReply → S → Type 0) (
         all_read (Some text) bytes h = ([], h ∙ sym (append-nil bytes))
 
 module _ {S W : Type 0} (contents : W → Option (List ℕ)) (step : S → Happening → EventReply → S → Type 0) (io : Streams) (s s' : S) where
-  -- the lines were read to the end, and some of their answers may not be sent yet
+  -- the lines were read to the end, or ended early, and some of their answers may not be sent yet
   abbrev pub LinesEnd : Summary → Type 0
   LinesEnd summary = (held : W) × (whole : List (List ℕ)) × (cut : List ℕ) × (answers : List Answer) × Ends step io s s' summary whole cut answers × Told io.before (contents held) whole answers
 

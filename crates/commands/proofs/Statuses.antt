@@ -48,7 +48,7 @@ fault_answers fault.Read h = cc
 fault_answers fault.Write h = cc
 fault_answers fault.OutOfMemory h = cc
 
--- the greater of a status and that of the lines isn't that of bad arguments
+-- the greater of a status and that of the lines, or of a fault, isn't that of bad arguments
 pub after_lines : (s : Status) (n : ℕ) → s ≢ BadWords → greatest s (lines_status n) ≢ BadWords
 after_lines s n h = greatest_answers s (lines_status n) h (lines_answers n)
 

@@ -94,7 +94,8 @@ module _ {T : Type 0} (Is : Library → T → Type 0) (is_unread : T → Bool) {
     sum_by_more_le file_sectors start.entries position no_entry lt,
   ))
 
-  -- If all libraries were examined, there are as many findings as entries.
+  -- If all libraries were examined, there are as many findings as entries, and the calls are at most the
+  -- sectors of all of them.
   pub all_counted : {start now : Opened D} {position : ℕ} {seen : List T} → SeenSoFar Is is_unread facts start now position seen → length start.entries ≡ position
       → length seen ≡ length start.entries
   all_counted so_far all = so_far.count ∙ sym all

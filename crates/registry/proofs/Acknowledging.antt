@@ -144,7 +144,7 @@ module _ {D : Type 0} (facts : D → DiskFacts) where
   states_after (suc k) p [] (t ∷ ts) h = absurd h
   states_after (suc k) p (x ∷ xs) [] h = absurd h
 
-  -- an exchange doesn't set the disk's time back
+  -- no exchange sets the disk's time back
   moves_time : (p : Point D) (x : Exchange) (p' : Point D) → Moves facts p x p' → (disk_at facts p).time ≤ (disk_at facts p').time
   moves_time p (answered (command q) answer) p' goes = goes.did.calls.later
   moves_time p (answered (update qs) answer) p' updates = ⊎_elim

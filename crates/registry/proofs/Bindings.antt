@@ -42,7 +42,7 @@ module _ (s : State) (program : List ℕ) (base : ℕ) (files : List Library) (l
       ap (λ m. first_of (option_map missing_by m ∷ placed_refusal (bound_objects s program base) ∷ [])) lacking
       ∙ ap (λ o. first_of (option_map missing_by lacks ∷ placed_refusal (place base o) ∷ [])) is
 
-  -- the refusal of a bind is the one that follows from the findings of its walk
+  -- the refusal and the answer of a bind follow from the findings of its walk
   pub refusal_same : binding_refusal s program base ≡ walked_refusal program base lacks files
   refusal_same = behind program base (objects s) (preload_numbers s) (program-taken program base taken) (program-based program base taken) ∙ later_same
 

@@ -36,7 +36,7 @@ change_may other may = absurd may
 pub change_ample : (answer : Result (Unit {0}) StoreRefusal) → IfErr answer IsRefusalOfChange → answer ≡ Err e.OutOfMemory → ⊥
 change_ample answer refused is = subst (λ a. IfErr a IsRefusalOfChange) is refused
 
--- the store's refusals of an install are refusals of the registry's install
+-- a refusal of the store for a change is a refusal that the registry may return for this change
 pub install_may : (refusal : StoreRefusal) → IsRefusalOfPutNew refusal → IsInstallRefusal (refusal_of refusal)
 install_may e.Device may = tt
 install_may e.Reopen may = tt
@@ -68,7 +68,7 @@ preloads_may e.Reopen may = tt
 preloads_may e.GenerationEnd may = tt
 preloads_may other may = absurd may
 
--- if the registry's refusal is S1, the store's refusal is S1
+-- if the registry's refusal is S1, so is the store's, and the same holds for S2
 device_alone : (refusal : StoreRefusal) → refusal_of refusal ≡ Device → refusal ≡ e.Device
 device_alone e.Device is = refl
 device_alone other is = cc
@@ -154,7 +154,7 @@ module _ {D : Type 0} (facts : D → DiskFacts) where
       subst (λ x. IfAccepted r' (AreCallsExactly (calls_of s x) (facts old.disk) (facts new.disk))) (sym asked)
       (subst (λ y. IfAccepted y (AreCallsExactly (calls_of s q) (facts old.disk) (facts new.disk))) (sym told) made)
 
-  -- a change leaves what `ChangeLeaves` defines for its answer
+  -- A change leaves what `ChangeLeaves` defines for its answer.
   pub change_leaves : {old new : Opened D} {most : ℕ} {Refuses : Refusal → Type 0} (answer : Result (Unit {0}) Refusal) → Changed facts Device Reopen old new most Refuses answer
       → ChangeLeaves old new (answer_of answer)
   change_leaves (Ok done) changed = changed.usable

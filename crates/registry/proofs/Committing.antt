@@ -35,7 +35,7 @@ use Rattle.registry.proofs.Updating.{begun_at, each_next, is_update, plans_momen
 listed : (m : List Sector) (s : State) → All IsLibrary s.libraries → sectors.Stands m s → Stands m s
 listed m s libraries stands = record { stored = stands; libraries = libraries }
 
--- a fact that holds if the store's answer to a commit is Ok holds if the registry's answer is Ok
+-- The registry's answer to a commit is the store's answer, with the registry's refusals.
 pub ok_in_words : (P : Type 0) (answer : Result (Unit {0}) StoreRefusal) → OnOk answer P → OnOk (in_words answer) P
 ok_in_words P (Ok done) h = h
 ok_in_words P (Err refusal) h = tt

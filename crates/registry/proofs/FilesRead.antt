@@ -32,7 +32,7 @@ use Rattle.registry.specs.Untested.{ReadsLibraries}
 use Rattle.registry.specs.inside.Walked.{more_needs, walked, next_place, IsWalked}
 use Rattle.registry.specs.declared.needs.Needs.{Needs}
 
--- the program as an object
+-- the program as an object, and the needs before the program was examined
 abbrev object_of_program : List ℕ → Named
 object_of_program program = record { name = program_name; file = program }
 

@@ -171,7 +171,7 @@ module _ {D : Type 0} (facts : D → DiskFacts) (now : Opened D) (before : Bindi
         subst (λ (k : ℕ). AreCallsExactly k (facts now.disk) (facts now.disk)) (sym none_read) (exactly_none (facts now.disk)),
       )
 
-  -- if a test refuses the program by itself, the first step is answered with this refusal
+  -- if a test refuses the program by itself, the first step is answered with the bind's answer
   stopped : (e : BindRefusal) → program_refusal before.program before.base ≡ Some e → binding_refusal flight.state before.program before.base ≡ Some e
       → IsStep facts now now flight before (Ok (Final (Refused (Bind e))))
   stopped e refused is =

@@ -56,7 +56,7 @@ pub unnoted : (missing : Option Need) → false ≡ is_some missing → None ≡
 unnoted None is = refl
 unnoted (Some need) is = cc
 
--- a fact that is true in any case is true if the result is a refusal
+-- a fact that is true in any case is true if the result is a refusal; and a refusal isn't a success
 pub if_refused : {T E : Type 0} {P : Type 0} (r : Result T E) → P → OnErr r P
 if_refused (Ok t) p = tt
 if_refused (Err e) p = p

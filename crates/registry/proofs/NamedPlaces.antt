@@ -49,7 +49,7 @@ or-or : {X : Type 0} (a b c : Option X) → option_or (option_or a b) c ≡ opti
 or-or None b c = refl
 or-or (Some x) b c = refl
 
--- the needs with the given places instead of their own
+-- the needs with the given places, or with the given missing name, instead of their own
 abbrev with_places : Needs → List ℕ → Needs
 with_places needs places = record { places = record { limit = needs.places.limit; places = places }; missing = needs.missing }
 

@@ -79,7 +79,7 @@ listed_more s i items name size lt is named sized =
     ∙ sym (map-append entry_of (take i s.libraries) (get_or s.libraries i no_library ∷ []))
     ∙ ap (map entry_of) (sym (take_more s.libraries i no_library lt))
 
--- the listing of all libraries is complete
+-- if there are at most i libraries, the listing of the first i is the listing of all
 pub listed_all : (s : State) (i : ℕ) → length s.libraries ≤ i → map entry_of (take i s.libraries) ≡ map entry_of s.libraries
 listed_all s i le = ap (map entry_of) (take_all i s.libraries le)
 

@@ -48,7 +48,7 @@ made_empty facts disk making store = record {
 pub leaves_then : {old mid new : DiskFacts} → LeavesOnly old mid (Mixture old) → LeavesOnly mid new (Mixture mid) → LeavesOnly old new (Mixture old)
 leaves_then {old = old} {mid = mid} first second = goes_on (Mixture old) first (weaken (Mixture mid) (Mixture old) (left_now (Mixture old) first) second)
 
--- if two facts imply a third, and both hold for an Ok result, so does the third
+-- if two facts imply a third, and both hold for a result, so does the third
 pub ok_both : {A B : Type 0} (P Q R : A → Type 0) (result : Result A B) → ((a : A) → P a → Q a → R a) → IfOk result P → IfOk result Q → IfOk result R
 ok_both P Q R (Ok a) make p q = make a p q
 ok_both P Q R (Err e) make p q = tt

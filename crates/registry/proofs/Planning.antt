@@ -164,8 +164,8 @@ module _ {D : Type 0} (facts : D → DiskFacts) {old : Drafted D} {s d : State} 
   abbrev here : Phase
   here = draft_phase facts old d
 
-  -- if the file is no library, or memory to admit it is refused, the install is refused, and the draft
-  -- is unchanged
+  -- if the file is no library, or memory to admit it is refused, the put is refused, and the draft is
+  -- unchanged
   pub plan_no_install : (e : Refusal) → IsLibraryRefusal bytes e → e ≢ Device → AppliesDraft facts old old s d (install bytes) (Refused e)
   plan_no_install e is other = draft_stays facts at (install bytes) (Refused e) (plan_refusal here here (install bytes) e other
       (put_step here (install bytes) bytes at.stands.usable (λ r. file_first (library_refusal bytes) r _) (λ memory. memory) e is))
@@ -175,7 +175,8 @@ module _ {D : Type 0} (facts : D → DiskFacts) {old : Drafted D} {s d : State} 
       (put_step here (replace bytes) bytes at.stands.usable (λ r. file_first (library_refusal bytes) r _) (λ memory. memory) e is))
 
   module _ (taken : library_refusal bytes ≡ None) (name : List ℕ) (named : name ≡ name_of bytes) where
-    -- if the name is already installed, the install is refused with C2
+    -- if the name is already installed, an install is refused with C2; if it isn't installed, a
+    -- replacement is refused with C3
     pub plan_there : has_name (names_of d.libraries) name ≡ true → AppliesDraft facts old old s d (install bytes) (Refused AlreadyInstalled)
     plan_there there = draft_stays facts at (install bytes) (Refused AlreadyInstalled)
         (at.stands.usable, is_there here bytes taken (subst (λ n. has_name (names_of d.libraries) n ≡ true) named there), leads_same here)

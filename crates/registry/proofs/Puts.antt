@@ -48,7 +48,8 @@ module _ (p : Phase) (bytes : List ℕ) (taken : library_refusal bytes ≡ None)
       left_behind (library_refusal bytes) refusal.NotInstalled (not (is_installed (table_of p) (name_of bytes))) (for_room (put_tests (room_in (table_of p)) 0 (length bytes))) taken (ap not there)
       ∙ same_first (put_tests (room_in (table_of p)) 0 (length bytes))
 
-  -- if the file is a library whose name is installed, an install is refused with C2
+  -- if the name of a library is installed, an install is refused with C2; if it isn't, a replacement is
+  -- refused with C3
   pub is_there : is_installed (table_of p) (name_of bytes) ≡ true → refusal_at p (install bytes) ≡ Some refusal.AlreadyInstalled
   is_there there =
       name_refused (library_refusal bytes) refusal.AlreadyInstalled (is_installed (table_of p) (name_of bytes)) (for_room (new_tests (room_in (table_of p)) (length bytes))) taken there
@@ -57,7 +58,7 @@ module _ (p : Phase) (bytes : List ℕ) (taken : library_refusal bytes ≡ None)
   is_lacking absent =
       name_refused (library_refusal bytes) refusal.NotInstalled (not (is_installed (table_of p) (name_of bytes))) (for_room (put_tests (room_in (table_of p)) 0 (length bytes))) taken (ap not absent)
 
--- after a library was installed, each file is still a library
+-- after a library was installed or replaced, each file is still a library
 pub each_installed : (s : State) (bytes : List ℕ) → library_refusal bytes ≡ None → All IsLibrary s.libraries → All IsLibrary (accepted s (install bytes)).libraries
 each_installed s bytes taken each = All-push IsLibrary s.libraries (record { name = name_of bytes; bytes = bytes }) each (is_library bytes taken)
 

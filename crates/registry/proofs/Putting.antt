@@ -85,8 +85,7 @@ over_is_new store_refusal.BadGeometry is = absurd is
 over_is_new store_refusal.OldFormat is = absurd is
 
 module _ {D : Type 0} (facts : D → DiskFacts) (old : Opened D) (s : State) (at : IsAt facts old s) (bytes : List ℕ) where
-  -- if the file is no library, or memory to admit it is refused, the install is refused, and nothing
-  -- changes
+  -- if the file is no library, or memory to admit it is refused, the put is refused, and nothing changes
   pub install_no_library : (e : Refusal) → IsLibraryRefusal bytes e → AppliesUntested facts old old s (install bytes) (Refused e)
   install_no_library e is =
       untouched facts old s at (install bytes) (Refused e)
@@ -98,7 +97,8 @@ module _ {D : Type 0} (facts : D → DiskFacts) (old : Opened D) (s : State) (at
       (put_step (phase_of facts old s) (replace bytes) bytes at.usable (λ r. file_first (library_refusal bytes) r _) (λ memory. memory) e is)
 
   module _ (taken : library_refusal bytes ≡ None) (name : List ℕ) (named : name ≡ name_of bytes) where
-    -- if the name is already installed, the install is refused with C2
+    -- if the name is already installed, an install is refused with C2; if it isn't installed, a
+    -- replacement is refused with C3
     pub install_there : has_name (names_of s.libraries) name ≡ true → AppliesUntested facts old old s (install bytes) (Refused refusal.AlreadyInstalled)
     install_there there = untouched facts old s at (install bytes) (Refused refusal.AlreadyInstalled)
         (at.usable, is_there (phase_of facts old s) bytes taken (subst (λ n. has_name (names_of s.libraries) n ≡ true) named there), leads_same (phase_of facts old s))

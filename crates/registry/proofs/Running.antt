@@ -35,7 +35,7 @@ last_joined : {S : Type 0} (s : S) (ts us : List S) → last_of s (ts ++ us) ≡
 last_joined s [] us = refl
 last_joined s (t ∷ ts) us = last_joined t ts us
 
--- the step of a binder isn't an acknowledged command
+-- neither a step of a binder nor an update that is given up is an acknowledged exchange
 stepped_unanswered : {P : Type 0} (q : Transaction) → stepped ≡ answered q Done → P
 stepped_unanswered q is = absurd (cc is)
 
@@ -366,7 +366,7 @@ module _ {D : Type 0} (facts : D → DiskFacts) where
         steps : LeadsThrough facts start (xs ++ stepped ∷ []) (ts ++ u ∷ [])
         steps = steps_on stepped u (record { same = refl; stays = inr (was, failed, same) })
 
-  -- no exchange is a run
+  -- a run without any exchange ends where it starts
   pub ran_none : (old : Opened D) (s : State) → IsAt facts old s → RanSoFar facts (point old s) [] [] (point old s)
   ran_none old s at = record {
     steps = tt;

@@ -72,7 +72,7 @@ module _ {D : Type 0} (facts : D → DiskFacts) (registry : opened.Opened D) (s 
   pub preloads_inside : All (λ p. p < length s.libraries) (listed_preloads registry.root)
   preloads_inside k d lt = omega (arith, root_fits.preloads.listed.used k d lt, counted, count_is)
 
-  -- No two entries have the same name.
+  -- No two entries have the same name, and no preload is listed twice.
   pub own_names : HaveOwnNames registry.entries
   own_names = now_stands.intact.names
 

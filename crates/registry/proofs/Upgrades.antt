@@ -28,7 +28,8 @@ use Rattle.requests.specs.Library.{IsLibrary}
 use Rattle.store.specs.IsRead.{file_sectors}
 use Rattle.registry.specs.Stands.{Stands, StandsOld}
 
--- Refusing to read files is a possible answer of an upgrade, whatever its first refusal is.
+-- S1 and S11, by which a read of the files may be refused, are possible answers of an upgrade, whatever
+-- its first refusal is.
 pub as_read : (first : Option StoreRefusal) (e : StoreRefusal) → (e ≡ Device) ⊎ (e ≡ OutOfMemory) → IsUpgradeAnswer first (Err e)
 as_read None e which = which
 as_read (Some first) e which = inr which
@@ -118,7 +119,7 @@ refuses_looked sectors OldFormat h = absurd h
 pub refuses_admitted : (sectors : ℕ) (e : StoreRefusal) → IsGeometry sectors → (e ≡ Device) ⊎ (e ≡ Damaged) ⊎ (e ≡ OutOfMemory) → IsRefusalOfUpgrade sectors e
 refuses_admitted sectors e geometry which = ⊎_elim (λ a. rw a geometry) (λ rest. ⊎_elim (λ a. rw a geometry) (λ a. rw a geometry) rest) which
 
--- A refusal of the commit is one of those that the upgrade may return.
+-- A refusal of the commit, or of a read before it, is a refusal of the upgrade.
 pub commit_refuses : (e : StoreRefusal) → IsRefusalOfCommit e → (e ≡ Device) ⊎ (e ≡ Damaged) ⊎ (e ≡ OutOfMemory) ⊎ (e ≡ GenerationEnd) ⊎ (e ≡ Full)
 commit_refuses Device h = inl refl
 commit_refuses GenerationEnd h = inr (inr (inr (inl refl)))
@@ -147,7 +148,7 @@ module _ {D : Type 0} (facts : D → DiskFacts) (disk : D) where
       → IfErr r (λ e. e.0 ≡ Device → (facts disk).failures < (facts e.1).failures)
   device_since mid calls r rose = IfErr-weaker r _ _ (λ e rose is. omega (arith, rose is, calls.failures)) rose
 
-  -- a disk whose size a look accepted isn't refused with S6
+  -- if a look accepted the size of a disk, the upgrade isn't refused with S6
   pub untouched_since : IsGeometry (facts disk).sectors → (r : Result (Opened D) (StoreRefusal × D))
       → IfErr r (λ e. IsRefusalOfUpgrade (facts disk).sectors e.0) → IfErr r (λ e. e.0 ≡ BadGeometry → e.1 ≡ disk)
   untouched_since geometry r refusals = IfErr-weaker r _ _ (λ e refused is. absurd ((subst (IsRefusalOfUpgrade (facts disk).sectors) is refused) geometry)) refusals

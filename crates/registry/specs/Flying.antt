@@ -93,7 +93,8 @@ IsLastStep (Final answer) = IsLast answer
 pub record Advances {D : Type 0} (facts : D → DiskFacts) (old new : Opened D) (before after : Binding) (result : Result Step Refusal) : Type 0 where
   pub step : (flight : Flight) → Flies facts old before flight → IsStep facts old new flight after result
   pub bounds : (flight : Flight) → Flies facts old before flight → IsBounded flight
-  -- during and after the step, a stop leaves only what it could leave before the step
+  -- during the step, a stop leaves only what it could leave before; after the step, it may leave exactly
+  -- the same as before
   pub any_moment : IsTrue (facts old.disk).honest → LeavesOnly (facts old.disk) (facts new.disk) (Mixture (facts old.disk))
   pub unchanged : IsTrue (facts old.disk).honest → IsUnchanged (facts old.disk) (facts new.disk)
   pub same : (s : State) → IsAt facts old s → IsAt facts new s

@@ -182,7 +182,7 @@ module _ (s : State) (h : IsState s) (p : Phase) where
 
 -- ---- the answers
 
--- a change is answered as a planned change
+-- a change of a dump is answered as a planned change
 plan_step : (p p' : Phase) (request : Request) (answer : Reply) → IsChange request → DraftStep p request answer p' → PlanStep p request answer p'
 plan_step p p' (install bytes) answer change h = h
 plan_step p p' (set_preloads names) answer change h = h

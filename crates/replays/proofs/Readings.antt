@@ -14,7 +14,7 @@ tail_of : {X : Type 0} → List X → List X
 tail_of [] = []
 tail_of (x ∷ xs) = xs
 
--- if two lists are equal, so are their first items
+-- if two lists are equal, so are their first items and the rests
 pub same_head : {X : Type 0} (x y : X) (xs ys : List X) → x ∷ xs ≡ y ∷ ys → x ≡ y
 unfolding head_or
 same_head x y xs ys h = ap (head_or x) h

@@ -27,7 +27,7 @@ unread_pages rest r x n inner empty capacity more =
     ∙ prepend_nil (rest (reader_inner r))
     ∙ ap rest inner
 
--- the bytes up to the first newline are a line with its newline
+-- the bytes before the first newline are a line, and with the newline they are a line with its newline
 first_ended : (bytes : List ℕ) (end : ℕ) → IsFirstByte (is_byte 10) bytes (Some end) → take (end + 1) bytes ≡ ended (take end bytes)
 first_ended bytes end first =
     let next : end + 1 ≡ suc end = omega arith in

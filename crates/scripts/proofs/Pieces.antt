@@ -160,7 +160,7 @@ piece-refused i word piece bytes is len refused so_far =
     let rest = result_ok (decode_pairs 0 (drop (32 * (i + 1)) word)) in
     so_far ∙ ap (joined (Some bytes)) (split-piece i word piece is len ∙ ap (λ r. joined r rest) (sym refused) ∙ joined-none rest)
 
--- if decoding into a slice succeeded, the slice has the encoded bytes
+-- the slice has the encoded bytes if decoding into it succeeded
 pub sized-read : {E : Type 0} (d : Result (List ℕ) E) (r : Result Unit E) (out : List ℕ) → MatchResult d (λ bytes. (r ≡ Ok tt) × (out ≡ bytes)) (λ e. r ≡ Err e) → r ≡ Ok tt → result_ok d ≡ Some out
 sized-read (Ok bytes) r out h is = ap (λ l. Some l) (sym h.1)
 sized-read (Err e) r out h is = cc (sym h ∙ is)
@@ -174,7 +174,8 @@ piece-length : (i n : ℕ) (word piece : List ℕ) → i < n → 32 * n ≤ leng
 piece-length i n word piece within room is =
     ap length is ∙ omega (arith, within, room, length-take 32 (drop (32 * i) word), length-drop (32 * i) word)
 
--- if whole piece number i is decoded, its bytes are appended to those of the earlier pieces
+-- if whole piece number i is decoded, its bytes are appended to those before; otherwise the word encodes
+-- nothing
 pub next-read : (n i : ℕ) (pieces : List (List ℕ)) (word d bytes decoded : List ℕ) → pieces ≡ first_chunks 32 n word → i < n → 32 * n ≤ length word
     → Some decoded ≡ result_ok (decode_of (slice_index_or pieces i d))
     → result_ok (decode_pairs 0 word) ≡ joined (Some bytes) (result_ok (decode_pairs 0 (drop (32 * i) word)))

@@ -29,7 +29,8 @@ module _ (old new : DiskFacts) (purpose : Purpose) (io : Streams) (status : Stat
   ended s (Some cut) is gone lacks says put =
       inr (inl (cut.position, gone.0, lacked (get_or s.libraries cut.position no_library) cut.lack is gone.1 lacks.1 says, put))
 
-  -- on any disk, if a script was cut, standard error reports a reason for which `IsCut` holds
+  -- on any disk, a dump ends with a whole script, or with one that is cut for a reason for which `IsCut`
+  -- holds
   some_cut : (l : Library) (lack : Lack) → status ≡ lack_status lack → IsLacking old new (Some (record { position = 0; lack = lack })) → Says io (lack_line l lack) → IsCut old new io status
   some_cut l (Found finding) is lacks says = inl (finding, l.name, length l.bytes, (λ e. lacks.0 (ap Found e)), (λ e. lacks.1 (ap Found e)), is, says)
   some_cut l OutOfMemory is lacks says = inr (is, says)

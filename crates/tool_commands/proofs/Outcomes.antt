@@ -161,7 +161,7 @@ module _ (io : Streams) (status : Status) where
       let other = same_fault ends status fault is in
       (other.1, λ isnt done. absurd (other.0 done), λ isnt failed. inr none)
 
-  -- if a form that may write to both streams ends with a fault, the three facts hold
+  -- if a form ends in one of its ways, the three facts hold
   broken : {w : Bool} (ends : Status) → IsFault ends → status ≡ ends → Kind w true
   broken ends fault is =
       let other = same_fault ends status fault is in

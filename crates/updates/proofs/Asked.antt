@@ -32,7 +32,7 @@ module _ {D : Type 0} (facts : D → DiskFacts) (old new : Drafted D) (line : Li
   missed_line (Ok ending) h = tt
   missed_line (Err fault) h = subst (MissesLine facts old new line waits now) (sym h.0) (h.1, ((request, asks, h.2), h.3))
 
--- a line that has the bytes of `commit` asks for the commit
+-- a line asks for the commit exactly if it has the bytes of `commit`
 pub commits_line : (line : List ℕ) → bytes_eq line commit_line ≡ true → line ≡ commit_line
 commits_line line is = (bytes_eq-Decides line commit_line).0 is
 

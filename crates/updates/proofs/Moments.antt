@@ -36,7 +36,7 @@ use Rattle.registry.proofs.Running.{steps_ran}
 use Rattle.registry.proofs.Updating.{begun_at, each_next}
 use Rattle.updates.proofs.Drafts.{is_changed, is_update, planned_moment, plans}
 
--- if each file is a library, the sectors hold the state also as a registry
+-- if each file is a library, sectors that hold the state of the store also hold it as a registry
 listed : (m : List Sector) (s : State) → All IsLibrary s.libraries → Stands m s → registry.Stands m s
 listed m s libraries stands = record { stored = stands; libraries = libraries }
 

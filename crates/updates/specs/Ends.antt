@@ -86,7 +86,7 @@ module _ {D : Type 0} (facts : D → DiskFacts) (disk : D) where
       pub any_moment : LeavesUpdated Stands (requests_of lines) left
       -- once the commit is acknowledged, the updated state is on the disk
       pub ok : IsTrue (facts disk).honest → (s : State) → Stands (facts disk).now s → OnOk answer (IsAt facts new (updated s (requests_of lines)))
-      -- if each file is a library before the update, the same holds for the state of a registry
+      -- if the disk holds a registry, each file is still a library in the state that is left
       pub registry_moment : LeavesUpdated registry.Stands (requests_of lines) left
       pub registry_ok : IsTrue (facts disk).honest → (s : State) → registry.Stands (facts disk).now s → OnOk answer (at.IsAt facts new (updated s (requests_of lines)))
       -- the update was one exchange of a run
