@@ -38,7 +38,7 @@ held_empty (row ∷ rows) some none =
 same : (n : ℕ) → (n == n) ≡ true
 same n = (Decides-eqb n n).1 refl
 
--- a handle in a list of handles counts as a hold of its byte string
+-- a handle in a list of handles counts as at least one hold of its byte string
 pub times_there : (handles : List ℕ) (i : ℕ) → i < length handles → 0 < times (get_or handles i 0) handles
 times_there handles i lt =
     let sector : ℕ = get_or handles i 0 in

@@ -26,7 +26,7 @@ held_in sector (Some binder) = times sector (handles_of binder)
 abbrev pub held_by : List (Option Binding) → ℕ → ℕ
 held_by slots sector = sum_by (λ slot. held_in sector slot) slots
 
--- In the registry, each byte string has at least as many holders as there are holds of the binders.
+-- In the registry, each byte string is held at least as many times as the binders hold it.
 abbrev pub IsHeld : {D : Type 0} → Opened D → List (Option Binding) → Type 0
 IsHeld registry slots = (sector : ℕ) → held_by slots sector ≤ holders_of registry.held sector
 

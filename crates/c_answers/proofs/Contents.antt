@@ -50,7 +50,7 @@ unread_is s name unread.OutOfMemory is read = λ none. wants (is.1 none)
     wants : unread.OutOfMemory ≡ unread.NotInstalled → ⊥
     wants e = cc
 
--- the same fact, for a result whose error is such an answer
+-- the same fact, if the answer is the error of a result
 pub unread_of : {X : Type 0} (s : State) (name : List ℕ) (why : Unread)
     → (◌≡◌ {A = Result X Unread} (Err why) (Err unread.NotInstalled)) ↔ All (λ library. library.name ≢ name) s.libraries → why ≢ unread.Unreadable
     → IsUnread s name why

@@ -341,7 +341,7 @@ module _ (n : ℕ) (disk : SystemDisk) where
   made_as (Ok registry) new sectors is = (disk, registry, record { new = new; sectors = sectors; making = is })
   made_as (Err e) new sectors is = tt
 
-  -- if a registry was made on a new disk of n sectors, the answer is Ok
+  -- if the answer to making a registry on a new disk of n sectors is Ok, a registry was made
   pub format_made : (answer : Result (Unit {0}) StoreRefusal) (left : SystemDisk) → IsNew disk → (file_facts disk).sectors ≡ n → FormatEnds file_facts disk answer left
       → OnOk answer ((d : SystemDisk) × (registry : Opened SystemDisk) × IsMade n d registry)
   format_made answer left new sectors h =

@@ -177,8 +177,8 @@ module _ {D : Type 0} (facts : D → DiskFacts) where
   leads_length p [] (t ∷ ts) h = absurd h
   leads_length p (x ∷ xs) [] h = absurd h
 
-  -- if exchanges led through points, and one more exchange is made at the last point, all of them led
-  -- through all of the points
+  -- if exchanges led through points, and one more exchange was made at the last point, the longer list
+  -- of exchanges led through the longer list of points
   pub leads_more : (p u : Point D) (x : Exchange) (xs : List Exchange) (ts : List (Point D)) → LeadsThrough facts p xs ts
       → Moves facts (last_of p ts) x u → LeadsThrough facts p (xs ++ x ∷ []) (ts ++ u ∷ [])
   leads_more p u x [] [] h moves = (moves, tt)
@@ -186,8 +186,8 @@ module _ {D : Type 0} (facts : D → DiskFacts) where
   leads_more p u x [] (t ∷ ts) h moves = absurd h
   leads_more p u x (y ∷ xs) [] h moves = absurd h
 
-  -- if exchanges led through points, and more exchanges led on from the last point, all of them led
-  -- through all of the points
+  -- if exchanges led through points, and more exchanges led on from the last point, both lists together
+  -- led through all points
   pub leads_on : (p : Point D) (xs : List Exchange) (ts : List (Point D)) (ys : List Exchange) (us : List (Point D)) → LeadsThrough facts p xs ts → LeadsThrough facts (last_of p ts) ys us
       → LeadsThrough facts p (xs ++ ys) (ts ++ us)
   leads_on p [] [] ys us h rest = rest

@@ -87,8 +87,7 @@ refused_step p q Device device reopen memory usable is = absurd (device refl)
 refused_step p q Reopen device reopen memory usable is = absurd (reopen refl)
 refused_step p q OutOfMemory device reopen memory usable is = absurd (memory refl)
 
--- an answer that a call may give if it allocates no memory is also an answer that a call may give if it
--- allocates memory
+-- an answer of a call that allocates no memory is also an answer of a call that may allocate memory
 pub exact_answer : (first : Option StoreRefusal) (result : Result (Unit {0}) StoreRefusal) → IsExactAnswer first result → IsAnswer first result
 exact_answer None (Ok done) is = is
 exact_answer None (Err refusal) is = inl is

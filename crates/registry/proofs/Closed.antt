@@ -51,7 +51,7 @@ there names name h =
 stands : (names : List (List ℕ)) (name : List ℕ) (p : ℕ) → place_of names name ≡ Some p → Contains names name
 stands names name p e = let r = place_of-is names name p e in subst (Contains names) r.3 (Contains-get_or names r.0 [] r.2)
 
--- if two lists have the same of these names, a name has a place in both lists or in neither
+-- if a name is in both lists or in neither, it has a place in both or in neither
 same_place : (names others : List (List ℕ)) (name : List ℕ) → (Contains names name → Contains others name) → (Contains others name → Contains names name)
     → is_none (place_of names name) ≡ is_none (place_of others name)
 same_place names others name to from = by (place_of names name) (place_of others name) refl refl

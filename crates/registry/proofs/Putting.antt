@@ -39,7 +39,7 @@ pub installed : (s : State) (name : List ℕ) (position : Option ℕ) → ((i : 
 installed s name None at = name_nowhere s name (λ i lt is. let no : ◌≡◌ {A = Option ℕ} None (Some i) = (at i).1 (lt, is) in cc)
 installed s name (Some i) at = let both = (at i).0 refl in name_stands s name i both.0 both.1
 
--- if a name has a position, there is such a position with property P
+-- if there is a position with property P, some number has property P
 pub has_position : {P : ℕ → Type 0} (position : Option ℕ) → is_some position ≡ true → IfSome position P → (i : ℕ) × P i
 has_position None h some = absurd (false≢true h)
 has_position (Some i) h some = (i, some)

@@ -13,9 +13,9 @@ use Rattle.registry.specs.Opened.{IsAt}
 use Rattle.registry.specs.Acknowledged.{Transaction, Exchange, answered, acknowledged, outcome, state_after, FailedAt}
 use Rattle.registry.specs.Ran.{Point, point, disk_at, Moves, LeadsThrough, HoldsAcknowledged, HasBegun}
 
--- An exchange with a registry at a state led to the point u: which state a stop leaves, and how the
--- exchange ends. Only an exchange that was answered with S1 and made the registry unusable may have
--- taken effect although it wasn't acknowledged.
+-- An exchange with a registry at a state ended at the point u. The record has the states that a stop
+-- leaves, and how the exchange ends. Only an exchange that was answered with S1 and made the registry
+-- unusable may have taken effect although it wasn't acknowledged.
 pub record Turns {D : Type 0} (facts : D → DiskFacts) (mid : Opened D) (s : State) (asked : Transaction) (answer : Reply) (u : Point D) : Type 0 where
   pub moves : Moves facts (point mid s) (answered asked answer) u
   pub any_moment : LeavesOnly (facts mid.disk) (disk_at facts u) (λ m. Stands m s ⊎ (Stands m u.state ⊎ ((answer ≡ Refused Device) × IsTrue u.registry.failed × Stands m (outcome s asked))))
@@ -45,11 +45,11 @@ module _ {D : Type 0} (facts : D → DiskFacts) (start : Point D) (exchanges : L
     pub found : (m : List Sector) → Mixture (disk_at facts end) m
         → Stands m end.state ⊎ (IsTrue end.registry.failed × (k : ℕ) × (asked : Transaction) × FailedAt exchanges k asked × Stands m (outcome end.state asked))
 
--- such a run, with these registries after the exchanges
+-- a run that may still go on, with these registries after the exchanges
 abbrev pub RunsVia : {D : Type 0} → (D → DiskFacts) → Opened D → List (Opened D) → Opened D → State → List Exchange → Type 0
 RunsVia facts old registries new s exchanges = (s' : State) × (points : List (Point _)) × (map (λ (p : Point _). p.registry) points ≡ registries)
     × RanSoFar facts (point old s) exchanges points (point new s')
 
--- such a run, with some registries after the exchanges
+-- a run that may still go on, with some registries after the exchanges
 abbrev pub RunsSoFar : {D : Type 0} → (D → DiskFacts) → Opened D → Opened D → State → List Exchange → Type 0
 RunsSoFar facts old new s exchanges = (registries : List (Opened _)) × RunsVia facts old registries new s exchanges

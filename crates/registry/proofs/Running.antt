@@ -231,7 +231,7 @@ module _ {D : Type 0} (facts : D → DiskFacts) where
         ),
       )
 
-      -- a run, and one more command or update, are a run
+      -- a run stays a run if one more command or update follows
       pub ran_more : Turns facts mid s q r u → RanSoFar facts start (xs ++ x ∷ []) (ts ++ u ∷ []) u
       ran_more turns = record {
         steps = steps;
@@ -270,7 +270,7 @@ module _ {D : Type 0} (facts : D → DiskFacts) where
               (found_after mid u s q r m turns (subst (λ t. MixtureAt (disk_at facts u) t m) same mixture)))
               (cases_lt moment (disk_at facts u).time)
 
-    -- a run, and one more command or update after a failed write or sync, are a run
+    -- a run stays a run if one more command or update follows after a failed write or sync
     pub ran_reopened : (q : Transaction) → Moves facts (point mid s) (answered q (Refused Reopen)) (point mid s) → IsTrue mid.failed
         → RanSoFar facts start (xs ++ answered q (Refused Reopen) ∷ []) (ts ++ point mid s ∷ []) (point mid s)
     ran_reopened q moves failed = record {
@@ -294,7 +294,7 @@ module _ {D : Type 0} (facts : D → DiskFacts) where
         steps : LeadsThrough facts start (xs ++ x ∷ []) (ts ++ u ∷ [])
         steps = steps_on x u moves
 
-    -- a run, and an update that is given up, are a run
+    -- a run stays a run if an update that is given up follows
     pub ran_given_up : (u : Point D) → GivesUp facts (point mid s) u → RanSoFar facts start (xs ++ given_up ∷ []) (ts ++ u ∷ []) u
     ran_given_up u gives_up = record {
       steps = steps;
@@ -320,7 +320,7 @@ module _ {D : Type 0} (facts : D → DiskFacts) where
             (λ le. leaves_before given_up u moment m (λ q is. given_up_unanswered q is) (so_far.any_moment moment m since le (past_mixture gives_up.any_moment.past moment le m mixture)))
             (cases_lt (facts mid.disk).time moment)
 
-    -- a run, and a request for no change that keeps the registry at its state, are a run
+    -- a run stays a run if a request for no change follows, and the registry stays at its state
     pub ran_idle : (new : Opened D) → IdlesAt facts (point mid s) (point new s) → RanSoFar facts start (xs ++ stepped ∷ []) (ts ++ point new s ∷ []) (point new s)
     ran_idle new idles = record {
       steps = steps;
@@ -346,7 +346,7 @@ module _ {D : Type 0} (facts : D → DiskFacts) where
             (λ le. leaves_before stepped u moment m (λ q is. stepped_unanswered q is) (so_far.any_moment moment m since le (past_mixture idles.any_moment.past moment le m mixture)))
             (cases_lt (facts mid.disk).time moment)
 
-    -- a run, and a request for no change after a failed write or sync, are a run
+    -- a run stays a run if a request for no change follows after a failed write or sync
     pub ran_idle_failed : (new : Opened D) → IsTrue mid.failed → IsTrue new.failed → new.disk ≡ mid.disk → RanSoFar facts start (xs ++ stepped ∷ []) (ts ++ point new s ∷ []) (point new s)
     ran_idle_failed new was failed same = record {
       steps = steps;
@@ -396,7 +396,7 @@ module _ {D : Type 0} (facts : D → DiskFacts) where
     via : (t : State) (ts : List (Point D)) → map (λ (p : Point D). p.registry) ts ≡ registries → map (λ (p : Point D). p.registry) (ts ++ point new t ∷ []) ≡ registries ++ new ∷ []
     via t ts same = map-append (λ (p : Point D). p.registry) ts (point new t ∷ []) ∙ ap (λ l. l ++ new ∷ []) same
 
-    -- a run of commands, and one more command, are a run, whatever has failed
+    -- a run of commands stays a run if one more command follows, whatever has failed
     pub runs_turn : (q : Request) (r : Reply)
         → ((t : State) → IsAt facts mid t → Applies facts mid new t q r)
         → ((t : State) → IsAt facts mid t → IfAccepted r (AreCallsExactly (calls_of t q) (facts mid.disk) (facts new.disk)))
@@ -426,7 +426,7 @@ module _ {D : Type 0} (facts : D → DiskFacts) where
         ))
         so_far.3.kept
 
-    -- a run of commands, and one more request for no change, are a run
+    -- a run of commands stays a run if one more request for no change follows
     pub runs_idle : ((t : State) → IsAt facts mid t → IsAt facts new t)
         → (IsTrue (facts mid.disk).honest → LeavesOnly (facts mid.disk) (facts new.disk) (Mixture (facts mid.disk)))
         → (IsTrue mid.failed → IsTrue new.failed × (new.disk ≡ mid.disk)) → RunsVia facts old (registries ++ new ∷ []) new s (xs ++ stepped ∷ [])
@@ -496,7 +496,7 @@ module _ {D : Type 0} (facts : D → DiskFacts) where
   pub runs_through : (old new : Opened D) (s : State) (xs : List Exchange) (registries : List (Opened D)) → RunsVia facts old registries new s xs → RunsThrough facts old registries new s xs
   runs_through old new s xs registries (t, ts, same, so_far) = (t, ts, same, ran (point old s) (point new t) xs ts so_far)
 
-  -- a run, and one more exchange of any kind, are a run
+  -- a run stays a run if one more exchange of any kind follows
   ran_step : (start mid u : Point D) (x : Exchange) (xs : List Exchange) (ts : List (Point D)) → RanSoFar facts start xs ts mid → Moves facts mid x u
       → RanSoFar facts start (xs ++ x ∷ []) (ts ++ u ∷ []) u
   ran_step start mid u (answered (command q) r) xs ts so_far goes = ⊎_elim
@@ -524,7 +524,7 @@ module _ {D : Type 0} (facts : D → DiskFacts) where
       (λ failed. ran_idle_failed start mid.registry mid.state xs ts so_far u.registry failed.0 failed.1 failed.2)
       idles.stays)
 
-  -- a run, and all later exchanges, are a run
+  -- a run stays a run if more exchanges follow
   ran_on : (start mid : Point D) (xs : List Exchange) (ts : List (Point D)) → RanSoFar facts start xs ts mid → (ys : List Exchange) (us : List (Point D)) → LeadsThrough facts mid ys us
       → RanSoFar facts start (xs ++ ys) (ts ++ us) (last_of mid us)
   ran_on start mid xs ts so_far [] [] leads =
@@ -536,11 +536,11 @@ module _ {D : Type 0} (facts : D → DiskFacts) where
   ran_on start mid xs ts so_far [] (u ∷ us) leads = absurd leads
   ran_on start mid xs ts so_far (y ∷ ys) [] leads = absurd leads
 
-  -- Exchanges from a registry at a state are a run.
+  -- Exchanges that begin with a registry at a state are a run.
   pub steps_ran : (start : Point D) (xs : List Exchange) (ts : List (Point D)) → IsAt facts start.registry start.state → LeadsThrough facts start xs ts → Ran facts start xs ts (last_of start ts)
   steps_ran start xs ts at leads = ran start (last_of start ts) xs ts (ran_on start start [] [] (ran_none start.registry start.state at) xs ts leads)
 
-  -- A run, and a second run that begins where the first one ended, are one run.
+  -- If a second run begins where the first one ended, both together are one run.
   pub runs_joined : (start mid end : Point D) (xs ys : List Exchange) (ts us : List (Point D)) → IsAt facts start.registry start.state → Ran facts start xs ts mid → Ran facts mid ys us end
       → Ran facts start (xs ++ ys) (ts ++ us) end
   runs_joined start mid end xs ys ts us at first second =

@@ -55,8 +55,8 @@ pub record IsFused (disk : Memory) (round : Round) (fuse : Fuse Memory) : Type 0
 abbrev pub picked : List ℕ → ℕ → ℕ
 picked picks at = slice_index picks (at % length picks)
 
--- A disk was stopped by these picks. Each sector holds the version whose number is picked for it, modulo
--- the number of the sector's choices, and all sectors are synced.
+-- A disk was stopped with these picks. Each sector holds one of its choices: the one whose number is the
+-- sector's pick, modulo the number of choices. All sectors are synced.
 pub record IsStoppedBy (picks : List ℕ) (disk stopped : Memory) : Type 0 where
   pub stop : IsStopped (memory_facts disk) (memory_facts stopped)
   pub each : (at : ℕ) → at < (memory_facts disk).sectors → sector (memory_facts stopped).now at

@@ -23,7 +23,7 @@ impl<D: Disk> Registry<D> {
         ensures applied { (s : State) → IsAt D.facts self.old s
             → AppliesUntested D.facts self.old self.new s (remove name.now) (answer_of result) }
 
-        // Held byte strings stay as they were.
+        // The held byte strings stay unchanged.
         ensures held { KeepsHeld D.facts self.old self.new }
 
         ensures on_any_disk { Changed D.facts Refusal.Device Refusal.Reopen
@@ -40,7 +40,7 @@ impl<D: Disk> Registry<D> {
             → AppliesUntested D.facts self.old self.new s
             (set_preloads (map (λ n. n.now) names.now)) (answer_of result) }
 
-        // Held byte strings stay as they were.
+        // The held byte strings stay unchanged.
         ensures held { KeepsHeld D.facts self.old self.new }
 
         ensures on_any_disk { Changed D.facts Refusal.Device Refusal.Reopen

@@ -78,7 +78,7 @@ impl<D: Disk> Registry<D> {
         ensures damaged { (s : State) → IsAt D.facts self.old s → IfErr result (λ e.
             e ≡ Refusal.Damaged → ReadsLibraries s program.now → ⊥) }
 
-        // It makes exactly the calls of a bind.
+        // Finding the libraries makes exactly the disk calls of a bind.
         ensures all_calls { (s : State) → IsAt D.facts self.old s → OnOk result
             (AreCallsExactly (bind_sectors s program.now)
             (D.facts self.old.disk) (D.facts self.new.disk)) }

@@ -25,7 +25,7 @@ impl<D: Disk> Registry<D> {
         ensures applied { (s : State) → IsAt D.facts self.old s
             → AppliesUntested D.facts self.old self.new s (install bytes.now) (answer_of result) }
 
-        // Held byte strings stay as they were.
+        // The held byte strings stay unchanged.
         ensures held { KeepsHeld D.facts self.old self.new }
 
         ensures on_any_disk { Changed D.facts Refusal.Device Refusal.Reopen
@@ -49,7 +49,7 @@ impl<D: Disk> Registry<D> {
         ensures applied { (s : State) → IsAt D.facts self.old s
             → AppliesUntested D.facts self.old self.new s (replace bytes.now) (answer_of result) }
 
-        // Held byte strings stay as they were.
+        // The held byte strings stay unchanged.
         ensures held { KeepsHeld D.facts self.old self.new }
 
         ensures on_any_disk { Changed D.facts Refusal.Device Refusal.Reopen

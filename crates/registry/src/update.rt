@@ -96,7 +96,7 @@ impl<D: Disk> Update<D> {
             → Plans D.facts (begun old) self requests answers → (s' : State)
             × UpdatesAt D.facts (point old s) requests (answer_of result.0) (point result.1 s') }
 
-        // Held byte strings stay as they were.
+        // The held byte strings stay unchanged.
         ensures held { KeepsHeld D.facts self.store result.1 }
 
         // On any disk.

@@ -12,7 +12,7 @@ use requests::Command;
 /// A request to a registry that needs the bytes of a file.
 #[derive(Clone, Copy)]
 pub(crate) enum WithFile {
-    /// Replaces the library with the same name by the file.
+    /// Writes the executable file of the program that is read from the file.
     Replace,
     /// Writes the executable file of the program whose file is read.
     Executable {

@@ -28,7 +28,7 @@ refusal_of_read Reopen = registry.Reopen
 refusal_of_read OutOfMemory = registry.OutOfMemory
 refusal_of_read other = registry.Damaged
 
--- the registry's answer to a change whose answer by the store is given
+-- the registry's answer to a change, computed from the store's answer
 abbrev pub in_words : Result (Unit {0}) StoreRefusal → Result (Unit {0}) Refusal
 in_words (Ok done) = Ok done
 in_words (Err refusal) = Err (refusal_of refusal)

@@ -6,7 +6,7 @@ use Rattle.std.proofs.lemmas.List.{take_all}
 use Rattle.program_parts.proofs.message.say.Goals as goal
 use Rattle.program_parts.proofs.message.say.Goals.{in-Ok, in-Err}
 
--- a prefix that has the rest's length is the whole rest
+-- if as many bytes as the rest of a line has are taken from it, they are the whole rest
 rest_of : (line : List ℕ) (g : ℕ) → take (length line - g) (drop g line) ≡ drop g line
 rest_of line g = take_all (length line - g) (drop g line) (omega (arith, length-drop g line))
 
