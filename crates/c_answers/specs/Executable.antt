@@ -60,16 +60,16 @@ abbrev pub IsBoundTold : Reply → (bytes text : List ℕ) → Answer → ℕ �
 IsBoundTold (reply.Bound image) bytes text answer status = IsExecutableTold image bytes text answer status
 IsBoundTold other bytes text answer status = IsToldAlone other text answer status
 
--- Either the registry that the bytes hold was asked for a bind, and the image's file or the reason why
--- there is none is reported, or there is no registry, and the call reports why.
+-- Either the registry that the bytes hold was asked for a bind, and its image's file is returned or the
+-- call reports why there is none; or there is no registry, and the call reports why.
 abbrev pub IsExecutableAnswered : (disk : List ℕ) → Request → (bytes text : List ℕ) → Answer → ℕ → Type 0
 IsExecutableAnswered disk request bytes text answer status =
     ((s : State) × (reply : Reply) × (steps : List Step) × IsAsked disk s request reply steps × IsBoundTold reply bytes text answer status)
     ⊎ ((refusal : StoreRefusal) × IsUnopened disk refusal × IsTurnedAway refusal text answer status)
 
--- The buffer has the executable file of the image that is defined for a program at the address `base` in
--- the state that the bytes hold, with the defined byte at each address. Each file that the bind reads is
--- a library.
+-- The buffer has the executable file of a program's image at the address `base`. The image is the one
+-- that is defined in the state that the bytes hold, with the defined byte at each address. Each file
+-- that the bind reads is a library.
 pub record IsExecutableFileOf (disk program : List ℕ) (base : ℕ) (bytes : List ℕ) (answer : Answer) : Type 0 where
   pub state : State
   pub holds : HoldStore disk state

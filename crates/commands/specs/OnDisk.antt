@@ -38,8 +38,7 @@ pub record IsAnswered {D : Type 0} (facts : D → DiskFacts) (disk : D) (request
   pub new : Opened D
   pub step : DiskStep facts old request reply new
   -- If an honest disk holds a state, the answer was a step of the table from this state. A stop at any
-  -- moment leaves what a stop could leave before the opening, the state before or after the request, or
-  -- the state after a change that S1 cut off.
+  -- moment leaves what a stop could leave before the opening, or what `MayLeaveWithin` allows.
   pub applied : IsTrue (facts disk).honest → (s : State) → Stands (facts disk).now s → (s' : State) × Applied facts old new s s' request reply
       × LeavesOnly (facts disk) (facts left) (λ m. Mixture (facts disk) m ⊎ MayLeaveWithin (phase_of facts old s) request reply s' m)
   pub back : left ≡ new.disk

@@ -17,8 +17,9 @@ use Rattle.registry.specs.Binding.{IfBound, bind_sectors}
 use Rattle.registry.specs.Untested.{UntestedStep}
 
 -- The phase of a draft, for the step table. `lone` counts the sectors in use that don't belong to the
--- draft's state. These are the sectors of current entries that aren't in the draft, the sectors that
--- only binders hold, and two for each catalogue that the current list has beyond those of the draft.
+-- draft's state. These are the sectors of current entries that aren't in the draft, and the sectors that
+-- only binders hold. If the current list has more catalogues than the draft, two sectors for each of
+-- them count too.
 abbrev pub draft_phase : {D : Type 0} → (D → DiskFacts) → Drafted D → State → Phase
 draft_phase facts u d = record {
   sectors = (facts u.store.disk).sectors;

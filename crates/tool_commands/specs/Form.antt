@@ -19,7 +19,7 @@ pub data Question : Type 0 where
   dump : Purpose → Question
 
 -- What to do: answer a question, replace a library by the file at a path, remove a library by its name,
--- update, write the executable file of the program at a path, or write what its symbols are bound to.
+-- or update. Or write the executable file of the program at a path, or what its symbols are bound to.
 pub data Deed : Type 0 where
   tell : Question → Deed
   replace : List ℕ → Deed

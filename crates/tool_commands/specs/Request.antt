@@ -52,8 +52,9 @@ pub record IsAnswered {D : Type 0} (facts : D → DiskFacts) (disk : D) (request
   pub opened : OpensByEntries facts disk (Ok old)
   pub new : Opened D
   pub step : DiskStep facts old request answer new
-  -- A stop at any moment leaves what it could leave before, the byte strings before or after the
-  -- command, or, if a call failed within an accepted command, those that the command would have made.
+  -- A stop at any moment leaves what it could leave before, or the byte strings before or after the
+  -- command. If a call failed within an accepted command, it may also leave those that the command would
+  -- have made.
   pub any_moment : IsTrue (facts disk).honest → (s : State) → sectors.Stands (facts disk).now s → (s' : State) × AppliedUntested facts old new s s' request answer
       × LeavesOnly (facts disk) (facts left) (λ m. Mixture (facts disk) m ⊎ MayLeaveBy sectors.Stands (phase_of facts old s) request answer s' m)
   -- a change that was refused for another reason than a failed call wrote nothing

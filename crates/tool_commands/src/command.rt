@@ -41,9 +41,9 @@ fn run_apart<R: Files<File = File> + Clock, I: Read, O: Write, E: Write>(
 }
 
 /// Does what the program does with `words`, the arguments after its name, and returns its exit
-/// status. The status is 0 if the action was carried out, 1 if it was refused, 2 if the arguments
-/// have none of the forms, 3 if the disk, its file or a stream failed, and 4 if memory was refused.
-/// Only `update` reads the input.
+/// status. The status is 0 if the action was carried out, 1 if it was refused, and 2 if the
+/// arguments have none of the forms. It is 3 if the disk, its file or a stream failed, and 4 if
+/// memory was refused. Only `update` reads the input.
 pub fn run_words<R: Files<File = File> + Clock, I: Read, O: Write, E: Write>(
     rt: &R,
     alloc: Global,
