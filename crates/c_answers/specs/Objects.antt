@@ -4,8 +4,7 @@ use Rattle.std.specs.List.{flat_map}
 use Rattle.image.specs.declared.object.ImageObject.{ImageObject}
 use Rattle.c_answers.specs.declared.object.ObjectPlace.{ObjectPlace}
 
--- the address in memory of the object's address `address`, if the object is at `base`, modulo 2^64; 0 if
--- there is no address
+-- the sum of `base` and `address` modulo 2^64, or 0 if there is no address
 abbrev pub address_at : ℕ → Option ℕ → ℕ
 address_at base (Some address) = (base + address) % 2 ^ 64
 address_at base None = 0

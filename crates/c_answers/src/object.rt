@@ -28,8 +28,7 @@ pub struct ObjectPlace {
     pub entry: u64,
 }
 
-/// Returns the address in memory of the object's address `address`, if the object is at `base`.
-/// Returns 0 if there is no address.
+/// Returns the sum of `base` and `address` modulo 2^64, or 0 if there is no address.
 fn address_at(base: u64, address: Option<u64>) -> u64
     ensures { result ≡ address_at base address }
 {

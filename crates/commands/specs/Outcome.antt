@@ -128,7 +128,7 @@ CommandEnds line io NoMemory = (are_bad line ≡ false) × LacksMemory line io
 abbrev pub work_of : Streams → work.Streams
 work_of io = record { unread = io.unread; before = io.before; after = io.after }
 
--- The command of the arguments ends with this status. With status 2, only a prefix of one line is
+-- The command of the arguments ends with this status. With status 2, at most a prefix of one line is
 -- written to standard error.
 abbrev pub IsEnd : Option CommandLine → Streams → Status → Type 0
 IsEnd line io status = CommandEnds line (work_of io) status
@@ -139,8 +139,8 @@ abbrev pub LineEnds : Option CommandLine → Streams → ℕ → Type 0
 LineEnds line io number = (status : Status) × IsEnd line io status × (number ≡ status_number status)
 
 -- The end of the program if its arguments couldn't be read. If memory was refused, exactly the line for
--- this is written, or the output failed. After any other error, the program ends as if the arguments
--- were no command.
+-- refused memory is written, or the output failed. After any other error, the program ends as if the
+-- arguments were no command.
 abbrev pub UnreadEnds : ErrorKind → Streams → ℕ → Type 0
 UnreadEnds why io number =
     (why ≡ OutOfMemory → (status : Status) × IsTold NoMemory memory_text io.before io.after status × (number ≡ status_number status))

@@ -122,8 +122,8 @@ fn has_bad_base(action: &Action<'_>) -> bool
     }
 }
 
-/// Refuses a command whose disk is the file of a standard stream, and reports this on standard
-/// error. If standard error is a stream to this file, reports nothing.
+/// Refuses a command if a standard stream is open to its disk's file, and reports this on standard
+/// error. If standard error is open to this file, reports nothing.
 fn keep_away<E: Write>(action: &Action<'_>, disk: &str, behind: Behind, errors: &mut E) -> Status
     ensures ends { ((result ≡ BadWords) × (are_bad (Some (line_of action.now)) ≡ true))
         ⊎ ((result ≡ Failed) × (are_bad (Some (line_of action.now)) ≡ false)) }
@@ -138,8 +138,8 @@ fn keep_away<E: Write>(action: &Action<'_>, disk: &str, behind: Behind, errors: 
     }
 }
 
-/// Returns the path of a command's disk and the standard stream, if the disk is the file of a
-/// standard stream.
+/// If a standard stream is open to the file of a command's disk, returns the path of the disk and
+/// the stream.
 fn disk_behind<'a, R: Files>(rt: &R, action: &Action<'a>) -> Option<(&'a str, Behind)> {
     let disk = action.disk()?;
     let reads_input = matches!(action, Action::Script { .. });
@@ -149,8 +149,8 @@ fn disk_behind<'a, R: Files>(rt: &R, action: &Action<'a>) -> Option<(&'a str, Be
     }
 }
 
-/// Carries out the command that the arguments ask for, unless its disk is
-/// the file of a standard stream.
+/// Carries out the command that the arguments ask for, unless a standard stream is open to its
+/// disk's file.
 fn run_command<R: Files<File = File> + Clock, I: Read, O: Write, E: Write>(
     rt: &R,
     alloc: Global,

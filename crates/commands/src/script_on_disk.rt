@@ -21,8 +21,8 @@ use std::fs::File;
 use std::io::{Read, Write};
 use std::rt::{Clock, Files};
 
-/// Runs a script over a registry with binders, from a status of `Done`. Returns the greatest status
-/// that occurred.
+/// Runs a script over a registry with binders, and keeps the greatest status of its replies, which
+/// is `Done` before the first reply. Returns the greatest status that occurred.
 #[tactic(auto, using(crate::proofs::Statuses::after_lines, crate::proofs::Statuses::after_fault))]
 pub(crate) fn run_watched<I: Read, O: Write, D: Disk>(
     alloc: Global,

@@ -175,7 +175,7 @@ module _ {D : Type 0} (facts : D → DiskFacts) where
   refused_reopen (Ok done) changed = (λ is. cc, λ failed. let no : ◌≡◌ {A = Result (Unit {0}) Refusal} (Ok done) (Err Reopen) = changed.reopen.1 failed in cc)
   refused_reopen (Err refusal) changed = (λ is. let same : refusal ≡ Reopen = cc in changed.reopen.0 (ap Err same), λ failed. ap answer_of (changed.reopen.1 failed))
 
-  -- a change whose effect on any disk is known is an answered command
+  -- if a change's effect on any disk is as `Changed` defines, the change is an answered command
   pub change_answered : {old new : Opened D} {most : ℕ} {Refuses : Refusal → Type 0} {q q' : Request} {r : Reply} (answer : Result (Unit {0}) Refusal) → q' ≡ q → r ≡ answer_of answer
       → Changed facts Device Reopen old new most Refuses answer → IsAnswerTo q (answer_of answer) → Leaves old new q (answer_of answer)
       → KeepsHeld facts old new → AreHolds old → AreHolds new → Answered facts old new q' r

@@ -290,7 +290,8 @@ module _ {D : Type 0} (facts : D → DiskFacts) where
   plan_left (Ok done) planned failed = let no : ◌≡◌ {A = Result (Unit {0}) Refusal} (Ok done) (Err Reopen) = planned.changed.reopen.1 failed in cc
   plan_left (Err refusal) planned failed = same_whole (left_failed facts (Err refusal) planned.changed failed) planned.refused
 
-  -- a change of a draft whose effect on any disk is known is an answered command
+  -- if the effect of a draft's change on any disk is as `IsPlanned` defines, the change is an answered
+  -- command
   pub plan_answered_as : {old new : Drafted D} {most : ℕ} {Refuses : Refusal → Type 0} {q q' : Request} {r : Reply} (answer : Result (Unit {0}) Refusal) → q' ≡ q → r ≡ answer_of answer
       → IsPlanned facts old new most Refuses answer → IsAnswerTo q (answer_of answer) → LeavesDraft old new q (answer_of answer) → AnsweredDraft facts old new q' r
   plan_answered_as {old = old} {new = new} {q = q} {r = r} answer asked told planned answers leaves =

@@ -101,9 +101,8 @@ ChangeLeaves old new other = Unit {0}
 abbrev pub KeepsState : {D : Type 0} → Opened D → Opened D → Type 0
 KeepsState old new = (new.root ≡ old.root) × (new.entries ≡ old.entries) × (new.held ≡ old.held) × (new.failed ≡ old.failed)
 
--- A change leaves what `ChangeLeaves` defines. A bind keeps the root, the entries and the held byte
--- strings, and a listing changes nothing. A bind changes nothing either if a test refuses the program by
--- itself.
+-- A change leaves what `ChangeLeaves` defines. A bind keeps what `KeepsState` lists, and a listing
+-- changes nothing. A bind changes nothing either if a test refuses the program by itself.
 abbrev pub Leaves : {D : Type 0} → Opened D → Opened D → Request → Reply → Type 0
 Leaves old new (bind program base) answer = KeepsState old new × (program_refusal program base ≢ None → new ≡ old)
 Leaves old new list answer = new ≡ old

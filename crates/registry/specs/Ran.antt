@@ -105,8 +105,8 @@ module _ {D : Type 0} (facts : D → DiskFacts) (start : Point D) (exchanges : L
   abbrev pub HasBegun : ℕ → ℕ → Type 0
   HasBegun k moment = (i : ℕ) → i + 1 ≡ k → (disk_at facts (after start points i)).time ≤ moment
 
-  -- every command and update that was acknowledged by this moment is among the first k exchanges,
-  -- because a later exchange ends after this moment
+  -- every command and update that was acknowledged by this moment is among the first k exchanges; any
+  -- later one was acknowledged after this moment
   abbrev pub HoldsAcknowledged : ℕ → ℕ → Type 0
   HoldsAcknowledged k moment = (i : ℕ) → k ≤ i → IsAcknowledgedAt exchanges i → moment < (disk_at facts (after start points (i + 1))).time
 

@@ -109,8 +109,8 @@ module _ {O : Type 0} (contents : O → Option (List ℕ)) where
   DeedEnds (bindings path base) io status = ReadEnds (λ bytes. BindingsAskEnds bytes base (outputs_of io) status) (outputs_of io) status
 
   -- If the arguments have none of the forms, exactly the usage is reported. Only such arguments end with
-  -- the status BadWords. Any other arguments are carried out, or a standard stream is, or may be, a
-  -- stream to the disk's file, and nothing was written.
+  -- the status BadWords. Any other arguments are carried out; or a standard stream is open, or may be
+  -- open, to the disk's file, and nothing was written.
   abbrev pub IsEnd : Option CommandLine → program.Streams → Status → Type 0
   IsEnd None io status = SaysOnly BadWords usage_line (outputs_of io) status
   IsEnd (Some line) io status = (status ≢ BadWords) × (DeedEnds line.deed io status ⊎ ((status ≡ Failed) × IsUntold (outputs_of io)))

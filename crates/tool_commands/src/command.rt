@@ -13,7 +13,7 @@ use std::fs::File;
 use std::io::{Read, Write};
 use std::rt::{Clock, Files};
 
-/// Does what the arguments ask for, unless a standard stream is, or may be, a stream to the disk's
+/// Does what the arguments ask for, unless a standard stream is open, or may be open, to the disk's
 /// file: the output would then be written into the disk, or the input read from it.
 fn run_apart<R: Files<File = File> + Clock, I: Read, O: Write, E: Write>(
     rt: &R,

@@ -26,7 +26,7 @@ abbrev pub telling_of : WithFile → Telling
 telling_of with.Replace = telling.Text
 telling_of (with.Executable base) = telling.Executable
 
--- how the request ends
+-- how a request that needs the bytes of a file ends
 abbrev pub AskEndsWith : WithFile → Streams → Status → Type 0
 AskEndsWith asking io status = ReadEnds (λ bytes. AskEnds (request_with asking bytes) (telling_of asking) io status) io status
 

@@ -23,7 +23,7 @@ use Rattle.updates.specs.declared.answer.UpdateRefusal.{UpdateRefusal}
 
 module _ {D O : Type 0} (facts : D → DiskFacts) (contents : O → Option (List ℕ)) where
   module _ (io : Streams) (lines : List (List ℕ)) (answers : List Reply) (u : Drafted D) (status : Status) (new : Opened D) where
-    -- after the lines that the draft planned came `commit`
+    -- after the planned lines came `commit`
     abbrev pub IsCommitted : Type 0
     IsCommitted = (held : O) × (answer : Result (Unit {0}) Refusal) × BeginsWith io.unread lines (ended commit_line)
         × Appends io.before (contents held) (plan_texts answers) × Commits facts u answer new
