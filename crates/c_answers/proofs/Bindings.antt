@@ -75,6 +75,7 @@ unfolding undefined_refusal
 only-undefined objects = undefined-among objects _
 
 -- if no symbol is undefined, the report of the bindings has the number 0; otherwise it has that of B5
+-- (Undefined)
 pub whole-number : (o : Option BindRefusal) → true ≡ is_none o → 0 ≡ bound_number o
 whole-number None h = refl
 whole-number (Some e) h = cc
@@ -122,7 +123,7 @@ pub lacks-some : (o : Option Need) → is_some o ≡ true → o ≢ None
 lacks-some None some = absurd (let no : false ≡ true = some in cc)
 lacks-some (Some need) some = λ none. cc
 
--- A report about a program with the libraries that were found.
+-- A report about a program is made with the libraries that were found.
 module _ (program : List ℕ) (base : ℕ) (found : Found) (libraries : List Named) (r : Result Told Refusal) (same : libraries ≡ map object_of found.libraries) where
   pub whole-found : found.missing ≡ None → IfOk r (λ told. IsPlacedText (place base (available program libraries)) told.number told.text.items)
       → IfOk r (λ told. IsFoundText program base found told.number told.text.items)

@@ -80,7 +80,7 @@ abbrev pub reply_number : Reply → ℕ
 reply_number (reply.Refused why) = refusal_number why
 reply_number other = done
 
--- the n of the test En that refuses an object
+-- the number n of the test En that refuses an object
 abbrev pub object_number : ObjectRefusal → ℕ
 object_number object.TooShort = 1
 object_number object.BadMagic = 2
@@ -114,19 +114,19 @@ object_number object.RelocationSymbol = 31
 object_number object.RelocationPlace = 32
 object_number object.BadSoname = 33
 
--- the n of the test En that refuses a file
+-- the number n of the test En that refuses a file
 abbrev pub file_number : FileRefusal → ℕ
 file_number (file.Object why) = object_number why
 file_number file.DuplicateDefinition = 28
 file_number file.BadHashTable = 29
 
--- the n of the test En that refuses a file, if that is the reason of a refusal; otherwise 0
+-- the number n of the test En that refuses a file, if that is the reason of a refusal; otherwise 0
 abbrev pub file_number_of : Refusal → ℕ
 file_number_of (refusal.Object why) = file_number why
 file_number_of (refusal.Bind (bind.Program why)) = file_number why
 file_number_of other = 0
 
--- the n of the test En that refuses a file, if that is the reason of a reply's refusal; otherwise 0
+-- the number n of the test En that refuses a file, if that is the reason of a reply's refusal; otherwise 0
 abbrev pub file_number_in : Reply → ℕ
 file_number_in (reply.Refused why) = file_number_of why
 file_number_in other = 0

@@ -7,7 +7,7 @@ ghost use Rattle.std.specs.Prelude.{◌≡◌};
 pub struct Answer {
     /// The status: 0 if the call did its work, and otherwise the reason why it didn't.
     pub status: u32,
-    /// The n of the first test En that refuses the file, if a file is refused.
+    /// The number n of the first test En that refuses the file, if a file is refused.
     pub file_refusal: u32,
     /// The number of segments, libraries, steps or program headers. If an update is refused, the
     /// number of changes before the refused one.

@@ -87,7 +87,7 @@ pub(crate) fn refusal_status(refusal: &Refusal) -> u32
     }
 }
 
-/// Returns the n of the test En that refuses an object.
+/// Returns the number n of the test En that refuses an object.
 fn object_number(refusal: ObjectRefusal) -> u32
     ensures { result ≡ object_number refusal }
 {
@@ -126,7 +126,7 @@ fn object_number(refusal: ObjectRefusal) -> u32
     }
 }
 
-/// Returns the n of the test En that refuses a file.
+/// Returns the number n of the test En that refuses a file.
 pub(crate) fn file_number(refusal: FileRefusal) -> u32
     ensures { result ≡ file_number refusal }
 {
@@ -137,7 +137,7 @@ pub(crate) fn file_number(refusal: FileRefusal) -> u32
     }
 }
 
-/// Returns the n of the test En that refuses a file, if that is the reason of `refusal`; otherwise
+/// Returns the number n of the test En that refuses a file, if that is the reason of `refusal`; otherwise
 /// 0.
 pub(crate) fn file_refusal_number(refusal: &Refusal) -> u32
     ensures { result ≡ file_number_of refusal.now }

@@ -20,7 +20,7 @@ LineStep step s line (Replied reply) s' = (happening : Happening) × (meaning li
 LineStep step s line BadLine s' = (meaning line ≡ None) × (s' ≡ s)
 LineStep step s line CutLine s' = ⊥
 
--- the text of an answer
+-- the text that is written for an answer
 abbrev pub answer_text : Answer → List ℕ
 answer_text (Replied reply) = event_text reply
 answer_text BadLine = line_refusal_text refusal.BadLine
