@@ -1,4 +1,4 @@
--- What each call puts into its buffers and its answer (own).
+-- The contents of the buffers and the answer after each call (own).
 use Rattle.std.specs.Prelude.{◌≡◌, ◌≢◌, ◌⊎◌, ◌<◌, ◌^◌, ◌-◌, ℕ, List, length, take, min}
 use Rattle.byte_disk.specs.declared.step.Step.{Step}
 use Rattle.states.specs.State.{State}

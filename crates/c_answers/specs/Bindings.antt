@@ -1,4 +1,4 @@
--- What the symbols of a program and its libraries are bound to, as a text for C (own).
+-- The text for C about the symbols of a program and its libraries, and what they are bound to (own).
 use Rattle.std.specs.Prelude.{◌≡◌, ◌⊎◌, ℕ, List, Option, Some, None, length, take}
 use Rattle.bindings.specs.Bindings.{bindings_text}
 use Rattle.bindings.specs.Dependencies.{dependencies_text}

@@ -1,4 +1,4 @@
--- What a call that plans an update puts into its buffers and its answer (own).
+-- The contents of the buffers and the answer after a call that plans an update (own).
 use Rattle.std.specs.Prelude.{◌≡◌, ◌⊎◌, ℕ, List, Result, Ok, Err}
 use Rattle.byte_disk.specs.declared.disk.ByteDisk.{ByteDisk}
 use Rattle.byte_disk.specs.declared.step.Step.{Step}

@@ -1,2 +1,2 @@
--- What the parts of an answer hand to each other. Nobody has to believe these definitions.
+-- Definitions for the values between the parts of an answer. Nobody has to believe them.
 pub mod Bindings

@@ -1,7 +1,7 @@
-// What a call returns besides its buffers.
+// The values that a call returns besides its buffers.
 ghost use Rattle.std.specs.Prelude.{◌≡◌};
 
-/// What a call returns besides its buffers. Fields that a call doesn't use are 0.
+/// The values that a call returns besides its buffers. Fields that a call doesn't use are 0.
 #[repr(C)]
 #[derive(Clone, Copy)]
 pub struct Answer {

@@ -1,4 +1,4 @@
--- What a script does to a registry on a disk, with its binders (own).
+-- The effect of a script on a registry with binders on a disk (own).
 use Rattle.std.specs.Prelude.{ℕ, List, Option, Some, None}
 use Rattle.std.specs.List.{filter_map}
 use Rattle.sector_disk.specs.Disk.{DiskFacts}

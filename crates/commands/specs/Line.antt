@@ -1,4 +1,4 @@
--- What a line of a script asks for (own).
+-- The event that a line of a script asks for (own).
 use Rattle.std.specs.Prelude.{ℕ, ◌-◌, Bool, true, false, not, if◌then◌else◌}
 use Rattle.std.specs.Prelude.{List, [], ◌∷◌, drop, codes, Option, Some, None}
 use Rattle.std.specs.Char.{is_ascii_digit}

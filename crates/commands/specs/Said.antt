@@ -1,4 +1,4 @@
--- What a command line writes to standard error (own).
+-- The messages of a command line on standard error (own).
 use Rattle.std.specs.Prelude.{ℕ, List, Option, Some, None, codes}
 use Rattle.commands.specs.Words.{CommandLine}
 

@@ -1,4 +1,4 @@
--- What a script does (own).
+-- The effect of a script, and the text that it writes (own).
 use Rattle.std.specs.Prelude.{◌≡◌, ◌≢◌, ◌-◌, ℕ, List, [], ◌∷◌, ◌++◌, length, take, count_by, All, Option, IfSome}
 use Rattle.std.specs.List.{flat_map, AllZip}
 use Rattle.std.specs.Io.{StopsAt}

@@ -1,4 +1,4 @@
-// What a line of a script asks for.
+// The event that a line of a script asks for.
 
 ghost use Rattle.std.specs.Prelude.{◌≡◌, IfOk};
 ghost use Rattle.std.specs.Option.{option_map};

@@ -40,7 +40,7 @@ pub fn run_script_on_disk<R: Read, W: Write, D: Disk>(
     })
         binders.old binders.new) }
 
-    // What the writer held before a write failed.
+    // The text that the writer held before a write failed.
     ensures sent { IfErr result (λ fault. fault ≡ ScriptFault.Write
         → (held : W) × StopsWriting (EventStep D.facts) (record {
           unread = R.remaining reader.old;

@@ -157,7 +157,7 @@ pub fn run_script<R: Read, W: Write, G: TakesEvents>(
     })
         binders.old binders.new) }
 
-    // What the writer held before a write failed.
+    // The text that the writer held before a write failed.
     ensures sent { IfErr result (λ fault. fault ≡ ScriptFault.Write
         → (held : W) × StopsWriting G.step (record {
           unread = R.remaining reader.old;

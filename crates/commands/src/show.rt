@@ -10,7 +10,7 @@ use std::alloc::Global;
 use std::io::Write;
 use store::StoreRefusal;
 
-/// What was shown.
+/// The kind of text that was shown.
 #[derive(Clone, Copy, PartialEq, Eq)]
 pub enum Shown {
     /// The image.

@@ -1,4 +1,4 @@
--- What a program writes to standard error (own).
+-- The messages of a program on standard error (own).
 use Rattle.std.specs.Prelude.{ℕ, List, take, Option}
 use Rattle.std.specs.Io.KnownBytes.{Appends}
 

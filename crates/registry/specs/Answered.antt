@@ -89,7 +89,7 @@ IsAnswerTo (set_preloads names) = IsChangeAnswer IsPreloadsRefusal
 IsAnswerTo (bind program base) = IsBindAnswer
 IsAnswerTo list = IsListAnswer
 
--- What a change leaves. After Done, the registry can be used; after S1, it has to be opened again; after
+-- The registry after a change. After Done, it can be used; after S1, it has to be opened again; after
 -- any other refusal, nothing has changed.
 abbrev pub ChangeLeaves : {D : Type 0} → Opened D → Opened D → Reply → Type 0
 ChangeLeaves old new Done = IsFalse new.failed

@@ -1,4 +1,4 @@
--- What a command does to a registry on a disk (own).
+-- The effect of a command on a registry on a disk (own).
 use Rattle.std.specs.Prelude.{◌≡◌, ◌⊎◌, IsTrue, List, None}
 use Rattle.sector_disk.specs.Disk.{Sector, DiskFacts, LeavesOnly}
 use Rattle.store.specs.Opened.{Opened}

@@ -1,4 +1,4 @@
--- What a bind reads from a disk (own).
+-- The sectors that a bind reads, and its reply (own).
 use Rattle.std.specs.Prelude.{ℕ, List, length, drop, sum_by, Result, Ok, Err}
 use Rattle.std.specs.Int.{div_ceil}
 use Rattle.sector_disk.specs.Disk.{sector_bytes}

@@ -1,4 +1,4 @@
--- What the commands of an update do to its draft. The draft is the state that the update has planned so
+-- The effect of an update's commands on its draft. The draft is the state that the update has planned so
 -- far; no sectors hold this state before the commit (own).
 use Rattle.std.specs.Prelude.{◌≡◌, ◌≢◌, ◌⊎◌, ◌<◌, ◌↔◌, ℕ, List, IsTrue, IsFalse, None}
 use Rattle.sector_disk.specs.Disk.{DiskFacts, AreCalls, AreCallsAtMost, AreCallsExactly, IsUnchanged, LeavesOnly}
@@ -78,8 +78,8 @@ abbrev pub IsBoundBeside : {D : Type 0} → (D → DiskFacts) → Drafted D → 
 IsBoundBeside facts old new d (bind program base) answer = ReadsForBind facts old new d program answer
 IsBoundBeside facts old new d request answer = Unit {0}
 
--- What a command leaves of a draft. A refused command, a bind and a listing leave the draft unchanged.
--- After a planned change the draft is marked as changed.
+-- The draft after a command. A refused command, a bind and a listing leave the draft unchanged. After a
+-- planned change the draft is marked as changed.
 abbrev pub LeavesDraft : {D : Type 0} → Drafted D → Drafted D → Request → Reply → Type 0
 LeavesDraft old new request (Refused refusal) = IsSameDraft old new
 LeavesDraft old new (bind program base) answer = IsSameDraft old new

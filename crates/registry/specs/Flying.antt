@@ -1,4 +1,4 @@
--- What beginning a binder, a step of a binder, and ending a binder do (own).
+-- The effect of beginning a binder, of its steps, and of ending it (own).
 use Rattle.std.specs.Prelude.{◌≡◌, ◌↔◌, ◌⊎◌, ◌<◌, ◌+◌, ℕ, List, length, slice_index_or, IsTrue, Result, Ok, Err, IfOk, IfErr, OnErr}
 use Rattle.sector_disk.specs.Disk.{DiskFacts, Mixture, IsUnchanged, LeavesOnly, AreCalls, AreCallsAtMost, AreCallsExactly}
 use Rattle.image.specs.Refusal.{WantsMemory}

@@ -1,4 +1,4 @@
--- What rounds of commands do to a disk in memory that is stopped after each round (own).
+-- The effect of rounds of commands on a disk in memory that is stopped after each round (own).
 use Rattle.std.specs.Prelude.{◌≡◌, ◌⊎◌, ◌<◌, ◌%◌, ℕ, true, List, [], length, map, slice_index}
 use Rattle.sector_disk.specs.declared.memory.Memory.{Memory}
 use Rattle.sector_disk.specs.declared.fuse.Fuse.{Fuse}

@@ -1,5 +1,5 @@
--- What a command does to a registry whose files weren't tested when it was opened. Such a registry has
--- named byte strings, some of which may not be libraries (own).
+-- The effect of a command on a registry whose files weren't tested when it was opened. Such a registry
+-- has named byte strings, some of which may not be libraries (own).
 use Rattle.std.specs.Prelude.{◌≡◌, ℕ, List, All, drop, IsFalse, None}
 use Rattle.sector_disk.specs.Disk.{DiskFacts}
 use Rattle.scope.specs.LoadOrder.{load_order}

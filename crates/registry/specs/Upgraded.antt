@@ -1,4 +1,4 @@
--- What an upgrade makes of a disk of version 1 or 2 (own).
+-- The effect of an upgrade on a disk of version 1 or 2 (own).
 use Rattle.std.specs.Prelude.{◌⊎◌, List}
 use Rattle.sector_disk.specs.Disk.{Sector, DiskFacts}
 use Rattle.states.specs.State.{State}

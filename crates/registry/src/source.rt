@@ -1,4 +1,4 @@
-// Where a walk finds the files of a bind, and how it finds them by name.
+// The place where a walk finds the files of a bind, and the search for a file by its name.
 ghost use Rattle.std.specs.Prelude.{◌≡◌, ◌<◌, ◌≤◌, ℕ, All, IfOk, IfSome, nat_eq, length, List};
 ghost use Rattle.std.specs.List.{IsDistinct};
 ghost use Rattle.scope.specs.LoadOrder.{place_of};
@@ -12,7 +12,7 @@ use snapshots::Snapshot;
 use std::alloc::{AllocError, Global};
 use store::Store;
 
-/// Where a walk finds files: in the current store, or in a snapshot of it.
+/// The place where a walk finds files: the current store, or a snapshot of it.
 #[derive(Clone, Copy)]
 pub(crate) enum Source<'a> {
     Current,

@@ -1,4 +1,4 @@
--- What an update with the lines of a dump makes of a new registry (own).
+-- The effect of an update with the lines of a dump on a new registry (own).
 use Rattle.std.specs.Prelude.{◌≡◌, ◌⊎◌, ◌<◌, ◌++◌, ℕ, List, [], ◌∷◌, All}
 use Rattle.sector_disk.specs.Disk.{DiskFacts, Mixture, LeavesOnly}
 use Rattle.states.specs.State.{State, empty_state}

@@ -42,15 +42,15 @@ abbrev pub read_status : FileFault → Status
 read_status read_file.CannotRead = Failed
 read_status read_file.OutOfMemory = NoMemory
 
--- What standard error gets if a file can't be opened as a disk. If the file can't be opened at all, this
--- is unspecified.
+-- The text on standard error if a file can't be opened as a disk. If the file can't be opened at all,
+-- the text is unspecified.
 abbrev pub SaysFault : OpenFault → Option (List ℕ) → Option (List ℕ) → Type 0
 SaysFault disk_file.CannotOpen before after = Unit {0}
 SaysFault disk_file.BadLength before after = AppendsFront before after (refusal_line BadGeometry)
 SaysFault disk_file.OutOfMemory before after = AppendsFront before after memory_line
 
--- What standard error gets if the bytes of a file aren't available. If the file can't be read, this is
--- unspecified; otherwise memory was refused.
+-- The text on standard error if the bytes of a file aren't available. If the file can't be read, the
+-- text is unspecified; otherwise memory was refused.
 abbrev pub SaysUnread : FileFault → Option (List ℕ) → Option (List ℕ) → Type 0
 SaysUnread read_file.CannotRead before after = Unit {0}
 SaysUnread read_file.OutOfMemory before after = AppendsFront before after memory_line

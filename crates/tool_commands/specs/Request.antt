@@ -1,5 +1,5 @@
--- What a command does to a registry that was opened without reading a library's file, and how the form
--- ends (own).
+-- The effect of a command on a registry that was opened without reading a library's file, and how the
+-- form ends (own).
 use Rattle.std.specs.Prelude.{◌≡◌, ◌≢◌, ◌⊎◌, Ok, Err, IsTrue}
 use Rattle.sector_disk.specs.Disk.{DiskFacts, Mixture, LeavesOnly, AreCallsExactly}
 use Rattle.states.specs.State.{State}

@@ -1,4 +1,4 @@
--- What a form writes to its output and to standard error (own).
+-- The text that a form writes to its output and to standard error (own).
 use Rattle.std.specs.Prelude.{◌≡◌, ◌⊎◌, ℕ, List, Option}
 use Rattle.std.specs.Io.KnownBytes.{Appends}
 use Rattle.program_parts.specs.Said.{AppendsFront}

@@ -1,4 +1,4 @@
--- What an update writes to the output and to standard error (own).
+-- The text that an update writes to the output and to standard error (own).
 use Rattle.std.specs.Prelude.{◌≡◌, ◌⊎◌, ℕ, List}
 use Rattle.program_parts.specs.Streams.{Streams}
 use Rattle.program_parts.specs.declared.status.Status.{Status}

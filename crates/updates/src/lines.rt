@@ -18,7 +18,7 @@ use sector_disk::Disk;
 use std::alloc::Global;
 use std::io::{BufReader, Read, Write};
 
-/// What ended the lines of an update.
+/// The reason why the lines of an update ended.
 #[derive(Drop)]
 pub(crate) enum Ending {
     /// The line `commit`.

@@ -1,4 +1,4 @@
--- What the parts of an update do to its draft.
+-- The effect of the parts of an update on its draft.
 use Rattle.std.specs.Prelude.{◌≡◌, ◌≢◌, ℕ, Result, OnErr, OnOk}
 use Rattle.sector_disk.specs.Disk.{DiskFacts}
 use Rattle.states.specs.State.{State}

@@ -1,4 +1,4 @@
--- Where a walk finds the files of a bind.
+-- The place where a walk finds the files of a bind: the current store, or a snapshot of it.
 use Rattle.std.specs.Prelude.{◌≡◌, ◌≢◌, ◌<◌, ℕ, List, length, slice_index_or, All, IsTrue, Option, Some, None}
 use Rattle.sector_disk.specs.Disk.{DiskFacts}
 use Rattle.roots.specs.Root.{listed_preloads}

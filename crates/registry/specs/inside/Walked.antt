@@ -1,4 +1,4 @@
--- What a bind has found while it walks through the files of its load order.
+-- The findings of a bind while it walks through the files of its load order.
 use Rattle.std.specs.Prelude.{◌≡◌, ℕ, ◌+◌, ◌-◌, ◌<◌, List, [], ◌∷◌, ◌++◌, length, map, take, drop, get_or, slice_index_or}
 use Rattle.std.specs.Prelude.{Option, Some, None, Result, IfOk, IfErr, OnOk}
 use Rattle.std.specs.List.{filter_map, flat_map, find}
