@@ -22,8 +22,8 @@ sound = 0
 abbrev pub other_name : ℕ
 other_name = 100
 
--- The number of a finding. For a file that is refused, it is the number n of the first test En that refuses the
--- file, which lies between the other two numbers. A library that can't be read has no number.
+-- The number of a finding. For a file that is refused, it is the number n of the first test En that
+-- refuses the file, which lies between the other two numbers. A library that can't be read has no number.
 abbrev pub HasNumber : Finding → ℕ → Type 0
 HasNumber Sound number = number ≡ sound
 HasNumber (Refused why) number = number ≡ file_number why

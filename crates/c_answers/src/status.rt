@@ -137,8 +137,8 @@ pub(crate) fn file_number(refusal: FileRefusal) -> u32
     }
 }
 
-/// Returns the number n of the test En that refuses a file, if that is the reason of `refusal`; otherwise
-/// 0.
+/// Returns the number n of the test En that refuses a file, if that is the reason of `refusal`;
+/// otherwise 0.
 pub(crate) fn file_refusal_number(refusal: &Refusal) -> u32
     ensures { result ≡ file_number_of refusal.now }
 {
