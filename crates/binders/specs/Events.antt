@@ -19,7 +19,7 @@ use Rattle.binders.specs.declared.event.Event.TheVariants as event
 use Rattle.binders.specs.declared.event.EventReply.{EventReply}
 use Rattle.binders.specs.declared.event.EventReply.TheVariants.{Replied, Slot, Going}
 
--- the request of an event, as a plain value, because an event itself borrows its bytes
+-- an event as a plain value, because an `Event` borrows its bytes
 pub data Happening : Type 0 where
   apply : Request → Happening
   -- the bytes of a program's file, and the base address
@@ -28,7 +28,7 @@ pub data Happening : Type 0 where
   advance : ℕ → Happening
   cancel : ℕ → Happening
 
--- the request of an event
+-- the plain value of an event
 abbrev pub happening_of : Event → Happening
 happening_of (event.Apply command) = apply (request_of command)
 happening_of (event.Begin program base) = begin program.now base

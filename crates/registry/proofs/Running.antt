@@ -191,11 +191,12 @@ module _ {D : Type 0} (facts : D → DiskFacts) where
             either,
       )
 
-      -- a stop that leaves the state before the new exchange leaves the state of a prefix
+      -- if a stop leaves the state before the new exchange, it leaves the state after the earlier
+      -- exchanges
       leaves_mid : (moment : ℕ) (m : List Sector) → (facts mid.disk).time ≤ moment → EndsLater moment → Stands m s → LeavesPrefix facts start xs' ts' moment m
       leaves_mid moment m since later stands = (length xs, omega (arith, longer), holds_rest moment later, inl (begun_rest moment since, subst (λ (y : Point D). Stands m y.state) (sym mid_is) stands))
 
-      -- a stop that leaves the state after the new exchange leaves the state of a prefix
+      -- if a stop leaves the state after the new exchange, it leaves the state after all exchanges
       leaves_new : (moment : ℕ) (m : List Sector) → (facts mid.disk).time ≤ moment → Stands m u.state → LeavesPrefix facts start xs' ts' moment m
       leaves_new moment m since stands = (length xs + 1, omega (arith, longer), holds_all moment, inl (begun_new moment since, subst (λ (y : Point D). Stands m y.state) (sym u_is) stands))
 

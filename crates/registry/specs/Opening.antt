@@ -34,8 +34,8 @@ pub record EndsMaking {D : Type 0} (facts : D → DiskFacts) (disk : D) (making 
 
 -- the registry on the disk now has version 2, or the disk was refused and handed back
 pub record EndsUpgrading {D : Type 0} (facts : D → DiskFacts) (disk : D) (upgrading : Result (Opened D) (StoreRefusal × D)) : Type 0 where
-  -- if the disk has version 1, a stop at any moment leaves the state by the old rules, the upgraded
-  -- state by the new rules, or what a stop could leave before the upgrade
+  -- if the disk has version 1, a stop at any moment leaves the old state, the upgraded state, or what a
+  -- stop could leave before the upgrade
   pub any_moment : IsTrue (facts disk).honest → (s : State) → StandsOld (facts disk).now s
       → LeavesOnly (facts disk) (facts (disk_after upgrading)) (λ m. Mixture (facts disk) m ⊎ StandsOld m s ⊎ Stands m (upgraded s))
   -- a disk that doesn't have version 1 is unchanged

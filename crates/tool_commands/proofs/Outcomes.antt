@@ -61,7 +61,7 @@ use Rattle.tool_commands.specs.declared.telling.Telling.TheVariants.{Text, Execu
 
 -- ---- statuses
 
--- the form wasn't carried out, but its arguments have a form
+-- the status is neither Done nor that of bad arguments
 abbrev IsFault : Status → Type 0
 IsFault status = (status ≢ Done) × (status ≢ BadWords)
 

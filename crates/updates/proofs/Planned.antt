@@ -16,7 +16,7 @@ use Rattle.updates.specs.Lines.{ArePlanned, AreJust, BeginsWith, LineStep}
 use Rattle.updates.proofs.Texts.{flat_more}
 
 module _ {D : Type 0} (facts : D → DiskFacts) where
-  -- no line is planned without a change of the draft
+  -- an empty list of lines counts as planned, and leaves the draft unchanged
   pub planned_none : (u : Drafted D) → ArePlanned facts u u [] []
   planned_none u = record { whole = All-nil IsLine; run = ([], tt, refl); accepted = All-nil (λ (answer : Reply). is_refusal answer ≡ false) }
 
@@ -49,7 +49,7 @@ begins_shorter (Some text) lines part h =
     let lines_read = flat_map ended lines in
     (part ++ h.0, h.1 ∙ append_assoc lines_read part h.0 ∙ ap (λ (l : List ℕ). l ++ (part ++ h.0)) (sym (append-nil lines_read)))
 
--- any input begins with no lines
+-- any input begins with an empty list of lines
 pub begins_none : (known : Option (List ℕ)) → BeginsWith known [] []
 begins_none None = tt
 begins_none (Some text) = (text, refl)
