@@ -136,7 +136,7 @@ done_memory : NoMemory ≡ Done → ⊥
 done_memory h = cc
 
 module _ (before after : Option (List ℕ)) where
-  -- if the line of a disk's refusal was written, the command ends as one whose disk can't be opened
+  -- if the line of a disk's refusal was written, `IsTurnedAway` holds for the end of the command
   pub told_away : (May : StoreRefusal → Type 0) (r : StoreRefusal) (status : Status) → May r → IsTold (disk_status r) (disk_refusal_text r) before after status → IsTurnedAway May before after status
   told_away May r Done may (inl h) = absurd (disk_done r (sym h.0))
   told_away May r Done may (inr h) = absurd (done_fails h)
@@ -148,7 +148,7 @@ module _ (before after : Option (List ℕ)) where
   told_away May r NoMemory may (inl h) = subst (Appends before after) (disk_memory r (sym h.0)) h.1
   told_away May r NoMemory may (inr h) = absurd (memory_fails h)
 
-  -- if a reply was written, or the output failed, the command ends as one that was answered
+  -- if a reply was written, or the output failed, `Replied` holds for the end of the command
   written_as : (q : Request) (r : Reply) (made : (t : Status) → reply_status r ≡ t → Appends before after (reply_text r) → Replies (λ asked. asked ≡ q) t before after)
       → (status : Status) → IsWritten r before after status → Replied (λ asked. asked ≡ q) before after status
   written_as q r made Done (inl h) = made Done (sym h.0) h.1
@@ -161,7 +161,7 @@ module _ (before after : Option (List ℕ)) where
   written_as q r made NoMemory (inl h) = subst (Appends before after) (memory_reply r (sym h.0)) h.1
   written_as q r made NoMemory (inr h) = absurd (memory_fails h)
 
-  -- if the disk was refused, the command ends as one of a registry
+  -- if the disk was refused, `Replied` holds for the end of the command
   away_told : (IsAsked : Request → Type 0) (status : Status) → IsTurnedAway IsOpenRefusal before after status → Replied IsAsked before after status
   away_told IsAsked Done h = absurd h
   away_told IsAsked Refused h = inr h
@@ -169,7 +169,7 @@ module _ (before after : Option (List ℕ)) where
   away_told IsAsked Failed h = tt
   away_told IsAsked NoMemory h = h
 
-  -- a request over a new disk ends as a command of a registry
+  -- if a request over a new disk has ended, `Replied` holds for the end of the command
   pub request_replied : (disk left : SystemDisk) (q : Request) (status : Status) → IsNew disk
       → RequestEnds file_facts disk q before after status left → Replied (λ asked. asked ≡ q) before after status
   request_replied disk left q status new (inl h) =
@@ -189,7 +189,7 @@ module _ (before after : Option (List ℕ)) where
   request_replied disk left q status new (inr h) =
       away_told (λ asked. asked ≡ q) status (told_away IsOpenRefusal h.0 status ((file_facts disk).sectors, h.1.on_any_disk.ends.refusals) h.2)
 
-  -- if a registry was made, and `ok` was written, making the registry has ended
+  -- if a registry was made, and `ok` was written, `IsFormatted` holds for the end of the command
   pub made_told : (n : ℕ) (disk : SystemDisk) (registry : Opened SystemDisk) (status : Status) → IsMade n disk registry
       → IsTold Done (codes "ok\n") before after status → IsFormatted n before after status
   made_told n disk registry Done made (inl h) = record { disk = disk; new = registry; made = made; written = h.1 }
@@ -202,7 +202,7 @@ module _ (before after : Option (List ℕ)) where
   made_told n disk registry NoMemory made (inl h) = absurd (done_memory h.0)
   made_told n disk registry NoMemory made (inr h) = absurd (memory_fails h)
 
-  -- an upgrade of a new disk ends as an upgrade over a file
+  -- if an upgrade of a new disk has ended, `IsUpgradedOver` holds for the end of the command
   ends_upgraded : (disk : SystemDisk) (registry : Opened SystemDisk) (status : Status) → IsUpgraded disk registry
       → IsTold Done (codes "ok\n") before after status → IsUpgradedOver before after status
   ends_upgraded disk registry Done is (inl h) = record { disk = disk; new = registry; upgraded = is; written = h.1 }
@@ -230,7 +230,7 @@ module _ (before after : Option (List ℕ)) where
   pub upgrade_told : (disk left : SystemDisk) (status : Status) → IsNew disk → UpgradeEnds file_facts disk before after status left → IsUpgradedOver before after status
   upgrade_told disk left status new h = ends_upgrading disk h.0 status new h.1 h.3
 
-  -- if the registry can't be opened, the command ends as one of a registry
+  -- if the registry can't be opened, `Replied` holds for the end of the command
   pub away_replied : (IsAsked : Request → Type 0) (why : NoRegistry) (status : Status) → IsNoRegistry IsOpenRefusal why → IsTurnedAway (λ r. why ≡ no.Refused r) before after status
       → Replied IsAsked before after status
   away_replied IsAsked why Done is h = absurd h
@@ -266,7 +266,7 @@ module _ (before after : Option (List ℕ)) where
   pub replied_as : (IsAsked : Request → Type 0) (q : Request) (status : Status) → IsAsked q → Replied (λ asked. asked ≡ q) before after status → Replied IsAsked before after status
   replied_as IsAsked q status is h = replied_also (λ asked. asked ≡ q) IsAsked (λ asked e. subst IsAsked (sym e) is) status h
 
-  -- if a file can't be read, or memory is refused, the command ends as one of a registry
+  -- if a file can't be read, or memory is refused, `Replied` holds for the end of the command
   pub memory_replied : (IsAsked : Request → Type 0) (status : Status) → IsTold NoMemory memory_text before after status → Replied IsAsked before after status
   memory_replied IsAsked status h = away_told IsAsked status (told_away IsOpenRefusal store.OutOfMemory status (8, refl) h)
 
@@ -281,7 +281,7 @@ module _ (before after : Option (List ℕ)) where
   unread_replied IsAsked CannotRead status h = failed_replied IsAsked status h.0
   unread_replied IsAsked OutOfMemory status h = memory_replied IsAsked status h
 
-  -- if a registry can't be made, making the registry has ended
+  -- if a registry can't be made, `IsFormatted` holds for the end of the command
   pub away_formatted : (n : ℕ) (why : NoRegistry) (status : Status) → IsNoRegistry IsFormatRefusal why
       → IsTurnedAway (λ r. why ≡ no.Refused r) before after status → IsFormatted n before after status
   away_formatted n why Done is h = absurd h
@@ -290,7 +290,7 @@ module _ (before after : Option (List ℕ)) where
   away_formatted n why Failed is h = tt
   away_formatted n why NoMemory is h = h
 
-  -- if a registry can't be upgraded, the upgrade has ended
+  -- if a registry can't be upgraded, `IsUpgradedOver` holds for the end of the command
   pub away_upgraded : (why : NoRegistry) (status : Status) → IsNoRegistry IsUpgradeRefusal why → IsTurnedAway (λ r. why ≡ no.Refused r) before after status → IsUpgradedOver before after status
   away_upgraded why Done is h = absurd h
   away_upgraded why Refused is h = (h.0, subst (IsNoRegistry IsUpgradeRefusal) h.1 is, h.2, h.3)
@@ -298,7 +298,7 @@ module _ (before after : Option (List ℕ)) where
   away_upgraded why Failed is h = tt
   away_upgraded why NoMemory is h = h
 
-  -- a bind whose base could be read ends as a bind on a disk
+  -- if the base of a bind could be read, `BindEnds` holds for the end of the command
   pub bind_ends : (at : ℕ) (asked : Option ℕ) (IsAsked : Request → Type 0) (status : Status) → asked ≡ Some at → Replied IsAsked before after status → BindEnds asked IsAsked before after status
   bind_ends at asked IsAsked Done e h = (ap is_some e, h)
   bind_ends at asked IsAsked Refused e h = (ap is_some e, h)
@@ -307,7 +307,7 @@ module _ (before after : Option (List ℕ)) where
   bind_ends at asked IsAsked NoMemory e h = (ap is_some e, h)
 
 module _ (io : Streams) where
-  -- each command whose request is the one of its arguments ends as `CommandEnds` defines
+  -- if a command's request is the one of its arguments, `CommandEnds` holds for the end of the command
   ends_as : (line : CommandLine) → are_bad (Some line) ≡ false → (Replies (Asks line) Done io.before io.after → IsDone (Some line) io)
       → (Replies (Asks line) Refused io.before io.after ⊎ TurnsAway IsOpenRefusal Refused io.before io.after → IsRefused (Some line) io)
       → (Appends io.before io.after memory_text → LacksMemory (Some line) io) → (status : Status) → Replied (Asks line) io.before io.after status → CommandEnds (Some line) io status

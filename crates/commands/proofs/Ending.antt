@@ -22,7 +22,7 @@ use Rattle.commands.specs.declared.show.Shown.{Shown}
 use Rattle.commands.specs.declared.show.Shown.TheVariants as shown
 use Rattle.commands.specs.inside.Ends.{ImageEnds, IsShown, IsNotRead, IsSaid}
 
--- a command that showed an image ends as `IsShown` defines
+-- if a command showed an image, `IsShown` holds for its end
 pub image_shown : (file : List ℕ) (base : ℕ) (before after : Option (List ℕ)) (r : Result Shown ScriptFault) → IfOk r (Shows file base before after)
     → IfErr r (λ why. why ≡ fault.Write) → IsShown file base before after (status_of r)
 image_shown file base before after (Ok shown.Image) ok err = ok
@@ -57,7 +57,7 @@ unread_ends OutOfMemory base asked before after Refused e (inr h) = let no = h i
 unread_ends OutOfMemory base asked before after BadWords e (inl h) = let no = h.0 in cc
 unread_ends OutOfMemory base asked before after BadWords e (inr h) = let no = h in cc
 
--- if a file was read and shown, or couldn't be read, the command `image` has ended
+-- if a file was read and shown, or couldn't be read, `ImageEnds` holds for the end of the command
 pub read_ends : {V : Type 0} (items : V → List ℕ) (read : Result V FileFault) (base : ℕ) (asked : Option ℕ) (before after : Option (List ℕ)) (status : Status)
     → asked ≡ Some base → IfOk read (λ v. length (items v) < read_limit)
     → MatchResult read (λ v. IsShown (items v) base before after status) (λ f. IsNotRead f before after status)

@@ -139,13 +139,13 @@ module _ {D : Type 0} (facts : D → DiskFacts) where
           subst (λ (y : Point D). moment < (disk_at facts y).time) (sym (after_last start ts u (i + 1) (omega (arith, ge, lengths)))) (later is.0 done))
           (cases_lt i (length xs))
 
-      -- if the new exchange ends later, the earlier exchanges contain all that were acknowledged by this
-      -- moment
+      -- if the new exchange isn't acknowledged by this moment, the earlier exchanges contain all that
+      -- were
       holds_rest : (moment : ℕ) → EndsLater moment → HoldsAcknowledged facts start xs' ts' (length xs) moment
       holds_rest moment later i le is =
           subst (λ (y : Point D). moment < (disk_at facts y).time) (sym (after_last start ts u (i + 1) (omega (arith, le, lengths)))) (later is.0 (get_more xs x (answered is.0 Done) i le is.1))
 
-      -- an exchange that had begun by a moment still has
+      -- adding the new exchange doesn't change which exchanges had begun by a moment
       begun_before : (k moment : ℕ) → k ≤ length xs → HasBegun facts start xs ts k moment → HasBegun facts start xs' ts' k moment
       begun_before k moment le begun i is = subst (λ (y : Point D). (disk_at facts y).time ≤ moment) (sym (before_is i (omega (arith, le, is)))) (begun i is)
 
@@ -167,8 +167,8 @@ module _ {D : Type 0} (facts : D → DiskFacts) where
       holds_all : (moment : ℕ) → HoldsAcknowledged facts start xs' ts' (length xs + 1) moment
       holds_all moment i le is = absurd (let lt : i < length xs' = slice_get_within xs' i (answered is.0 Done) is.1 in omega (arith, lt, le, longer))
 
-      -- before the new exchange ends, a stop leaves the state of a prefix of the earlier exchanges, if
-      -- it did before
+      -- as long as the new exchange isn't acknowledged, a stop still leaves what it left without this
+      -- exchange
       leaves_before : (moment : ℕ) (m : List Sector) → EndsLater moment → LeavesPrefix facts start xs ts moment m → LeavesPrefix facts start xs' ts' moment m
       leaves_before moment m later (k, le, holds, either) = (
         k,
@@ -214,7 +214,7 @@ module _ {D : Type 0} (facts : D → DiskFacts) where
       unacknowledged : {P : Type 0} (p : Transaction) → r ≡ Refused Device → x ≡ answered p Done → P
       unacknowledged p is done = let no : answered q (Refused Device) ≡ answered p Done = sym (ap (answered q) is) ∙ done in absurd (cc no)
 
-      -- a stop that leaves the state after a change that was cut off leaves what `LeavesPrefix` defines
+      -- if a stop leaves the state after a change that was cut off, `LeavesPrefix` holds for it
       leaves_flight : (moment : ℕ) (m : List Sector) → (facts mid.disk).time ≤ moment → r ≡ Refused Device → IsTrue u.registry.failed → Stands m (outcome s q)
           → LeavesPrefix facts start (xs ++ x ∷ []) (ts ++ u ∷ []) moment m
       leaves_flight moment m since is failed stands = (
@@ -393,7 +393,7 @@ module _ {D : Type 0} (facts : D → DiskFacts) where
   runs_none old s at = (s, [], refl, ran_none old s at)
 
   module _ (old mid new : Opened D) (s : State) (xs : List Exchange) (registries : List (Opened D)) (so_far : RunsVia facts old registries mid s xs) where
-    -- the points with one more point have the registries with one more registry
+    -- if one point is appended, its registry is appended to the registries of the points
     via : (t : State) (ts : List (Point D)) → map (λ (p : Point D). p.registry) ts ≡ registries → map (λ (p : Point D). p.registry) (ts ++ point new t ∷ []) ≡ registries ++ new ∷ []
     via t ts same = map-append (λ (p : Point D). p.registry) ts (point new t ∷ []) ∙ ap (λ l. l ++ new ∷ []) same
 
@@ -482,7 +482,7 @@ module _ {D : Type 0} (facts : D → DiskFacts) where
         ))
         either
 
-    -- at its end, it is a run as `Ran` defines it
+    -- at its end, a run that may still go on is a run as `Ran` defines it
     pub ran : Ran facts start xs ts end
     ran = record {
       steps = ran_so_far.steps;
@@ -549,7 +549,7 @@ module _ {D : Type 0} (facts : D → DiskFacts) where
       subst (Ran facts start (xs ++ ys) (ts ++ us)) (last_joined start ts us ∙ ap (λ (p : Point D). last_of p us) (sym first.last) ∙ sym second.last)
       (steps_ran start (xs ++ ys) (ts ++ us) at leads)
 
--- the exchanges of commands and one more command are the exchanges of all of the commands
+-- if one command is appended, its exchange is appended to the exchanges of the commands
 pub commanded_more : (qs : List Request) (rs : List Reply) (q : Request) (r : Reply) → length qs ≡ length rs → commanded (qs ++ q ∷ []) (rs ++ r ∷ []) ≡ commanded qs rs ++ answered (command q) r ∷ []
 commanded_more [] [] q r same = refl
 commanded_more (x ∷ qs) (y ∷ rs) q r same = ap (λ l. answered (command x) y ∷ l) (commanded_more qs rs q r (omega (arith, same)))
