@@ -1,4 +1,4 @@
-// Tests the installed libraries, and writes what is found.
+// Tests the installed libraries, and writes the findings.
 
 ghost use Rattle.std.specs.Prelude.{◌≡◌, List, OnOk, length};
 ghost use Rattle.std.specs.List.{list_all};
@@ -23,7 +23,7 @@ use store::{Store, StoreRefusal};
 use text_output::WriteFault;
 use tool_parts::{cannot_write, say_refusal};
 
-/// Puts the line of each library, in their order.
+/// Appends the line for each library, in their order, to the buffered text.
 fn put_findings<D: Disk, W: Write>(
     store: &Store<D>,
     findings: &[Finding],
@@ -42,7 +42,7 @@ fn put_findings<D: Disk, W: Write>(
     Ok(())
 }
 
-/// Puts the line of each library, and the line `end`.
+/// Appends the line for each library, and the line `end`, to the buffered text.
 fn put_check<D: Disk, W: Write>(
     store: &Store<D>,
     findings: &[Finding],
@@ -58,7 +58,7 @@ fn put_check<D: Disk, W: Write>(
     line.put(out, b"end\n")
 }
 
-/// Writes the line of each library, and the line `end`.
+/// Writes the line for each library, and the line `end`.
 fn write_findings<D: Disk, W: Write>(
     store: &Store<D>,
     findings: &[Finding],
@@ -74,7 +74,7 @@ fn write_findings<D: Disk, W: Write>(
     line.send(out)
 }
 
-/// Returns whether a finding is that the file is a library of its entry's name.
+/// Returns whether a finding is that the file is a library with its entry's name.
 fn is_sound(finding: Finding) -> bool
     ensures { result ≡ is_sound finding }
 {
@@ -122,7 +122,7 @@ fn tell_findings<D: Disk, O: Write, E: Write>(
     }
 }
 
-/// Reads each library, and writes a line for each with what was found, in their order, and then the
+/// Reads each library, and writes a line with the finding for each, in their order. Then writes the
 /// line `end`.
 pub fn run_check<D: Disk, O: Write, E: Write>(
     contents: &mut Contents<D>,
@@ -139,7 +139,7 @@ pub fn run_check<D: Disk, O: Write, E: Write>(
           errors_after = E.contents errors.new;
         }) result }
 
-    // The same on any disk.
+    // The following holds on any disk.
     ensures told { CheckTells (D.facts contents.old.disk) (D.facts contents.new.disk) (record {
       before = O.contents output.old;
       after = O.contents output.new;

@@ -23,7 +23,7 @@ use std::io::Write;
 use text_output::{OutputBuffer, PIECE, WriteFault};
 use tool_parts::say_refusal;
 
-/// Writes `cut` as the whole script, so that the output isn't taken for a complete script.
+/// Writes `cut` as the whole script, so that nobody takes the output for a complete script.
 fn cut_script<O: Write>(output: &mut O) -> Result<(), WriteFault>
     ensures { OnOk result (Appends (O.contents output.old) (O.contents output.new) (codes "cut")) }
 {
@@ -32,7 +32,8 @@ fn cut_script<O: Write>(output: &mut O) -> Result<(), WriteFault>
     text.send(output)
 }
 
-/// Ends a form with the status `status` if the disk wasn't opened: a script is cut.
+/// Ends a form whose disk couldn't be opened. If the form is a dump, writes a script that is cut.
+/// Returns `status`, or `Failed` if the output failed.
 pub(crate) fn end_unopened<O: Write>(form: &Form<'_>, status: Status, output: &mut O) -> Status
     ensures { EndsUnopened (question_of form.now) status
         (O.contents output.old) (O.contents output.new) result }
@@ -46,7 +47,7 @@ pub(crate) fn end_unopened<O: Write>(form: &Form<'_>, status: Status, output: &m
     }
 }
 
-/// Answers a question about what an opened disk has.
+/// Answers a question about the contents of an opened disk.
 fn run_opened<D: Disk, O: Write, E: Write>(
     contents: &mut Contents<D>,
     alloc: Global,
@@ -80,8 +81,8 @@ fn run_opened<D: Disk, O: Write, E: Write>(
     }
 }
 
-/// Opens what a disk has, answers a question about it, and returns the status and the disk. Writes
-/// nothing to the disk.
+/// Opens the contents of `disk`, answers a question about them, and returns the status and the
+/// disk. Writes nothing to the disk.
 pub fn run_form<D: Disk, O: Write, E: Write>(
     alloc: Global,
     disk: D,
