@@ -62,14 +62,15 @@ impl<'a> Dependencies<'a> {
         })
     }
 
-    /// Returns whether one of the libraries goes by a name.
+    /// Returns whether one of the libraries has this name.
     fn has(&self, name: &[u8]) -> bool
         ensures { result ≡ not (is_none (place_of (names_of self.now.libraries) name.now)) }
     {
         self.names.contains(name)
     }
 
-    /// Writes the lines of a name that an object needs.
+    /// Writes the line of a name that an object needs, and after it the line of a missing name if
+    /// no library has it.
     fn put_need<W: Write>(
         &self,
         out: &mut W,

@@ -1,4 +1,4 @@
--- The first of the tests that applies.
+-- The refusal of the first test that applies.
 use Rattle.std.proofs.Common.{◌≡◌, ℕ, ◌+◌, ◌<◌, ◌≤◌, Bool, true, false, cond, take, List, [], ◌∷◌, Option, Some, None, refl, ap, ◌∙◌, arith}
 use Rattle.std.specs.Prelude.{not, nat_lt, nat_le, is_none, ◌&&◌, ◌==◌}
 use Rattle.std.specs.List.{list_any}
@@ -31,7 +31,7 @@ are_many image = nat_lt MOST_HEADERS (header_count_of (pieces_of image.segments)
 abbrev place_in : MemoryImage → Option ℕ
 place_in image = place_of (pieces_of image.segments)
 
--- the refusal of an image that has an entry
+-- the refusal of an image that has an entry, with the results of the next four tests put in
 with-entry : (image : MemoryImage) (entry : ℕ) (static before : Bool) (name last : Option (List ℕ)) → entry_of image ≡ Some entry → is_static_pie image ≡ static → is_preinitialized image ≡ before
     → first_initialized image ≡ name → first_finalized image ≡ last
     → executable_refusal image ≡ refusal_by (Some entry) static before name last (are_many image) (first_unasked image) (place_in image)
@@ -43,7 +43,8 @@ with-entry image entry static before name last e t b n l =
     ∙ ap (λ x. refusal_by (Some entry) static before x (first_finalized image) (are_many image) (first_unasked image) (place_in image)) n
     ∙ ap (λ x. refusal_by (Some entry) static before name x (are_many image) (first_unasked image) (place_in image)) l
 
--- the refusal of an image without functions that nobody calls
+-- the refusal of an image with an entry and without functions that nobody would call, with the results
+-- of the last three tests put in
 uncalled : (image : MemoryImage) (entry : ℕ) (many : Bool) (code : Option (List ℕ)) (place : Option ℕ) → entry_of image ≡ Some entry → HasNoCalls image
     → are_many image ≡ many → first_unasked image ≡ code → place_in image ≡ place
     → executable_refusal image ≡ refusal_by (Some entry) false false None None many code place
@@ -100,6 +101,6 @@ entry-among-low (p ∷ rest) segments entry h =
     entry-by (p.base + p.addresses.entry) entry (not (p.addresses.entry == 0)) (nat_le (p.base + p.addresses.entry) MEMORY_LIMIT)
     (list_any (is_code (p.base + p.addresses.entry)) (take p.segment_count segments)) refl h
 
--- an entry lies below the limit
+-- the entry of an image isn't above the limit
 pub entry-low : (image : MemoryImage) (entry : ℕ) → entry_of image ≡ Some entry → entry ≤ MEMORY_LIMIT
 entry-low image entry h = entry-among-low image.objects image.segments entry h

@@ -61,7 +61,7 @@ fn write_zeros<W: Write>(out: &mut W, count: usize) -> io::Result<()>
     out.write_all(&zeros[..count])
 }
 
-/// Writes `before` zeros, then `bytes`, and then zeros to the end of the page.
+/// Writes `before` zeros, then `bytes`, and then zeros up to the end of the page.
 fn write_padded<W: Write>(out: &mut W, before: usize, bytes: &[u8]) -> io::Result<()>
     requires { before < 4096 }
     ensures { OnOk result (Appends (W.contents out.old) (W.contents out.new)
@@ -73,7 +73,7 @@ fn write_padded<W: Write>(out: &mut W, before: usize, bytes: &[u8]) -> io::Resul
     write_zeros(out, padding(last) as usize)
 }
 
-/// Writes the pages of pieces.
+/// Writes the pages of the pieces, one piece after the other.
 fn write_pieces<W: Write>(out: &mut W, pieces: &[Piece]) -> io::Result<()>
     ensures { OnOk result (Appends (W.contents out.old) (W.contents out.new)
         (flat_map piece_bytes pieces.now)) }
@@ -102,7 +102,7 @@ impl Executable {
     }
 }
 
-/// Returns the refusal of a library that has initializers.
+/// Returns the refusal `Initializers` with the library's name, or `OutOfMemory`.
 fn initialized(alloc: Global, name: &Name) -> ExecutableRefusal
     ensures { (result ≡ ExecutableRefusal.Initializers name.now)
         ⊎ (result ≡ ExecutableRefusal.OutOfMemory) }
@@ -113,7 +113,7 @@ fn initialized(alloc: Global, name: &Name) -> ExecutableRefusal
     }
 }
 
-/// Returns the refusal of a library that has finalizers.
+/// Returns the refusal `Finalizers` with the library's name, or `OutOfMemory`.
 fn finalized(alloc: Global, name: &Name) -> ExecutableRefusal
     ensures { (result ≡ ExecutableRefusal.Finalizers name.now)
         ⊎ (result ≡ ExecutableRefusal.OutOfMemory) }
@@ -124,7 +124,7 @@ fn finalized(alloc: Global, name: &Name) -> ExecutableRefusal
     }
 }
 
-/// Returns the refusal of an object with memory that may be written and executed.
+/// Returns the refusal `WritableCode` with the object's name, or `OutOfMemory`.
 fn writable_code(alloc: Global, name: &[u8]) -> ExecutableRefusal
     ensures { (result ≡ ExecutableRefusal.WritableCode name.now)
         ⊎ (result ≡ ExecutableRefusal.OutOfMemory) }
@@ -136,7 +136,7 @@ fn writable_code(alloc: Global, name: &[u8]) -> ExecutableRefusal
 }
 
 /// Returns the image's entry, if the program doesn't relocate itself, and no object has functions
-/// that nobody would call. Otherwise returns the refusal.
+/// that nobody would call. Otherwise returns the refusal of the first of these tests that applies.
 fn entry_to_call(alloc: Global, image: &Image) -> Result<u64, ExecutableRefusal>
     ensures entry { IfOk result (λ entry. entry_of image.now ≡ Some entry) }
     ensures called { OnOk result (HasNoCalls image.now) }
@@ -160,7 +160,7 @@ fn entry_to_call(alloc: Global, image: &Image) -> Result<u64, ExecutableRefusal>
     Ok(entry)
 }
 
-/// Makes the file of `pieces`, with its headers at address `place`.
+/// Makes the file of `pieces`, whose headers are mapped at address `place`.
 fn file_of(
     alloc: Global,
     entry: u64,
@@ -203,7 +203,7 @@ pub fn executable_of(alloc: Global, image: &Image) -> Result<Executable, Executa
     // their permissions.
     ensures ok { IfOk result (IsFileOf image.now.segments) }
 
-    // Offsets are congruent to addresses, modulo a page.
+    // The offset of each PT_LOAD is congruent to its address, modulo the size of a page.
     ensures congruent { IfOk result (λ file. All IsCongruent (loads file)) }
 
     // The file loads the image's byte at each address of the image.
@@ -211,7 +211,7 @@ pub fn executable_of(alloc: Global, image: &Image) -> Result<Executable, Executa
         image_byte image.now a ≡ Some b → file_byte file a ≡ Some b) }
 
     // Besides these bytes it loads only its headers, and zeros between segments whose pages are the
-    // same or touch.
+    // same or neighbours.
     ensures only { IfOk result (λ file. (a b : ℕ) →
         file_byte file a ≡ Some b → IsFrom image.now.segments file a b) }
 

@@ -10,7 +10,7 @@ use names::Name;
 use std::io::Write;
 use text_output::{LINE, OutputBuffer, WriteFault};
 
-/// A line on its way to a writer.
+/// The buffer for a line.
 type Line = OutputBuffer<LINE>;
 
 /// Puts the line of a refusal that names an object.

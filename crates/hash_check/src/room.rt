@@ -1,12 +1,12 @@
-// A limit for the bytes of names that are read one by one.
+// A limit for the number of bytes of names that are read one by one.
 
 ghost use Rattle.std.specs.Prelude.{◌≡◌, ◌≤◌, ◌↔◌, ◌-◌, IsTrue};
 
 use std::marker::Model;
 
-/// The number of bytes of names that may still be read one by one. Names have no more bytes than
-/// their string tables if none of them is a tail of another. So if names have more than twice as
-/// many bytes, plus 64 KiB, many of them share bytes.
+/// The number of bytes of names that may still be read one by one. If none of the names is a tail
+/// of another, they have no more bytes than their string tables. So if names have more than twice
+/// as many bytes, plus 64 KiB, many of them share bytes.
 #[derive(Drop)]
 pub struct Room {
     left: usize,
@@ -29,8 +29,8 @@ impl Room {
         Room { left }
     }
 
-    /// Takes the `length` bytes of a name from the room, and returns whether the room had that
-    /// many.
+    /// Takes the `length` bytes of a name from the room, and returns whether the room had enough
+    /// bytes.
     pub fn take(&mut self, length: usize) -> bool
         ensures fits { IsTrue result ↔ length ≤ self.old }
         ensures left { self.new ≡ self.old - length }

@@ -1,4 +1,4 @@
-// The definitions that are found for all symbols of an order.
+// The definitions that lookup finds for all symbols of an order.
 
 ghost use Rattle.std.specs.Prelude.{◌≡◌, ◌<◌, ◌≤◌, ◌+◌, ◌^◌, ◌↔◌, ℕ, [], length, map, false};
 ghost use Rattle.std.specs.Prelude.{IsTrue, IfOk, slice_index_or};
@@ -17,13 +17,13 @@ use crate::target::Target;
 use hash_check::{Admitted, NumberedSymbol, numbered_symbols};
 use std::alloc::{AllocError, Global};
 
-/// For each symbol of each object, the definition of its name that lookup finds for this object.
+/// For each symbol of each object, the definition that lookup finds for the symbol's name.
 #[derive(Drop)]
 pub(crate) struct Found {
     rows: Vec<Vec<Definition>>,
 }
 
-/// Returns the admitted objects.
+/// Returns the objects as admitted objects.
 fn admitted<'a>(
     alloc: Global,
     objects: &[LoadedObject<'a>],
@@ -37,7 +37,7 @@ fn admitted<'a>(
     Ok(all)
 }
 
-/// Returns rows with room for a definition of each symbol of the objects.
+/// Returns a row for each object, with no definition for each of the object's symbols.
 fn no_rows(alloc: Global, objects: &[LoadedObject<'_>]) -> Result<Vec<Vec<Definition>>, AllocError>
     ensures { IfOk result (λ v. HaveRoom objects.now (map (λ r. r.items) v.items)) }
 {
@@ -63,7 +63,7 @@ fn has_symbolic(objects: &[LoadedObject<'_>]) -> bool
 }
 
 /// Returns, for each symbol, the definition of its name in its own object. Returns an empty list if
-/// no object is symbolic, because no definition of the list is used then.
+/// no object is symbolic, because then none of these definitions is used.
 fn own_where_symbolic(
     alloc: Global,
     objects: &[LoadedObject<'_>],
@@ -81,7 +81,7 @@ fn own_where_symbolic(
     }
 }
 
-/// Returns the definition at `at` of a list, or no definition if the list is shorter.
+/// Returns definition number `at` of a list, or no definition if the list is shorter.
 fn definition_at(kept: &[Definition], at: usize) -> Definition
     ensures { result ≡ nth_target kept.now at }
 {
@@ -92,7 +92,7 @@ fn definition_at(kept: &[Definition], at: usize) -> Definition
     }
 }
 
-/// Returns the definition that lookup finds for the symbol at `at`.
+/// Returns the definition that lookup finds for symbol number `at` of the list.
 fn found_for(
     objects: &[LoadedObject<'_>],
     symbols: &[NumberedSymbol],
@@ -118,7 +118,7 @@ fn found_for(
     definition_at(first, symbol.number as usize)
 }
 
-/// Puts the definition found for a symbol of the object at `place` into the object's row.
+/// Stores the definition found for a symbol of the object at `place` in this object's row.
 fn put(rows: &mut [Vec<Definition>], place: usize, symbol: u32, found: Definition)
     requires place { place < length rows.old }
     requires symbol { symbol
@@ -130,8 +130,9 @@ fn put(rows: &mut [Vec<Definition>], place: usize, symbol: u32, found: Definitio
 }
 
 impl Found {
-    /// Finds the definitions for all symbols of the objects. Allocates about 8 bytes a symbol, and
-    /// about 60 more while it runs. Returns an error if there are 2^32 objects or more.
+    /// Finds the definitions for all symbols of the objects. Allocates about 8 bytes a symbol for
+    /// the result, and about 60 more while it runs. Returns an error if there are 2^32 objects or
+    /// more.
     pub(crate) fn new(alloc: Global, objects: &[LoadedObject<'_>]) -> Result<Found, AllocError>
         requires { All (λ o. IsTaken o.file) objects.now }
         ensures { IfOk result (λ f. IsFound objects.now (map (λ r. r.items) f.rows.items)) }

@@ -1,4 +1,4 @@
-// Whether it is worth finding the definitions of all symbols at once.
+// Whether finding the definitions of all symbols at once may be cheaper than walks.
 
 ghost use Rattle.std.specs.Prelude.{◌≤◌, map, IfSome};
 ghost use Rattle.std.specs.List.{All};
@@ -11,7 +11,7 @@ use elf_dynamic::{Object, R_X86_64_64, R_X86_64_GLOB_DAT, R_X86_64_JUMP_SLOT, Re
 use hash_check::Room;
 use std::alloc::Global;
 
-/// A number of walk steps that takes no longer than putting one name into a table.
+/// The number of walk steps that take as long as putting one name into a table, or less.
 const STEPS_OF_A_NAME: u64 = 2;
 
 /// Returns whether a relocation uses the value of its symbol.
@@ -22,8 +22,8 @@ fn is_lookup(relocation: Relocation) -> bool {
     )
 }
 
-/// Returns the maximum number of symbols of an object that are looked up: as many as its
-/// relocations name, but no more than it has.
+/// Returns the maximum number of lookups for an object: the number of its relocations that use a
+/// symbol's value, or the number of its symbols if that is smaller.
 fn lookups_of(object: &Object<'_>) -> u64 {
     let mut naming = 0;
     for i in 0..object.rela_count() {
@@ -48,9 +48,9 @@ fn walk_length(object: &Object<'_>, from: u32, most: u32) -> u32
     most
 }
 
-/// Returns the number of symbols on the longest walk of an object. If the walks together have as
-/// many steps as the object has symbols, some of them share symbols. In that case it makes no more
-/// steps, and returns the number of all symbols.
+/// Returns the number of symbols on the longest walk of an object. If all walks together have as
+/// many steps as the object has symbols, some walks share symbols. Then it stops, and returns the
+/// number of all symbols.
 fn longest_walk(object: &Object<'_>) -> u32 {
     let mut left = object.symbol_count();
     let mut longest = 0;
@@ -107,8 +107,8 @@ fn any_share_bytes(objects: &[LoadedObject<'_>]) -> bool {
     false
 }
 
-/// Finds the definitions of all symbols, if walks may cost more and there is memory for the
-/// definitions.
+/// Finds the definitions of all symbols, if lookups by walks may cost more. Returns `None` if they
+/// don't, or if memory is refused.
 pub(crate) fn worthy_table(alloc: Global, objects: &[LoadedObject<'_>]) -> Option<Found>
     requires { All (λ o. IsTaken o.file) objects.now }
     ensures { IfSome result (λ t. IsFound objects.now (map (λ r. r.items) t.rows.items)) }

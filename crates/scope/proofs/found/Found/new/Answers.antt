@@ -15,7 +15,8 @@ use Rattle.scope.proofs.found.Found.new.Goals as goal
 abbrev none : NumberedSymbol
 none = record { object = 0; symbol = 0; number = 0 }
 
--- the symbols are those of the files, given in another form
+-- if two lists of files and two lists of symbols are equal, `AreNumbered` is true of one pair if it is
+-- of the other
 numbered : (objects : List Named) (files : List (List ℕ)) (all there : List NumberedSymbol) → files ≡ files_of objects → AreNumbered files all → there ≡ all
     → AreNumbered (files_of objects) there
 numbered objects files all there are is moved = subst (AreNumbered (files_of objects)) (sym moved) (subst (λ l. AreNumbered l all) are is)
@@ -39,7 +40,7 @@ found_for-found-requires-clause-first c =
     subst (AreFirst objects there (length there)) (sym c.deref-in-loop-at-2.ensures.value)
     (subst (λ (l : List NumberedSymbol). AreFirst objects l (length l) c.in_ok-first.first.items) (c.deref-2.ensures.value ∙ sym c.deref-in-loop-at.ensures.value) c.in_ok-first.ensures)
 
--- a symbol has a place in the row of its object
+-- the row of a symbol's object has an element for the symbol
 has_place : (objects : List Named) (all : List NumberedSymbol) (at : ℕ) (rows : List (List (Option Target))) → AreNumbered (files_of objects) all → at < length all
     → HaveRoom objects rows → (nth_symbol all at).symbol < length (get_or rows (nth_symbol all at).object [])
 has_place objects all at rows are lt room =
