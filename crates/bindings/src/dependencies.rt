@@ -126,10 +126,9 @@ impl<'a> Dependencies<'a> {
     }
 
     /// Writes the text: each object, with a line for each name that it needs, and another line if
-    /// none of the libraries goes by that name. Uses 64 KiB of stack, allocates nothing, and passes
-    /// the text to the writer in pieces of 64 KiB. Makes one pass over the objects' dynamic
-    /// sections, with one search for each name. If the writer fails, what it has received is
-    /// unspecified.
+    /// none of the libraries has this name. Uses 64 KiB of stack, allocates nothing, and passes the
+    /// text to the writer in pieces of 64 KiB. Makes one pass over the objects' dynamic sections,
+    /// with one search for each name. If the writer fails, the writer's contents are unspecified.
     #[tactic(auto, unfolding(crate::specs::Dependencies::dependencies_text))]
     pub fn write_text<W: Write>(&self, out: &mut W) -> Result<(), WriteFault>
         ensures { OnOk result (Appends (W.contents out.old) (W.contents out.new)

@@ -44,8 +44,8 @@ fn runs_to(rt: &HostRuntime, program: Program, words: &str, wanted: &str) -> Res
     }
 }
 
-/// Splits words at `run` or `tool`. Returns the words before it, the program for which it stands,
-/// and the words of the program.
+/// Splits words at `run` or `tool`. Returns the words before it, the program that it means, and the
+/// words of the program.
 fn split_words(words: &str) -> Option<(&str, Program, &str)> {
     if let Some((before, words)) = words.split_once(" run") {
         return Some((before, Program::Registry, words));
@@ -54,8 +54,8 @@ fn split_words(words: &str) -> Option<(&str, Program, &str)> {
     Some((before, Program::Tool, words))
 }
 
-/// Returns the disk that has to be left. The word `same` stands for the disk before the command,
-/// with the changes that follow the word.
+/// Returns the disk that has to be left. The word `same` means the disk before the command, with
+/// the changes that follow the word.
 fn wanted_disk(rt: &HostRuntime, before: &str, after: &str) -> Result<Option<Vec<u8>>> {
     match after.strip_prefix("same") {
         Some(changes) => disk_of(rt, &format!(in rt.alloc(); "{before}{changes}")?),

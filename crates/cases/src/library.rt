@@ -8,7 +8,7 @@ use program_parts::write_file_refusal;
 use std::alloc::Global;
 use std::io::Write;
 
-/// What a case asks about an admitted file.
+/// The question of a case about an admitted file.
 #[derive(Clone, Copy)]
 pub(crate) enum Seen<'a> {
     /// Whether it is admitted.

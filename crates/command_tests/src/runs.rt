@@ -41,7 +41,7 @@ const NO_DISK: Wanted = (1, "refused S6 BadGeometry\n", "");
 const BAD_BASE: Wanted = (2, "", "rlibreg: bad base\n");
 
 /// Command lines with blanks in a base, with a DISK that is also standard error, with a file that
-/// is one sector too long for a disk, and with a device.
+/// is one sector too long, and with a device.
 static ROWS: [Row; 19] = [
     (&["image", "no such file", " 0x10"], BAD_BASE),
     (&["image", "no such file", "0x10 "], BAD_BASE),

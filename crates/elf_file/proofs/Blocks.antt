@@ -104,8 +104,8 @@ index_spanned file i index has is spanned =
           record { block = at.block; stands = at.stands; from = at.from; to = at.to };
     }
 
--- if a fact is true of the first n elements of a list and of a new value, it is true of the first n + 1
--- elements after the value is written at n
+-- if a fact is true of the first n elements of a list and of a new value, writing the value at n makes
+-- it true of the first n + 1 elements
 set-facts : (xs : List ℕ) (n v : ℕ) (P : ℕ → ℕ → Type 0) → n < length xs → ((b : ℕ) → b < n → P b (get_or xs b 0)) → P n v
     → (b : ℕ) → b < n + 1 → P b (get_or (set xs n v) b 0)
 set-facts xs n v P room low top b lt =

@@ -53,7 +53,8 @@ joins p q short own above =
       ];
     }
 
--- the parts of a piece below an address and from the address on load the piece's bytes
+-- the parts of a piece below an address and from the address on have no more contents than memory, and
+-- together load the piece's bytes
 pub short-below : (at : ℕ) (p : Loaded) → IsShort (below at p)
 short-below at p = let n : ℕ = at - p.heading.address in omega (arith, length-take n p.contents)
 
@@ -91,7 +92,7 @@ out-of-above at p a b h k l = record {
   is = sym (get_or-drop (at - p.heading.address) p.contents (a - at) 0 ∙ ap (λ i. get_or p.contents i 0) (same-place at p.heading.address a h l.from)) ∙ l.is;
 }
 
--- a finished piece loads the same bytes as the piece
+-- a finished piece loads the same bytes as the piece, and ends at the same address
 pub finished-loads : (p : Loaded) (a b : ℕ) → Loads p a b → Loads (finished p) a b
 finished-loads p a b h =
     let e = finished-heading p in

@@ -15,8 +15,8 @@ use Rattle.executable.proofs.Following.{Opens, at-0, joined-fine}
 use Rattle.executable.proofs.Joining.{joins, finished-loads, loads-finished, finished-end}
 use Rattle.executable.proofs.Making.{Between, Found, fine-cut, keeps-cut, only-cut}
 
--- byte b at address a comes from piece p or piece q, or is a 0 between them, with no whole page between
--- the end of p and the first page of q
+-- byte b at address a comes from piece p or piece q, or is a 0 between them; no whole page lies between
+-- p and q
 abbrev pub Source : Loaded → Loaded → ℕ → ℕ → Type 0
 Source p q a b = Loads p a b ⊎ (Loads q a b ⊎ ((b ≡ 0) × (end_of p ≤ a) × (a < q.heading.address) × (page_of q.heading.address < end_of p + PAGE)))
 

@@ -72,7 +72,7 @@ finished-byte-by : (p : Loaded) (i : ℕ) (t : Bool)
 finished-byte-by p i true = get_or-without_zeros p.contents i
 finished-byte-by p i false = refl
 
--- a finished piece has the same byte at each index
+-- a finished piece has the same byte at each index, and no more contents
 pub finished-byte : (p : Loaded) (i : ℕ) → get_or (finished p).contents i 0 ≡ get_or p.contents i 0
 finished-byte p i = finished-byte-by p i (bit_and p.heading.permissions PF_W == PF_W)
 

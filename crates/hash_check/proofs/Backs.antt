@@ -39,7 +39,7 @@ front-stays (x ∷ p) (y ∷ r) (z ∷ s) low high front =
     front-stays p r s (rest-not-less y x (slice_cmp nat_cmp r p) same low) (rest-not-less z y (slice_cmp nat_cmp s r) same_above high) rest in
     ap (λ k. k ∷ take (length p) r) same ∙ ap (λ t. x ∷ t) tail
 
--- the first n bytes of a string don't come after the string in the order
+-- the first n bytes of a string don't come after the string in the order, and the order is transitive
 pub front-before : (n : ℕ) (s : List ℕ) → is_lt (slice_cmp nat_cmp s (take n s)) ≡ false
 front-before zero [] = refl
 front-before zero (x ∷ s) = refl

@@ -73,7 +73,7 @@ not-true : (b : Bool) → not b ≡ true → b ≡ false
 not-true true e = sym e
 not-true false e = refl
 
--- if the test of the words passes, there is a bucket, and every word is an index
+-- the test of the words passes exactly if there is a bucket and every word is an index
 words-true : (file : List ℕ) → has_good_words file ≡ true → HasBucket file × HasIndexWords file
 unfolding has_good_words
 words-true file is =

@@ -13,7 +13,7 @@ use Rattle.hash_check.specs.Export.{is_exported, exported_symbols}
 use Rattle.hash_check.specs.inside.Names.{AllDiffer, AreExports, IsWhole}
 use Rattle.hash_check.proofs.SharedNames.{stands, exported-passes, not-differ}
 
--- a reordered list of the exported symbols has all of them
+-- if the exported symbols were reordered, the list has all of them, and the names are theirs
 pub whole-moved : (file ys : List ℕ) → IsPermutation (exported_symbols file) ys → IsWhole file ys
 whole-moved file ys moved = record {
   stands = λ i is.
@@ -30,7 +30,7 @@ exports-moved file ys names moved is = record {
   named = is;
 }
 
--- a list that is equal to that of the exported symbols has all of them
+-- if a list is equal to that of the exported symbols, it has all of them, and the names are theirs
 pub whole-all : (file ys : List ℕ) → ys ≡ exported_symbols file → IsWhole file ys
 whole-all file ys is = subst (IsWhole file) (sym is) (whole-moved file (exported_symbols file) (IsPermutation-refl (exported_symbols file)))
 

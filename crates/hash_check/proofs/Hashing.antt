@@ -39,7 +39,8 @@ lane-on file symbol hash place end count h le = record {
       ∙ ap (fold hash_step hash) (sym (split (string_table file) place end count le)) ∙ h.rest some;
 }
 
--- if lane k is met and all lanes are met after it was assigned to symbol i, all were met before
+-- if lane k is met and all lanes are met after it was assigned to symbol i, all were met before, and
+-- symbol i is met
 pub met-before : (file symbols : List ℕ) (k i : ℕ) → k < 8 → length symbols ≡ 8 → (get_or symbols k 0 ≢ 0 → IsMet file (get_or symbols k 0)) → AllMet file (set symbols k i) → AllMet file symbols
 met-before file symbols k i lt size here all = record {
   met = λ j less some. elim (cases_eq j k) [

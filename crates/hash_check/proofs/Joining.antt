@@ -18,7 +18,7 @@ meets-self c i some = record {
   before = λ k le z. let none : k ≡ 0 = omega arith in some (sym (walk-zero c i) ∙ ap (walk c i) (sym none) ∙ z);
 }
 
--- a walk that meets an index before 0 doesn't begin at 0
+-- a walk that meets an index before 0 doesn't begin at 0, and meets the next index unless that is 0
 pub meets-some : (c : List ℕ) (from i : ℕ) → Meets c from i → from ≢ 0
 meets-some c from i h z = let least : 0 ≤ h.steps = omega arith in h.before 0 least (walk-zero c from ∙ z)
 

@@ -63,7 +63,7 @@ single c head v p = record {
   jump = let none : p.depth - p.depth ≡ 0 = omega arith in ap (walk c v) none ∙ walk-zero c v;
 }
 
--- an index that has a place still has one after a place was stored
+-- after a place was stored for an index, this index has a place, and so has each index that had one
 pub known-set : (ps : List (Option Place)) (i : ℕ) (new : Place) (k : ℕ) → Known ps k → Known (set ps i (Some new)) k
 known-set ps i new k h = elim (cases_eq k i) [
   | inl is ↦ record { place = new; is = ap (λ j. get_or (set ps i (Some new)) j None) is ∙ get_or-set_same ps i (Some new) None (subst (λ j. j < length ps) is (known-index ps k h)) }

@@ -67,7 +67,8 @@ popped-known c ps from path front i h known e =
     let longer : length path ≡ length front + 1 = ap length e ∙ length_push front i in
     subst (Known ps) (ap (walk c from) longer ∙ walk-next c from (length front) ∙ ap (slice_index c) (sym (path-last c from front i (subst (IsPath c from) e h)))) known
 
--- if `place_at` returns a place for an index, the index is known
+-- if `place_at` returns a place for an index, the index is known; if it returns none and 0 is known, the
+-- index isn't 0
 pub known-tested : (ps : List (Option Place)) (i : ℕ) (o : Option Place) → o ≡ place_at ps i → is_some o ≡ true → Known ps i
 known-tested ps i None e t = let f : false ≡ true = t in absurd (cc)
 known-tested ps i (Some p) e t = record { place = p; is = sym e }

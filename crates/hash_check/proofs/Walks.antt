@@ -48,8 +48,8 @@ depth-along c v d k h le = record {
 pub depth-zero : (c : List ℕ) → Depth c 0 0
 depth-zero c = record { arrives = walk-zero c 0; before = λ k lt z. absurd (omega arith) }
 
--- if the walk from the next index ends after e steps, the walk from an index other than 0 isn't at 0
--- before step e + 1
+-- if the walk from the next index ends after e steps, the walk from an index other than 0 ends after e +
+-- 1 steps; a walk has only one such number
 nonzero-before : (c : List ℕ) (v e : ℕ) → v ≢ 0 → Depth c (slice_index c v) e → (k : ℕ) → k < e + 1 → walk c v k ≢ 0
 nonzero-before c v e some h zero lt z = some (sym (walk-zero c v) ∙ z)
 nonzero-before c v e some h (suc k) lt z = let below : k < e = omega arith in h.before k below (sym (walk-suc c v k) ∙ z)

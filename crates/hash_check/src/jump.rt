@@ -8,9 +8,9 @@ use crate::chains::Chains;
 use crate::place::{Place, known_place};
 
 /// Returns the place of an index on the walk from `head`. The next index on this walk is `next`. If
-/// the jump of `next` and the jump from where it lands have the same length, the new jump leads
-/// over both. Otherwise the new jump is a single step. So a walk of n steps can be followed with
-/// about log n jumps.
+/// the jump of `next` and the jump after it have the same length, the new jump leads over both.
+/// Otherwise the new jump is a single step. So a walk of n steps can be followed with about log n
+/// jumps.
 pub(crate) fn place_before(
     places: &[Option<Place>],
     chains: &Chains<'_, '_>,

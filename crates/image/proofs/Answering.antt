@@ -36,7 +36,7 @@ alone-by : (o : Option BindRefusal) → first_of (o ∷ []) ≡ o
 alone-by None = refl
 alone-by (Some e) = refl
 
--- if `program_refusal` refuses nothing, the program's file is accepted
+-- if `program_refusal` refuses nothing, the program's file is accepted and the base is good
 pub program-taken : (file : List ℕ) (base : ℕ) → program_refusal file base ≡ None → first_file_refusal file ≡ None
 unfolding program_refusal
 program-taken file base h = by (first_file_refusal file) (is_good_base file base) h

@@ -127,7 +127,8 @@ pub order-some : (os : List Named) → IsOrder os → 0 < length os
 order-some [] h = let p = h.program in cc
 order-some (o ∷ os) h = omega arith
 
--- the first base of a placement is the given one, and the other objects are placed after the program
+-- the first base of a placement is the given one; the other bases and their room are those of the
+-- placement after the program
 pub first-base : (base : ℕ) (os : List Named) → 0 < length os
     → bases_of (place base os) ≡ base ∷ bases_of (place_after (base + reach (order.file_at os 0)) (drop 1 os))
 first-base base [] h = absurd (omega (arith, h))
@@ -148,8 +149,8 @@ next-after end i os h = ap (place_after end) (drop_more os i nobody h)
 file-of : (i : ℕ) (os : List Named) → i < length os → (get_or os i nobody).file ≡ order.file_at os i
 file-of i os h = sym (get_or-map (λ (o : Named). o.file) os i nobody [] h)
 
--- the base of object number i is the next multiple of its unit, and the objects after it are placed
--- after its end
+-- the base of object number i is the next multiple of its unit; the other bases and their room are those
+-- of the placement after this object
 pub next-base : (end i : ℕ) (os : List Named) → i < length os
     → bases_of (place_after end (drop i os))
     ≡ next_multiple_of end (unit (order.file_at os i))
@@ -170,7 +171,8 @@ next-room end i os h =
 pub none-behind : (end i : ℕ) (os : List Named) → length os ≤ i → place_after end (drop i os) ≡ []
 none-behind end i os h = ap (place_after end) (drop_all i os h)
 
--- there are as many placed objects as bases
+-- if placed objects are the objects of an order at the bases of a list, they have the order's files and
+-- names and the list's bases, number by number
 pub count-kept : (os : List Named) (bs : List ℕ) (objects : List Placed) → length bs ≡ length os → with_bases os bs ≡ objects → length objects ≡ length bs
 count-kept os bs objects h is = ap length (sym is) ∙ length-with os bs h
 
@@ -192,8 +194,8 @@ below n m h = grind (arith, nat_tests)
 above : (n m : ℕ) → m < n → nat_lt m n ≡ true
 above n m h = grind (arith, nat_tests)
 
--- the bases of a placement: `base`, and then those of the objects that are placed after the program,
--- which ends at `end`
+-- the bases and the room of a placement: those of the program, which is at `base` and ends at `end`, and
+-- those of the objects that are placed after it
 pub init-bases : (base end : ℕ) (os : List Named) → 0 < length os → end ≡ base + reach (order.file_at os 0)
     → bases_of (place base os) ≡ base ∷ bases_of (place_after end (drop 1 os))
 init-bases base end os some is = first-base base os some ∙ ap (λ n. base ∷ bases_of (place_after n (drop 1 os))) (sym is)
@@ -210,8 +212,8 @@ pub first-fits : (base end : ℕ) (os : List Named) → 0 < length os → end �
 first-fits base end [] some is low = absurd (omega (arith, some))
 first-fits base end (o ∷ os) some is low = ap (λ n. nat_lt MEMORY_LIMIT n || false) (sym is) ∙ ap (λ b. b || false) (below end MEMORY_LIMIT low)
 
--- the bases that are left: `base`, and then those of the objects that are placed after the next object,
--- which ends at `new`
+-- the bases and the room that are left: those of the next object, which is at `base` and ends at `new`,
+-- and those of the objects that are placed after it
 pub step-bases : (end base new i : ℕ) (os : List Named) → i < length os → base ≡ next_multiple_of end (unit (order.file_at os i)) → new ≡ base + reach (order.file_at os i)
     → bases_of (place_after end (drop i os)) ≡ base ∷ bases_of (place_after new (drop (i + 1) os))
 step-bases end base new i os within at is =

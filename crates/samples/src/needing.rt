@@ -39,7 +39,7 @@ pub fn named(tag: u64, letter: u8) -> [u8; 16] {
 }
 
 /// Writes the size of the whole file and the size of its dynamic section into the program headers,
-/// each as the size in the file and as the size in memory.
+/// both as the size in the file and as the size in memory.
 fn put_sizes(file: &mut [u8]) {
     let whole = file.len() as u64;
     let section = whole.saturating_sub(FRONT.len() as u64);

@@ -126,7 +126,8 @@ unfolding IsDistinct
 distinct-raised [] h = tt
 distinct-raised (p ∷ ps) h = (raised p ps h.0, distinct-raised ps h.1)
 
--- if the preloads are distinct, the places of level 0 are distinct
+-- if the preloads are distinct, the places of level 0 are distinct, and adding the preloads to the
+-- program makes level 0
 pub distinct-level_0 : (preloads : List ℕ) → IsDistinct nat_eq preloads → IsDistinct nat_eq (level_0 preloads)
 unfolding IsDistinct
 distinct-level_0 preloads h = (above_0 preloads, distinct-raised preloads h)

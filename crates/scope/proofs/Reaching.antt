@@ -10,7 +10,8 @@ use Rattle.scope.specs.inside.Growing.{grown}
 use Rattle.scope.specs.inside.Reached as inside
 use Rattle.scope.proofs.Growing.{grown_is, grown-nil, grown-append, grown-take}
 
--- if x is the first element after i elements, element i of the list is x, and also of any longer list
+-- if x is the first element of a list after i elements, it is element i of any list that begins with
+-- this list
 item_at : (ps ms : List ℕ) (i x : ℕ) (left : List ℕ) → drop i ps ≡ x ∷ left → get_or (ps ++ ms) i 0 ≡ x
 item_at ps ms i x left e =
     get_or_append_left ps ms 0 i (omega (arith, length-drop i ps, ap length e))

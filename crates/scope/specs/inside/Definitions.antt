@@ -18,7 +18,7 @@ files_of objects = map (λ o. o.file) objects
 abbrev pub IsExported : List Named → NumberedSymbol → Type 0
 IsExported objects s = is_exported (file_at objects s.object) s.symbol ≡ true
 
--- the target that a kept pair of object and symbol stands for; symbol number 0 stands for none
+-- the target of a kept definition: symbol number `symbol` of `object`, or none if `symbol` is 0
 unfoldable pub kept_target : ℕ → ℕ → Option Target
 kept_target object symbol = if symbol == 0 then None else Some (At object symbol)
 

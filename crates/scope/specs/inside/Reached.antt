@@ -5,7 +5,7 @@ use Rattle.scope.specs.Levels.{levels_after, joined_levels}
 use Rattle.scope.specs.inside.Growing.{grown}
 
 -- The first `i` objects of the queue have been processed. `earlier` has all levels up to the current
--- one. Of the current level, the objects `walked` have been processed, and `left` haven't.
+-- one. The objects `walked` of the current level have been processed, and the objects `left` haven't.
 pub record Reached (needs : ℕ → List ℕ) (n : ℕ) (first places : List ℕ) (i : ℕ) : Type 0 where
   pub earlier : List ℕ
   pub walked : List ℕ

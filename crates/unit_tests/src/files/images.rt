@@ -22,8 +22,8 @@ const SAMPLE: &str =
     1800000000000000090000000000000018000000000000000000000000000000000000000000000000000000\
     00000000";
 
-/// Offsets in the sample: of the offset of its program headers, of their number, of the sizes of
-/// its PT_LOAD in the file and in memory, and of the address and the size of its relocations.
+/// Offsets in the sample: of the offset of its program headers and of their number; of the sizes of
+/// its PT_LOAD in the file and in memory; of the address and the size of its relocations.
 const HEADERS_AT: usize = 0x20;
 
 const HEADER_COUNT_AT: usize = 0x38;

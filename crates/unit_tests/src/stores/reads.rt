@@ -1,4 +1,4 @@
-// What a store reports and reads on a disk whose sectors the test writes itself.
+// The answers of a store on a disk whose sectors the test writes itself.
 use crate::stores::byte_strings::opened;
 use crate::stores::disks::{write_catalogue, write_entry, write_root};
 use crate::stores::sectors::{memory, write};
