@@ -3,9 +3,9 @@
 
     python3 bench/initializers.py FOLDER [GRAPHS [START]]
 
-FOLDER has rlibreg and rlibreg-run (c/build.sh). Each graph has libraries that need each other at random, also in circles,
-with or without DT_INIT, DT_FINI, arrays, DF_1_INITFIRST and preloads. A program needs some of them. Each function writes
-its name, so everything that is called is compared, in its order. gcc makes the functions, and ld links them. For the
+FOLDER has rlibreg and rlibreg-run (c/build.sh). Each graph has libraries that need each other at random, sometimes in
+circles, with or without DT_INIT, DT_FINI, arrays, DF_1_INITFIRST and preloads. A program needs some of them. Each
+function writes its name, so all calls and their order are compared. gcc makes the functions, and ld links them. For the
 system's loader the program also needs its C library, after all others: without a C library that loader doesn't finalize.
 """
 

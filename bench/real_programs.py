@@ -4,11 +4,12 @@ own commands.
 
     python3 bench/real_programs.py PROGRAMS FOLDER [--sources SOURCES] [--only NAME..]
 
-PROGRAMS has rlibreg, rlibreg-run, rlibreg-tool and rlibreg-gcc (c/build.sh). Each program has musl inside, and its own code
-in libraries of a registry, as docs/LINKING.md says. Its output, its status and the files that it leaves are compared with
-those of the same sources linked statically. The executable of its image is compared too, if rlibreg-tool makes one. If the
-script runs as root, a user without privileges does all of it once more. SOURCES keeps the archives; `apt-get source` gets
-those that aren't there. What this machine lacks is left out, with a line that says so.
+PROGRAMS has rlibreg, rlibreg-run, rlibreg-tool and rlibreg-gcc (c/build.sh). Each program has musl inside, and its own
+code in libraries of a registry, as docs/LINKING.md says. Its output, its status and the files that it leaves are compared
+with those of the same sources linked statically. The executable of its image is compared too, if rlibreg-tool makes one.
+If the script runs as root, a user without privileges does all of it once more. SOURCES keeps the archives; `apt-get
+source` gets those that aren't there. If this machine lacks something, the part that needs it is left out, and a line
+reports this.
 """
 
 import argparse
