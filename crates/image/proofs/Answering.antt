@@ -131,7 +131,7 @@ later-answer file base libraries preloads e taken good (inl h) =
     answer-by file base libraries preloads e (taken_with_memory file taken) (behind file base libraries preloads taken good ∙ h)
 later-answer file base libraries preloads e taken good (inr h) = memory-by file base libraries preloads e (taken_with_memory file taken) h
 
--- the first object is the program
+-- the first object of a load order is the program
 pub program-first : (file : List ℕ) (libraries : List Named) (preloads : List ℕ) → file_at (load_order file libraries preloads) 0 ≡ file
 unfolding load_order load_places joined_levels levels
 program-first file libraries preloads = refl

@@ -11,7 +11,7 @@ use Rattle.image.specs.Relocating.{Write, base_at, name_at, relocations_of, symb
 abbrev pub value_in : List ℕ → ℕ → Option ℕ
 value_in values symbol = Some (slice_index values symbol)
 
--- in `values`, symbol number `symbol` of object number `own` has its value
+-- `values` has the value of symbol number `symbol` of object number `own`
 abbrev pub IsKnown : List Placed → ℕ → List ℕ → ℕ → Type 0
 IsKnown objects own values symbol = symbol_value objects own symbol ≡ value_in values symbol
 
