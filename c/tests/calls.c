@@ -402,7 +402,7 @@ static void try_none_given(struct file program, uint64_t base, uint32_t wanted, 
     try_not_given('x', program, base, wanted, line);
 }
 
-/* Without its library a program has no executable file, and its bindings report the missing name. */
+/* Without its library a program has no executable, and its bindings report the missing name. */
 static void try_lacking(struct file program, const char *library) {
     char missing[600], said[2000];
     snprintf(missing, sizeof missing, "refused B3 Missing /program %s\n", library);

@@ -250,7 +250,7 @@ static void try_rooms(void) {
 
 /* ---- Without a registry */
 
-/* Checks bytes that hold no registry: the answer has only the reason, and only its line is written. */
+/* Checks bytes without a registry: the answer has only the reason, and only its line is written. */
 static void want_refused(const uint8_t *bytes, size_t size, uint32_t status, const char *line) {
     for (size_t room = 0; room <= strlen(line) + 1; room++) {
         rlibreg_answer answer, wanted = { .status = status, .text = strlen(line) };

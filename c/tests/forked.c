@@ -210,7 +210,7 @@ static void try_all_generations(void) {
         printf("skipped: children with their parent's process number (%s)\n", strerror(errno));
 }
 
-/* If there is no memory for watching forks, no disk is opened. Later, when there is memory, it is. */
+/* If there is no memory to watch forks, no disk is opened. Later, when there is memory, it is. */
 static void try_unwatched(void) {
     fflush(stdout);
     pid_t child = fork();

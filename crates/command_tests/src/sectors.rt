@@ -10,7 +10,7 @@ pub(crate) type Sectors = [[u8; SECTOR_BYTES]; 8];
 pub(crate) enum Harm {
     /// All bytes of the sector with this number become zeros.
     Zeros(usize),
-    /// In the sector with the first number, the byte at the second number gets this value.
+    /// The fields are the number of a sector, an offset in it, and the new value of the byte there.
     Byte(usize, usize, u8),
 }
 

@@ -37,8 +37,8 @@ fn string_front(table: &[u8], offset: u32, limit: usize) -> &[u8]
     front
 }
 
-/// Returns false only if the string at an offset of a string table doesn't have exactly `size`
-/// bytes. Tests whether the byte after them is 0, or the table ends before it.
+/// Returns whether the string at an offset of a string table may have exactly `size` bytes. It may
+/// if the byte after them is 0, or if the table ends before that byte.
 fn may_end(table: &[u8], offset: u32, size: usize) -> bool
     ensures { result ≡ false → length (string_at table.now offset) ≢ size }
 {

@@ -73,7 +73,7 @@ distinct-front {K} {eq} laws ks i d distinct lt =
     let before : k < i = omega (arith, ltk, length-take i ks) in
     ap (eq (get_or ks i d)) (get_or-take i ks k d before) ∙ laws.symm (get_or ks i d) (get_or ks k d) ∙ apart_from_distinct eq ks k i d distinct before lt))
 
--- in a list of distinct places, the last one isn't among those before it
+-- in a list of distinct places that ends with `q`, `q` isn't among the places before
 fresh_last : (ps : List ℕ) (q : ℕ) → IsDistinct nat_eq (ps ++ q ∷ []) → is_among ps q ≡ false
 fresh_last ps q distinct =
     ap (λ k. is_among ps k) (sym (get_or-append_seam ps q [] 0))
