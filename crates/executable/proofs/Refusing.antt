@@ -18,12 +18,12 @@ use Rattle.executable.specs.StaticPie.{is_static_pie}
 use Rattle.executable.specs.Uncalled.{first_uninitialized, first_unfinalized, is_uncalled_before}
 use Rattle.executable.specs.WritableCode.{first_unasked}
 use Rattle.executable.specs.declared.refusal.ExecutableRefusal.{ExecutableRefusal}
-use Rattle.executable.specs.declared.refusal.ExecutableRefusal.TheVariants.{NoEntry, StaticPie, PreInitializers, Initializers, Finalizers, TooManyHeaders, WritableCode, NoRoom}
+use Rattle.executable.specs.declared.refusal.ExecutableRefusal.TheVariants.{NoEntry, StaticPie, PreInitializers, Initializers, Finalizers, TooManyHeaders, WritableCode, NoPages}
 
 abbrev refusal_by : Option ℕ → Bool → Bool → Option (List ℕ) → Option (List ℕ) → Bool → Option (List ℕ) → Option ℕ → Option ExecutableRefusal
 refusal_by entry static before name last many code place =
     first_of ((NoEntry when is_none entry) ∷ (StaticPie when static) ∷ (PreInitializers when before) ∷ option_map Initializers name ∷ option_map Finalizers last
-    ∷ (TooManyHeaders when many) ∷ option_map WritableCode code ∷ (NoRoom when is_none place) ∷ [])
+    ∷ (TooManyHeaders when many) ∷ option_map WritableCode code ∷ (NoPages when is_none place) ∷ [])
 
 abbrev are_many : MemoryImage → Bool
 are_many image = nat_lt MOST_HEADERS (header_count_of (pieces_of image.segments))
@@ -81,7 +81,7 @@ pub writable-code : (image : MemoryImage) (entry : ℕ) (name : List ℕ) → en
 writable-code image entry name e c m w = uncalled image entry false (Some name) _ e c (grind (arith, nat_tests)) w refl
 
 pub no-room : (image : MemoryImage) (entry : ℕ) → entry_of image ≡ Some entry → HasNoCalls image
-    → header_count_of (pieces_of image.segments) ≤ MOST_HEADERS → first_unasked image ≡ None → place_of (pieces_of image.segments) ≡ None → executable_refusal image ≡ Some NoRoom
+    → header_count_of (pieces_of image.segments) ≤ MOST_HEADERS → first_unasked image ≡ None → place_of (pieces_of image.segments) ≡ None → executable_refusal image ≡ Some NoPages
 no-room image entry e c m w p = uncalled image entry false None None e c (grind (arith, nat_tests)) w p
 
 pub none-applies : (image : MemoryImage) (entry place : ℕ) → entry_of image ≡ Some entry → HasNoCalls image

@@ -11,7 +11,7 @@ use Rattle.executable.specs.StaticPie.{is_static_pie}
 use Rattle.executable.specs.Uncalled.{first_uninitialized, first_unfinalized, is_uncalled_before}
 use Rattle.executable.specs.WritableCode.{first_unasked}
 use Rattle.executable.specs.declared.refusal.ExecutableRefusal.{ExecutableRefusal}
-use Rattle.executable.specs.declared.refusal.ExecutableRefusal.TheVariants.{NoEntry, StaticPie, PreInitializers, Initializers, Finalizers, TooManyHeaders, WritableCode, NoRoom, OutOfMemory}
+use Rattle.executable.specs.declared.refusal.ExecutableRefusal.TheVariants.{NoEntry, StaticPie, PreInitializers, Initializers, Finalizers, TooManyHeaders, WritableCode, NoPages, OutOfMemory}
 
 -- the tests: no entry in own code; a static PIE; functions that nobody calls (three tests); too many headers; memory
 -- that may be written and executed although no file requests it; no room
@@ -24,7 +24,7 @@ executable_tests image =
     ∷ option_map Finalizers (first_unfinalized image)
     ∷ (TooManyHeaders when nat_lt MOST_HEADERS (header_count_of (pieces_of image.segments)))
     ∷ option_map WritableCode (first_unasked image)
-    ∷ (NoRoom when is_none (place_of (pieces_of image.segments)))
+    ∷ (NoPages when is_none (place_of (pieces_of image.segments)))
     ∷ []
 
 -- the refusal of an image: that of the first test that applies

@@ -232,7 +232,7 @@ pub fn executable_of(alloc: Global, image: &Image) -> Result<Executable, Executa
         return Err(writable_code(alloc, owner(image, piece)));
     }
     let Some(place) = place_of(&pieces) else {
-        return Err(ExecutableRefusal::NoRoom);
+        return Err(ExecutableRefusal::NoPages);
     };
     Ok(file_of(alloc, entry, place, pieces)?)
 }

@@ -39,7 +39,7 @@ pub enum ExecutableRefusal {
     },
     /// No pages from 0x10000 on, below or above the image, have room for the headers.
     #[error("there is no room for the headers")]
-    NoRoom,
+    NoPages,
     /// Memory was refused.
     #[error("memory was refused")]
     OutOfMemory,
