@@ -1,21 +1,22 @@
 -- What the forms end with, over a state, and what a disk ends with: what was told and said, and the status (own).
-use Rattle.std.specs.Prelude.{◌≡◌, ◌≢◌, ◌⊎◌, ◌↔◌, ◌≤◌, ◌<◌, ℕ, List, All, Option, None, Ok, Err, length, slice_index_or, codes, count_by, is_none}
+use Rattle.std.specs.Prelude.{◌≡◌, ◌≢◌, ◌⊎◌, ◌↔◌, ◌≤◌, ◌<◌, ℕ, List, All, Option, None, Ok, Err, length, slice_index_or, codes, count_by, is_none, sum_by}
 use Rattle.extents.specs.Layout.{unused_count}
 use Rattle.extents.specs.Runs.{unused_runs}
 use Rattle.requests.specs.Library.{IsLibrary}
-use Rattle.sector_disk.specs.Disk.{DiskFacts}
+use Rattle.sector_disk.specs.Disk.{AreCallsAtMost, AreCallsExactly, DiskFacts}
 use Rattle.states.specs.Cost.{free}
 use Rattle.states.specs.State.{Library, State}
 use Rattle.store.specs.Holds.{layout_in_use}
-use Rattle.store.specs.IsRead.{IsRead}
+use Rattle.store.specs.IsRead.{IsRead, file_sectors}
 use Rattle.store.specs.Names.{IsFileSize}
 use Rattle.store.specs.Opened.{IsAt, Opened}
 use Rattle.store.specs.Opens.{OpensByEntries}
 use Rattle.store.specs.Stands.{no_library}
 use Rattle.store.specs.Step.{longest_unused, refusal_of_new}
+use Rattle.store.specs.declared.placed_entry.PlacedEntry.{PlacedEntry}
 use Rattle.store.specs.declared.refusal.StoreRefusal.{StoreRefusal}
 use Rattle.contents.specs.File.{HasFile}
-use Rattle.contents.specs.Finding.{IsFinding, is_unreadable}
+use Rattle.contents.specs.Finding.{IsFinding, LacksMemory, is_unreadable}
 use Rattle.contents.specs.declared.finding.Finding.{Finding}
 use Rattle.contents.specs.declared.finding.Finding.TheVariants.{Sound, Unreadable}
 use Rattle.program_parts.specs.Status.{disk_status}
@@ -48,13 +49,13 @@ InfoEnds facts store s io status = (largest : ℕ) × IsLargest facts store s la
 
 -- what is told by reading byte strings, which took a disk from the one to the other
 module _ (old new : DiskFacts) where
-  -- `check`: of each library what is found of it, and for each that can't be read a call failed; or
-  -- memory was refused
-  abbrev pub CheckEnds : State → Streams → Status → Type 0
-  CheckEnds s io status =
+  -- `check`: of each library, which have these entries, what is found of it, and for each that can't be read
+  -- a call failed; or memory was refused, before a library was read or at one of which a test takes some
+  abbrev pub CheckEnds : List PlacedEntry → State → Streams → Status → Type 0
+  CheckEnds entries s io status =
       ((findings : List Finding) × AreFindings s.libraries findings × HaveFailed old new (count_by is_unreadable findings)
       × TellsOnly (check_status findings) (check_text s.libraries findings) io status)
-      ⊎ SaysOnly NoMemory memory_line io status
+      ⊎ (LacksMemory old new entries s × SaysOnly NoMemory memory_line io status)
 
   -- `digest`: of each library the SHA-256 of its bytes, and for each that can't be read a call
   -- failed; or memory was refused
@@ -90,10 +91,19 @@ module _ (old new : DiskFacts) where
 -- what is asked of an opened disk, whose calls left it so
 abbrev pub FormEnds : {D : Type 0} → (D → DiskFacts) → Opened D → D → State → Question → Streams → Status → Type 0
 FormEnds facts store left s info io status = InfoEnds facts store s io status
-FormEnds facts store left s check io status = CheckEnds (facts store.disk) (facts left) s io status
+FormEnds facts store left s check io status = CheckEnds (facts store.disk) (facts left) store.entries s io status
 FormEnds facts store left s digest io status = DigestEnds (facts store.disk) (facts left) s io status
 FormEnds facts store left s (file name) io status = FileEnds (facts store.disk) (facts left) s name io status
 FormEnds facts store left s (dump purpose) io status = DumpEnds (facts store.disk) (facts left) purpose s io status
+
+-- How much is read of a disk whose libraries have these entries: `info` makes no call; `check` and `digest` read
+-- no sector of a library twice.
+abbrev pub FormReads : (old new : DiskFacts) → List PlacedEntry → Question → Type 0
+FormReads old new entries info = AreCallsExactly 0 old new
+FormReads old new entries check = AreCallsAtMost (sum_by file_sectors entries) old new
+FormReads old new entries digest = AreCallsAtMost (sum_by file_sectors entries) old new
+FormReads old new entries (file name) = Unit {0}
+FormReads old new entries (dump purpose) = Unit {0}
 
 -- a disk that isn't opened: nothing is told, but of a script that it is cut, unless the output failed
 abbrev pub EndsUnopened : Question → Status → Option (List ℕ) → Option (List ℕ) → Status → Type 0
@@ -109,6 +119,7 @@ pub record IsAsked {D : Type 0} (facts : D → DiskFacts) (disk : D) (question :
   -- and then it was only read
   pub read : Opened D
   pub only_read : IsRead facts store read
+  pub calls : FormReads (facts store.disk) (facts left) store.entries question
   pub back : left ≡ read.disk
   -- an honest disk is at one state, and what is asked is told of that
   pub ends : (s : State) → IsAt facts store s → FormEnds facts store left s question io status
