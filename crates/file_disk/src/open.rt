@@ -1,5 +1,5 @@
 // Opening and making the file of a disk.
-ghost use Rattle.std.specs.Prelude.{◌≡◌, ◌≢◌, ◌*◌, ◌<◌, ◌^◌, ℕ, IfOk, IfErr, IfSome, IfNone};
+ghost use Rattle.std.specs.Prelude.{◌≡◌, ◌*◌, IfOk, IfErr, IfSome, IfNone};
 ghost use Rattle.std.specs.Prelude.{false, IsTrue, MatchResult};
 ghost use Rattle.file_disk.specs.FileDisk.{file_facts, IsNew, IsAsTheFile, IsOver, HasCause};
 ghost use Rattle.file_disk.specs.FileDisk.{StartsAsFound};
@@ -101,7 +101,7 @@ impl<F: SectorFile + Drop> FileDisk<F> {
         // It fails only if memory is refused or the file's sectors can't be counted.
         ensures cause { IsTrue F.is_honest → IfErr result (λ fault. HasCause F.facts file fault) }
 
-        // It is refused for its length only if no disk has this length, of whatever honesty it is.
+        // Of any file, honest or not: it is refused for its length only if no disk has this length.
         ensures length { IfErr result IsLengthFault }
     {
         let mut file = file;
