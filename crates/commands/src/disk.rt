@@ -36,7 +36,7 @@ pub(crate) fn no_disk(fault: OpenFault) -> NoRegistry
 {
     match fault {
         OpenFault::CannotOpen => NoRegistry::CannotOpen,
-        OpenFault::BadLength => NoRegistry::Refused(StoreRefusal::BadGeometry),
+        OpenFault::BadLength(_) => NoRegistry::Refused(StoreRefusal::BadGeometry),
         OpenFault::OutOfMemory => NoRegistry::Refused(StoreRefusal::OutOfMemory),
     }
 }
