@@ -122,8 +122,9 @@
  * THREADS AND MEMORY
  *
  * - A bound image is memory, not a process: nothing of the library runs what is in it. A caller
- *   that maps the image calls the libraries' initializers (DT_INIT, DT_INIT_ARRAY) before its
- *   entry, as rlibreg-run does. The dynamic sections of the objects have them.
+ *   that maps the image calls the program's DT_PREINIT_ARRAY, and then the libraries'
+ *   initializers (DT_INIT, DT_INIT_ARRAY), before its entry, as rlibreg-run does. The dynamic
+ *   sections of the objects have them.
  * - Several threads may make calls at the same time, on different struct rlibreg. Only one thread
  *   at a time uses one struct. A signal handler makes no calls. Nor, in a process of several
  *   threads, does a child between fork and exec. A thread that makes calls needs 512 KiB of stack.
@@ -412,8 +413,9 @@ uint32_t rlibreg_bindings(const uint8_t *disk, size_t disk_length, const uint8_t
  *
  * If the image has no such file, the status is the first of these that applies: RLIBREG_NO_ENTRY,
  * RLIBREG_STATIC_PIE, RLIBREG_PRE_INITIALIZERS, RLIBREG_INITIALIZERS, RLIBREG_FINALIZERS,
- * RLIBREG_TOO_MANY_HEADERS, RLIBREG_WRITABLE_CODE or RLIBREG_NO_PAGES. TEXT then has the line of
- * `rlibreg-tool executable`.
+ * RLIBREG_TOO_MANY_HEADERS, RLIBREG_WRITABLE_CODE or RLIBREG_NO_PAGES. The third to the fifth of
+ * them don't apply if the program says by a note that it calls these functions itself
+ * (rlibreg-tool(1)). TEXT then has the line of `rlibreg-tool executable`.
  *
  * Refusals: B1 to B5; S3, S5, S6, S11, S12. */
 uint32_t rlibreg_executable(const uint8_t *disk, size_t disk_length, const uint8_t *program,

@@ -70,7 +70,7 @@ done
 # of undefined behaviour.
 loader="$flags -O1 $sanitizers"
 compiled loader "$loader" "$here"/../rlibreg_run*.c "$here/../rlibreg_stack.c" $library
-gcc $loader -o "$room/rlibreg-run" "$objects"/loader/*.o "$built/librlibreg.a"
+gcc $loader -o "$room/rlibreg-run" -Wl,--build-id=sha1 "$objects"/loader/*.o "$built/librlibreg.a"
 taking=-Wl,--wrap=mmap,--wrap=kernel_map,--wrap=rlibreg_bind
 gcc $loader -o "$room/run-taken" $taking "$here/taken.c" "$objects"/loader/*.o \
     "$built/librlibreg.a"
@@ -147,7 +147,7 @@ case $(stat -f -c %T "$objects") in
 esac
 
 # The files that build.sh has made, as they are: these tests don't compile the library's C again.
-for part in shared installed manual python driver; do
+for part in shared installed manual python driver constructors; do
     (. "$here/$part.sh")
 done
 # The switch of two disks; only once, because no compiler makes it.

@@ -13,13 +13,13 @@ use Rattle.binders.specs.Slotted.{Slotted}
 use Rattle.binders.specs.declared.event.EventReply.{EventReply}
 use Rattle.binders.specs.declared.event.EventReply.TheVariants.{Replied}
 
--- an event and its reply, as far as the state is concerned: a command with its reply, or a step
--- that asks for no change
+-- an event and its reply as an exchange: either a command with its reply, or a request for no change of
+-- the state
 abbrev pub exchange_of : Happening → EventReply → Exchange
 exchange_of (apply request) (Replied answer) = answered (command request) answer
 exchange_of happening reply = stepped
 
--- events and their replies, one by one, as far as the state is concerned
+-- events and their replies as exchanges, one each
 abbrev pub exchanges : List Happening → List EventReply → List Exchange
 exchanges (happening ∷ happenings) (reply ∷ replies) = exchange_of happening reply ∷ exchanges happenings replies
 exchanges happenings replies = []
@@ -31,15 +31,14 @@ pub record EventStep {D : Type 0} (facts : D → DiskFacts) (old : Slotted D) (h
   pub holds_before : AreHolds old.registry
   pub holds_after : AreHolds new.registry
 
--- These events were answered with these replies, one after the other, one reply each.
+-- These events were answered with these replies, one after the other, with one reply each.
 pub record EventsRan {D : Type 0} (facts : D → DiskFacts) (old new : Slotted D) (happenings : List Happening) (replies : List EventReply) : Type 0 where
   -- the registry with its binders after each event
   pub passed : List (Slotted D)
   -- each event had its effect on what the event before it left
   pub steps : Steps (EventStep facts) old happenings replies passed
   pub last : new ≡ last_of old passed
-  -- From each state that the registry may be at, a stop at any moment leaves the state after
-  -- accepted commands. They include every command that was acknowledged by then, whatever binders
-  -- there are.
+  -- If the registry is at a state, a stop at any moment leaves the state after accepted commands. They
+  -- include every command that was acknowledged by then, whatever binders there are.
   pub runs : (s : State) → IsAt facts old.registry s
       → RunsThrough facts old.registry (map (λ (b : Slotted D). b.registry) passed) new.registry s (exchanges happenings replies)

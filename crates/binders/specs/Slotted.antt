@@ -26,15 +26,15 @@ held_in sector (Some binder) = times sector (handles_of binder)
 abbrev pub held_by : List (Option Binding) → ℕ → ℕ
 held_by slots sector = sum_by (λ slot. held_in sector slot) slots
 
--- In the registry each byte string is held at least as often as the binders hold it.
+-- In the registry, each byte string is held at least as many times as the binders hold it.
 abbrev pub IsHeld : {D : Type 0} → Opened D → List (Option Binding) → Type 0
 IsHeld registry slots = (sector : ℕ) → held_by slots sector ≤ holders_of registry.held sector
 
--- Only the binders hold byte strings.
+-- Nobody except the binders holds byte strings.
 abbrev pub HoldAlone : {D : Type 0} → Slotted D → Type 0
 HoldAlone binders = (sector : ℕ) → holders_of binders.registry.held sector ≡ held_by binders.slots sector
 
--- the binder of a slot is on this flight, or there is neither
+-- the binder in a slot is on this flight, or there is neither a binder nor a flight
 abbrev pub IsOn : {D : Type 0} → (D → DiskFacts) → Opened D → Option Binding → Option Flight → Type 0
 IsOn facts registry None None = Unit {0}
 IsOn facts registry (Some binder) (Some flight) = Flies facts registry binder flight

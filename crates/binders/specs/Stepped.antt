@@ -16,8 +16,8 @@ use Rattle.registry.specs.declared.binder.Step.TheVariants.{Going, Final}
 use Rattle.registry.specs.inside.Binding.{Binding}
 use Rattle.binders.specs.Slotted.{Slotted, AreOn, HoldAlone, held_by, lowest_free}
 
--- The registry stays at its state. The number of holders of a byte string changes by as much as the
--- number of times that the binders hold it.
+-- The registry stays at its state. The number of holders of a byte string changes by the same amount as
+-- the number of times that the binders hold it.
 pub record StaysAt {D : Type 0} (facts : D → DiskFacts) (old new : Slotted D) : Type 0 where
   pub same : (s : State) → IsAt facts old.registry s → IsAt facts new.registry s
   pub kept : (new.registry.root ≡ old.registry.root) × (new.registry.entries ≡ old.registry.entries) × (new.registry.failed ≡ old.registry.failed)
@@ -46,7 +46,8 @@ pub record BeginsIn {D : Type 0} (facts : D → DiskFacts) (old new : Slotted D)
   pub ok : (s : State) (flights : List (Option Flight)) → IsAt facts old.registry s
       → AreOn facts old flights → BegunIn facts old new program base s flights result
   pub stays : StaysAt facts old new
-  -- On any disk, without a call of it, a slot gets a binder, or none does. No other flight changes.
+  -- on any disk, and without a call of the disk: a slot gets a binder, or none does, and no other flight
+  -- changes
   pub slots : IfOk result (λ slot. (lowest_free old.slots ≡ Some slot) × IsPut old.slots slot new.slots)
   pub err : OnErr result ((new.slots ≡ old.slots) × FlyOn facts old new)
   pub failed : IsTrue old.registry.failed → new ≡ old
@@ -56,8 +57,8 @@ pub record BeginsIn {D : Type 0} (facts : D → DiskFacts) (old new : Slotted D)
   pub no_slot : (result ≡ Err NoSlot) ↔ (IsFalse old.registry.failed × (lowest_free old.slots ≡ None))
   pub refusals : IfErr result (λ e. (e ≡ Reopen) ⊎ (e ≡ NoSlot) ⊎ (e ≡ OutOfMemory))
 
--- the flights of the binders after a step of one: its flight is one step further, is over with the
--- answer of the bind, or hasn't changed
+-- the flights of the binders after one binder made a step: that binder's flight is one step further, has
+-- ended with the bind's answer, or is unchanged
 abbrev pub SteppedIn : {D : Type 0} → (D → DiskFacts) → Slotted D → Slotted D → ℕ
     → List (Option Flight) → Flight → Result Step Refusal → Type 0
 SteppedIn facts old new slot flights flight (Ok Going) = (flight.going < goings flight) × AreOn facts new (slice_set flights slot (Some (further flight)))
@@ -68,24 +69,25 @@ SteppedIn facts old new slot flights flight (Err refusal) = AreOn facts new flig
     × AreCallsAtMost (step_sectors flight) (facts old.registry.disk) (facts new.registry.disk)
     × MayBeRefused flight.program refusal
 
--- the slots after a step: the binder of this slot hasn't changed, is one step further, or is gone
+-- the slots after a step: the binder in this slot is unchanged, is one step further, or was removed
 abbrev pub SlotsAfter : List (Option Binding) → ℕ → List (Option Binding) → Result Step Refusal → Type 0
 SlotsAfter old slot new (Ok (Final answer)) = new ≡ slice_set old slot None
 SlotsAfter old slot new result = IsPut old slot new
 
--- A step of the binder in a slot was made. It is refused with C8, before all other tests, exactly
--- if the slot has no binder.
+-- The binder in a slot made a step. The step is refused with C8, before all other tests, exactly if the
+-- slot has no binder.
 pub record AdvancesIn {D : Type 0} (facts : D → DiskFacts) (old new : Slotted D) (slot : ℕ) (result : Result Step Refusal) : Type 0 where
   pub step : (flights : List (Option Flight)) (flight : Flight) → AreOn facts old flights
       → slice_index_or flights slot None ≡ Some flight → SteppedIn facts old new slot flights flight result
   pub bounds : (flights : List (Option Flight)) (flight : Flight) → AreOn facts old flights
       → slice_index_or flights slot None ≡ Some flight → IsBounded flight
-  -- during the step, a stop leaves only what it could leave before, and after it exactly the same
+  -- during the step, a stop leaves only what it could leave before; after the step, it may leave exactly
+  -- the same as before
   pub any_moment : IsTrue (facts old.registry.disk).honest
       → LeavesOnly (facts old.registry.disk) (facts new.registry.disk) (Mixture (facts old.registry.disk))
   pub unchanged : IsTrue (facts old.registry.disk).honest → IsUnchanged (facts old.registry.disk) (facts new.registry.disk)
   pub stays : StaysAt facts old new
-  -- on any disk
+  -- the following holds on any disk
   pub no_binder : (result ≡ Err NoSuchBinder) ↔ (slice_index_or old.slots slot None ≡ None)
   pub absent : slice_index_or old.slots slot None ≡ None → new ≡ old
   pub present : slice_index_or old.slots slot None ≢ None → SlotsAfter old.slots slot new.slots result
@@ -95,8 +97,8 @@ pub record AdvancesIn {D : Type 0} (facts : D → DiskFacts) (old new : Slotted 
   pub answers : IfOk result IsLastStep
   pub calls : AreCalls (facts old.registry.disk) (facts new.registry.disk)
 
--- The binder in a slot was ended. The answer is Done, or C8 exactly if the slot has no binder. The
--- disk isn't called.
+-- The binder in a slot was ended. The answer is Done, or C8 exactly if the slot has no binder. No call
+-- of the disk is made.
 pub record CancelsIn {D : Type 0} (facts : D → DiskFacts) (old new : Slotted D) (slot : ℕ) (answer : Reply) : Type 0 where
   pub ok : (flights : List (Option Flight)) → AreOn facts old flights → AreOn facts new (slice_set flights slot None)
   pub stays : StaysAt facts old new

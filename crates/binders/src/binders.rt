@@ -38,7 +38,7 @@ impl<D: Disk> Binders<D> {
     ghost use Rattle.binders.specs.Slotted.{AreOn, HoldAlone};
     ghost use Rattle.binders.specs.Stepped.{AdvancesIn, BeginsIn, CancelsIn, FlyOn};
 
-    /// Makes a registry without binders. The allocator `alloc` is for the replies to events.
+    /// Makes a registry without binders. `alloc` allocates the replies to events.
     pub fn new(alloc: Global, registry: Registry<D>) -> Binders<D>
         ensures none { result ≡ record { registry = registry; slots = replicate 8 None } }
         ensures alone { registry.held ≡ [] → HoldAlone result }
@@ -59,9 +59,9 @@ impl<D: Disk> Binders<D> {
         self.registry.has_failed()
     }
 
-    /// Does nothing. One clause states that on any disk, after any event, the table of held byte
-    /// strings is sound. The other states that nothing is held if there is no binder and nobody
-    /// else holds anything.
+    /// Does nothing. The first clause states that, on any disk and after any event, each held byte
+    /// string has one row. The second states that no byte string is held if there is no binder and
+    /// nobody else holds one.
     pub fn holds_are_sound(&self)
         ensures holds { AreHolds self.now.registry }
         ensures empty { HoldAlone self.now → All (λ slot. slot ≡ None) self.now.slots
@@ -70,8 +70,8 @@ impl<D: Disk> Binders<D> {
         self.registry.holds_are_sound();
     }
 
-    /// Returns the registry. Its binders are gone, and what they hold stays held until the disk is
-    /// opened again.
+    /// Returns the registry. Its binders are dropped, and what they hold stays held until the disk
+    /// is opened again.
     pub fn into_registry(self) -> Registry<D>
         ensures { result ≡ self.registry }
     {
@@ -97,17 +97,17 @@ impl<D: Disk> Binders<D> {
         ensures slots { self.new.slots ≡ self.old.slots }
         ensures alone { HoldAlone self.old → HoldAlone self.new }
 
-        // S7 counts the sectors of the state and also, once each, those of the byte strings that
-        // only binders hold.
+        // The test for S7 counts the sectors of the state and also, once each, those of the byte
+        // strings that only binders hold.
         ensures counted { HoldAlone self.old → CountsOnce self.old }
     {
         self.registry.holds_are_sound();
         self.registry.apply(command)
     }
 
-    /// Begins to bind a program, and returns the slot of the binder, which is the lowest free one.
-    /// Refuses with S2, C7 or S11, in this order. Copies the program, and makes no call of the
-    /// disk.
+    /// Begins to bind `program` at `base`, and returns the slot of the binder, which is the lowest
+    /// free one. Refuses with S2, C7 or S11, in this order. Copies the program, and makes no call
+    /// of the disk.
     pub fn begin(&mut self, program: &[u8], base: u64) -> Result<usize, Refusal>
         ensures { BeginsIn D.facts self.old self.new program.now base result }
     {
@@ -122,9 +122,10 @@ impl<D: Disk> Binders<D> {
         Ok(slot)
     }
 
-    /// Makes the next step of the binder in `slot`. Refuses with C8, and then S2. The first step
+    /// Makes the next step of the binder in `slot`. Tests for C8 and then for S2. The first step
     /// tests the program by itself, each following step reads and admits one library, and the last
-    /// step binds. Then the slot is free. After S1, S2 and S11 the binder hasn't changed.
+    /// step binds. After the last step the slot is free. After S1, S2 and S11 the binder is
+    /// unchanged.
     pub fn advance(&mut self, slot: usize) -> Result<Step, Refusal>
         ensures { AdvancesIn D.facts self.old self.new slot result }
     {
@@ -148,8 +149,8 @@ impl<D: Disk> Binders<D> {
         }
     }
 
-    /// Ends the binder in `slot`, which is free then. Returns Done, also after S2, or C8 if the
-    /// slot has no binder. Allocates nothing, and makes no call of the disk.
+    /// Ends the binder in `slot`, and then the slot is free. Returns Done, also after S2, or C8 if
+    /// the slot has no binder. Allocates nothing, and makes no call of the disk.
     pub fn cancel(&mut self, slot: usize) -> Reply
         ensures { CancelsIn D.facts self.old self.new slot result }
     {

@@ -1,21 +1,21 @@
 // Events of a registry with binders, and their replies.
 use requests::{Command, Reply};
 
-/// A command, or something that is done with a binder.
+/// A command, or a step of a binder.
 #[derive(Clone, Copy)]
 pub enum Event<'a> {
-    /// A command is applied.
+    /// Applies a command.
     Apply(Command<'a>),
-    /// A binder is begun.
+    /// Begins a binder.
     Begin {
         /// The bytes of the program's file.
         program: &'a [u8],
         /// The program's base address.
         base: u64,
     },
-    /// The binder in this slot makes its next step.
+    /// Makes the next step of the binder in this slot.
     Advance(usize),
-    /// The binder in this slot is ended.
+    /// Ends the binder in this slot.
     Cancel(usize),
 }
 

@@ -10,7 +10,7 @@ use Rattle.requests.specs.declared.reply.Reply.TheVariants.{Done}
 use Rattle.registry.specs.Calls.{calls_of}
 use Rattle.byte_registry.specs.Plans.{most_steps}
 
--- 2,048 libraries need at most 32 catalogues
+-- up to 2,048 libraries need at most 32 catalogues
 few_catalogues : (libraries : ℕ) → libraries ≤ 2048 → catalogues_for libraries ≤ 32
 few_catalogues libraries few = omega (arith, few)
 

@@ -7,7 +7,7 @@ use Rattle.store.specs.Stands.{Stands}
 use Rattle.store.specs.declared.refusal.StoreRefusal.{StoreRefusal}
 use Rattle.store.specs.declared.refusal.StoreRefusal.TheVariants.{BadGeometry, Device, OutOfMemory}
 
--- The bytes are those of a disk, which means whole sectors, and these sectors hold state s.
+-- The bytes have whole sectors, as a disk has, and these sectors hold state s.
 pub record HoldStore (bytes : List ℕ) (s : State) : Type 0 where
   pub size : IsDiskLength (length bytes)
   pub stands : Stands (sectors_in bytes) s
@@ -16,14 +16,14 @@ pub record HoldStore (bytes : List ℕ) (s : State) : Type 0 where
 abbrev pub HoldNoOther : List ℕ → State → Type 0
 HoldNoOther bytes s = (other : State) → HoldStore bytes other → other ≡ s
 
--- Why nothing is opened: the bytes aren't whole sectors, or the store refuses the sectors.
+-- The reason why nothing is opened: the bytes aren't whole sectors, or the store refuses the sectors.
 abbrev pub IsUnopened : List ℕ → StoreRefusal → Type 0
 IsUnopened bytes refusal =
     ((refusal ≡ BadGeometry) × (IsDiskLength (length bytes) → ⊥))
     ⊎ (IsDiskLength (length bytes) × RefusesOpen Stands (sectors_in bytes) refusal)
 
--- Why bytes have no contents. The reason is never a failed call of their disk, and if they hold a state, it
--- is always that memory was refused.
+-- The reason why bytes have no contents. It is never a failed call of their disk, and if the bytes hold
+-- a state, it is always that memory was refused.
 pub record HaveNoContents (bytes : List ℕ) (refusal : StoreRefusal) : Type 0 where
   pub why : IsUnopened bytes refusal
   pub no_failure : refusal ≢ Device

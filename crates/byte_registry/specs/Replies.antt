@@ -13,11 +13,11 @@ use Rattle.requests.specs.Request.{Request}
 use Rattle.requests.specs.declared.reply.Reply.{Reply}
 use Rattle.registry.specs.Untested.{UntestedStep}
 
--- a registry that was just opened on a disk, with this root and these entries: nobody holds anything
+-- a registry that was just opened on a disk, with this root and these entries; no byte string is held
 abbrev pub opened_on : {D : Type 0} → D → Root → List PlacedEntry → Opened D
 opened_on disk root entries = record { disk = disk; root = root; entries = entries; held = []; failed = false }
 
--- the phase of this registry, for the step table, after `failures` failed calls
+-- the phase of a registry that was just opened, for the step table, after `failures` failed calls
 abbrev pub phase_on : List Sector → Root → List PlacedEntry → ℕ → State → Phase
 phase_on m root entries failures s = record {
   sectors = length m;

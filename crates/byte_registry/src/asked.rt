@@ -15,7 +15,7 @@ use requests::{Command, Reply};
 use std::alloc::Global;
 use store::StoreRefusal;
 
-/// Returns the disk of these bytes. If they aren't whole sectors, refuses with S6
+/// Returns the disk with the bytes `disk`. If they aren't whole sectors, refuses with S6
 /// (BadGeometry) and returns no disk.
 pub(crate) fn disk_of(
     alloc: Global,
@@ -30,8 +30,8 @@ pub(crate) fn disk_of(
     }
 }
 
-/// Opens the registry on a disk of these bytes, and reads no file. If it is refused, returns the
-/// refusal, and the disk if the bytes are one.
+/// Opens the registry on the bytes `disk`, and reads no file. If the opening is refused, returns
+/// the refusal, and the disk if the bytes are whole sectors.
 pub(crate) fn open_on(
     alloc: Global,
     disk: &[u8],
@@ -51,9 +51,9 @@ pub(crate) fn open_on(
     }
 }
 
-/// Opens the registry on a disk of these bytes, and returns its reply to a command, and the disk
-/// after it. If the opening is refused, returns the refusal, and the disk if the bytes are one. No
-/// file is read, except those that a bind needs.
+/// Opens the registry on the bytes `disk`, and returns its reply to a command, and the disk after
+/// the command. If the opening is refused, returns the refusal, and the disk if the bytes are whole
+/// sectors. Reads no file, except those that a bind needs.
 pub fn ask<'a>(
     alloc: Global,
     disk: &'a [u8],
@@ -62,7 +62,8 @@ pub fn ask<'a>(
     ensures ok { IfOk result (λ asked. (s : State)
         × IsAsked disk.now s (request_of command.now) asked.0 (synced_plan asked.1)) }
 
-    // S1 comes only if a call of the disk failed: a write or a sync, because memory was refused.
+    // The answer is S1 only if a call of the disk failed: a write or a sync, because memory was
+    // refused.
     ensures device { MatchResult result
         (λ asked. asked.0 ≡ Refused Device → 0 < (byte_facts asked.1).failures)
         (λ refused. refused.0 ≡ StoreRefusal.Device → 0 < failures_of refused.1) }

@@ -1,8 +1,8 @@
 //! A registry on given bytes: the answers to commands, and the plans of its changes.
 //!
-//! Each call reads the bytes of a disk's file and changes none of them. The plan of its changes
-//! is a sync, followed by `behind_sync` of the disk that the call returns. If the plan is
-//! carried out, it leads from the state that the bytes hold to the next one, and a stop
+//! Each call reads the bytes of a disk's file and changes none of them. The plan of its changes is
+//! a sync, followed by the steps that `behind_sync` returns for the disk that the call returns. If
+//! the plan is carried out, it leads from the state that the bytes hold to the next one, and a stop
 //! meanwhile leaves one of these two states.
 #![tactic(auto)]
 

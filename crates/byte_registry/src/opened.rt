@@ -1,4 +1,4 @@
-// Opens a disk of given bytes for reading.
+// Opens given bytes as a disk that is only read.
 ghost use Rattle.std.specs.Prelude.{◌≡◌, [], IfOk, IfErr, length};
 ghost use Rattle.byte_disk.specs.Bytes.{sectors_in};
 ghost use Rattle.byte_disk.specs.ReadOnlyDisk.{read_only_facts};
@@ -12,9 +12,9 @@ use registry::Registry;
 use std::alloc::Global;
 use store::StoreRefusal;
 
-/// Opens the contents of a disk of these bytes, or returns why they aren't those of a disk of
-/// version 2. It also refuses with S6 (BadGeometry) if the bytes aren't whole sectors. No call of
-/// their disk fails, so S1 (Device) never comes.
+/// Opens the contents of the bytes `disk`, or returns why they aren't a disk of version 2. Also
+/// refuses with S6 (BadGeometry) if the bytes aren't whole sectors. No call of the disk fails, so
+/// the refusal is never S1 (Device).
 pub fn contents_of<'a>(
     alloc: Global,
     disk: &'a [u8],
@@ -40,13 +40,13 @@ pub fn contents_of<'a>(
     }
 }
 
-/// Opens the registry on a disk of these bytes, only for reading: no file was read, and every write
-/// fails. If there is none, refuses as `contents_of` does.
+/// Opens the registry on the bytes `disk`, only for reading: no file is read, and every write
+/// fails. If there is no registry, refuses as `contents_of` does.
 pub fn registry_of<'a>(
     alloc: Global,
     disk: &'a [u8],
 ) -> Result<Registry<ReadOnlyDisk<'a>>, StoreRefusal>
-    // The registry is at the state that the bytes hold, and they hold no other.
+    // The registry is at the state that the bytes hold, and the bytes hold no other state.
     ensures ok { IfOk result (λ registry. (s : State) × HoldStore disk.now s
         × IsAt read_only_facts registry s × HoldNoOther disk.now s) }
     ensures held { (s : State) → HoldStore disk.now s

@@ -1,12 +1,12 @@
-// The plan of a call: the steps that its disk kept, beginning with a sync.
+// The plan of a call: a sync, and then the steps that its disk kept.
 ghost use Rattle.std.specs.Prelude.{◌≡◌, map};
 ghost use Rattle.byte_disk.specs.ByteDisk.{plan_of};
 ghost use Rattle.byte_registry.specs.Plans.{behind_sync};
 
 use byte_disk::{ByteDisk, PlannedStep, Step};
 
-/// Returns the steps after the sync with which the plan of a disk begins. If the disk kept no sync
-/// before its first write, returns all steps that it kept.
+/// Returns the steps of a disk's plan without the sync with which they begin. If the disk kept no
+/// sync before its first write, returns all steps that it kept.
 pub fn behind_sync<'d>(disk: &'d ByteDisk<'_>) -> &'d [PlannedStep]
     ensures { map (λ planned. planned.step) result.now ≡ behind_sync (plan_of disk.now) }
 {

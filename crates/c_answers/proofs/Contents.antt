@@ -1,4 +1,4 @@
--- From the answer to a call about what a disk has to what the call returned, if the status is 0.
+-- If the status of a call about a disk's contents is 0, the call returned what was asked for.
 use Rattle.std.proofs.Common.{◌≡◌, ◌≢◌, ◌⊎◌, ◌↔◌, ◌<◌, ℕ, List, All, inl, inr, length, take, ap, refl, arith}
 use Rattle.std.specs.Prelude.{Result, Err}
 use Rattle.states.specs.State.{State}
@@ -50,7 +50,7 @@ unread_is s name unread.OutOfMemory is read = λ none. wants (is.1 none)
     wants : unread.OutOfMemory ≡ unread.NotInstalled → ⊥
     wants e = cc
 
--- the same for a result that is such an answer
+-- the same fact, if the answer is the error of a result
 pub unread_of : {X : Type 0} (s : State) (name : List ℕ) (why : Unread)
     → (◌≡◌ {A = Result X Unread} (Err why) (Err unread.NotInstalled)) ↔ All (λ library. library.name ≢ name) s.libraries → why ≢ unread.Unreadable
     → IsUnread s name why

@@ -1,4 +1,4 @@
--- From the answer to a call for an executable file to what the call returned, if the status is 0.
+-- If the status of a call for an executable file is 0, the buffer has the file.
 use Rattle.std.proofs.Common.{◌≡◌, inl, inr, ℕ, List, sym, ◌∙◌, subst, arith}
 use Rattle.byte_disk.specs.declared.step.Step.{Step}
 use Rattle.executable.specs.Outcome.{IsExecutableOf}
@@ -30,7 +30,7 @@ module _ (disk program : List ℕ) (base : ℕ) (bytes text : List ℕ) (answer 
   not_listed : (l : Listed) (image : MemoryImage) → reply.Listing l ≡ reply.Bound image → ⊥
   not_listed l image e = cc
 
-  -- there is a state, and its image has the file
+  -- if the bytes hold a registry whose bind has an image, the buffer has this image's file
   file_of : (s : State) (image : MemoryImage) (steps : List Step) → IsAsked disk s (request.bind program base) (reply.Bound image) steps
       → IsExecutableTold image bytes text answer status → IsExecutableFileOf disk program base bytes answer
   file_of s image steps asked (inl (file, of, (inl put, size, count, unlisted, unbound, silent))) =

@@ -1,4 +1,4 @@
--- From the answer to an update to what the call returned, if the status is 0; and no update returns S1 (Device).
+-- If the status of an update is 0, the buffer has its plan. No update returns S1 (Device).
 use Rattle.std.proofs.Common.{◌≡◌, inl, inr, ℕ, List, arith}
 use Rattle.std.specs.Prelude.{Result, Ok, Err}
 use Rattle.byte_disk.specs.declared.disk.ByteDisk.{ByteDisk}

@@ -1,4 +1,4 @@
--- The findings of a registry's libraries, as C gets them: in two buffers (own).
+-- The findings of a registry's libraries in two buffers of a caller in C (own).
 use Rattle.std.specs.Prelude.{◌≡◌, ◌⊎◌, ◌<◌, ◌-◌, ◌^◌, ℕ, List, ◌∷◌, [], ◌++◌, length, min, slice_index_or, take}
 use Rattle.std.specs.List.{flat_map}
 use Rattle.states.specs.State.{Library, State}
@@ -14,16 +14,16 @@ use Rattle.c_answers.specs.Unsaid.{IsSilent, IsUnbound, IsUncounted, IsUnlisted}
 use Rattle.c_answers.specs.declared.answer.Answer.{Answer}
 use Rattle.c_answers.specs.declared.finding.FindingPlace.{FindingPlace}
 
--- the number of the finding that the file is a library of its entry's name
+-- the number of the finding that the file is a library with its entry's name
 abbrev pub sound : ℕ
 sound = 0
 
--- the number of the finding that the file is a library of another name
+-- the number of the finding that the file is a library with another name
 abbrev pub other_name : ℕ
 other_name = 100
 
--- A finding has this number. For a file that is refused it is n of the first test En that refuses the
--- file, which lies between the other two. A library that can't be read has no number.
+-- The number of a finding. For a file that is refused, it is the number n of the first test En that
+-- refuses the file, which lies between the other two numbers. A library that can't be read has no number.
 abbrev pub HasNumber : Finding → ℕ → Type 0
 HasNumber Sound number = number ≡ sound
 HasNumber (Refused why) number = number ≡ file_number why
@@ -38,7 +38,7 @@ IsFound l number = (finding : Finding) × IsFinding l finding × HasNumber findi
 abbrev pub library_names : List Library → List ℕ
 library_names libraries = flat_map (λ l. l.name ++ 0 ∷ []) libraries
 
--- the offset in the row of the name of library number `i`
+-- the offset of the name of library number `i` in the row of names
 abbrev pub name_start : List Library → ℕ → ℕ
 name_start libraries i = length (library_names (take i libraries))
 
@@ -62,7 +62,7 @@ pub record LackPlaces (libraries : List Library) (findings : List FindingPlace) 
   pub small : (length findings < length libraries) ⊎ (length row < length (library_names libraries))
   pub size : told_size ≡ min (length (library_names libraries)) (2 ^ 64 - 1)
 
--- the buffers have the findings, or a buffer is too small; no text is reported
+-- either the buffers have the findings, or a buffer is too small; no text is reported
 abbrev pub IsCheckGiven : List Library → List FindingPlace → List ℕ → Answer → ℕ → Type 0
 IsCheckGiven libraries findings names answer status =
     (((status ≡ done) × AreFound libraries findings names answer.bytes)
@@ -75,8 +75,8 @@ IsCheckTold libraries findings names text answer status =
     IsCheckGiven libraries findings names answer status
     ⊎ (WantsMemory text answer.text answer.file_refusal status × IsUncounted answer)
 
--- the buffers have the finding of each library that the bytes hold, or a buffer is too small, or
--- memory was refused; or there is no registry, and the call reports why
+-- Either there is a registry, and the buffers have the finding of each library, or a buffer is too
+-- small, or memory was refused. Or there is no registry, and the call reports why.
 abbrev pub IsCheckAnswered : (disk : List ℕ) → List FindingPlace → (names text : List ℕ) → Answer → ℕ → Type 0
 IsCheckAnswered disk findings names text answer status =
     ((s : State) × HoldStore disk s

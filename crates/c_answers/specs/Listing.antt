@@ -1,4 +1,4 @@
--- A listing as C gets it: in two buffers (own).
+-- A listing in two buffers of a caller in C (own).
 use Rattle.std.specs.Prelude.{◌≡◌, ◌⊎◌, ◌<◌, ◌+◌, ◌-◌, ◌^◌, ℕ, List, [], ◌∷◌, ◌++◌, length, map, take, min}
 use Rattle.std.specs.List.{flat_map}
 use Rattle.states.specs.State.{State}
@@ -9,8 +9,8 @@ use Rattle.c_answers.specs.Numbers.{done, no_room}
 use Rattle.c_answers.specs.Unsaid.{IsSilent, IsUnbound}
 use Rattle.byte_registry.specs.Bytes.{HoldStore}
 
--- an entry of a listing: the name and the length of the file of a library, or the name of a preload
--- and 0
+-- an entry of a listing: the name of a library and the length of its file, or the name of a preload and
+-- 0
 abbrev pub Entry : Type 0
 Entry = List ℕ × ℕ
 
@@ -30,7 +30,7 @@ names_in_row entries = flat_map (λ e. e.0 ++ 0 ∷ []) entries
 abbrev pub place_of : ℕ → Entry → EntryPlace
 place_of from e = record { name = from; name_length = min (length e.0) (2 ^ 32 - 1); file_length = e.1 }
 
--- the places of the entries; the name of the first is at the offset `from`
+-- the places of the entries, if the name of the first is at the offset `from`
 abbrev pub places_of : ℕ → List Entry → List EntryPlace
 places_of from [] = []
 places_of from (e ∷ entries) = place_of from e ∷ places_of (from + length e.0 + 1) entries
@@ -51,13 +51,14 @@ pub record Counts (l : Listed) (told_libraries told_preloads : ℕ) : Type 0 whe
   pub libraries : told_libraries ≡ length l.libraries
   pub preloads : told_preloads ≡ length l.preloads
 
--- the buffers have the listing, or a buffer is too small; no text is reported yet
+-- either the buffers have the listing, or a buffer is too small; no text is reported yet
 abbrev pub IsListingGiven : Listed → List EntryPlace → List ℕ → Answer → ℕ → Type 0
 IsListingGiven l entries names answer status = IsSilent answer × IsUnbound answer × Counts l answer.count answer.preloads
     × ((status ≡ done) × AreListed (entries_of l) entries names answer.bytes
     ⊎ (status ≡ no_room) × LackSpace (entries_of l) entries names answer.bytes)
 
--- The buffers have the listing of the state that the bytes hold, and the answer has its generation.
+-- The buffers have the listing of the state that the bytes hold, and the answer has the state's
+-- generation.
 pub record IsListingOf (disk : List ℕ) (entries : List EntryPlace) (names : List ℕ) (answer : Answer) : Type 0 where
   pub state : State
   pub holds : HoldStore disk state

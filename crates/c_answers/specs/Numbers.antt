@@ -13,7 +13,7 @@ use Rattle.requests.specs.declared.refusal.Refusal.TheVariants as refusal
 use Rattle.requests.specs.declared.reply.Reply.{Reply}
 use Rattle.requests.specs.declared.reply.Reply.TheVariants as reply
 
--- the status of a call that did what was asked
+-- the status of a call that did its work
 abbrev pub done : ℕ
 done = 0
 
@@ -21,7 +21,7 @@ done = 0
 abbrev pub no_room : ℕ
 no_room = 1
 
--- the status if an argument doesn't have its form
+-- the status if an argument doesn't have the form that the call needs
 abbrev pub bad_argument : ℕ
 bad_argument = 2
 
@@ -29,8 +29,8 @@ bad_argument = 2
 abbrev pub out_of_memory : ℕ
 out_of_memory = 311
 
--- the status of a refusal to open, to format or to upgrade: 300 plus the refusal's number; no call
--- over bytes returns 301
+-- The status of a refusal to open, format or upgrade: 300 plus the refusal's number. No call over bytes
+-- returns 301.
 abbrev pub store_number : StoreRefusal → ℕ
 store_number store.Device = 301
 store_number store.Reopen = 302
@@ -45,8 +45,7 @@ store_number store.GenerationEnd = 310
 store_number store.OutOfMemory = 311
 store_number store.OldFormat = 312
 
--- the status of a refusal to bind: 100 plus the refusal's number, or that of S11 if memory was
--- refused
+-- the status of a refused bind: 100 plus the refusal's number, or that of S11 if memory was refused
 abbrev pub bind_number : BindRefusal → ℕ
 bind_number (bind.Program refusal) = 101
 bind_number bind.BadBase = 102
@@ -55,7 +54,8 @@ bind_number bind.NoRoom = 104
 bind_number (bind.Undefined object symbol) = 105
 bind_number bind.OutOfMemory = 311
 
--- the status of a refusal: of a command 200 plus the refusal's number, of a bind or a disk as above
+-- The status of a refusal. For a refusal of a command it is 200 plus the refusal's number; for one of a
+-- bind or a disk it is the number above.
 abbrev pub refusal_number : Refusal → ℕ
 refusal_number (refusal.Object why) = 201
 refusal_number refusal.AlreadyInstalled = 202
@@ -75,12 +75,12 @@ refusal_number refusal.TooMany = 309
 refusal_number refusal.GenerationEnd = 310
 refusal_number refusal.OutOfMemory = 311
 
--- the status of a reply: that of its refusal, or 0
+-- the status of a reply: that of its refusal, or 0 if it is no refusal
 abbrev pub reply_number : Reply → ℕ
 reply_number (reply.Refused why) = refusal_number why
 reply_number other = done
 
--- the number of the test that refuses an object: n of En
+-- the number n of the test En that refuses an object
 abbrev pub object_number : ObjectRefusal → ℕ
 object_number object.TooShort = 1
 object_number object.BadMagic = 2
@@ -114,19 +114,19 @@ object_number object.RelocationSymbol = 31
 object_number object.RelocationPlace = 32
 object_number object.BadSoname = 33
 
--- the number of the test that refuses a file: n of En
+-- the number n of the test En that refuses a file
 abbrev pub file_number : FileRefusal → ℕ
 file_number (file.Object why) = object_number why
 file_number file.DuplicateDefinition = 28
 file_number file.BadHashTable = 29
 
--- the number of the test that refuses a file, if that is the reason of a refusal, and otherwise 0
+-- the number n of the test En that refuses a file, if that is the reason of a refusal; otherwise 0
 abbrev pub file_number_of : Refusal → ℕ
 file_number_of (refusal.Object why) = file_number why
 file_number_of (refusal.Bind (bind.Program why)) = file_number why
 file_number_of other = 0
 
--- the same number of a reply's refusal; 0 if the reply is no refusal
+-- the number n of the test En that refuses a file, if that is the reason of a reply's refusal; otherwise 0
 abbrev pub file_number_in : Reply → ℕ
 file_number_in (reply.Refused why) = file_number_of why
 file_number_in other = 0

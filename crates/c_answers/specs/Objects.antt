@@ -1,10 +1,10 @@
--- The objects of an image as C gets them (own).
+-- The objects of an image, for a caller in C (own).
 use Rattle.std.specs.Prelude.{ℕ, ◌+◌, ◌^◌, ◌%◌, List, [], ◌∷◌, ◌++◌, length, Option, Some, None}
 use Rattle.std.specs.List.{flat_map}
 use Rattle.image.specs.declared.object.ImageObject.{ImageObject}
 use Rattle.c_answers.specs.declared.object.ObjectPlace.{ObjectPlace}
 
--- the address `address` of an object at `base`, in 64 bits; 0 if there is none
+-- the sum of `base` and `address` modulo 2^64, or 0 if there is no address
 abbrev pub address_at : ℕ → Option ℕ → ℕ
 address_at base (Some address) = (base + address) % 2 ^ 64
 address_at base None = 0
@@ -25,8 +25,8 @@ object_place name first o =
       entry = (o.base + o.addresses.entry) % 2 ^ 64;
     }
 
--- the places of the objects; the name of the first is at the offset `name`, and its first segment
--- is number `first`
+-- the places of the objects, if the name of the first is at the offset `name`, and its first segment is
+-- number `first`
 abbrev pub object_places : ℕ → ℕ → List ImageObject → List ObjectPlace
 object_places name first [] = []
 object_places name first (o ∷ objects) = object_place name first o ∷ object_places (name + length o.name + 1) (first + o.segment_count) objects

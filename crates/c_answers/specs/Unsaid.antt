@@ -7,16 +7,16 @@ pub record IsSilent (answer : Answer) : Type 0 where
   pub text : answer.text ≡ 0
   pub file : answer.file_refusal ≡ 0
 
--- The answer has nothing that only a listing has.
+-- The fields that only a listing uses are 0.
 pub record IsUnlisted (answer : Answer) : Type 0 where
   pub preloads : answer.preloads ≡ 0
   pub generation : answer.generation ≡ 0
 
--- The answer has nothing that only an image has.
+-- The field that only an image uses is 0.
 pub record IsUnbound (answer : Answer) : Type 0 where
   pub objects : answer.objects ≡ 0
 
--- The answer counts nothing.
+-- All counts of the answer are 0.
 pub record IsUncounted (answer : Answer) : Type 0 where
   pub count : answer.count ≡ 0
   pub bytes : answer.bytes ≡ 0

@@ -1,21 +1,21 @@
-// What a call returns besides its buffers.
+// The values that a call returns besides its buffers.
 ghost use Rattle.std.specs.Prelude.{◌≡◌};
 
-/// What a call returns besides its buffers. Fields that a call doesn't use are 0.
+/// The values that a call returns besides its buffers. Fields that a call doesn't use are 0.
 #[repr(C)]
 #[derive(Clone, Copy)]
 pub struct Answer {
-    /// The status: 0 if it is done, and otherwise the reason.
+    /// The status: 0 if the call did its work, and otherwise the reason why it didn't.
     pub status: u32,
-    /// If a file is refused: the number n of the first test En that refuses it.
+    /// The number n of the first test En that refuses the file, if a file is refused.
     pub file_refusal: u32,
-    /// The number of segments, libraries, steps or program headers. If an update is refused: the
-    /// number of changes before the one that is refused.
+    /// The number of segments, libraries, steps or program headers. If an update is refused, the
+    /// number of changes before the refused one.
     pub count: u64,
     /// The number of preloads.
     pub preloads: u64,
-    /// The number of bytes: of an image with its names, of all names, of a text, of a file or of
-    /// the plan.
+    /// The number of bytes of an image with its names, of all names, of a text, of a file or of the
+    /// plan.
     pub bytes: u64,
     /// The length of the whole text, in bytes.
     pub text: u64,

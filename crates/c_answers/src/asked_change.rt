@@ -1,4 +1,4 @@
-// What a change of an update asks for.
+// The command of a change of an update.
 ghost use Rattle.std.specs.Prelude.{◌≡◌, List, IfOk, MatchOption, map};
 ghost use Rattle.requests.specs.Request.{Request, request_of};
 ghost use Rattle.c_answers.specs.Changes.{Asks, Mean, Means, request_asked};
@@ -8,21 +8,21 @@ use crate::preload::names_in;
 use requests::Command;
 use std::alloc::{AllocError, Global};
 
-/// What a change asks for, with the list of names in allocated memory.
+/// The command of a change. The list of names is in allocated memory.
 #[derive(Drop)]
 pub(crate) enum AskedChange<'a> {
-    /// Installs a library: the bytes of its file.
+    /// Installs a library, whose file is given.
     Install(&'a [u8]),
-    /// Replaces the library of the same name by the bytes of a file.
+    /// Replaces the library with the same name by the given file.
     Replace(&'a [u8]),
-    /// Removes the library of this name.
+    /// Removes the library with the given name.
     Remove(&'a [u8]),
-    /// Sets the names of the preloads, in their order.
+    /// Sets the preloads to these names, in their order.
     SetPreloads(Vec<&'a [u8]>),
 }
 
 impl<'a> AskedChange<'a> {
-    /// Returns the command for a registry.
+    /// Returns this change as a command for a registry.
     fn as_command(&self) -> Command<'_>
         ensures { request_of result ≡ request_asked self.now }
     {
@@ -35,7 +35,7 @@ impl<'a> AskedChange<'a> {
     }
 }
 
-/// Returns what a change of the kind `kind` with the bytes `own` asks for. Returns `None` if there
+/// Returns the command of a change of the kind `kind` with the bytes `own`. Returns `None` if there
 /// is no such kind, or if the bytes don't have the form that the kind needs.
 fn asked_of(alloc: Global, kind: u64, own: &[u8]) -> Result<Option<AskedChange<'_>>, AllocError>
     ensures { IfOk result (λ read. MatchOption read
@@ -54,8 +54,8 @@ fn asked_of(alloc: Global, kind: u64, own: &[u8]) -> Result<Option<AskedChange<'
     }
 }
 
-/// Returns what a change asks for, with its bytes in `bytes`. Returns `None` if the change
-/// isn't valid.
+/// Returns the command of `change`, whose bytes are in `bytes`. Returns `None` if the change isn't
+/// valid.
 fn asked_change<'a>(
     alloc: Global,
     change: &ChangePlace,
@@ -71,7 +71,7 @@ fn asked_change<'a>(
     }
 }
 
-/// Returns what changes ask for, with their bytes in `bytes`. Returns `None` if one of them
+/// Returns the commands of `changes`, whose bytes are in `bytes`. Returns `None` if one of them
 /// isn't valid.
 pub(crate) fn asked_changes<'a>(
     alloc: Global,
@@ -92,7 +92,7 @@ pub(crate) fn asked_changes<'a>(
     Ok(Some(all))
 }
 
-/// Returns the commands for a registry.
+/// Returns the changes `asked` as commands for a registry.
 pub(crate) fn commands_of<'a>(
     alloc: Global,
     asked: &'a [AskedChange<'_>],

@@ -11,7 +11,7 @@ use byte_registry::ask;
 use requests::{Command, Reply};
 use std::alloc::Global;
 
-/// Puts the image of a reply into the buffers, or reports the reply.
+/// If the reply has an image, puts the image into the buffers; otherwise reports the reply.
 fn tell_bind(
     alloc: Global,
     reply: &Reply,
@@ -31,8 +31,8 @@ fn tell_bind(
     }
 }
 
-/// Binds a program over the bytes of a disk, and puts the image into the buffers, or reports why it
-/// can't.
+/// Binds a program with the registry on the disk `disk`, and puts the image into the buffers, or
+/// reports why it can't.
 pub fn bind_on(
     alloc: Global,
     disk: &[u8],

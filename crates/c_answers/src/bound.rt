@@ -19,8 +19,8 @@ use image::Image;
 use requests::{Command, Reply};
 use std::alloc::Global;
 
-/// Returns the number of `refusal`. The numbers rise from 401 in the order of the tests. 406 was a
-/// test that no image failed, and isn't used again.
+/// Returns the number of `refusal`. The numbers rise from 401 in the order of the tests. 406 was
+/// the number of a test that no image failed, and isn't used again.
 fn executable_status(refusal: &ExecutableRefusal) -> u32
     ensures { result ≡ executable_number refusal.now }
 {
@@ -32,7 +32,7 @@ fn executable_status(refusal: &ExecutableRefusal) -> u32
         ExecutableRefusal::Finalizers { name: _ } => 405,
         ExecutableRefusal::TooManyHeaders => 407,
         ExecutableRefusal::WritableCode { name: _ } => 408,
-        ExecutableRefusal::NoRoom => 409,
+        ExecutableRefusal::NoPages => 409,
         ExecutableRefusal::OutOfMemory => OUT_OF_MEMORY,
     }
 }
@@ -76,7 +76,8 @@ fn give_image(alloc: Global, image: &Image, bytes: &mut [u8], text: &mut [u8]) -
     }
 }
 
-/// Puts the executable file of a reply's image into the buffer, or reports the reply.
+/// If the reply has an image, puts its executable file into the buffer; otherwise reports the
+/// reply.
 fn tell_bound(alloc: Global, reply: &Reply, bytes: &mut [u8], text: &mut [u8]) -> Answer
     ensures told { IsBoundTold reply.now bytes.new text.new result result.status }
     ensures left { result.status ≢ 0 → bytes.new ≡ bytes.old }

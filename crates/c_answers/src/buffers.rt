@@ -14,7 +14,7 @@ use crate::put::put_memory;
 use crate::status::{DONE, NO_ROOM};
 use image::Image;
 
-/// Returns the number of bytes of all segments, or 2^64 - 1 if there are more.
+/// Returns the number of bytes of all segments, or 2^64 - 1 if the number is greater.
 fn segments_bytes(image: &Image) -> u64
     ensures { result ≡ min (length (segment_bytes image.now.segments)) (2 ^ 64 - 1) }
 {
@@ -25,7 +25,7 @@ fn segments_bytes(image: &Image) -> u64
     bytes
 }
 
-/// Returns the number of bytes of the names of all objects, or 2^64 - 1 if there are more.
+/// Returns the number of bytes of the names of all objects, or 2^64 - 1 if the number is greater.
 fn objects_bytes(image: &Image) -> u64
     ensures { result ≡ min (length (object_names image.now.objects)) (2 ^ 64 - 1) }
 {
@@ -36,7 +36,7 @@ fn objects_bytes(image: &Image) -> u64
     bytes
 }
 
-/// Puts the segments of an image into two buffers, if they have room. The bytes of all segments are
+/// Puts the segments of an image into two buffers, if they have room. The bytes of the segments lie
 /// one after the other. Returns the number of these bytes.
 fn put_segments(image: &Image, places: &mut [SegmentPlace], bytes: &mut [u8]) -> Option<usize>
     ensures end { IfSome result (λ end. end ≡ length (segment_bytes image.now.segments)) }
@@ -59,8 +59,8 @@ fn put_segments(image: &Image, places: &mut [SegmentPlace], bytes: &mut [u8]) ->
     Some(at)
 }
 
-/// Puts the objects of an image into two buffers, if they have room. Their names are one after the
-/// other, from the offset `from` on. Returns the offset after the last name.
+/// Puts the objects of an image into two buffers, if they have room. Their names lie one after the
+/// other and begin at the offset `from`. Returns the offset after the last name.
 fn put_objects(
     image: &Image,
     from: usize,
@@ -88,8 +88,8 @@ fn put_objects(
     Some(at)
 }
 
-/// Puts an image into the three buffers, if they have room. Returns its number of bytes in the
-/// third buffer.
+/// Puts an image into the three buffers, if they have room. Returns the number of bytes that it has
+/// in the third buffer.
 fn lay_out(
     image: &Image,
     objects: &mut [ObjectPlace],
@@ -110,8 +110,8 @@ fn lay_out(
     put_objects(image, at, objects, bytes)
 }
 
-/// Puts an image into the three buffers. If one is too small, the answer has the sizes that all of
-/// them need.
+/// Puts an image into the three buffers. If one of them is too small, the answer has the sizes that
+/// all three need.
 pub(crate) fn put_image(
     image: &Image,
     objects: &mut [ObjectPlace],

@@ -1,18 +1,18 @@
-// A change of an update, with an offset in a buffer.
+// A change of an update, whose bytes are at an offset of a buffer.
 ghost use Rattle.std.specs.Prelude.{◌≡◌, ◌+◌, ◌<◌, ◌≤◌, MatchOption, length};
 ghost use Rattle.c_answers.specs.Changes.{own_bytes};
 
-/// A change of an update. Its bytes in a buffer are those of a file, of a name, or of names in a
-/// row.
+/// A change of an update. Its bytes are those of a file, of a name, or of names in a row.
 #[repr(C)]
 #[derive(Clone, Copy)]
 pub struct ChangePlace {
-    /// The kind: 1 installs a library and 2 replaces one, by the bytes of its file; 3 removes a
-    /// library, by its name; 4 sets the preloads, by their names, each with a byte 0 after it.
+    /// The kind of change. Kind 1 installs a library, and kind 2 replaces one; the bytes are the
+    /// library's file. Kind 3 removes a library; the bytes are its name. Kind 4 sets the preloads;
+    /// the bytes are their names, each with a byte 0 after it.
     pub kind: u64,
-    /// The offset of its bytes in the buffer of bytes.
+    /// The offset of the change's bytes in the buffer of bytes.
     pub from: u64,
-    /// The number of its bytes.
+    /// The number of the change's bytes.
     pub length: u64,
 }
 

@@ -1,4 +1,4 @@
-// Tests each library, and reports what is found.
+// Tests each library, and reports the findings.
 ghost use Rattle.std.specs.Prelude.{◌≡◌, ◌-◌, ◌<◌, ◌≤◌, ◌^◌, ℕ, IfSome, IfNone, length};
 ghost use Rattle.std.specs.Prelude.{count_by, min, slice_index_or};
 ghost use Rattle.byte_disk.specs.ReadOnlyDisk.{read_only_facts};
@@ -23,7 +23,7 @@ use std::alloc::Global;
 use store::Store;
 
 /// Returns the number of bytes of the libraries' names, each with a byte 0 after it, or 2^64 - 1 if
-/// there are more.
+/// the number is greater.
 fn names_bytes<D: Disk>(store: &Store<D>) -> u64
     ensures { (s : State) → IsAt D.facts store.now s
         → result ≡ min (length (library_names s.libraries)) (2 ^ 64 - 1) }
@@ -36,9 +36,8 @@ fn names_bytes<D: Disk>(store: &Store<D>) -> u64
     bytes
 }
 
-/// Puts the findings of the libraries into the two buffers, of which the first has room. Returns
-/// the number of bytes of the names, or `None` if a library couldn't be read, or a name has no
-/// room.
+/// Puts the findings of the libraries into the two buffers; the first of them has room. Returns the
+/// number of bytes of the names, or `None` if a library can't be read, or a name has no room.
 fn put_findings<D: Disk>(
     store: &Store<D>,
     found: &[Finding],
@@ -66,8 +65,8 @@ fn put_findings<D: Disk>(
     Some(at)
 }
 
-/// Tests each library, and puts the findings into the two buffers, if they have room. If they
-/// haven't, no file is read.
+/// Tests each library, and puts the findings into the two buffers. If the buffers have no room,
+/// reads no file.
 fn look(
     alloc: Global,
     contents: &mut Contents<ReadOnlyDisk<'_>>,
@@ -100,7 +99,8 @@ fn look(
     }
 }
 
-/// Puts the finding of each library into the buffers, or reports why it can't.
+/// Puts the finding of each library of the registry on `disk` into the buffers, or reports why it
+/// can't.
 pub fn check_on(
     alloc: Global,
     disk: &[u8],

@@ -10,7 +10,7 @@ use byte_registry::contents_of;
 use requests::Reply;
 use std::alloc::Global;
 
-/// Puts the SHA-256 of a library's bytes into `digest`, or reports why it can't.
+/// Puts the SHA-256 of the bytes of the library `name` into `digest`, or reports why it can't.
 pub fn digest_on(
     alloc: Global,
     disk: &[u8],

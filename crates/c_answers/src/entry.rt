@@ -1,4 +1,4 @@
-// Puts an entry of a listing into two buffers: its lengths and its name.
+// Puts an entry of a listing into two buffers: one for its lengths, and one for its name.
 ghost use Rattle.std.specs.Prelude.{◌≡◌, ◌⊎◌, ◌+◌, ◌<◌, ◌≤◌, ◌-◌, ◌^◌, ◌++◌};
 ghost use Rattle.std.specs.Prelude.{◌∷◌, [], length, min, take};
 ghost use Rattle.std.specs.Prelude.{IfSome, IfNone};
@@ -30,7 +30,8 @@ fn place_of(name: &Name, file_length: u32, at: usize) -> EntryPlace
     }
 }
 
-/// Returns the number of bytes of a name with the byte 0 after it, or 2^64 - 1 if there are more.
+/// Returns the number of bytes of a name with the byte 0 after it, or 2^64 - 1 if the number is
+/// greater.
 pub(crate) fn name_bytes(name: &Name) -> u64
     ensures { result ≡ min (length name.now + 1) (2 ^ 64 - 1) }
 {
@@ -50,7 +51,7 @@ pub(crate) fn put_name(name: &Name, at: usize, names: &mut [u8]) -> Option<usize
     put(names, at, b"\0")
 }
 
-/// Puts entry number `index` into the two buffers, if they have room, with its name at the offset
+/// Puts entry number `index` into the two buffers, if they have room. Its name goes to the offset
 /// `at`. Returns the offset for the next name.
 pub(crate) fn put_entry(
     name: &Name,

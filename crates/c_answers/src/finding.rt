@@ -1,4 +1,4 @@
-// The finding of a library, as a number and in a buffer.
+// The finding of a library, as a number and as an entry of a buffer.
 ghost use Rattle.std.specs.Prelude.{◌≡◌, ◌<◌, ◌^◌, length, IfSome, IfNone};
 ghost use Rattle.contents.specs.declared.finding.Finding.{Finding};
 ghost use Rattle.c_answers.specs.Check.{HasNumber};
@@ -6,10 +6,10 @@ ghost use Rattle.c_answers.specs.Check.{HasNumber};
 use crate::status::file_number;
 use contents::Finding;
 
-/// The file is a library of its entry's name.
+/// The number of the finding that the file is a library with its entry's name.
 const SOUND: u32 = 0;
 
-/// The file is a library of another name.
+/// The number of the finding that the file is a library with another name.
 const OTHER_NAME: u32 = 100;
 
 /// The finding of a library that was tested.
@@ -20,8 +20,8 @@ pub struct FindingPlace {
     pub name: u64,
     /// The length of its name in bytes, without the byte 0 after it.
     pub name_length: u32,
-    /// 0 if its file is a library of its entry's name; n if En is the first test that refuses the
-    /// file; 100 if its file is a library of another name.
+    /// The finding: 0 if the file is a library with its entry's name; n if En is the first test
+    /// that refuses the file; 100 if the file is a library with another name.
     pub finding: u32,
 }
 

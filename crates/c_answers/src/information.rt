@@ -28,11 +28,11 @@ pub struct Information {
     /// The number of runs of adjacent unused sectors.
     pub unused_runs: u64,
     /// The length in bytes of the largest file that can be installed now under a new name, or 0 if
-    /// there is none.
+    /// none can be installed.
     pub largest: u64,
 }
 
-/// Returns the numbers of `info` as C gets them.
+/// Returns the numbers of `info` in the form for C.
 fn information_of(info: Info) -> Information
     ensures { result ≡ information_of info }
 {

@@ -14,7 +14,7 @@ use byte_registry::{ask, generation_of};
 use requests::{Command, Listing, Reply};
 use std::alloc::Global;
 
-/// Puts the listing of a reply into the buffers, and reports the reply.
+/// If the reply has a listing, puts the listing into the buffers. Then reports the reply.
 fn give(
     alloc: Global,
     reply: &Reply,
@@ -38,8 +38,8 @@ fn give(
     }
 }
 
-/// Puts the listing of a reply into the buffers, with the generation of the disk, or reports the
-/// reply.
+/// If the reply has a listing, puts the listing into the buffers, and the disk's generation into
+/// the answer. Otherwise reports the reply.
 fn tell_list(
     alloc: Global,
     disk: &[u8],
@@ -62,7 +62,8 @@ fn tell_list(
     }
 }
 
-/// Lists the libraries and preloads of a disk's registry in the buffers, or reports why it can't.
+/// Puts the libraries and preloads of the registry on `disk` into the buffers, or reports why it
+/// can't.
 pub fn list_on(
     alloc: Global,
     disk: &[u8],

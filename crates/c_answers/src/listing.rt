@@ -1,5 +1,5 @@
-// Puts a listing into two buffers: the lengths of each entry, and the names of all entries in a
-// row.
+// Puts a listing into two buffers: one for the lengths of each entry, and one for the names of all
+// entries in a row.
 ghost use Rattle.std.specs.Prelude.{◌≡◌, ◌⊎◌, ◌+◌, ◌-◌, ◌<◌, ◌^◌, ◌++◌, length, min, take};
 ghost use Rattle.std.specs.Prelude.{IfSome, IfNone};
 ghost use Rattle.c_answers.specs.Listing.{entries_of, preload_entries, names_in_row, places_of};
@@ -11,7 +11,7 @@ use crate::status::{DONE, NO_ROOM};
 use names::Name;
 use requests::Listing;
 
-/// Returns the number of bytes of the libraries' names, or 2^64 - 1 if there are more.
+/// Returns the number of bytes of the libraries' names, or 2^64 - 1 if the number is greater.
 fn library_bytes(libraries: &[(Name, u32)]) -> u64
     ensures { result ≡ min (length (names_in_row libraries.now)) (2 ^ 64 - 1) }
 {
@@ -22,7 +22,7 @@ fn library_bytes(libraries: &[(Name, u32)]) -> u64
     bytes
 }
 
-/// Returns the number of bytes of the preloads' names, or 2^64 - 1 if there are more.
+/// Returns the number of bytes of the preloads' names, or 2^64 - 1 if the number is greater.
 fn preload_bytes(preloads: &[Name]) -> u64
     ensures { result
         ≡ min (length (names_in_row (preload_entries preloads.now))) (2 ^ 64 - 1) }
@@ -34,7 +34,7 @@ fn preload_bytes(preloads: &[Name]) -> u64
     bytes
 }
 
-/// Returns the number of bytes of all names, or 2^64 - 1 if there are more.
+/// Returns the number of bytes of all names, or 2^64 - 1 if the number is greater.
 fn names_bytes(listing: &Listing) -> u64
     ensures { result ≡ min (length (names_in_row (entries_of listing.now))) (2 ^ 64 - 1) }
 {
@@ -63,8 +63,8 @@ fn put_libraries(
     Some(at)
 }
 
-/// Puts the preloads after `libraries` libraries, if the buffers have room, with their names from
-/// the offset `from` on. Returns the offset after the last name.
+/// Puts the preloads after `libraries` libraries, if the buffers have room. Their names begin at
+/// the offset `from`. Returns the offset after the last name.
 fn put_preloads(
     preloads: &[Name],
     libraries: usize,
@@ -88,8 +88,8 @@ fn put_preloads(
     Some(at)
 }
 
-/// Puts the libraries, and after them the preloads, into the buffers, if they have room. Returns
-/// the number of bytes of the names.
+/// Puts first the libraries and then the preloads into the buffers, if they have room. Returns the
+/// number of bytes of the names.
 fn put_entries(listing: &Listing, entries: &mut [EntryPlace], names: &mut [u8]) -> Option<usize>
     ensures end { IfSome result (λ end. end ≡ length (names_in_row (entries_of listing.now))) }
     ensures entries { IfSome result (λ _. take (length (entries_of listing.now)) entries.new
@@ -109,8 +109,8 @@ fn put_entries(listing: &Listing, entries: &mut [EntryPlace], names: &mut [u8]) 
     )
 }
 
-/// Puts a listing into the two buffers. If one is too small, the answer has the sizes that both
-/// need.
+/// Puts a listing into the two buffers. If one of them is too small, the answer has the sizes that
+/// both need.
 pub(crate) fn put_listing(listing: &Listing, entries: &mut [EntryPlace], names: &mut [u8]) -> Answer
     ensures { IsListingGiven listing.now entries.new names.new result result.status }
 {

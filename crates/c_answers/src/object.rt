@@ -8,27 +8,27 @@ use image::ImageObject;
 #[repr(C)]
 #[derive(Clone, Copy)]
 pub struct ObjectPlace {
-    /// The number that is added to the addresses of its file.
+    /// The number that is added to the addresses in the object's file.
     pub base: u64,
-    /// The offset of its name in the buffer of bytes.
+    /// The offset of the object's name in the buffer of bytes.
     pub name: u64,
-    /// The length of its name in bytes, without the byte 0 after it.
+    /// The length of the object's name in bytes, without the byte 0 after it.
     pub name_length: u64,
-    /// The number of its first segment in the image.
+    /// The number of the object's first segment in the image.
     pub first_segment: u64,
-    /// The number of the image's segments that are its own.
+    /// The number of segments of the image that belong to the object.
     pub segments: u64,
-    /// The address of its program headers, or 0 if no segment has them.
+    /// The address of the object's program headers, or 0 if no segment has them.
     pub headers: u64,
-    /// The number of program headers of its file.
+    /// The number of program headers in the object's file.
     pub header_count: u64,
-    /// The address of its dynamic section, or 0 if no segment has it.
+    /// The address of the object's dynamic section, or 0 if no segment has it.
     pub dynamic: u64,
-    /// The sum of its base and its file's `e_entry`, modulo 2^64.
+    /// The sum of the object's base and its file's `e_entry`, modulo 2^64.
     pub entry: u64,
 }
 
-/// Returns the address `address` of an object at `base` in memory, or 0 if there is none.
+/// Returns the sum of `base` and `address` modulo 2^64, or 0 if there is no address.
 fn address_at(base: u64, address: Option<u64>) -> u64
     ensures { result ≡ address_at base address }
 {

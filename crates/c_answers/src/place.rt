@@ -9,13 +9,13 @@ use image::Segment;
 #[repr(C)]
 #[derive(Clone, Copy)]
 pub struct SegmentPlace {
-    /// The address of its first byte.
+    /// The address of the segment's first byte.
     pub address: u64,
-    /// The number of its bytes.
+    /// The number of the segment's bytes.
     pub length: u64,
-    /// The offset of its bytes in the buffer of bytes.
+    /// The offset of the segment's bytes in the buffer of bytes.
     pub from: u64,
-    /// The permissions: 1 to execute, 2 to write, 4 to read, or a sum of these.
+    /// The permissions: the sum of 1 to execute, 2 to write and 4 to read.
     pub permissions: u64,
 }
 

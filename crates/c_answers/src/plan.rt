@@ -19,7 +19,8 @@ use std::alloc::Global;
 /// The number that encodes a sync.
 const SYNC: u32 = u32::MAX;
 
-/// Returns the number of bytes that encode a step: 4, and for a write also the sector.
+/// Returns the number of bytes that encode a step: 4 for the number, and for a write also those of
+/// the sector.
 fn step_bytes(step: &Step) -> u64
     ensures { result ≡ min (length (step_bytes step.now)) (2 ^ 64 - 1) }
 {
@@ -29,7 +30,7 @@ fn step_bytes(step: &Step) -> u64
     }
 }
 
-/// Returns the number of bytes.
+/// Returns the number of bytes as a `u64`.
 fn length_of(bytes: &[u8]) -> u64
     ensures { result ≡ length bytes.now }
 {
@@ -37,7 +38,7 @@ fn length_of(bytes: &[u8]) -> u64
 }
 
 /// Returns the number of bytes that encode a plan, which is a sync followed by `steps`, or 2^64 - 1
-/// if there are more.
+/// if the number is greater.
 fn plan_bytes(steps: &[PlannedStep]) -> u64
     ensures { result
         ≡ min (length (plan_bytes (Sync ∷ map (λ p. p.step) steps.now))) (2 ^ 64 - 1) }

@@ -11,7 +11,7 @@ use crate::text::tell_memory;
 use requests::Command;
 use std::alloc::{AllocError, Global};
 
-/// Returns the parts of `row` between its bytes 0.
+/// Returns the parts of `row` that the bytes 0 separate.
 fn parts_of(alloc: Global, row: &[u8]) -> Result<Vec<&[u8]>, AllocError>
     ensures { IfOk result (λ parts. map (λ part. part.now) parts.items
         ≡ slice_split (λ byte. byte == 0) row.now) }
@@ -35,8 +35,8 @@ pub(crate) fn names_in(alloc: Global, bytes: &[u8]) -> Result<Option<Vec<&[u8]>>
     Ok(Some(parts_of(alloc, row)?))
 }
 
-/// Plans the preloads whose names are in a row in `names`: puts the plan into the buffer, or
-/// reports why it is refused.
+/// Plans new preloads, whose names are in a row in `names`: puts the plan into the buffer, or
+/// reports why the change is refused.
 pub fn plan_preloads(
     alloc: Global,
     disk: &[u8],

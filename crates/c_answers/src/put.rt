@@ -4,7 +4,7 @@ ghost use Rattle.std.specs.Prelude.{replicate};
 
 use image::Memory;
 
-/// The number of bytes that are compared at once: those of a page.
+/// The number of bytes that are compared at once: the size of a page.
 const PAGE: usize = 4096;
 
 /// Puts bytes into a buffer at the offset `at`, if it has room. Returns the offset after them.
@@ -25,8 +25,7 @@ pub(crate) fn put(out: &mut [u8], at: usize, bytes: &[u8]) -> Option<usize>
     Some(end)
 }
 
-/// Puts bytes in place of the same number of bytes. If the same bytes are there already, writes
-/// nothing.
+/// Writes `bytes` over a buffer of the same length, unless it has the same bytes already.
 fn put_over(out: &mut [u8], bytes: &[u8])
     requires { length out.old ≡ length bytes.now }
     ensures { out.new ≡ bytes.now }
@@ -36,7 +35,7 @@ fn put_over(out: &mut [u8], bytes: &[u8])
     }
 }
 
-/// Puts bytes in place of those at the offset `at` of a buffer.
+/// Writes `bytes` over those at the offset `at` of a buffer.
 fn put_at(out: &mut [u8], at: usize, bytes: &[u8])
     requires { at + length bytes.now ≤ length out.old }
     ensures front { take (at + length bytes.now) out.new ≡ take at out.old ++ bytes.now }
@@ -45,8 +44,8 @@ fn put_at(out: &mut [u8], at: usize, bytes: &[u8])
     put_over(&mut out[at..at + bytes.len()], bytes);
 }
 
-/// Sets all bytes to 0. Doesn't write a page that has only zeros, so pages that the system provides
-/// as zeros need no memory.
+/// Sets all bytes to 0. Doesn't write a page that has only zeros, so a page that the system
+/// provides as zeros needs no memory.
 fn clear(out: &mut [u8])
     ensures { out.new ≡ replicate (length out.old) 0 }
 {
@@ -58,7 +57,7 @@ fn clear(out: &mut [u8])
     }
 }
 
-/// Puts the bytes of `memory` in place of the same number of bytes.
+/// Writes the bytes of `memory` over a buffer of the same length.
 fn put_all(out: &mut [u8], memory: &Memory<'_>)
     requires { length out.old ≡ length memory.now }
     ensures { out.new ≡ memory.now }

@@ -28,14 +28,16 @@ use requests::{Refusal, Reply};
 use scope::{Library, Order};
 use std::alloc::Global;
 
-/// A report about a program: the status of the refusal that a bind of it gets, or 0, and the text.
+/// A report about a program: its text, and the status of the bind's refusal, or 0 if the bind isn't
+/// refused.
 #[derive(Drop)]
 struct Told {
     number: u32,
     text: Vec<u8>,
 }
 
-/// Returns the status of a text of bindings: that of B5 unless each symbol is bound to something.
+/// Returns the status of a report of bindings: 0 if each symbol is bound, and otherwise that of B5
+/// (Undefined).
 fn bound_status(bound: bool) -> u32
     ensures { result ≡ (if bound then 0 else 105) }
 {
@@ -59,7 +61,8 @@ fn told_of_bindings(alloc: Global, bindings: &Bindings<'_>) -> Result<Told, Refu
     }
 }
 
-/// Returns the same report for the objects of an order, with the program at the address `base`.
+/// Returns the report of what the symbols of an order's objects are bound to, with the program at
+/// the address `base`.
 fn told_of_order(alloc: Global, order: &Order<'_>, base: u64) -> Result<Told, Refusal>
     requires { is_good_base (file_at order.now 0) base ≡ true }
     ensures ok { IfOk result (λ told.
@@ -72,7 +75,8 @@ fn told_of_order(alloc: Global, order: &Order<'_>, base: u64) -> Result<Told, Re
     }
 }
 
-/// Returns the same report for a program and all the libraries that it needs.
+/// Returns the report of what the symbols are bound to, for a program and all the libraries that it
+/// needs.
 fn told_of_whole(
     alloc: Global,
     program: &Admitted<'_>,
@@ -108,7 +112,8 @@ fn told_of_dependencies(alloc: Global, dependencies: &Dependencies<'_>) -> Resul
     }
 }
 
-/// Returns the same report for a program that lacks libraries, with the libraries that were found.
+/// Returns the report of which libraries are missing, for a program and the libraries that were
+/// found for it.
 fn told_of_lacking(
     alloc: Global,
     program: &Admitted<'_>,
@@ -149,7 +154,7 @@ fn told_of_found(
     }
 }
 
-/// Finds the libraries of a program that is admitted, and returns the report about it.
+/// Finds the libraries of an admitted program, and returns the report about it.
 fn told_of_admitted(
     registry: &mut Registry<ReadOnlyDisk<'_>>,
     alloc: Global,
@@ -168,7 +173,7 @@ fn told_of_admitted(
     }
 }
 
-/// Returns the report about a program at the address `base`, or why there is none.
+/// Returns the report about a program at the address `base`, or the reason why there is none.
 fn told_of_program(
     registry: &mut Registry<ReadOnlyDisk<'_>>,
     alloc: Global,
@@ -186,9 +191,9 @@ fn told_of_program(
     }
 }
 
-/// Puts into the buffer what the symbols of a program and its libraries are bound to; or, if
-/// libraries are missing, which were found and which are missing. If it can do neither, reports
-/// why.
+/// Puts into the buffer what the symbols of a program and its libraries are bound to. If libraries
+/// are missing, puts into it which were found and which are missing. If neither is possible,
+/// reports why.
 pub fn bindings_on(
     alloc: Global,
     disk: &[u8],

@@ -1,4 +1,4 @@
-// The text of a call's answer: the line or the reply that the program prints.
+// The text of a call's answer, which is the line or the reply that the program prints.
 ghost use Rattle.std.specs.Prelude.{◌≡◌, ◌↔◌, IsTrue};
 ghost use Rattle.c_answers.specs.Answers.{HasText, WantsMemory, IsToldAlone, IsTurnedAway};
 ghost use Rattle.c_answers.specs.Numbers.{reply_number, file_number_in};
@@ -11,11 +11,11 @@ use requests::{Refusal, Reply};
 use std::alloc::Global;
 use store::StoreRefusal;
 
-/// The line that reports that memory was refused.
+/// The line for refused memory.
 const MEMORY_LINE: &[u8] = b"refused S11 OutOfMemory\n";
 
-/// Puts the beginning of a text into a buffer, as much of it as has room. Returns the length of the
-/// whole text.
+/// Puts as many of the first bytes of `whole` into the buffer `text` as it has room for. Returns
+/// the length of `whole`.
 pub(crate) fn put_text(whole: &[u8], text: &mut [u8]) -> u64
     ensures { HasText whole.now text.new result }
 {
@@ -45,8 +45,8 @@ fn reply_status(reply: &Reply) -> u32
     }
 }
 
-/// Returns the number of the test that refuses a file, if that is the reply's reason, and otherwise
-/// 0.
+/// Returns the number n of the test En that refuses a file, if that is the reason of the reply's
+/// refusal; otherwise 0.
 fn reply_file_refusal(reply: &Reply) -> u32
     ensures { result ≡ file_number_in reply.now }
 {
@@ -56,16 +56,16 @@ fn reply_file_refusal(reply: &Reply) -> u32
     }
 }
 
-/// Returns whether a reply is that a call of the disk failed.
+/// Returns whether a reply is S1 (Device): a call of the disk failed.
 fn is_failure(reply: &Reply) -> bool
     ensures { IsTrue result ↔ (reply.now ≡ Reply.Refused Refusal.Device) }
 {
     matches!(reply, Reply::Refused(Refusal::Device))
 }
 
-/// Reports the reply to a command. If memory for the text is refused, reports that memory was
-/// refused. It reports the same in place of a failed call of the disk, because calls of a disk of
-/// bytes fail only for lack of memory.
+/// Reports the reply to a command. If memory for the text is refused, or if a call of the disk
+/// failed, reports that memory was refused. A call of a disk of bytes fails only for lack of
+/// memory.
 pub(crate) fn tell(alloc: Global, reply: &Reply, text: &mut [u8]) -> Answer
     ensures { IsToldAlone reply.now text.new result result.status }
 {
@@ -83,7 +83,7 @@ pub(crate) fn tell(alloc: Global, reply: &Reply, text: &mut [u8]) -> Answer
     }
 }
 
-/// Returns whether a refusal is that a call of the disk failed.
+/// Returns whether a refusal is S1 (Device): a call of the disk failed.
 fn is_device(refusal: StoreRefusal) -> bool
     ensures { IsTrue result ↔ (refusal ≡ StoreRefusal.Device) }
 {

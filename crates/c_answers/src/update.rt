@@ -1,4 +1,4 @@
-// Plans an update: several changes, and one plan.
+// Plans an update: several changes in one plan.
 ghost use Rattle.std.specs.Prelude.{map};
 ghost use Rattle.requests.specs.Request.{request_of};
 ghost use Rattle.c_answers.specs.Answers.{IsLeft};
@@ -18,7 +18,8 @@ use byte_registry::ask_update;
 use requests::{Command, Refusal, Reply};
 use std::alloc::Global;
 
-/// Reports which change is refused, and why. `before` is the number of changes before it.
+/// Reports which change is refused, and why. `before` is the number of changes before the refused
+/// one.
 fn tell_refusal(alloc: Global, before: usize, refusal: Refusal, text: &mut [u8]) -> Answer
     ensures { IsRefusedTold before refusal text.new result result.status }
 {
@@ -29,8 +30,8 @@ fn tell_refusal(alloc: Global, before: usize, refusal: Refusal, text: &mut [u8])
     }
 }
 
-/// Reports the answer to an update, and if that is `Ok`, puts the plan of the update into the
-/// buffer.
+/// Reports the answer to an update. If the answer is `Ok`, also puts the plan of the update into
+/// the buffer.
 fn tell_update(
     alloc: Global,
     made: Result<(), (usize, Refusal)>,
@@ -47,7 +48,7 @@ fn tell_update(
     }
 }
 
-/// Plans an update that makes the changes of `commands`, or reports why it is refused.
+/// Plans an update with the changes `commands`, or reports why it is refused.
 fn plan_commands(
     alloc: Global,
     disk: &[u8],
@@ -65,7 +66,7 @@ fn plan_commands(
     }
 }
 
-/// Plans an update of changes that were read, or reports why it is refused.
+/// Plans an update with the changes `asked`, which were read, or reports why it is refused.
 fn plan_asked(
     alloc: Global,
     disk: &[u8],
@@ -83,8 +84,8 @@ fn plan_asked(
     }
 }
 
-/// Plans an update of these changes, whose bytes are in the buffer `bytes`, or reports which of
-/// them is refused, and why. If one of them isn't valid, no change is tested.
+/// Plans an update with `changes`, whose bytes are in the buffer `bytes`, or reports which of them
+/// is refused, and why. If one of them isn't valid, no change is tested.
 pub fn plan_update(
     alloc: Global,
     disk: &[u8],

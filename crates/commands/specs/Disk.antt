@@ -1,4 +1,4 @@
--- The refusals when a registry on a disk is opened, made or upgraded, and their texts (own).
+-- The refusals of opening, making or upgrading a registry on a disk, and their texts (own).
 use Rattle.std.specs.Prelude.{ℕ, List, codes, Result, Ok, Err}
 use Rattle.program_parts.specs.Refusal.{disk_refusal_text}
 use Rattle.store.specs.Opening.{IsRefusalOfOpen, IsRefusalOfFormat, IsRefusalOfUpgrade}
@@ -9,14 +9,14 @@ abbrev pub disk_answer_text : Result (Unit {0}) StoreRefusal → List ℕ
 disk_answer_text (Ok done) = codes "ok\n"
 disk_answer_text (Err refusal) = disk_refusal_text refusal
 
--- the refusals of opening a disk, whatever its number of sectors
+-- the refusals that opening a disk may return, whatever its number of sectors is
 abbrev pub IsOpenRefusal : StoreRefusal → Type 0
 IsOpenRefusal refusal = (sectors : ℕ) × IsRefusalOfOpen sectors refusal
 
--- the refusals of making a registry on a disk, whatever its number of sectors
+-- the refusals that making a registry on a disk may return, whatever its number of sectors is
 abbrev pub IsFormatRefusal : StoreRefusal → Type 0
 IsFormatRefusal refusal = (sectors : ℕ) × IsRefusalOfFormat sectors refusal
 
--- the refusals of upgrading a disk, whatever its number of sectors
+-- the refusals that upgrading a disk may return, whatever its number of sectors is
 abbrev pub IsUpgradeRefusal : StoreRefusal → Type 0
 IsUpgradeRefusal refusal = (sectors : ℕ) × IsRefusalOfUpgrade sectors refusal

@@ -10,7 +10,7 @@ use Rattle.commands.specs.declared.show.Shown.{Shown}
 use Rattle.commands.specs.declared.show.Shown.TheVariants as shown
 use Rattle.program_parts.specs.Refusal.{refusal_text, memory_text}
 
--- exactly this was appended: the text of the image, that of the refusal, or the line that memory was refused
+-- exactly one of these texts was appended: the image, its refusal, or the line for refused memory
 abbrev pub Shows : List ℕ → ℕ → Option (List ℕ) → Option (List ℕ) → Shown → Type 0
 Shows program base before after shown.Image = (alone_refusal program base ≡ None) × Appends before after (image_text (image_of (alone program base)))
 Shows program base before after shown.Refused = (refusal : BindRefusal)

@@ -15,7 +15,7 @@ use Rattle.program_parts.specs.declared.status.Status.TheVariants.{Done, Refused
 abbrev pub greatest : Status → Status → Status
 greatest a b = if nat_lt (status_number a) (status_number b) then b else a
 
--- the status after an image was shown
+-- the status after an attempt to show an image
 abbrev pub status_of : Result Shown ScriptFault → Status
 status_of (Ok shown.Image) = Done
 status_of (Ok shown.Refused) = Refused
@@ -28,7 +28,7 @@ abbrev pub event_status : EventReply → Status
 event_status (event.Replied reply) = reply_status reply
 event_status other = Done
 
--- the status after a registry was made or upgraded
+-- the status after an attempt to make or upgrade a registry
 abbrev pub disk_answer_status : Result (Unit {0}) StoreRefusal → Status
 disk_answer_status (Ok done) = Done
 disk_answer_status (Err refusal) = disk_status refusal
@@ -38,6 +38,6 @@ abbrev pub fault_status : ScriptFault → Status
 fault_status fault.OutOfMemory = NoMemory
 fault_status other = Failed
 
--- the status of a script, given the number of lines that were refused
+-- the status of a script whose number of refused lines is `refused`
 abbrev pub lines_status : ℕ → Status
 lines_status refused = if refused == 0 then Done else Refused

@@ -18,17 +18,17 @@ pub data CommandLine : Type 0 where
   bind : List ℕ → List ℕ → List ℕ → CommandLine
   script : List ℕ → CommandLine
 
--- a command of one argument: any word will do, and no argument may be missing or left over
+-- a command with exactly one argument, which may be any word
 abbrev pub of_one : (List ℕ → CommandLine) → List (List ℕ) → Option CommandLine
 of_one command (a ∷ []) = Some (command a)
 of_one command words = None
 
--- the same of two arguments
+-- a command with exactly two arguments, which may be any words
 abbrev pub of_two : (List ℕ → List ℕ → CommandLine) → List (List ℕ) → Option CommandLine
 of_two command (a ∷ b ∷ []) = Some (command a b)
 of_two command words = None
 
--- the same of three arguments
+-- a command with exactly three arguments, which may be any words
 abbrev pub of_three : (List ℕ → List ℕ → List ℕ → CommandLine) → List (List ℕ) → Option CommandLine
 of_three command (a ∷ b ∷ c ∷ []) = Some (command a b c)
 of_three command words = None
@@ -59,7 +59,7 @@ command_line (name ∷ words) =
     else None
 command_line [] = None
 
--- the command that the code has read
+-- the command line for a command that the code has read
 abbrev pub line_of : Action → CommandLine
 line_of (action.Image program base) = image program.now base.now
 line_of (action.Format disk sectors) = format disk.now sectors

@@ -26,7 +26,7 @@ pub enum Action<'a> {
         /// The number of sectors of the disk, from 8 to 4,194,304.
         sectors: u32,
     },
-    /// Makes the registry of a disk of version 1 one of version 2.
+    /// Makes a registry of version 2 from the registry on a disk of version 1.
     Upgrade {
         /// The path of the disk.
         disk: &'a str,
@@ -38,7 +38,7 @@ pub enum Action<'a> {
         /// The path of the library's file.
         file: &'a str,
     },
-    /// Puts a file in the place of the library with the same name.
+    /// Replaces the file of the library with the same name.
     Replace {
         /// The path of the disk.
         disk: &'a str,
@@ -100,10 +100,10 @@ impl<'a> Action<'a> {
     }
 }
 
-/// Returns the command that the arguments after the program's name ask for, or `None`. It is
-/// decided by the command's name, by the number of its arguments, and for `format` by SECTORS:
-/// 1 to 7 decimal digits of a value from 8 to 4,194,304. Every other argument may be any
-/// string. It allocates no memory.
+/// Returns the command that the arguments after the program's name ask for, or `None`. The name of
+/// the command and the number of its arguments decide, and for `format` also SECTORS: 1 to 7
+/// decimal digits with a value from 8 to 4,194,304. Every other argument may be any string.
+/// Allocates no memory.
 pub fn read_words(words: &[String]) -> Option<Action<'_>>
     ensures { option_map line_of result
         ≡ command_line (map (λ word. string_bytes word) words.now) }

@@ -122,8 +122,8 @@ fn has_bad_base(action: &Action<'_>) -> bool
     }
 }
 
-/// Turns away a command whose disk is the file of a standard stream, and reports it on standard
-/// error. If standard error leads to this file, reports nothing.
+/// Refuses a command if a standard stream is open to its disk's file, and reports this on standard
+/// error. If standard error is open to this file, reports nothing.
 fn keep_away<E: Write>(action: &Action<'_>, disk: &str, behind: Behind, errors: &mut E) -> Status
     ensures ends { ((result ≡ BadWords) × (are_bad (Some (line_of action.now)) ≡ true))
         ⊎ ((result ≡ Failed) × (are_bad (Some (line_of action.now)) ≡ false)) }
@@ -138,7 +138,8 @@ fn keep_away<E: Write>(action: &Action<'_>, disk: &str, behind: Behind, errors: 
     }
 }
 
-/// Returns the disk of a command and the stream, if the disk is the file of a standard stream.
+/// If a standard stream is open to the file of a command's disk, returns the path of the disk and
+/// the stream.
 fn disk_behind<'a, R: Files>(rt: &R, action: &Action<'a>) -> Option<(&'a str, Behind)> {
     let disk = action.disk()?;
     let reads_input = matches!(action, Action::Script { .. });
@@ -148,8 +149,8 @@ fn disk_behind<'a, R: Files>(rt: &R, action: &Action<'a>) -> Option<(&'a str, Be
     }
 }
 
-/// Carries out the command that the arguments ask for, unless its disk is
-/// the file of a standard stream.
+/// Carries out the command that the arguments ask for, unless a standard stream is open to its
+/// disk's file.
 fn run_command<R: Files<File = File> + Clock, I: Read, O: Write, E: Write>(
     rt: &R,
     alloc: Global,
@@ -180,10 +181,10 @@ fn run_command<R: Files<File = File> + Clock, I: Read, O: Write, E: Write>(
 }
 
 /// Does what the program does with `words`, the arguments after its name, and returns its exit
-/// status. The status is 0 if the command was done, 1 if it was refused, and 2 if the arguments
-/// aren't a command or BASE can't be read. It is 3 if the disk, a file or a stream failed, and 4 if
-/// memory was refused. The status of a script is the greatest that occurred. Only `script` reads
-/// the input. The file FILE or PROGRAM is read before DISK is opened.
+/// status. The status is 0 if the command was carried out, 1 if it was refused, and 2 if the
+/// arguments aren't a command or BASE can't be read. It is 3 if the disk, a file or a stream
+/// failed, and 4 if memory was refused. The status of a script is the greatest that occurred. Only
+/// `script` reads standard input. The file FILE or PROGRAM is read before DISK is opened.
 pub fn run_words<R: Files<File = File> + Clock, I: Read, O: Write, E: Write>(
     rt: &R,
     alloc: Global,
@@ -194,8 +195,8 @@ pub fn run_words<R: Files<File = File> + Clock, I: Read, O: Write, E: Write>(
 ) -> u8
     ensures most { result ≤ 4 }
 
-    // The status says what was done, what was written to the output and, if it is 2, what
-    // was written to standard error.
+    // The status determines what was done, what was written to standard output and, if it is 2,
+    // what was written to standard error.
     ensures ends { LineEnds (command_line (map (λ word. string_bytes word) words.now)) (record {
       unread = I.remaining input.old;
       before = O.contents output.old;
@@ -204,12 +205,12 @@ pub fn run_words<R: Files<File = File> + Clock, I: Read, O: Write, E: Write>(
       errors_after = E.contents errors.new;
     }) result }
 
-    // Only `script` reads the input.
+    // Only `script` reads standard input.
     ensures unread { reads_input (command_line (map (λ word. string_bytes word) words.now)) ≡ false
         → input.new ≡ input.old }
 
-    // If a message goes to standard error, such as about a file that can't be
-    // read, nothing goes to the output.
+    // If a message goes to standard error, such as one about a file that can't be read, nothing
+    // goes to standard output.
     ensures apart { (E.contents errors.new ≡ E.contents errors.old)
         ⊎ (O.contents output.new ≡ O.contents output.old) }
 

@@ -1,4 +1,4 @@
-// The disk of a command: made over a file, or the reason why there is none.
+// Opens or makes the disk of a command over a file, or returns the reason why this isn't possible.
 
 ghost use Rattle.std.specs.Prelude.{◌≡◌, false, OnOk, IfErr};
 ghost use Rattle.store.specs.Opened.{Opened};
@@ -27,8 +27,8 @@ pub(crate) enum NoRegistry {
     Refused(StoreRefusal),
 }
 
-/// Returns why a file is no disk. A length that isn't one of whole sectors, or not that of the
-/// wanted sectors, is refused with S6 (BadGeometry).
+/// Returns the reason why a file isn't a disk. S6 (BadGeometry) means that the length isn't one of
+/// whole sectors, or isn't that of the requested number of sectors.
 pub(crate) fn no_disk(fault: OpenFault) -> NoRegistry
     ensures open { IsNoRegistry IsOpenRefusal result }
     ensures format { IsNoRegistry IsFormatRefusal result }
@@ -36,12 +36,12 @@ pub(crate) fn no_disk(fault: OpenFault) -> NoRegistry
 {
     match fault {
         OpenFault::CannotOpen => NoRegistry::CannotOpen,
-        OpenFault::BadLength => NoRegistry::Refused(StoreRefusal::BadGeometry),
+        OpenFault::BadLength(_) => NoRegistry::Refused(StoreRefusal::BadGeometry),
         OpenFault::OutOfMemory => NoRegistry::Refused(StoreRefusal::OutOfMemory),
     }
 }
 
-/// Gives a registry's file its name, if the file was made.
+/// Gives a registry's file its final name, if the file was newly made.
 fn name_file<R: Files<File = File>>(rt: &R, name: Option<NewName<'_>>) -> Result<(), NoRegistry>
     ensures refused { IfErr result (IsNoRegistry IsFormatRefusal) }
 {
@@ -52,7 +52,7 @@ fn name_file<R: Files<File = File>>(rt: &R, name: Option<NewName<'_>>) -> Result
     }
 }
 
-/// Deletes a registry's file, if the file was made.
+/// Deletes a registry's file, if the file was newly made.
 fn take_away<R: Files<File = File>>(rt: &R, name: Option<NewName<'_>>) {
     if let Some(name) = name {
         name.take_away(rt);
@@ -60,7 +60,8 @@ fn take_away<R: Files<File = File>>(rt: &R, name: Option<NewName<'_>>) {
 }
 
 /// Makes an empty registry on a disk of `sectors` sectors, which is the file at `path`. If the file
-/// doesn't exist, makes it, and gives it its name once all of it is on the medium.
+/// doesn't exist, makes it under another name, and gives it its final name once all of it is on the
+/// medium.
 pub(crate) fn make_registry<R: Files<File = File> + Clock>(
     rt: &R,
     alloc: Global,

@@ -13,10 +13,10 @@ use sector_disk::Disk;
 use std::alloc::Global;
 use std::io::{Read, Write};
 
-/// Runs a script over a registry on a disk, as `run_script` does over anything that takes events.
-/// Its contract adds what this does to the disk: the commands of the answered lines are a run. On
-/// an honest disk, wherever the script ends, a stop at any moment leaves the state after a prefix
-/// of the accepted commands that contains every command acknowledged by then.
+/// Runs a script over a registry on a disk, as `run_script` does over any type that takes events.
+/// Its contract adds the effect on the disk: the commands of the answered lines are a run. On an
+/// honest disk, wherever the script ends, a stop at any moment leaves the state after a prefix of
+/// the accepted commands. The prefix contains every command acknowledged by then.
 pub fn run_script_on_disk<R: Read, W: Write, D: Disk>(
     alloc: Global,
     reader: &mut R,
@@ -40,7 +40,7 @@ pub fn run_script_on_disk<R: Read, W: Write, D: Disk>(
     })
         binders.old binders.new) }
 
-    // What the writer held before a failed write.
+    // The text that the writer held before a write failed.
     ensures sent { IfErr result (λ fault. fault ≡ ScriptFault.Write
         → (held : W) × StopsWriting (EventStep D.facts) (record {
           unread = R.remaining reader.old;

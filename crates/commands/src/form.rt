@@ -1,4 +1,4 @@
-// The forms of the commands: the arguments that follow each name.
+// The forms of the commands: each name and the arguments that follow it.
 
 ghost use Rattle.std.specs.Prelude.{◌≡◌, ◌∷◌, ℕ, List, map, string_bytes};
 ghost use Rattle.std.specs.Option.{option_map};
@@ -70,7 +70,7 @@ fn read_preload(words: &[String]) -> Option<Action<'_>>
     Some(Action::Preload { disk, names })
 }
 
-/// Returns the command with this name and these arguments.
+/// Returns the command with the name `name` and the arguments `words`.
 pub(crate) fn read_form<'a>(name: &str, words: &'a [String]) -> Option<Action<'a>>
     ensures { option_map line_of result
         ≡ command_line (name.now ∷ map (λ word. string_bytes word) words.now) }

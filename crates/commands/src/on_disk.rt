@@ -131,8 +131,8 @@ pub(crate) fn preload<R: Files<File = File> + Clock, O: Write, E: Write>(
     }
 }
 
-/// Carries out `bind DISK PROGRAM BASE`. BASE is read before any file is opened, and the
-/// program before the disk is opened.
+/// Carries out `bind DISK PROGRAM BASE`. Reads BASE before it opens any file, and the program
+/// before it opens the disk.
 #[tactic(auto, using(crate::proofs::Asking::bind_ends))]
 pub(crate) fn bind<R: Files<File = File> + Clock, O: Write, E: Write>(
     rt: &R,

@@ -25,7 +25,7 @@ fn is_decimal(word: &str) -> bool
     !word.is_empty() && word.len() <= MOST_DIGITS && are_digits(word.as_bytes())
 }
 
-/// Returns the number that decimal digits encode.
+/// Returns the number that 1 to 7 decimal digits encode, or `None` if the word has another form.
 fn number_of(word: &str) -> Option<u32>
     ensures { result ≡ (if is_decimal word.now then Some (digits_value 10 word.now) else None) }
 {
@@ -36,7 +36,8 @@ fn number_of(word: &str) -> Option<u32>
     }
 }
 
-/// Reads SECTORS: 1 to 7 decimal digits of a value from 8 to 4,194,304.
+/// Returns the number that SECTORS encodes, which is 1 to 7 decimal digits with a value from 8 to
+/// 4,194,304, or `None`.
 pub(crate) fn parse_sectors(word: &str) -> Option<u32>
     ensures { result ≡ sectors_of word.now }
 {

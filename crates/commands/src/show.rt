@@ -10,18 +10,18 @@ use std::alloc::Global;
 use std::io::Write;
 use store::StoreRefusal;
 
-/// What was shown.
+/// The kind of text that was shown.
 #[derive(Clone, Copy, PartialEq, Eq)]
 pub enum Shown {
     /// The image.
     Image,
     /// The reason why there is no image.
     Refused,
-    /// The line that memory was refused.
+    /// The line for refused memory.
     NoMemory,
 }
 
-/// Binds a program that needs no library at a base, and writes the text of its image, or of the
+/// Binds a program without libraries at `base`, and writes the text of its image, or of the
 /// refusal. After a fault it is unspecified what the writer holds.
 pub fn run_image<W: Write>(
     alloc: Global,

@@ -52,7 +52,7 @@ pub(crate) fn fault_status(fault: ScriptFault) -> Status
     }
 }
 
-/// Returns the status of a script, given the number of lines that were refused.
+/// Returns the status of a script with `refused` refused lines.
 pub(crate) fn lines_status(refused: u64) -> Status
     ensures { result ≡ lines_status refused }
 {

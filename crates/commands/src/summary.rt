@@ -8,13 +8,13 @@ ghost use Rattle.std.specs.Io.Iter.{u64_saturate};
 pub struct Summary {
     /// The number of lines, including one without a newline.
     pub lines: u64,
-    /// The number of refused lines: lines that ask for nothing, a line without a newline, and
-    /// commands that were refused.
+    /// The number of refused lines: lines that ask for nothing, a line without a newline, and lines
+    /// whose command is refused.
     pub refused: u64,
 }
 
 impl Summary {
-    /// Counts a line.
+    /// Counts a line, which was refused if `refused` is true.
     pub(crate) fn count(&mut self, refused: bool)
         ensures lines { self.new.lines ≡ u64_saturate (self.old.lines + 1) }
         ensures refused { self.new.refused

@@ -1,4 +1,4 @@
-// A registry with binders, whose replies are watched.
+// A registry with binders, for which the greatest status of the replies is kept.
 
 ghost use Rattle.std.specs.Prelude.{◌≢◌};
 ghost use Rattle.program_parts.specs.declared.status.Status.TheVariants.{BadWords};

@@ -20,7 +20,7 @@ use std::rt::{Clock, Files};
 pub(crate) enum WithFile {
     /// Installs a library.
     Install,
-    /// Puts the file in the place of the library with the same name.
+    /// Replaces the library with the same name.
     Replace,
     /// Binds a program.
     Bind {
@@ -30,7 +30,7 @@ pub(crate) enum WithFile {
 }
 
 impl WithFile {
-    /// Returns the command with these bytes.
+    /// Returns the command with the file `bytes`.
     fn command(self, bytes: &[u8]) -> Command<'_>
         ensures { request_of result ≡ request_with self bytes.now }
     {

@@ -19,7 +19,7 @@ use sha2::{Digest, Sha256};
 use std::alloc::{AllocError, Global};
 
 impl<D: Disk> Contents<D> {
-    /// Returns the SHA-256 of the bytes of the library at `position`, or None if they can't be
+    /// Returns the SHA-256 of the bytes of the library at `position`, or `None` if they can't be
     /// read. Reads each of their sectors once, and fails only if memory is refused.
     pub fn digest_at(
         &mut self,
@@ -48,10 +48,10 @@ impl<D: Disk> Contents<D> {
         }
     }
 
-    /// Returns the SHA-256 of the bytes of each library, in their order, and None for each library
-    /// that can't be read. Doesn't test whether the bytes still are those of a library. Frees each
-    /// library's bytes before the next, and reads each of its sectors once. Ends early only if
-    /// memory is refused.
+    /// Returns the SHA-256 of the bytes of each library, in their order, and `None` for each
+    /// library that can't be read. Doesn't test whether the files are still libraries. Frees the
+    /// bytes of each library before it reads the next one, and reads each sector once. Ends early
+    /// only if memory is refused.
     pub fn digests(&mut self, alloc: Global) -> Result<Vec<Option<[u8; 32]>>, AllocError>
         ensures read { IsRead D.facts self.old self.new }
         ensures all { IfOk result (λ digests.
@@ -61,7 +61,7 @@ impl<D: Disk> Contents<D> {
             → IsDigest (slice_index_or s.libraries i no_library).bytes
             (slice_index_or digests.items i d)) }
 
-        // On any disk, a call of the disk failed for each library that can't be read.
+        // On any disk, at least one call of the disk failed for each library that can't be read.
         ensures some { IfOk result (λ digests. All IsDigestOfSome digests.items) }
         ensures device { IfOk result (λ digests. (D.facts self.old.disk).failures
             + count_by is_none digests.items ≤ (D.facts self.new.disk).failures) }
@@ -81,7 +81,7 @@ impl<D: Disk> Contents<D> {
     pub fn digest(&mut self, alloc: Global, name: &[u8]) -> Result<[u8; 32], Unread>
         ensures read { IsRead D.facts self.old self.new }
 
-        // It is the digest of this library's bytes, and of no others.
+        // The digest is that of this library's bytes, and the library has no other bytes.
         ensures ok { (s : State) → IsAt D.facts self.old s → IfOk result (λ digest.
             (bytes : List ℕ) × HasFile s name.now bytes × (digest ≡ sha256 bytes)) }
         ensures only { (s : State) → IsAt D.facts self.old s

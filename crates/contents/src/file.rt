@@ -18,7 +18,7 @@ use store::StoreRefusal;
 
 impl<D: Disk> Contents<D> {
     /// Returns the bytes of the library at `position`. Reads each of its sectors once, and doesn't
-    /// test whether the bytes are those of a library. Fails with Unreadable or OutOfMemory.
+    /// test whether the file is a library. Fails with `Unreadable` or `OutOfMemory`.
     pub fn read(&mut self, alloc: Global, position: usize) -> Result<Vec<u8>, Unread>
         requires { position < length self.old.entries }
         ensures read { IsRead D.facts self.old self.new }
@@ -45,12 +45,12 @@ impl<D: Disk> Contents<D> {
     }
 
     /// Returns the bytes of the library with the name `name`, as they were installed. Only `check`
-    /// tests whether they still are those of a library. Reads each of their sectors once, and reads
+    /// tests whether the file is still a library. Reads each sector of the file once, and reads
     /// nothing if no library has the name.
     pub fn file(&mut self, alloc: Global, name: &[u8]) -> Result<Vec<u8>, Unread>
         ensures read { IsRead D.facts self.old self.new }
 
-        // These bytes are the library's, and no others are.
+        // The bytes are those of this library, and the library has no other bytes.
         ensures ok { (s : State) → IsAt D.facts self.old s
             → IfOk result (λ bytes. HasFile s name.now bytes.items) }
         ensures only { (s : State) → IsAt D.facts self.old s

@@ -12,6 +12,6 @@ pub enum Finding {
     Refused(FileRefusal),
     /// The file is damaged: it is a library with another name.
     OtherName,
-    /// A read of the disk failed: S1.
+    /// A read of the disk failed: S1 (Device).
     Unreadable,
 }

@@ -1,4 +1,4 @@
-// The numbers of a disk as a whole.
+// The numbers of a disk and of the state that it holds.
 use crate::contents::Contents;
 use roots::Version;
 use sector_disk::Disk;
@@ -17,8 +17,7 @@ pub struct Info {
     pub libraries: usize,
     /// The number of preloads, at most `MOST_PRELOADS`.
     pub preloads: usize,
-    /// How much of the disk is unused, and the size of the largest file that can still be
-    /// installed.
+    /// The unused space of the disk, and the size of the largest file that can still be installed.
     pub unused: UnusedSpace,
 }
 
@@ -43,8 +42,8 @@ impl<D: Disk> Contents<D> {
         ensures runs { result.unused.runs ≡ length (unused_runs (layout_in_use self.now)) }
 
         // An install of a file with a new name is refused with none of S7, S8, S9 and S10 exactly
-        // if the file isn't longer than `largest`. `largest` is 0, or the length of a file that is
-        // accepted itself.
+        // if the file has at most `largest` bytes. `largest` is 0, or a length that such a file may
+        // have.
         ensures largest { (s : State) → IsAt D.facts self.now s
             → (file : List ℕ) → IsFileSize (length file)
             → (length file ≤ result.unused.largest)

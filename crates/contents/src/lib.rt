@@ -1,5 +1,5 @@
-//! What a disk has and whether it is sound. Roots, catalogues and entries are read, and a library's
-//! file only if it is asked for.
+//! The contents of a disk, and whether its libraries are sound. Roots, catalogues and entries are
+//! read, but a library's file is read only if it is asked for.
 //!
 //! `Contents::open` opens a disk of version 2 only for reading. `file` returns a library's bytes,
 //! `info` the numbers of the whole disk, `check` a finding for each library, and `digests` the

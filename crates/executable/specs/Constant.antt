@@ -52,6 +52,29 @@ DF_1_PIE = 0x08000000
 abbrev pub PT_INTERP : ℕ
 PT_INTERP = 3
 
+-- the segment of notes, by p_type
+abbrev pub PT_NOTE : ℕ
+PT_NOTE = 4
+
+-- the p_align of the notes that are read; each name and each descriptor is padded to a multiple of it
+abbrev pub NOTE_ALIGNMENT : ℕ
+NOTE_ALIGNMENT = 4
+
+-- the number of bytes of a note before its name: the size of its name, the size of its descriptor, and its type
+abbrev pub NOTE_HEADER_SIZE : ℕ
+NOTE_HEADER_SIZE = 12
+
+-- the name of the note of a program that calls its libraries' functions itself (own): `rlibreg` and a zero, as a number of eight bytes; the size of this name
+abbrev pub CALLS_NAME : ℕ
+CALLS_NAME = 0x67657262696c72
+
+abbrev pub CALLS_NAME_SIZE : ℕ
+CALLS_NAME_SIZE = 8
+
+-- the type of this note, which has no descriptor
+abbrev pub CALLS_TYPE : ℕ
+CALLS_TYPE = 1
+
 -- the size in bytes of an entry of an array of functions
 abbrev pub ARRAY_ENTRY_SIZE : ℕ
 ARRAY_ENTRY_SIZE = 8

@@ -35,5 +35,5 @@ executable_refusal_text (refusal.Initializers name) = object_text (codes "refuse
 executable_refusal_text (refusal.Finalizers name) = object_text (codes "refused Finalizers ") name
 executable_refusal_text refusal.TooManyHeaders = codes "refused TooManyHeaders\n"
 executable_refusal_text (refusal.WritableCode name) = object_text (codes "refused WritableCode ") name
-executable_refusal_text refusal.NoRoom = codes "refused NoRoom\n"
+executable_refusal_text refusal.NoPages = codes "refused NoPages\n"
 executable_refusal_text refusal.OutOfMemory = codes "refused S11 OutOfMemory\n"

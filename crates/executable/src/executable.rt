@@ -18,6 +18,7 @@ use crate::entry::entry_of;
 use crate::front::{front_of, table_of};
 use crate::initializers::{first_finalized, first_initialized, is_preinitialized};
 use crate::merging::pieces_of;
+use crate::note::calls_itself;
 use crate::piece::Piece;
 use crate::place::{MEMORY_LIMIT, MOST_HEADERS, PAGE, padding, place_of};
 use crate::refusal::ExecutableRefusal;
@@ -137,6 +138,7 @@ fn writable_code(alloc: Global, name: &[u8]) -> ExecutableRefusal
 
 /// Returns the image's entry, if the program doesn't relocate itself, and no object has functions
 /// that nobody would call. Otherwise returns the refusal of the first of these tests that applies.
+/// A program can have a note, which says that the program itself calls these functions.
 fn entry_to_call(alloc: Global, image: &Image) -> Result<u64, ExecutableRefusal>
     ensures entry { IfOk result (λ entry. entry_of image.now ≡ Some entry) }
     ensures called { OnOk result (HasNoCalls image.now) }
@@ -147,6 +149,9 @@ fn entry_to_call(alloc: Global, image: &Image) -> Result<u64, ExecutableRefusal>
     };
     if is_static_pie(image) {
         return Err(ExecutableRefusal::StaticPie);
+    }
+    if calls_itself(image) {
+        return Ok(entry);
     }
     if is_preinitialized(image) {
         return Err(ExecutableRefusal::PreInitializers);
@@ -227,7 +232,7 @@ pub fn executable_of(alloc: Global, image: &Image) -> Result<Executable, Executa
         return Err(writable_code(alloc, owner(image, piece)));
     }
     let Some(place) = place_of(&pieces) else {
-        return Err(ExecutableRefusal::NoRoom);
+        return Err(ExecutableRefusal::NoPages);
     };
     Ok(file_of(alloc, entry, place, pieces)?)
 }

@@ -48,8 +48,8 @@ struct Tags {
     size: u64,
 }
 
-/// Returns the number in the eight bytes at offset `at` of `memory`, little endian.
-fn u64_in(memory: &Memory<'_>, at: usize) -> u64
+/// Returns the number in the eight bytes at offset `at` of memory, little endian.
+pub(crate) fn u64_in(memory: &Memory<'_>, at: usize) -> u64
     requires { at + 8 ≤ length memory.now }
     ensures { result ≡ number_at 8 memory.now at }
 {

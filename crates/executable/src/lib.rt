@@ -11,6 +11,7 @@ mod front;
 mod initializers;
 mod line;
 mod merging;
+mod note;
 mod piece;
 mod pieces;
 mod place;

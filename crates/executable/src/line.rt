@@ -51,7 +51,7 @@ pub fn put_executable_refusal<W: Write>(
         ExecutableRefusal::WritableCode { name } => {
             put_object(line, out, b"refused WritableCode ", name)
         }
-        ExecutableRefusal::NoRoom => line.put(out, b"refused NoRoom\n"),
+        ExecutableRefusal::NoPages => line.put(out, b"refused NoPages\n"),
         ExecutableRefusal::OutOfMemory => line.put(out, b"refused S11 OutOfMemory\n"),
     }
 }

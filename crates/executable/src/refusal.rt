@@ -39,7 +39,7 @@ pub enum ExecutableRefusal {
     },
     /// The headers have room neither below the image, at 0x10000 or above, nor after the image.
     #[error("there is no room for the headers")]
-    NoRoom,
+    NoPages,
     /// Memory was refused.
     #[error("memory was refused")]
     OutOfMemory,

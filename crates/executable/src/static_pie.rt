@@ -18,10 +18,10 @@ const DF_1_PIE: u64 = 0x0800_0000;
 const PT_INTERP: u32 = 3;
 
 /// The size of a program header in bytes.
-const PROGRAM_HEADER_SIZE: usize = 56;
+pub(crate) const PROGRAM_HEADER_SIZE: usize = 56;
 
-/// Returns the number in the four bytes at offset `at` of `memory`, little endian.
-fn u32_in(memory: &Memory<'_>, at: usize) -> u32
+/// Returns the number in the four bytes at offset `at` of memory, little endian.
+pub(crate) fn u32_in(memory: &Memory<'_>, at: usize) -> u32
     requires { at + 4 ≤ length memory.now }
     ensures { result ≡ number_at 4 memory.now at }
 {

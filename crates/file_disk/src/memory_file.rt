@@ -169,7 +169,8 @@ impl Drop for MemoryFile {
 }
 
 impl SectorFile for MemoryFile {
-    ghost use Rattle.std.specs.Prelude.{◌≤◌, ◌+◌, true, IsTrue};
+    ghost use Rattle.std.specs.Prelude.{◌≤◌, ◌+◌, true, IfErr, IsTrue};
+    ghost use Rattle.file_disk.specs.Length.{IsLengthFault};
     ghost use Rattle.file_disk.specs.SectorFile.{moved, IsCounted, IsFileRead};
     ghost use Rattle.file_disk.specs.SectorFile.{IsFileWrite, IsFileSync};
     ghost use Rattle.file_disk.specs.MemoryFile.{memory_file_facts, medium_of, TakesTurn, IsMoved};
@@ -189,6 +190,7 @@ impl SectorFile for MemoryFile {
     fn count_sectors(&mut self) -> Result<u32, OpenFault>
         ensures honest { IsTrue true
             → IsCounted (memory_file_facts self.old) (memory_file_facts self.new) result }
+        ensures length { IfErr result IsLengthFault }
         ensures turn { TakesTurn self.old self.new result }
         ensures medium { medium_of self.new ≡ medium_of self.old }
     {

@@ -50,12 +50,12 @@ object_refusal_name RelocationSymbol = codes "E31 RelocationSymbol"
 object_refusal_name RelocationPlace = codes "E32 RelocationPlace"
 object_refusal_name BadSoname = codes "E33 BadSoname"
 
--- what follows the name: the type, if the refusal is that of a relocation's type
+-- the text after the name: the type, if the refusal is for a relocation's type
 abbrev pub object_refusal_detail : ObjectRefusal → List ℕ
 object_refusal_detail (RelocationType kind) = codes " " ++ decimal kind
 object_refusal_detail refusal = []
 
--- the text of the refusal of a file: its number, its name, and what follows them
+-- the text of the refusal of a file: its number, its name, and the detail after the name
 abbrev pub file_refusal_text : FileRefusal → List ℕ
 file_refusal_text (Object refusal) = object_refusal_name refusal ++ object_refusal_detail refusal
 file_refusal_text DuplicateDefinition = codes "E28 DuplicateDefinition"
@@ -88,7 +88,7 @@ memory_text = disk_refusal_text OutOfMemory
 abbrev pub named_text : List ℕ → List ℕ → List ℕ → List ℕ
 named_text head first second = head ++ name_text first ++ codes " " ++ name_text second ++ codes "\n"
 
--- the line of the answer to a bind that has no image
+-- the line of the answer to a bind that is refused
 abbrev pub refusal_text : BindRefusal → List ℕ
 refusal_text (bind.Program refusal) = codes "refused B1 " ++ file_refusal_text refusal ++ codes "\n"
 refusal_text bind.BadBase = codes "refused B2 BadBase\n"

@@ -1,7 +1,8 @@
--- What a program reads, and what it writes to its output and to standard error (own).
+-- The streams of a program: its input, its output and standard error (own).
 use Rattle.std.specs.Prelude.{ℕ, List, Option}
 
--- what the input has left, and what the output and standard error hold before and after, if that is known
+-- the bytes that the input has left, and the bytes that the output and standard error hold before and
+-- after; each is none if it isn't known
 pub record Streams : Type 0 where
   pub unread : Option (List ℕ)
   pub before : Option (List ℕ)

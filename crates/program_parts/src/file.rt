@@ -10,14 +10,14 @@ use std::fs::File;
 use std::io::{ErrorKind, Read};
 use std::rt::Files;
 
-/// A file of this length in bytes or more isn't read: 1 GiB. So a device that never ends is a file
-/// that can't be read.
+/// A file of this length in bytes or more isn't read: 1 GiB. So a device without an end counts as a
+/// file that can't be read.
 const READ_LIMIT: usize = 0x4000_0000;
 
 /// The number of bytes that are read at once.
 const PAGE: usize = 0x10000;
 
-/// Why a file wasn't read.
+/// The reason why a file wasn't read.
 #[derive(Clone, Copy, Debug, PartialEq, Eq)]
 pub enum FileFault {
     /// The file can't be opened or read, or it is too long.
@@ -26,7 +26,7 @@ pub enum FileFault {
     OutOfMemory,
 }
 
-/// Reads a whole file, once.
+/// Reads the whole file at `path`, once.
 pub fn read_file<R: Files>(rt: &R, alloc: Global, path: &str) -> Result<Vec<u8>, FileFault>
     ensures { IfOk result (λ bytes. length bytes.items < read_limit) }
 {
@@ -37,7 +37,7 @@ pub fn read_file<R: Files>(rt: &R, alloc: Global, path: &str) -> Result<Vec<u8>,
 }
 
 // Reads once into a page, and returns the number of bytes that were read, which is 0 only at the
-// end. If a signal interrupted the read, returns `None`.
+// end of the file. If a signal interrupted the read, returns `None`.
 fn read_page<F: Read>(file: &mut F, page: &mut [u8; PAGE]) -> Result<Option<usize>, FileFault>
     ensures most { IfOk result (λ count. IfSome count (λ n. n ≤ 65536)) }
     ensures bytes { IfOk result (λ count. MatchOption count
@@ -52,11 +52,11 @@ fn read_page<F: Read>(file: &mut F, page: &mut [u8; PAGE]) -> Result<Option<usiz
     }
 }
 
-/// Reads a file to its end, if that comes before `limit` bytes. It reads through a page on the
-/// stack, so that refused memory can be distinguished from a read that fails for any reason.
+/// Reads a file to its end, if it has fewer than `limit` bytes. Reads through a page on the stack,
+/// so that refused memory can be distinguished from a read that fails.
 pub fn read_all<F: Read>(alloc: Global, file: &mut F, limit: usize) -> Result<Vec<u8>, FileFault>
     ensures short { IfOk result (λ bytes. length bytes.items < limit) }
-    // If the reader's bytes are known, these are all of them.
+    // If the remaining bytes of the reader are known, the result has all of them.
     ensures whole { IfOk result (λ bytes.
         IfSome (F.remaining file.old) (λ all. bytes.items ≡ all)) }
 {

@@ -55,8 +55,8 @@ fn object_refusal_name(refusal: ObjectRefusal) -> &'static [u8]
     }
 }
 
-/// Appends what follows the name of a refusal: the type, if the refusal is
-/// that of a relocation's type.
+/// Appends the text after the name of a refusal: the type, if the refusal is for a relocation's
+/// type.
 fn put_detail<const SIZE: usize, W: Write>(
     line: &mut OutputBuffer<SIZE>,
     out: &mut W,
@@ -75,7 +75,7 @@ fn put_detail<const SIZE: usize, W: Write>(
     }
 }
 
-/// Appends the number and the name of the refusal of an object, and what follows them.
+/// Appends the number and the name of an object's refusal, and the text after the name.
 fn put_object_refusal<const SIZE: usize, W: Write>(
     line: &mut OutputBuffer<SIZE>,
     out: &mut W,
@@ -89,7 +89,7 @@ fn put_object_refusal<const SIZE: usize, W: Write>(
     put_detail(line, out, refusal)
 }
 
-/// Appends the number and the name of the refusal of a file, and what follows them.
+/// Appends the number and the name of a file's refusal, and the text after the name.
 pub fn put_file_refusal<const SIZE: usize, W: Write>(
     line: &mut OutputBuffer<SIZE>,
     out: &mut W,
@@ -106,7 +106,7 @@ pub fn put_file_refusal<const SIZE: usize, W: Write>(
     }
 }
 
-/// Writes the number and the name of the refusal of a file, and what follows them, with one write
+/// Writes the number and the name of a file's refusal, and the text after the name, with one write
 /// and without a newline.
 pub fn write_file_refusal<W: Write>(out: &mut W, refusal: FileRefusal) -> Result<(), WriteFault>
     ensures { OnOk result

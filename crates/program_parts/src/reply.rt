@@ -18,7 +18,7 @@ use std::io::Write;
 use store::StoreRefusal;
 use text_output::WriteFault;
 
-/// Appends the line of a refusal.
+/// Appends the line of a command's refusal.
 fn put_command_refusal<W: Write>(
     line: &mut Line,
     out: &mut W,
@@ -49,7 +49,7 @@ fn put_command_refusal<W: Write>(
     }
 }
 
-/// Appends the line of a library.
+/// Appends the line for a library.
 fn put_library<W: Write>(
     line: &mut Line,
     out: &mut W,
@@ -68,7 +68,7 @@ fn put_library<W: Write>(
     Ok(())
 }
 
-/// Appends the line of a preload.
+/// Appends the line for a preload.
 fn put_preload<W: Write>(line: &mut Line, out: &mut W, name: &Name) -> Result<(), WriteFault>
     ensures ok { OnOk result (Sends (W.contents out.old) line.old (W.contents out.new) line.new
         (preload_text name.now)) }
@@ -80,7 +80,7 @@ fn put_preload<W: Write>(line: &mut Line, out: &mut W, name: &Name) -> Result<()
     Ok(())
 }
 
-/// Appends the lines of libraries.
+/// Appends the lines for libraries.
 fn put_libraries<W: Write>(
     line: &mut Line,
     out: &mut W,
@@ -96,7 +96,7 @@ fn put_libraries<W: Write>(
     Ok(())
 }
 
-/// Appends the lines of preloads.
+/// Appends the lines for preloads.
 fn put_preloads<W: Write>(line: &mut Line, out: &mut W, preloads: &[Name]) -> Result<(), WriteFault>
     ensures ok { OnOk result (Sends (W.contents out.old) line.old (W.contents out.new) line.new
         (flat_map preload_text preloads.now)) }
@@ -108,7 +108,7 @@ fn put_preloads<W: Write>(line: &mut Line, out: &mut W, preloads: &[Name]) -> Re
     Ok(())
 }
 
-/// Appends the lines of the libraries and of the preloads, and the line `end`.
+/// Appends the lines for the libraries and the preloads, and the line `end`.
 fn put_listing<W: Write>(line: &mut Line, out: &mut W, listing: &Listing) -> Result<(), WriteFault>
     ensures ok { OnOk result (Sends (W.contents out.old) line.old (W.contents out.new) line.new
         (listing_text listing.now)) }
@@ -134,8 +134,8 @@ fn put_short_reply<W: Write>(line: &mut Line, out: &mut W, reply: &Reply) -> Res
     }
 }
 
-/// Appends the text of a reply to the text that waits. An image is written at once, after the text
-/// that waited. It allocates no memory.
+/// Appends the text of a reply to the buffered text. An image is written at once, after the
+/// buffered text. Allocates no memory.
 pub fn put_reply<W: Write>(line: &mut Line, out: &mut W, reply: &Reply) -> Result<(), WriteFault>
     ensures { OnOk result (Sends (W.contents out.old) line.old (W.contents out.new) line.new
         (reply_text reply.now)) }
@@ -147,8 +147,8 @@ pub fn put_reply<W: Write>(line: &mut Line, out: &mut W, reply: &Reply) -> Resul
     put_short_reply(line, out, reply)
 }
 
-/// Writes the text of a reply. It makes one write, except for an image, and for a listing that is
-/// longer than a line's buffer. It allocates no memory.
+/// Writes the text of a reply. Makes one write, except for an image, and for a listing that is
+/// longer than the buffer of a line. Allocates no memory.
 pub fn write_reply<W: Write>(out: &mut W, reply: &Reply) -> Result<(), WriteFault>
     ensures { OnOk result
         (Appends (W.contents out.old) (W.contents out.new) (reply_text reply.now)) }

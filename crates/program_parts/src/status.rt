@@ -11,7 +11,7 @@ use store::StoreRefusal;
 /// The exit status of a program.
 #[derive(Clone, Copy, PartialEq, Eq)]
 pub enum Status {
-    /// The command was done.
+    /// The command was carried out.
     Done = 0,
     /// The command was refused.
     Refused = 1,
@@ -31,7 +31,7 @@ impl Status {
         self as u8
     }
 
-    /// Returns the status after a disk was refused with this refusal.
+    /// Returns the status after a disk was refused with `refusal`.
     pub fn of_disk(refusal: StoreRefusal) -> Status
         ensures { result ≡ disk_status refusal }
     {
@@ -41,7 +41,7 @@ impl Status {
             _ => Status::Refused,
         }
     }
-    /// Returns the status after a command was refused with this refusal.
+    /// Returns the status after a command was refused with `refusal`.
     fn of_refusal(refusal: &Refusal) -> Status
         ensures { result ≡ refusal_status refusal.now }
     {

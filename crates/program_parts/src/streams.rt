@@ -1,4 +1,4 @@
-// The standard streams of the process: their numbers, and the files that they lead to.
+// The standard streams of the process: their numbers, and their files.
 
 use std::fs::{File, Metadata};
 use std::io::ErrorKind;
@@ -6,11 +6,11 @@ use std::os::unix::fs::{FileTypeExt, MetadataExt};
 use std::rt::Files;
 use std::{fs, io};
 
-/// The folder that is opened in place of a closed stream. When it is open for reading, no byte can
-/// be read from it, and none can be written to it.
+/// The folder that is opened in place of a closed stream. If the folder is open for reading,
+/// no byte can be read from it or written to it.
 const FOLDER: &str = "/";
 
-/// The paths of the files that the standard streams lead to.
+/// The paths that name the files of the standard streams.
 const INPUT: &str = "/proc/self/fd/0";
 
 const OUTPUT: &str = "/proc/self/fd/1";
@@ -25,21 +25,21 @@ const ERRORS: &str = "/proc/self/fd/2";
 /// stream would be written into the file.
 #[derive(Drop)]
 pub struct StandardStreams<F> {
-    /// Three files are enough to take the three numbers if all are free. Otherwise some of
+    /// Three files are enough to take the three numbers if all of them are free. Otherwise some of
     /// the files have greater numbers.
     held: [F; 3],
 }
 
 impl<F: Drop> StandardStreams<F> {
-    /// Takes the numbers that are free. It has to be called before any other file is opened.
-    /// Afterwards each read and each write of a stream that was closed fails. Returns an error
-    /// if the numbers can't be taken.
+    /// Takes the free ones of the three numbers. Has to be called before any other file is opened.
+    /// Afterwards each read and each write of a stream that was closed fails. Returns an error if
+    /// the numbers can't be taken.
     pub fn hold<R: Files<File = F>>(rt: &R) -> io::Result<StandardStreams<F>> {
         let held = open_three(rt)?;
         Ok(StandardStreams { held })
     }
 
-    /// Releases the numbers. It is called when no file is opened any more.
+    /// Releases the numbers. Has to be called after the last file was opened.
     pub fn release(self) {
         let StandardStreams { held } = self;
         drop(held);
@@ -55,20 +55,20 @@ fn open_three<R: Files>(rt: &R) -> io::Result<[R::File; 3]> {
     ])
 }
 
-/// What the standard streams of the process lead to, compared with the file of a path.
-/// No file is opened to find out.
+/// How the standard streams of the process are related to the file at a path. No file is opened to
+/// find this out.
 #[derive(Clone, Copy)]
 pub enum Behind {
-    /// The streams lead to other files than the path's, or to none.
+    /// The streams are open to other files than the path's, or to none.
     Other,
-    /// The input or the output leads to the path's file; or it is unknown where a stream leads.
+    /// The input or the output is open to the path's file, or the file of a stream is unknown.
     OtherStream,
-    /// Standard error leads to the path's file: a message would be written into it.
+    /// Standard error is open to the path's file, so a message would be written into this file.
     Errors,
 }
 
-/// Returns whether a standard stream leads to the file of a path. The input counts
-/// only if `reads_input` is true.
+/// Returns whether a standard stream is open to the file at `path`. The input counts only if
+/// `reads_input` is true.
 pub fn behind_streams<R: Files>(rt: &R, path: &str, reads_input: bool) -> Behind {
     let Ok(found) = fs::metadata(rt, path) else {
         return Behind::Other;
@@ -89,8 +89,8 @@ pub fn behind_streams<R: Files>(rt: &R, path: &str, reads_input: bool) -> Behind
     }
 }
 
-/// Returns whether a stream leads to a file, or `None` if that is unknown. On a system
-/// without such paths no stream does.
+/// Returns whether the stream with the path `stream` is open to the file `found`, or `None` if that
+/// is unknown. On a system without such paths, the answer is no.
 fn is_behind<R: Files>(rt: &R, found: &Metadata, stream: &str) -> Option<bool> {
     match fs::metadata(rt, stream) {
         Ok(behind) => Some(is_same_file(found, &behind)),
@@ -99,7 +99,7 @@ fn is_behind<R: Files>(rt: &R, found: &Metadata, stream: &str) -> Option<bool> {
     }
 }
 
-/// Returns whether two names lead to one file, or to one block device through two nodes.
+/// Returns whether both are the same file, or the same block device at two nodes.
 fn is_same_file(one: &Metadata, other: &Metadata) -> bool {
     let are_devices = one.file_type().is_block_device() && other.file_type().is_block_device();
     (one.dev() == other.dev() && one.ino() == other.ino())

@@ -1,4 +1,4 @@
--- A library's name and file are a name and a file of the store.
+-- A library's name is a valid name for the store, and its file has a valid size.
 use Rattle.std.proofs.Common.{◌≡◌, ◌≤◌, ℕ, Bool, true, false, List, length, Option, Some, None, refl, subst, nat_lt, ◌==◌, arith}
 use Rattle.std.specs.Prelude.{◌&&◌, not, nat_le}
 use Rattle.std.specs.Int.{IsInRange}
@@ -62,7 +62,7 @@ soname_fine : (file : List ℕ) → library_refusal file ≡ None → has_bad_so
 unfolding library_refusal
 soname_fine file h = when_none (Object BadSoname) (has_bad_soname file) (none_at (library_tests file) 1 h)
 
--- a library's name is a name of the store
+-- a library's name is a valid name for the store
 pub is_name : (l : Library) → IsLibrary l → IsName l.name
 unfolding has_bad_soname
 is_name l is = by (soname l.bytes) is.named (soname_fine l.bytes is.accepted)

@@ -1,4 +1,5 @@
--- If all byte strings are libraries, a command that is applied to them is applied to a state of a registry.
+-- If all byte strings are libraries, a command that is applied to them is applied to a state of a
+-- registry.
 use Rattle.std.proofs.Common.{◌≡◌, ℕ, ◌⊎◌, inl, inr, ⊎_elim, List, ◌∷◌, Option, Some, None, All, IsTrue, IsFalse, cond, refl, sym, subst}
 use Rattle.std.specs.Option.{option_map}
 use Rattle.elf_file.specs.FirstOf.{first_of}
@@ -27,7 +28,7 @@ use Rattle.registry.proofs.Bounds.{all_behind}
 use Rattle.registry.proofs.Puts.{each_installed, each_put}
 use Rattle.registry.proofs.States.{own_names, preloads_listed, preloads_once}
 
--- if no test of a change applies, neither does the test of its file
+-- if no test of a change refuses it, the test of its file doesn't
 taken : (o : Option FileRefusal) (others : List (Option Refusal)) → first_of (option_map Object o ∷ others) ≡ None → o ≡ None
 taken None others is = refl
 taken (Some r) others is = cc
@@ -48,7 +49,7 @@ each_after p q (Refused refusal) p' step same all = subst (λ (t : State). All I
 each_after p q (Bound image) p' step same all = subst (λ (t : State). All IsLibrary t.libraries) (sym same) all
 each_after p q (Listing listing) p' step same all = subst (λ (t : State). All IsLibrary t.libraries) (sym same) all
 
--- if each file that a bind reads is a library, each answer is one of the step table
+-- if each file that a bind reads is a library, the answer is a step of the step table
 table_step : (p : Phase) (q : Request) (r : Reply) (p' : Phase) → ((program : List ℕ) → ReadsLibraries p.state program) → UntestedStep p q r p' → Step p q r p'
 table_step p (install bytes) r p' reads step = step
 table_step p (replace bytes) r p' reads step = step
@@ -58,7 +59,7 @@ table_step p list r p' reads step = step
 table_step p (bind program base) (Refused Damaged) p' reads step = absurd (step.2 (reads program))
 table_step p (bind program base) r p' reads step = step.0
 
--- each answer except S5 is one of the step table
+-- an answer other than S5 is a step of the step table
 pub other_step : (p : Phase) (q : Request) (r : Reply) (p' : Phase) → (r ≡ Refused Damaged → ⊥) → UntestedStep p q r p' → Step p q r p'
 other_step p (install bytes) r p' other step = step
 other_step p (replace bytes) r p' other step = step

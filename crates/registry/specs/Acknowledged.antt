@@ -8,7 +8,7 @@ use Rattle.requests.specs.declared.reply.Reply.{Reply}
 use Rattle.requests.specs.declared.reply.Reply.TheVariants.{Done, Refused}
 use Rattle.registry.specs.Updating.{updated}
 
--- what is done as a whole or not at all: a command, or an update with all of its requests
+-- an operation that is done as a whole or not at all: a command, or an update with all of its requests
 pub data Transaction : Type 0 where
   command : Request → Transaction
   update : List Request → Transaction
@@ -51,7 +51,8 @@ IsAcknowledgedAt exchanges k = (asked : Transaction) × (slice_get exchanges k �
 abbrev pub FailedAt : List Exchange → ℕ → Transaction → Type 0
 FailedAt exchanges k asked = slice_get exchanges k ≡ Some (answered asked (Refused Device))
 
--- `taken` has the accepted ones: the acknowledged ones, and perhaps, after them, one that was answered with S1
+-- `taken` has the accepted commands and updates: the acknowledged ones, and perhaps one more at the end,
+-- which was answered with S1
 abbrev pub AreAccepted : List Exchange → List Transaction → Type 0
 AreAccepted exchanges taken = (taken ≡ acknowledged exchanges)
     ⊎ ((k : ℕ) × (asked : Transaction) × FailedAt exchanges k asked × (taken ≡ acknowledged exchanges ++ asked ∷ []))

@@ -1,4 +1,4 @@
--- How a command is answered on any disk, even on a disk that lies, and what it leaves (own).
+-- How a command is answered on any disk, even on a disk that lies, and what the command leaves (own).
 use Rattle.std.specs.Prelude.{◌≡◌, ◌≢◌, ◌<◌, ◌↔◌, IsTrue, IsFalse, List, [], ◌∷◌, None}
 use Rattle.sector_disk.specs.Disk.{DiskFacts, AreCalls}
 use Rattle.store.specs.Holds.{KeepsHeld, AreHolds}
@@ -62,7 +62,7 @@ IsListRefusal Reopen = Unit
 IsListRefusal OutOfMemory = Unit
 IsListRefusal other = ⊥
 
--- the answers to a change: Done, or one of the refusals `Refuses`
+-- the answers to a change: Done, or a refusal for which `Refuses` holds
 abbrev pub IsChangeAnswer : (Refusal → Type 0) → Reply → Type 0
 IsChangeAnswer Refuses Done = Unit {0}
 IsChangeAnswer Refuses (Refused refusal) = Refuses refusal
@@ -89,19 +89,20 @@ IsAnswerTo (set_preloads names) = IsChangeAnswer IsPreloadsRefusal
 IsAnswerTo (bind program base) = IsBindAnswer
 IsAnswerTo list = IsListAnswer
 
--- What a change leaves: after Done, a usable registry; after S1, a registry that has to be opened again;
--- after any other refusal, all as it was.
+-- The registry after a change. After Done, it can be used; after S1, it has to be opened again; after
+-- any other refusal, nothing has changed.
 abbrev pub ChangeLeaves : {D : Type 0} → Opened D → Opened D → Reply → Type 0
 ChangeLeaves old new Done = IsFalse new.failed
 ChangeLeaves old new (Refused refusal) = (refusal ≡ Device → IsTrue new.failed) × (refusal ≢ Device → new ≡ old)
 ChangeLeaves old new other = Unit {0}
 
--- the root, the entries and the held byte strings stay, and so does whether a write or a sync failed
+-- the root, the entries and the held byte strings are unchanged, and so is whether a write or a sync
+-- failed
 abbrev pub KeepsState : {D : Type 0} → Opened D → Opened D → Type 0
 KeepsState old new = (new.root ≡ old.root) × (new.entries ≡ old.entries) × (new.held ≡ old.held) × (new.failed ≡ old.failed)
 
--- A change leaves what `ChangeLeaves` says. A bind keeps what is known of the state, and a listing leaves
--- all as it was. A bind whose program is refused by itself also leaves all as it was.
+-- A change leaves what `ChangeLeaves` defines. A bind keeps what `KeepsState` lists, and a listing
+-- changes nothing. A bind changes nothing either if a test refuses the program by itself.
 abbrev pub Leaves : {D : Type 0} → Opened D → Opened D → Request → Reply → Type 0
 Leaves old new (bind program base) answer = KeepsState old new × (program_refusal program base ≢ None → new ≡ old)
 Leaves old new list answer = new ≡ old
@@ -109,20 +110,21 @@ Leaves old new change answer = ChangeLeaves old new answer
 
 -- what a command that was answered with `answer` did, on any disk
 pub record Did {D : Type 0} (facts : D → DiskFacts) (old new : Opened D) (request : Request) (answer : Reply) : Type 0 where
-  -- S2 comes exactly if a write or a sync failed before; then nothing is done
+  -- the answer is S2 exactly if a write or a sync failed before; then nothing is done
   pub reopen : (answer ≡ Refused Reopen) ↔ IsTrue old.failed
   pub failed : IsTrue old.failed → new ≡ old
-  -- S1 comes only if a call of the disk failed
+  -- the answer is S1 only if a call of the disk failed
   pub device : answer ≡ Refused Device → (facts old.disk).failures < (facts new.disk).failures
   pub leaves : Leaves old new request answer
   -- each held byte string keeps the number of its holders and, on an honest disk, its bytes
   pub held : KeepsHeld facts old new
-  -- before and after, each held byte string has one row, which counts as listed exactly if the state lists it
+  -- before and after, each held byte string has one row, which is marked as listed exactly if the state
+  -- lists the byte string
   pub holds_before : AreHolds old
   pub holds_after : AreHolds new
   pub calls : AreCalls (facts old.disk) (facts new.disk)
 
--- the command did what `did` says, and `answer` is one of the answers that it may get
+-- the command did what `Did` defines, and `answer` is one of the answers that the command may get
 pub record Answered {D : Type 0} (facts : D → DiskFacts) (old new : Opened D) (request : Request) (answer : Reply) : Type 0 where
   pub did : Did facts old new request answer
   pub answers : IsAnswerTo request answer

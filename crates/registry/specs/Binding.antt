@@ -1,4 +1,4 @@
--- What a bind reads of a disk (own).
+-- The sectors that a bind reads, and its reply (own).
 use Rattle.std.specs.Prelude.{ℕ, List, length, drop, sum_by, Result, Ok, Err}
 use Rattle.std.specs.Int.{div_ceil}
 use Rattle.sector_disk.specs.Disk.{sector_bytes}
@@ -10,11 +10,11 @@ use Rattle.requests.specs.declared.reply.Reply.{Reply}
 use Rattle.requests.specs.declared.reply.Reply.TheVariants.{Bound, Refused}
 use Rattle.image.specs.Image.{MemoryImage}
 
--- the number of sectors that the bytes of a file take
+-- the number of sectors that hold the bytes of a file
 abbrev pub data_sectors : List ℕ → ℕ
 data_sectors bytes = div_ceil (length bytes) sector_bytes
 
--- the number of sectors that the libraries in the load order of a program take, without the program itself
+-- the number of sectors that hold the libraries in a program's load order, without the program itself
 abbrev pub bind_sectors : State → List ℕ → ℕ
 bind_sectors s program = sum_by (λ o. data_sectors o.file) (drop 1 (load_order program (objects s) (preload_numbers s)))
 

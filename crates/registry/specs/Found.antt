@@ -10,29 +10,30 @@ use Rattle.requests.specs.declared.refusal.Refusal.TheVariants.{Device, Reopen, 
 use Rattle.registry.specs.Binding.{data_sectors}
 use Rattle.registry.specs.Untested.{ReadsLibraries}
 
--- libraries, and a needed name that isn't installed, if there is one
+-- the libraries that are found, and a needed name that isn't installed, if there is one
 pub record Found : Type 0 where
   pub libraries : List Library
   pub missing : Option Need
 
--- the number of sectors that the found libraries take
+-- the number of sectors that hold the found libraries
 abbrev pub found_sectors : Found → ℕ
 found_sectors found = sum_by (λ library. data_sectors library.bytes) found.libraries
 
--- a need is missing among the installed libraries exactly if it is missing among `libraries`
+-- a needed name is missing among the installed libraries exactly if it is missing among `libraries`
 abbrev pub IsKnown : State → List Library → Need → Type 0
 IsKnown s libraries need = is_missing (names_of (objects s)) need ≡ is_missing (names_of (map object_of libraries)) need
 
--- The program and the found libraries are its load order, `missing` is the first missing name,
--- and each found library is a library. A name that one of these objects needs is missing exactly
--- if no found library goes by it.
+-- The program and the found libraries are the program's load order, `missing` is the first missing name,
+-- and each found file is a library. A name that one of these objects needs is missing exactly if no
+-- found library has that name.
 pub record IsFoundFor (s : State) (program : List ℕ) (found : Found) : Type 0 where
   pub order : load_order program (objects s) (preload_numbers s) ≡ available program (map object_of found.libraries)
   pub lacks : missing program (objects s) (preload_numbers s) ≡ found.missing
   pub are : ReadsLibraries s program
   pub known : All (λ object. All (IsKnown s found.libraries) (needed_by object)) (load_order program (objects s) (preload_numbers s))
 
--- why no libraries are returned: a call failed, the disk has to be opened again, a file is damaged, or memory was refused
+-- the refusals of a search for libraries: a call failed, the disk has to be opened again, a file is
+-- damaged, or memory was refused
 abbrev pub IsFindRefusal : {D : Type 0} → (D → DiskFacts) → Opened D → Opened D → Refusal → Type 0
 IsFindRefusal facts old new Device = (facts old.disk).failures < (facts new.disk).failures
 IsFindRefusal facts old new Reopen = IsTrue old.failed

@@ -10,7 +10,8 @@ pub record Stands (m : List Sector) (s : State) : Type 0 where
   pub stored : store.Stands m s
   pub libraries : All IsLibrary s.libraries
 
--- The same by the old rules: the sectors are those of a disk of version 1.
+-- The sectors m are those of a disk of version 1, and hold state s by the rules of that version. Each
+-- file of s is a library whose name is its SONAME.
 pub record StandsOld (m : List Sector) (s : State) : Type 0 where
   pub stored : store.StandsOld m s
   pub libraries : All IsLibrary s.libraries

@@ -1,4 +1,4 @@
--- An update: requests of which none was refused, over a draft of the current state (own).
+-- An update: requests to a draft of the current state, none of which was refused (own).
 use Rattle.std.specs.Prelude.{◌≡◌, List, [], ◌∷◌, Bool, true, false, if◌then◌else◌, All}
 use Rattle.std.specs.List.{list_any}
 use Rattle.sector_disk.specs.Disk.{DiskFacts}
@@ -24,31 +24,32 @@ abbrev pub is_refusal : Reply → Bool
 is_refusal (Refused refusal) = true
 is_refusal reply = false
 
--- the state after requests that were accepted one after the other, with the generation of d
+-- the draft's state after requests that were accepted one after the other; it keeps the generation of d
 abbrev pub drafted_by : State → List Request → State
 drafted_by d [] = d
 drafted_by d (request ∷ requests) = drafted_by (drafted d (accepted d request)) requests
 
--- The state that an update makes of the current state s: the state after its requests, with the next
+-- The state that an update makes from the current state s: the state after its requests, with the next
 -- generation. If no request asks for a change, it is s.
 abbrev pub updated : State → List Request → State
 updated s requests = if list_any asks_change requests then next s (drafted_by s requests).libraries (drafted_by s requests).preloads else s
 
--- A request to a draft was answered with `answer`: by the step table if the current state is known, and in
--- any case as on any disk.
+-- A request to a draft was answered with `answer`. If the current state is known, the step table
+-- determines the answer; on any disk, `AnsweredDraft` holds.
 pub record DraftAnswers {D : Type 0} (facts : D → DiskFacts) (old : Drafted D) (request : Request) (answer : Reply) (new : Drafted D) : Type 0 where
   pub applied : (s d : State) → IsDraftedAt facts old s d → AppliesDraft facts old new s d request answer
   pub on_any_disk : AnsweredDraft facts old new request answer
-  -- a bind makes at most the calls of a bind over the draft's state, and writes nothing
+  -- a bind makes at most as many calls as a bind over the draft's state needs, and writes nothing
   pub bound : (s d : State) → IsDraftedAt facts old s d → IsBoundBeside facts old new d request answer
 
--- Requests were answered one after the other, none was refused, and they led from draft `old` to draft `new`.
+-- Requests were answered one after the other, none was refused, and they changed the draft from `old` to
+-- `new`.
 pub record Plans {D : Type 0} (facts : D → DiskFacts) (old new : Drafted D) (requests : List Request) (answers : List Reply) : Type 0 where
   pub run : Run (DraftAnswers facts) old requests answers new
   pub accepted : All (λ answer. is_refusal answer ≡ false) answers
 
--- Requests to a draft of the current state s were answered by the step table, one after the other. The
--- draft is at the state after all of them, and s is still current.
+-- The step table answered the requests to a draft of the current state s, one after the other. The draft
+-- is at the state after all of them, and s is still current.
 pub record IsUpdate {D : Type 0} (facts : D → DiskFacts) (old new : Drafted D) (s : State) (requests : List Request) (answers : List Reply) : Type 0 where
   pub run : Run DraftStep (draft_phase facts old s) requests answers (draft_phase facts new (drafted_by s requests))
   pub at : IsDraftedAt facts new s (drafted_by s requests)

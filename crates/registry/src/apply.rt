@@ -39,7 +39,8 @@ impl<D: Disk> Registry<D> {
             (AreCallsExactly (calls_of s (request_of command.now))
             (D.facts self.old.disk) (D.facts self.new.disk)) }
 
-        // `holds_are_sound` tells proofs that each held byte string has one row.
+        // The ghost function `holds_are_sound` lets proofs use that each held byte string has one
+        // row.
         ensures on_any_disk { AreHolds self.old → AreHolds self.new
             → Answered D.facts self.old self.new (request_of command.now) result }
     {
@@ -53,12 +54,12 @@ impl<D: Disk> Registry<D> {
         }
     }
 
-    /// Applies a command. On an honest disk the answer is a step of the step table, and a refusal
-    /// is the first one that applies there. Removing a library and setting the preloads
-    /// allocate no memory. A listing makes no call of the disk. A bind reads the files
-    /// of the program's load order.
+    /// Applies `command`. On an honest disk the answer is a step of the step table, and a refusal
+    /// is the first one that applies there. Removing a library and setting the preloads allocate no
+    /// memory. A listing makes no call of the disk. A bind reads the files of the program's load
+    /// order.
     pub fn apply(&mut self, command: &Command<'_>) -> Reply
-        // The answer is a step of the table. A stop at any moment leaves the state before the
+        // The answer is a step of the step table. A stop at any moment leaves the state before the
         // command or the state after it, also if a call failed.
         ensures applied { (s : State) → IsAt D.facts self.old s
             → Applies D.facts self.old self.new s (request_of command.now) result }
@@ -79,13 +80,12 @@ impl<D: Disk> Registry<D> {
         reply
     }
 
-    /// Applies commands one after the other, and returns one reply for each. If memory for the
-    /// replies is refused, nothing is applied.
+    /// Applies `commands` one after the other, and returns one reply for each. If memory for the
+    /// replies is refused, applies none.
     pub fn run(&mut self, commands: &[Command<'_>]) -> Result<Vec<Reply>, AllocError>
-        // Each command is applied to the registry that the command before it left. What a
-        // stop leaves at any moment is the state after a prefix of the accepted commands
-        // that contains every command acknowledged by then. At the end it is the state
-        // after all accepted commands.
+        // Each command is applied to the registry that the command before it left. A stop at any
+        // moment leaves the state after a prefix of the accepted commands, which contains every
+        // command acknowledged by then. At the end it is the state after all accepted commands.
         ensures ok { IfOk result (λ replies. (s : State) → IsAt D.facts self.old s → RunsOver
             D.facts self.old self.new s (map request_of commands.now) replies.items) }
         ensures err { OnErr result (self.new ≡ self.old) }

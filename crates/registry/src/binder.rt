@@ -26,20 +26,20 @@ use store::{Store, StoreRefusal};
 /// The result of a step of a binder.
 #[derive(Drop)]
 pub enum Step {
-    /// There is more to do.
+    /// The bind isn't finished yet.
     Going,
     /// The answer of the bind: an image, B1 to B5, or S5 (Damaged). The binder is done.
     Final(Reply),
 }
 
-/// A program that is bound in steps, with the libraries as they were when the binder was begun. A
-/// binder may be used only with its own registry, until it is given to `Registry::end`.
+/// A program that is bound in steps, with the libraries that the registry had when the binder was
+/// begun. A binder may be used only with its own registry, until it is given to `Registry::end`.
 #[derive(Drop)]
 pub struct Binder {
     program: Vec<u8>,
     base: u64,
     snapshot: Snapshot,
-    // The walk begins with the first step.
+    // `None` before the first step.
     walk: Option<Walk>,
 }
 
@@ -129,7 +129,8 @@ impl Binder {
     ghost use Rattle.registry.specs.inside.Binding.{Stays};
     ghost use Rattle.store.specs.IsRead.{IsRead};
 
-    // Does nothing. It tells proofs that no preload occurs twice, and that each one is a library.
+    // Does nothing. Its clauses let proofs use that no preload occurs twice, and that each one is a
+    // library.
     fn preloads_are_apart(&self)
         ensures inside { All (λ p. p < length self.now.snapshot.handles)
             self.now.snapshot.preloads }
@@ -190,14 +191,14 @@ impl Binder {
 impl<D: Disk> Registry<D> {
     ghost use Rattle.registry.specs.Flying.{Advances, Begins, Ends};
 
-    /// Begins to bind a program, with the libraries and preloads as they are now, whatever changes
-    /// later. It copies the program, holds each library, and makes no call of the disk. It refuses
-    /// with S2 (Reopen) or S11 (OutOfMemory).
+    /// Begins to bind the program `program` at `base`, with the current libraries and preloads,
+    /// whatever changes later. Copies the program, holds each library, and makes no call of the
+    /// disk. Refuses with S2 (Reopen) or S11 (OutOfMemory).
     pub fn begin(&mut self, program: &[u8], base: u64) -> Result<Binder, Refusal>
         ensures { Begins D.facts self.old self.new program.now base result }
     {
-        // No two libraries have the same name, and a held byte string counts as listed
-        // exactly if the state lists it.
+        // No two libraries have the same name, and a held byte string is marked as listed exactly
+        // if the state lists it.
         self.store.entries_are_sound();
         self.store.holds_are_sound();
         if self.store.has_failed() {
@@ -215,14 +216,14 @@ impl<D: Disk> Registry<D> {
         }
     }
 
-    /// Makes the next step of a binder. The first step tests the program by itself, each following
+    /// Makes the next step of `binder`. The first step tests the program by itself, each following
     /// step reads and admits one library, in load order, and the last step binds. After S1 (Device)
     /// and S11 (OutOfMemory) the step can be made again. After S2 (Reopen) the disk has to be
     /// opened again, and the binder can only be ended.
     pub fn advance(&mut self, binder: &mut Binder) -> Result<Step, Refusal>
         ensures { Advances D.facts self.old self.new binder.old binder.new result }
     {
-        // This call tells proofs that no library is read twice.
+        // This call lets proofs use that no library is read twice.
         binder.preloads_are_apart();
         if self.store.has_failed() {
             return Err(Refusal::Reopen);
@@ -230,8 +231,8 @@ impl<D: Disk> Registry<D> {
         binder.step(self.alloc, &mut self.store)
     }
 
-    /// Ends a binder, done or not, and releases what it held. It allocates no memory and makes no
-    /// call of the disk, and may be called after S2 (Reopen) too.
+    /// Ends `binder`, finished or not, and releases what it held. Allocates no memory and makes no
+    /// call of the disk. May also be called after S2 (Reopen).
     pub fn end(&mut self, binder: Binder)
         ensures { Ends D.facts self.old self.new binder }
     {

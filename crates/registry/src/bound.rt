@@ -13,7 +13,7 @@ use image::{BindRefusal, BoundObject, Image, bind, bound_objects};
 use scope::{Library, NeededName, Order};
 use std::alloc::{AllocError, Global};
 
-/// Returns the files as libraries.
+/// Returns `files` as libraries.
 pub(crate) fn libraries_of(
     alloc: Global,
     files: &[LibraryFile],
@@ -27,8 +27,8 @@ pub(crate) fn libraries_of(
     Ok(libraries)
 }
 
-/// Binds a program at a base that is good for it with the files of its load
-/// order. The tests begin with B4.
+/// Binds a program with the files of its load order, at a base that no test refuses. The tests
+/// begin with B4.
 fn bind_files(
     alloc: Global,
     program: &Admitted<'_>,
@@ -81,8 +81,8 @@ fn bind_owned(
     Ok(image)
 }
 
-/// Returns B3 (Missing) for a needed name that no file goes by, with its
-/// needer. Both names are copied.
+/// Returns B3 (Missing) for a needed name that no file has, with the object that needs it. Both
+/// names are copied.
 fn missing(alloc: Global, need: &NeededName) -> Result<BindRefusal, AllocError>
     ensures { IfOk result (λ refusal. refusal ≡ missing_by need.now) }
 {
@@ -94,8 +94,8 @@ fn missing(alloc: Global, need: &NeededName) -> Result<BindRefusal, AllocError>
     Ok(BindRefusal::Missing { needer, name })
 }
 
-/// Binds a program at a base that is good for it with what a walk has found. If a name is missing,
-/// refuses with B3. Otherwise the tests begin with B4.
+/// Binds a program with the findings of a walk, at a base that no test refuses. If a name is
+/// missing, refuses with B3. Otherwise the tests begin with B4.
 pub(crate) fn bind_walked(
     alloc: Global,
     program: &Admitted<'_>,
@@ -111,7 +111,7 @@ pub(crate) fn bind_walked(
     }
 }
 
-/// Binds a program as `bind_walked` does, and frees each file as soon as it can.
+/// Binds a program as `bind_walked` does, and frees each file as soon as it is no longer needed.
 pub(crate) fn bind_found(
     alloc: Global,
     program: &Admitted<'_>,

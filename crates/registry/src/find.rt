@@ -16,8 +16,8 @@ use sector_disk::Disk;
 use std::alloc::{AllocError, Global};
 use std::marker::Model;
 
-/// The libraries that a program needs, in load order, as far as they are installed. Contracts see
-/// these libraries, and the first needed name that isn't installed.
+/// The libraries that a program needs, in load order, as far as they are installed. In contracts,
+/// this value is these libraries and the first needed name that isn't installed.
 #[derive(Drop)]
 pub struct FoundLibraries {
     files: Vec<LibraryFile>,
@@ -33,7 +33,7 @@ impl Model for FoundLibraries {
 }
 
 impl FoundLibraries {
-    /// Makes the result of a walk that has ended.
+    /// Makes the result of a finished walk.
     fn of(walk: Walk) -> FoundLibraries
         ensures { result ≡ record { libraries = walk.files.items; missing = walk.needs.missing } }
     {
@@ -42,7 +42,7 @@ impl FoundLibraries {
         FoundLibraries { files, missing }
     }
 
-    /// Returns the libraries. Each of them costs what `Object::of_accepted` costs.
+    /// Returns the libraries. Each costs as much as a call of `Object::of_accepted`.
     pub fn libraries(&self, alloc: Global) -> Result<Vec<Library<'_>>, AllocError>
         ensures { IfOk result (λ libraries.
             libraries.items ≡ map object_of self.now.libraries) }
@@ -68,9 +68,9 @@ impl<D: Disk> Registry<D> {
     ghost use Rattle.sector_disk.specs.Disk.{AreCallsExactly};
     ghost use Rattle.registry.specs.Untested.{ReadsLibraries};
 
-    /// Finds the libraries of an admitted program. It reads the files of the program's load order
-    /// as `bind` does, and goes on if a name is missing. It refuses with S1 (Device), S2 (Reopen),
-    /// S5 (Damaged) or S11 (OutOfMemory).
+    /// Finds the libraries of an admitted program. Reads the files of the program's load order as
+    /// `bind` does, and goes on if a name is missing. Refuses with S1 (Device), S2 (Reopen), S5
+    /// (Damaged) or S11 (OutOfMemory).
     pub fn find_libraries(&mut self, program: &Admitted<'_>) -> Result<FoundLibraries, Refusal>
         ensures read { IsRead D.facts self.old self.new }
         ensures ok { (s : State) → IsAt D.facts self.old s
@@ -78,12 +78,12 @@ impl<D: Disk> Registry<D> {
         ensures damaged { (s : State) → IsAt D.facts self.old s → IfErr result (λ e.
             e ≡ Refusal.Damaged → ReadsLibraries s program.now → ⊥) }
 
-        // It makes exactly the calls of a bind.
+        // Finding the libraries makes exactly the disk calls of a bind.
         ensures all_calls { (s : State) → IsAt D.facts self.old s → OnOk result
             (AreCallsExactly (bind_sectors s program.now)
             (D.facts self.old.disk) (D.facts self.new.disk)) }
 
-        // On any disk. Each library that it finds was read once, and no other library was read.
+        // On any disk, each library that is found was read once, and no other library was read.
         ensures refusals { IfErr result (IsFindRefusal D.facts self.old self.new) }
         ensures calls { IfOk result (λ found. AreCallsExactly (found_sectors found)
             (D.facts self.old.disk) (D.facts self.new.disk)) }

@@ -12,7 +12,7 @@ use std::marker::Model;
 use store::StoreRefusal;
 
 /// The file of a library that was read from a disk. No test refuses it, and its name is its SONAME.
-/// It was tested once. Contracts see the library.
+/// It was tested once. In contracts, this value is the library.
 #[derive(Drop)]
 pub(crate) struct LibraryFile {
     name: Name,
@@ -31,8 +31,8 @@ impl Model for LibraryFile {
 }
 
 impl LibraryFile {
-    /// Makes a library file of `name` and `bytes`. If they aren't a library, returns S5 (Damaged);
-    /// if memory is refused, S11 (OutOfMemory).
+    /// Makes a library file from `name` and `bytes`. If they aren't a library, returns S5
+    /// (Damaged); if memory is refused, returns S11 (OutOfMemory).
     pub(crate) fn new(
         alloc: Global,
         name: &[u8],
@@ -58,14 +58,15 @@ impl LibraryFile {
         self.name.as_bytes()
     }
 
-    /// Returns the file as an admitted object. It costs what `Object::of_accepted` costs.
+    /// Returns the file as an admitted object. This costs as much as a call of
+    /// `Object::of_accepted`.
     pub(crate) fn admitted(&self) -> Admitted<'_>
         ensures { result ≡ self.now.bytes }
     {
         Admitted::of_accepted(&self.bytes)
     }
 
-    /// Returns the file as a library. It costs what `Object::of_accepted` costs.
+    /// Returns the file as a library. This costs as much as a call of `Object::of_accepted`.
     pub(crate) fn library(&self) -> Library<'_>
         ensures { result ≡ object_of self.now }
     {

@@ -1,4 +1,4 @@
-// Reports the libraries and preloads of a list. It makes no call of the disk.
+// Reports the libraries and preloads of a list. No call of the disk is made.
 ghost use Rattle.std.specs.Prelude.{◌≡◌, IfOk, map};
 ghost use Rattle.states.specs.State.{State};
 ghost use Rattle.requests.specs.Table.{entry_of, listed};
@@ -55,12 +55,12 @@ impl<D: Disk> Registry<D> {
     ghost use Rattle.registry.specs.Answered.{IsListAnswer};
     ghost use Rattle.registry.specs.Untested.{AppliesUntested};
 
-    /// Returns the reply to `List`.
+    /// Returns the reply to `List`. Makes no call of the disk.
     pub(crate) fn list(&self) -> Reply
         ensures applied { (s : State) → IsAt D.facts self.now s
             → AppliesUntested D.facts self.now self.now s list result }
 
-        // On any disk
+        // On any disk.
         ensures reopen { (result ≡ Reply.Refused Refusal.Reopen) ↔ IsTrue self.now.failed }
         ensures answers { IsListAnswer result }
         ensures device { result ≡ Reply.Refused Refusal.Device → ⊥ }

@@ -1,4 +1,4 @@
-// A list of libraries, as commands test and report it.
+// A list of libraries, which commands test and report.
 ghost use Rattle.std.specs.Prelude.{◌≡◌, ◌<◌, ◌≤◌, ◌↔◌, ℕ, All, Bool, IfSome, IsFalse, List, Some};
 ghost use Rattle.std.specs.Prelude.{length, slice_index_or};
 ghost use Rattle.extents.specs.Extent.{AreDistinct};
@@ -15,7 +15,7 @@ use store::Store;
 
 /// A list of libraries.
 pub(crate) trait Listed {
-    /// Whether the list is that of a state.
+    /// The list has the libraries and preloads of a state.
     ghost is_at: { Self → State → Type 0 };
 
     /// The entries of the list.
@@ -51,7 +51,7 @@ pub(crate) trait Listed {
         ensures state { (s : State) → is_at self.now s
             → result ≡ length (slice_index_or s.libraries position no_library).bytes };
 
-    /// Returns the position of the library with this name, or `None`.
+    /// Returns the position of the library with the name `name`, or `None`.
     fn position(&self, name: &[u8]) -> Option<usize>
         ensures some { IfSome result (λ i. (i < length (entries self.now))
             × ((d : PlacedEntry)
@@ -72,7 +72,7 @@ pub(crate) trait Listed {
         ensures state { (s : State) → is_at self.now s
             → s.preloads ≡ names_at s.libraries result.now };
 
-    /// If the list is at a state, no write or sync failed.
+    /// If the list is at a state, no write or sync has failed.
     ghost usable: { (list : Self) → (s : State) → is_at list s → IsFalse (failed list) };
 }
 

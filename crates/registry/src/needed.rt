@@ -17,8 +17,8 @@ use sector_disk::Disk;
 use std::alloc::Global;
 use store::{Store, StoreRefusal};
 
-/// Reads the files that a program needs, as far as they exist, in load order: the preloads, and
-/// then level by level what these and the program need. Each file is read once, whole, and admitted
+/// Reads the installed files that a program needs, in load order: the preloads, and then, level by
+/// level, the files that they and the program need. Each file is read once, whole, and admitted
 /// before the next one is read. No other file is read.
 pub(crate) fn read_needed<D: Disk>(
     alloc: Global,
@@ -27,15 +27,15 @@ pub(crate) fn read_needed<D: Disk>(
 ) -> Result<Walk, StoreRefusal>
     ensures read { IsRead D.facts store.old store.new }
 
-    // The program and the files are the load order, and the walk has the
-    // first name that no file goes by.
+    // The program and the files that were read are the load order, and the walk has the first
+    // needed name that no file has.
     ensures ok { (s : State) → IsAt D.facts store.old s → IfOk result (λ walk.
         load_order program.now (objects s) (preload_numbers s)
         ≡ available program.now (map object_of walk.files.items)) }
     ensures missing { (s : State) → IsAt D.facts store.old s → IfOk result (λ walk.
         missing program.now (objects s) (preload_numbers s) ≡ walk.needs.missing) }
 
-    // If the walk ends, each file that was read is a library. S5 means that one isn't.
+    // If the walk ends, each file that was read is a library. S5 means that a file isn't a library.
     ensures libraries { (s : State) → IsAt D.facts store.old s
         → OnOk result (ReadsLibraries s program.now) }
     ensures damaged { (s : State) → IsAt D.facts store.old s

@@ -15,18 +15,18 @@ impl<D: Disk> Registry<D> {
     ghost use Rattle.registry.specs.Opening.{opening_calls};
     ghost use Rattle.registry.specs.Stands.{Stands};
 
-    /// Opens the registry that a disk holds, also after a stop. It writes nothing. It syncs, and
-    /// reads the two root sectors, each catalogue, one sector for each entry, and each file once.
-    /// All files are read into one buffer, and each is admitted before the next one is read. It
-    /// refuses with S6 (BadGeometry), S3 (NotFormatted), S12 (OldFormat), S5 (Damaged), S1 (Device)
-    /// or S11 (OutOfMemory), and hands the disk back. S12 means that the disk is of version 1,
-    /// which `upgrade` opens. S5 also means that a file isn't a library of its entry's name.
+    /// Opens the registry on `disk`, also after a stop. Writes nothing. Syncs, and reads the two
+    /// root sectors, each catalogue, one sector for each entry, and each file once. All files are
+    /// read into one buffer, and each is admitted before the next one is read. Refuses with S6
+    /// (BadGeometry), S3 (NotFormatted), S12 (OldFormat), S5 (Damaged), S1 (Device) or S11
+    /// (OutOfMemory), and hands the disk back. S12 means that the disk has version 1, which
+    /// `upgrade` opens. S5 also means that a file isn't a library with its entry's name.
     pub fn open(alloc: Global, disk: D) -> Result<Registry<D>, (StoreRefusal, D)>
         // On an honest disk.
         ensures opening { Opens Stands D.facts (IsAt D.facts) disk result }
         ensures on_any_disk { OpensOnAnyDisk D.facts disk result }
 
-        // The calls are a sync, and a read of each sector that is named above.
+        // The calls are one sync, and one read of each sector that the comment above lists.
         ensures all_calls { IfOk result (λ registry. AreCallsExactly (opening_calls registry)
             (D.facts disk) (D.facts registry.disk)) }
     {
@@ -35,9 +35,9 @@ impl<D: Disk> Registry<D> {
     }
 
     /// Opens a registry as `open` does, but reads no file. If a library is damaged or can't be
-    /// read, only a bind that needs it finds out, and everything else still works.
+    /// read, only a bind that needs it fails, and everything else still works.
     pub fn open_untested(alloc: Global, disk: D) -> Result<Registry<D>, (StoreRefusal, D)>
-        // The registry has named byte strings, whatever they are.
+        // The registry has named byte strings, which need not be libraries.
         ensures opening { OpensByEntries D.facts disk result }
 
         // If they are libraries, the registry is at their state, as after `open`.

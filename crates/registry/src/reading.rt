@@ -57,7 +57,7 @@ fn read_at<D: Disk>(
     }
 }
 
-/// Reads the file at `position`, and tests that it is a library of its name.
+/// Reads the file at `position`, and tests that it is a library with its entry's name.
 pub(crate) fn read_library<D: Disk>(
     alloc: Global,
     store: &mut Store<D>,

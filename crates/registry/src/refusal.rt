@@ -28,7 +28,7 @@ fn refusal_of(refusal: StoreRefusal) -> Refusal
     }
 }
 
-/// Returns the registry's answer to a change, for the store's answer.
+/// Returns the registry's answer to a change, computed from the store's answer `answer`.
 pub(crate) fn in_words(answer: Result<(), StoreRefusal>) -> Result<(), Refusal>
     requires { IfErr answer IsRefusalOfPutNew }
     ensures { result ≡ in_words answer }

@@ -7,7 +7,7 @@ use std::marker::Model;
 use store::Store;
 
 /// A registry on a disk. Names, lengths and the places of files are in memory, but no byte of a
-/// file. Contracts see the store that keeps the registry.
+/// file. In contracts, this value is the store that keeps the registry.
 pub struct Registry<D: Disk> {
     pub(crate) alloc: Global,
     pub(crate) store: Store<D>,
@@ -24,7 +24,7 @@ impl<D: Disk> Model for Registry<D> {
 impl<D: Disk> Registry<D> {
     ghost use Rattle.store.specs.Holds.{AreHolds};
 
-    /// Returns whether a write or a sync failed. If one did, every command is refused with S2
+    /// Returns whether a write or a sync has failed. If so, every command is refused with S2
     /// (Reopen) until the disk is opened again.
     pub fn has_failed(&self) -> bool
         ensures value { result ≡ self.now.failed }
@@ -32,8 +32,8 @@ impl<D: Disk> Registry<D> {
         self.store.has_failed()
     }
 
-    /// Does nothing. It tells proofs that on any disk, after any call, each
-    /// held byte string has one row.
+    /// Does nothing. Its clause lets proofs use that, on any disk and after any call, each held
+    /// byte string has one row.
     pub fn holds_are_sound(&self)
         ensures { AreHolds self.now }
     {

@@ -6,8 +6,8 @@ use std::alloc::{AllocError, Global};
 use store::StoreRefusal;
 
 /// A round: the disk is opened, takes commands, and is stopped. Call number `cut` of the round
-/// fails, and so do all later ones. With `late`, call number `cut`
-/// reaches the disk before it fails.
+/// fails, and so do all later ones. With `late`, call number `cut` reaches the disk before it
+/// fails.
 #[derive(Drop)]
 pub struct Round<'a> {
     /// The commands of the round, in their order.
@@ -16,7 +16,7 @@ pub struct Round<'a> {
     pub cut: u64,
     /// Whether the failing call reaches the disk.
     pub late: bool,
-    /// The choices of the sectors at the stop. The list is used over and over.
+    /// The numbers that pick each sector's contents at the stop. The list is used over and over.
     pub picks: Vec<usize>,
 }
 
@@ -46,21 +46,21 @@ fn pick(picks: &[usize], at: u32) -> usize
     picks[at as usize % picks.len()]
 }
 
-// Puts the disk of a round behind its fuse.
+// Puts the disk of a round into a new fuse.
 fn behind_fuse(disk: Memory, round: &Round<'_>) -> Fuse<Memory>
     ensures { IsFused disk round.now result }
 {
     Fuse::new(disk, round.cut, true, round.late)
 }
 
-// Stops a disk by these picks, and returns it.
+// Stops a disk with these picks, and returns it.
 fn stop_by(disk: Memory, picks: &[usize]) -> Memory
     ensures { IsStoppedBy picks.now disk result }
 {
     disk.stop(|at, _| pick(picks, at))
 }
 
-// Opens the disk behind its fuse, runs the commands, and stops the disk.
+// Opens the disk in its fuse, runs the commands, and stops the disk.
 fn run_round(alloc: Global, disk: Memory, round: &Round<'_>) -> (RoundReplies, Memory)
     ensures { (s : State) → AlwaysStands disk s → (s' : State)
         × RoundLeads (standing disk s) round.now result.0 (standing result.1 s') }
@@ -79,16 +79,15 @@ fn run_round(alloc: Global, disk: Memory, round: &Round<'_>) -> (RoundReplies, M
     (replies, stop_by(fuse.into_inner(), &round.picks))
 }
 
-/// Runs rounds one after the other. Returns the replies of each round, and the disk after the last
-/// stop. If memory for the list is refused, nothing is run.
+/// Runs `rounds` one after the other. Returns the replies of each round, and the disk after the
+/// last stop. If memory for the list is refused, runs none.
 pub fn run_rounds(
     alloc: Global,
     disk: Memory,
     rounds: Vec<Round<'_>>,
 ) -> Result<(Vec<RoundReplies>, Memory), (AllocError, Memory)>
-    // From each state that the disk holds, each round leads from the disk and the state
-    // that the round before left to the next ones. The disk that is returned is the
-    // last one, and holds its state.
+    // Suppose that the disk holds a state. Each round starts with the disk and the state that the
+    // round before it left. The disk that is returned is the last one, and holds its state.
     ensures ok { (s : State) → AlwaysStands disk s → IfOk result (λ done. (s' : State)
         × Run RoundLeads (standing disk s) rounds.entry.items done.0.items (standing done.1 s')
         × AlwaysStands done.1 s') }

@@ -1,4 +1,4 @@
-// Where a walk finds the files of a bind, and how it finds them by name.
+// The place where a walk finds the files of a bind, and the search for a file by its name.
 ghost use Rattle.std.specs.Prelude.{◌≡◌, ◌<◌, ◌≤◌, ℕ, All, IfOk, IfSome, nat_eq, length, List};
 ghost use Rattle.std.specs.List.{IsDistinct};
 ghost use Rattle.scope.specs.LoadOrder.{place_of};
@@ -12,7 +12,7 @@ use snapshots::Snapshot;
 use std::alloc::{AllocError, Global};
 use store::Store;
 
-/// Where a walk finds files: in a store as it is now, or in a snapshot of it.
+/// The place where a walk finds files: the current store, or a snapshot of it.
 #[derive(Clone, Copy)]
 pub(crate) enum Source<'a> {
     Current,
@@ -41,20 +41,20 @@ pub(crate) trait Named {
         ensures inside { All (λ p. p < offered self.now) result.now }
         ensures once { IsDistinct nat_eq result.now };
 
-    /// Returns the position of the file with this name, by a binary
-    /// search in the order of the names.
+    /// Returns the position of the file with the name `name`, by a binary search in the order of
+    /// the names.
     fn position(&self, name: &[u8]) -> Option<usize>
         ensures within { IfSome result (λ i. i < offered self.now) }
         ensures few { offered self.now ≤ 2048 }
         ensures found { (entries : List PlacedEntry) → has self.now entries
             → IsFound entries name.now result };
 
-    /// There are as many files as entries.
+    /// The number of files is the number of entries.
     ghost counted: { (files : Self) → (entries : List PlacedEntry) → has files entries
         → offered files ≡ length entries };
 }
 
-/// The files of a store as it is now, or of a snapshot of it.
+/// The files of the current store, or of a snapshot of it.
 #[derive(Clone, Copy)]
 pub(crate) struct Files<'a, D: Disk> {
     pub store: &'a Store<D>,
@@ -107,7 +107,7 @@ pub(crate) fn preload_numbers<N: Named>(alloc: Global, files: &N) -> Result<Vec<
         .collect(alloc)
 }
 
-/// Returns the place in a queue of the file with this name. The first file is at place 1.
+/// Returns the place in a queue of the file with the name `name`. The first file is at place 1.
 pub(crate) fn place_of<N: Named>(files: &N, name: &[u8]) -> Option<usize>
     ensures place { (entries : List PlacedEntry) → N.has files.now entries
         → HaveOwnNames entries → result ≡ place_of (entry_names entries) name.now }

@@ -1,4 +1,4 @@
-// The tests of a command that a list of libraries decides.
+// Those tests of a command that depend only on the list of libraries.
 ghost use Rattle.std.specs.Prelude.{◌≡◌, ◌≢◌, ◌==◌, ◌<◌, ◌≤◌, ◌↔◌, ℕ, All, Err, IfErr, IfOk};
 ghost use Rattle.std.specs.Prelude.{IfSome, IsNone, IsTrue, OnOk, length, map, not, slice_index_or, true};
 ghost use Rattle.std.specs.List.{list_any};
@@ -34,8 +34,8 @@ fn is_preload<L: Listed>(list: &L, position: usize) -> bool
         .any(|preload| *preload as usize == position)
 }
 
-/// Tests whether a library may be removed, by all tests except that of the generation. Returns
-/// the first refusal that applies.
+/// Tests whether the library `name` may be removed, with all tests except that of the generation.
+/// Returns the first refusal that applies.
 pub(crate) fn test_remove<L: Listed>(list: &L, name: &[u8]) -> Result<(), Refusal>
     ensures ok { (s : State) → L.is_at list.now s → (t : Table) → IsTableOf t s
         → OnOk result (first_refusal t (remove name.now)
@@ -85,7 +85,7 @@ fn positions_of<L: Listed>(list: &L, names: &[&[u8]]) -> Option<ArrayVec<usize, 
     Some(positions)
 }
 
-/// Tests whether the libraries with these names may be the preloads, by all tests except that of
+/// Tests whether the libraries with these names may be the preloads, with all tests except that of
 /// the generation. Returns their positions, or the first refusal that applies.
 pub(crate) fn test_preloads<L: Listed>(
     list: &L,

@@ -18,7 +18,7 @@ impl<D: Disk> Update<D> {
         ensures applied { (s d : State) → IsDraftedAt D.facts self.now s d
             → AppliesDraft D.facts self.now self.now s d list result }
 
-        // On any disk
+        // On any disk.
         ensures reopen { (result ≡ Reply.Refused Refusal.Reopen) ↔ IsTrue self.now.store.failed }
         ensures answers { IsListAnswer result }
         ensures device { result ≡ Reply.Refused Refusal.Device → ⊥ }
@@ -32,9 +32,9 @@ impl<D: Disk> Update<D> {
         }
     }
 
-    /// Applies a command to the draft. The answer is a step of the step table at the draft's state.
+    /// Applies `command` to the draft. The answer is a step of the step table in the draft's state.
     /// A change is planned or refused. A listing and a bind use the draft as it is. The current
-    /// state stays as it is, and after a refusal so does the draft.
+    /// state stays unchanged, and after a refusal the draft does too.
     pub fn apply(&mut self, command: &Command<'_>) -> Reply
         ensures applied { (s d : State) → IsDraftedAt D.facts self.old s d
             → AppliesDraft D.facts self.old self.new s d (request_of command.now) result }

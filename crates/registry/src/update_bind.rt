@@ -24,7 +24,7 @@ use std::alloc::Global;
 use store::StoreRefusal;
 
 /// Reads the file at `position` of a draft, each of its sectors once, and tests that it is a
-/// library of its name.
+/// library with its entry's name.
 fn read_drafted<D: Disk>(
     alloc: Global,
     draft: &mut store::Update<D>,
@@ -45,14 +45,14 @@ fn read_drafted<D: Disk>(
     ensures all_calls { IfOk result (λ file. AreCallsExactly (data_sectors file.bytes)
         (D.facts draft.old.store.disk) (D.facts draft.new.store.disk)) }
 {
-    // This call tells proofs that the entry has the length of the file.
+    // This call lets proofs use that the entry has the length of the file.
     draft.length(position);
     let bytes = draft.read_blob(alloc, position)?;
     LibraryFile::new(alloc, draft.name(position), bytes)
 }
 
-/// Reads the files of a draft that a program needs, in load order, as a bind of the current list
-/// does: each file once, and no other.
+/// Reads the files of a draft that a program needs, in load order: each file once, and no other
+/// file.
 fn read_needed_of<D: Disk>(
     alloc: Global,
     draft: &mut store::Update<D>,
@@ -98,7 +98,7 @@ impl<D: Disk> Update<D> {
     ghost use Rattle.registry.specs.Drafting.{draft_phase};
     ghost use Rattle.registry.specs.inside.Drafting.{ReadsBeside};
 
-    /// Returns the image of an admitted program at a base that is good for it, or a refusal. The
+    /// Returns the image of an admitted program at `base`, which no test refuses, or a refusal. The
     /// first refused read decides: S1 (Device), S5 (Damaged) or S11 (OutOfMemory). If no read is
     /// refused, the refusal is B3 (Missing), B4 (NoRoom) or B5 (Undefined).
     fn bind_admitted(&mut self, program: &Admitted<'_>, base: u64) -> Result<Image, Refusal>
@@ -126,8 +126,8 @@ impl<D: Disk> Update<D> {
         Ok(image)
     }
 
-    /// Returns the image of a program, or the first refusal. The program by itself is tested
-    /// before any call of the disk.
+    /// Returns the image of the program `file` at `base`, or the first refusal. Tests the program
+    /// by itself before any call of the disk.
     fn image(&mut self, file: &[u8], base: u64) -> Result<Image, Refusal>
         ensures step { (s d : State) → IsDraftedAt D.facts self.old s d
             → DraftStep (draft_phase D.facts self.old d) (bind file.now base)
@@ -154,7 +154,8 @@ impl<D: Disk> Update<D> {
         self.bind_admitted(&program, base)
     }
 
-    /// Returns the reply to `Bind`: the answer that a bind gets if the draft is committed as it is.
+    /// Returns the reply to `Bind`, which is the one that a bind would get if the draft were
+    /// committed now.
     pub(crate) fn bind(&mut self, program: &[u8], base: u64) -> Reply
         ensures applied { (s d : State) → IsDraftedAt D.facts self.old s d
             → AppliesDraft D.facts self.old self.new s d (bind program.now base) result }
@@ -163,7 +164,7 @@ impl<D: Disk> Update<D> {
         ensures bound { (s d : State) → IsDraftedAt D.facts self.old s d
             → IsBoundBeside D.facts self.old self.new d (bind program.now base) result }
 
-        // On any disk
+        // On any disk.
         ensures read { ReadsBeside D.facts self.old self.new }
         ensures alone { program_refusal program.now base ≢ None → self.new ≡ self.old }
         ensures failed { IsTrue self.old.store.failed

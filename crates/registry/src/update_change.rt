@@ -18,8 +18,8 @@ impl<D: Disk> Update<D> {
     ghost use Rattle.registry.specs.Drafting.{AppliesDraft};
     ghost use Rattle.registry.specs.inside.Drafting.{IsPlanned};
 
-    /// Installs a library in the draft, after the draft's other libraries. Its file goes
-    /// into sectors that nothing uses.
+    /// Installs the library `bytes` in the draft, after the draft's other libraries. Its file is
+    /// written to unused sectors.
     pub(crate) fn install(&mut self, bytes: &[u8]) -> Result<(), Refusal>
         ensures applied { (s d : State) → IsDraftedAt D.facts self.old s d → AppliesDraft D.facts
             self.old self.new s d (install bytes.now) (answer_of result) }
@@ -53,7 +53,8 @@ impl<D: Disk> Update<D> {
         in_words(self.draft.put_over(name, bytes))
     }
 
-    /// Removes a library from the draft. It allocates no memory, and makes no call of the disk.
+    /// Removes the library `name` from the draft. Allocates no memory, and makes no call of the
+    /// disk.
     pub(crate) fn remove(&mut self, name: &[u8]) -> Result<(), Refusal>
         ensures applied { (s d : State) → IsDraftedAt D.facts self.old s d → AppliesDraft D.facts
             self.old self.new s d (remove name.now) (answer_of result) }
@@ -63,7 +64,7 @@ impl<D: Disk> Update<D> {
         in_words(self.draft.delete(name))
     }
 
-    /// Sets the draft's preloads. It allocates no memory, and makes no call of the disk.
+    /// Sets the draft's preloads to `names`. Allocates no memory, and makes no call of the disk.
     pub(crate) fn set_preloads(&mut self, names: &[&[u8]]) -> Result<(), Refusal>
         ensures applied { (s d : State) → IsDraftedAt D.facts self.old s d → AppliesDraft D.facts
             self.old self.new s d (set_preloads (map (λ n. n.now) names.now)) (answer_of result) }

@@ -1,4 +1,4 @@
--- The answers to the requests of a dump, and where the requests lead.
+-- The answers to the requests of a dump, and the states after the requests.
 use Rattle.std.proofs.Common.{◌≡◌, ℕ, ◌+◌, List, [], ◌∷◌, ◌++◌, length, length-append, map, Option, None, Some, refl, sym, subst, ◌∙◌, arith, inl, inr}
 use Rattle.std.specs.Prelude.{◌⊎◌, All, fold}
 use Rattle.std.proofs.Math.Seq.{get_or-append_seam}
@@ -49,7 +49,7 @@ room_taken s p request lacks room = by (refusal_at p request) lacks.only refl
     by o (inr (inl full)) is = absurd (omega (arith, lacks.full (is ∙ full), room.sectors))
     by o (inr (inr fragmented)) is = absurd (room.runs (lacks.fragmented (is ∙ fragmented)))
 
--- a change that no test refuses is done, unless the disk fails or memory is refused
+-- a change that no test refuses is answered Done, unless the disk fails or memory is refused
 pub done_or_fault : (p p' : Phase) (request : Request) (answer : Reply) → IsChange request → refusal_at p request ≡ None → Step p request answer p' → (answer ≡ Done) ⊎ IsFault answer
 done_or_fault p p' request Done change none h = inl refl
 done_or_fault p p' request (Refused refusal.Device) change none h = inr tt

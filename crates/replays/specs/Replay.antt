@@ -28,7 +28,7 @@ preload_requests (name ∷ names) = set_preloads (name ∷ names) ∷ []
 abbrev pub requests_for : State → List Request
 requests_for s = map (λ l. install l.bytes) s.libraries ++ preload_requests s.preloads
 
--- the state with these libraries and preloads, after as many changes as there are requests for it
+-- the state with the same libraries and preloads, after as many changes as there are requests for it
 abbrev pub copy_of : State → State
 copy_of s = record { generation = length (requests_for s); libraries = s.libraries; preloads = s.preloads }
 
@@ -36,24 +36,25 @@ copy_of s = record { generation = length (requests_for s); libraries = s.librari
 abbrev pub sectors_for : State → ℕ
 sectors_for s = root_sectors + taken_by s
 
--- the state of the phase is the one to which the requests `front` lead from a new registry
+-- the state of the phase is the one that the requests `front` make from an empty registry
 abbrev pub IsBehind : List Request → Phase → Type 0
 IsBehind front p = p.state ≡ fold accepted empty_state front
 
--- the longest runs of unused sectors are too short for the bytes of the file
+-- the request is an install, and the longest runs of unused sectors are too short for the bytes of its
+-- file
 abbrev pub HasShortRuns : Phase → Request → Type 0
 HasShortRuns p (install bytes) = p.longest < div_ceil (length bytes) sector_bytes
 HasShortRuns p request = ⊥
 
--- No test refuses the request except S7, on a disk with too few sectors for the state, and S8, if
--- the runs are too short.
+-- No test refuses the request except S7 and S8. S7 is possible only if the disk has too few sectors for
+-- the state, and S8 only if the runs of unused sectors are too short.
 pub record LacksRoomAtMost (s : State) (p : Phase) (request : Request) : Type 0 where
   pub only : (refusal_at p request ≡ None) ⊎ (refusal_at p request ≡ Some Full) ⊎ (refusal_at p request ≡ Some Fragmented)
   pub full : refusal_at p request ≡ Some Full → p.sectors < sectors_for s + p.lone
   pub fragmented : refusal_at p request ≡ Some Fragmented → HasShortRuns p request
 
--- There is room at the phase: the disk has the sectors that the state needs, and the runs are long
--- enough.
+-- There is room in the phase for the request: the disk has the sectors that the state needs, and the
+-- runs are long enough.
 pub record HasRoomFor (s : State) (p : Phase) (request : Request) : Type 0 where
   pub sectors : sectors_for s + p.lone ≤ p.sectors
   pub runs : HasShortRuns p request → ⊥

@@ -14,7 +14,8 @@ pub record IsScript (text : List ℕ) (requests : List Request) : Type 0 where
   pub each : All IsLine lines
   pub whole : text ≡ flat_map ended lines
   pub asked : map meaning lines ≡ map (λ request. Some (apply request)) requests
-  -- in whatever way the text is cut into lines and a rest after the last line, these are its lines
+  -- however the text is divided into lines and a rest after the last newline, these are its lines, and
+  -- there is no rest
   pub only : (others : List (List ℕ)) (cut : List ℕ) → All IsLine others → IsLine cut
       → text ≡ flat_map ended others ++ cut → (others ≡ lines) × (cut ≡ [])
 
@@ -25,7 +26,7 @@ pub record IsUpdateText (text : List ℕ) (requests : List Request) : Type 0 whe
   pub each : All IsLine lines
   pub whole : text ≡ flat_map ended lines ++ ended commit_line
   pub asked : map request_meaning lines ≡ map (λ request. Some request) requests
-  -- in whatever way the text is cut into lines and a rest after the last line, these are its lines, and then
-  -- `commit`
+  -- however the text is divided into lines and a rest after the last newline, these are its lines and
+  -- then `commit`, and there is no rest
   pub only : (others : List (List ℕ)) (cut : List ℕ) → All IsLine others → IsLine cut
       → text ≡ flat_map ended others ++ cut → (others ≡ lines ++ commit_line ∷ []) × (cut ≡ [])

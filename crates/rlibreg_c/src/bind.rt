@@ -8,10 +8,10 @@ use c_answers::{Answer, ObjectPlace, SegmentPlace, bind_on};
 use requests::Command;
 use std::alloc::Global;
 
-/// Binds a program at the address `base` over the registry that the sectors of `disk` hold. The
-/// buffers receive its objects in load order, its segments, and the bytes of the segments one after
-/// the other, followed by the objects' names. If a buffer is too small, the answer has the sizes
-/// that all of them need.
+/// Binds a program at the address `base` with the registry that the sectors of `disk` hold. The
+/// buffers receive the image's objects in load order, its segments, and the bytes of the segments
+/// one after the other, followed by the objects' names. If a buffer is too small, the answer has
+/// the sizes that all three need.
 #[unsafe(no_mangle)]
 pub extern "C" fn rlibreg_bind(
     alloc: Global,

@@ -7,7 +7,7 @@ use c_answers::{Answer, executable_on};
 use requests::Command;
 use std::alloc::Global;
 
-/// Makes the static executable file of a program over the registry that the sectors of `disk` hold.
+/// Makes the static executable file of a program with the registry that the sectors of `disk` hold.
 /// The file loads exactly the image that `rlibreg_bind` returns at this base.
 #[unsafe(no_mangle)]
 pub extern "C" fn rlibreg_executable(
@@ -19,7 +19,7 @@ pub extern "C" fn rlibreg_executable(
     text: &mut [u8],
     answer: &mut Answer,
 ) -> u32
-    // The file is that of the image for the state that the bytes of the disk hold.
+    // The file is that of the image that is defined for the state that the bytes of the disk hold.
     ensures executable { result ≡ 0
         → IsExecutableFileOf disk.now program.now base bytes.new answer.new }
     ensures answered { IsExecutableAnswered disk.now (bind program.now base) bytes.new text.new

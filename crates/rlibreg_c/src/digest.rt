@@ -16,7 +16,8 @@ pub extern "C" fn rlibreg_digest(
     text: &mut [u8],
     answer: &mut Answer,
 ) -> u32
-    // The digest is that of the library of this name in the state that the bytes of the disk hold.
+    // The digest is that of the library with this name in the state that the bytes of the disk
+    // hold.
     ensures digest { result ≡ 0 → IsDigestOf disk.now name.now digest.new }
     ensures answered { IsDigestAnswered disk.now name.now digest.new text.new answer.new result }
     ensures left { result ≢ 0 → digest.new ≡ digest.old }

@@ -6,8 +6,8 @@ use c_answers::{Answer, file_on};
 use std::alloc::Global;
 
 /// Returns the bytes of the library named `name` in the registry that the sectors of `disk` hold,
-/// as it was installed. Reads no other library's file, and doesn't test whether the bytes are a
-/// library's.
+/// as they were installed. Reads no other library's file, and doesn't test whether the file is a
+/// library.
 #[unsafe(no_mangle)]
 pub extern "C" fn rlibreg_file(
     alloc: Global,
@@ -17,7 +17,8 @@ pub extern "C" fn rlibreg_file(
     text: &mut [u8],
     answer: &mut Answer,
 ) -> u32
-    // They are the bytes of the library of this name in the state that the bytes of the disk hold.
+    // The bytes are those of the library with this name in the state that the bytes of the disk
+    // hold.
     ensures file { result ≡ 0 → IsFileOf disk.now name.now bytes.new answer.new }
     ensures answered { IsFileAnswered disk.now name.now bytes.new text.new answer.new result }
     ensures status { answer.new.status ≡ result }

@@ -5,7 +5,7 @@ ghost use Rattle.c_answers.specs.Answers.{IsFormatAnswered, IsFormatPlan, IsLeft
 use c_answers::{Answer, format_on};
 use std::alloc::Global;
 
-/// Plans an empty registry on the disk.
+/// Plans an empty registry on the disk `disk`.
 #[unsafe(no_mangle)]
 pub extern "C" fn rlibreg_plan_format(
     alloc: Global,
@@ -14,8 +14,8 @@ pub extern "C" fn rlibreg_plan_format(
     text: &mut [u8],
     answer: &mut Answer,
 ) -> u32
-    // A stop leaves the disk as it was or the empty registry, and after the whole plan only the
-    // empty registry.
+    // A stop leaves the disk as it was or the empty registry. After the whole plan it leaves only
+    // the empty registry.
     ensures plan { result ≡ 0 → IsFormatPlan disk.now plan.new answer.new }
     ensures answered { IsFormatAnswered disk.now plan.new text.new answer.new result }
     ensures left { IsLeft plan.old plan.new result }

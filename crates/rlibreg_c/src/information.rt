@@ -15,8 +15,8 @@ pub extern "C" fn rlibreg_info(
     text: &mut [u8],
     answer: &mut Answer,
 ) -> u32
-    // The numbers are those of the state that the bytes hold, and of the sectors that are unused in
-    // them.
+    // The numbers are those of the state that the bytes hold, and of the sectors that this state
+    // leaves unused.
     ensures info { result ≡ 0 → IsInfoOf disk.now information.new }
     ensures answered { IsInfoAnswered disk.now information.new text.new answer.new result }
     ensures left { result ≢ 0 → information.new ≡ information.old }

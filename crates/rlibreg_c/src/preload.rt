@@ -17,7 +17,7 @@ pub extern "C" fn rlibreg_plan_preload(
     text: &mut [u8],
     answer: &mut Answer,
 ) -> u32
-    // The plan leads from the state that the bytes hold to the one that acceptance gives.
+    // The plan leads from the state that the bytes hold to the state after the accepted change.
     ensures plan { result ≡ 0 → (list : List (List ℕ)) × AreNames list names.now
         × IsPlanOf disk.now (set_preloads list) plan.new answer.new }
     ensures answered { IsPreloadAnswered disk.now names.now plan.new text.new answer.new result }

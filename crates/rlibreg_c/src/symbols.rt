@@ -5,10 +5,10 @@ ghost use Rattle.c_answers.specs.Bindings.{IsBindingsAnswered, IsBindingsOf, Tel
 use c_answers::{Answer, bindings_on};
 use std::alloc::Global;
 
-/// Reports as a text what the symbols of a program and its libraries are bound to, over the
-/// registry that the sectors of `disk` hold. If libraries are missing, the text has instead what
-/// was found and what is missing. The status is that of `rlibreg_bind` at this base. There is a
-/// text with the statuses 0, B3 (Missing) and B5 (Undefined).
+/// Reports as a text what the symbols of a program and its libraries are bound to, with the
+/// registry that the sectors of `disk` hold. If libraries are missing, the text states instead
+/// which were found and which are missing. The status is the one that `rlibreg_bind` returns at
+/// this base. There is a text with the statuses 0, B3 (Missing) and B5 (Undefined).
 #[unsafe(no_mangle)]
 pub extern "C" fn rlibreg_bindings(
     alloc: Global,
@@ -19,7 +19,7 @@ pub extern "C" fn rlibreg_bindings(
     text: &mut [u8],
     answer: &mut Answer,
 ) -> u32
-    // The text is the one for the state that the bytes of the disk hold.
+    // The text is the one that is defined for the state that the bytes of the disk hold.
     ensures bindings { TellsText result
         → IsBindingsOf disk.now program.now base bytes.new answer.new result }
     ensures answered { IsBindingsAnswered disk.now program.now base bytes.new text.new answer.new

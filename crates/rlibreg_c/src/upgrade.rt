@@ -5,8 +5,8 @@ ghost use Rattle.c_answers.specs.Answers.{IsLeft, IsUpgradeAnswered, IsUpgradePl
 use c_answers::{Answer, upgrade_on};
 use std::alloc::Global;
 
-/// Plans to turn a registry of version 1 into one of version 2. For a registry of version 2 the
-/// plan writes nothing.
+/// Plans an upgrade of a registry of version 1 to version 2. If the registry already has version 2,
+/// the plan writes nothing.
 #[unsafe(no_mangle)]
 pub extern "C" fn rlibreg_plan_upgrade(
     alloc: Global,
@@ -15,8 +15,8 @@ pub extern "C" fn rlibreg_plan_upgrade(
     text: &mut [u8],
     answer: &mut Answer,
 ) -> u32
-    // A stop leaves the registry of version 1 or the one of version 2, and after the whole plan
-    // only the latter.
+    // A stop leaves the registry of version 1 or that of version 2. After the whole plan it leaves
+    // only that of version 2.
     ensures plan { result ≡ 0 → IsUpgradePlan disk.now plan.new answer.new }
     ensures answered { IsUpgradeAnswered disk.now plan.new text.new answer.new result }
     ensures left { IsLeft plan.old plan.new result }

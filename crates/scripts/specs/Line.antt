@@ -3,7 +3,7 @@ use Rattle.std.specs.Prelude.{◌≢◌, ℕ, List, [], ◌∷◌, ◌++◌, All
 use Rattle.scripts.specs.declared.line_refusal.LineRefusal.{LineRefusal}
 use Rattle.scripts.specs.declared.line_refusal.LineRefusal.TheVariants.{BadLine, CutLine}
 
--- no newline is among these bytes
+-- none of these bytes is a newline
 abbrev pub IsLine : List ℕ → Type 0
 IsLine bytes = All (λ b. b ≢ 10) bytes
 

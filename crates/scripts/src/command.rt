@@ -14,9 +14,9 @@ use std::alloc::{AllocError, Global};
 /// The command that a line asks for. It owns the bytes that HEX encodes, and the list of NAMEs.
 #[derive(Drop)]
 pub enum AskedCommand<'a> {
-    /// Installs a library with these bytes.
+    /// Installs the library with these bytes.
     Install(Vec<u8>),
-    /// Puts a file in the place of the library with the same name.
+    /// Replaces the library with the same name by the library with these bytes.
     Replace(Vec<u8>),
     /// Removes the library with this name.
     Remove(&'a [u8]),
@@ -34,7 +34,7 @@ pub enum AskedCommand<'a> {
 }
 
 impl<'a> AskedCommand<'a> {
-    /// Returns the command as a registry takes it.
+    /// Returns this command as a command for a registry.
     pub fn as_command(&self) -> Command<'_>
         ensures { request_of result ≡ request_asked self.now }
     {
@@ -52,7 +52,7 @@ impl<'a> AskedCommand<'a> {
     }
 }
 
-/// Returns what follows `front` in a line, or `None` if the line doesn't begin with it.
+/// Returns the bytes after `front` in a line, or `None` if the line doesn't begin with `front`.
 pub fn behind<'a>(line: &'a [u8], front: &[u8]) -> Option<&'a [u8]>
     ensures { MatchOption result (has_front front.now line.now ≡ false)
         (λ rest. (has_front front.now line.now ≡ true)

@@ -15,10 +15,10 @@ const PIECE: usize = 16;
 /// The number of digits of a piece.
 const DIGITS: usize = 2 * PIECE;
 
-/// The value that marks a byte that is no digit.
+/// The value that marks a byte that isn't a digit.
 const NO_DIGIT: u8 = 16;
 
-/// Returns the value of a digit of either case. Because it uses arithmetic instead of a table, the
+/// Returns the value of a digit of either case. It uses arithmetic instead of a table, so that the
 /// compiler can read all digits of a piece at once.
 fn digit_value(digit: u8) -> u8
     ensures { result ≡ unwrap_or (hex_digit_value digit) NO_DIGIT }
@@ -42,7 +42,7 @@ fn values_of(digits: &[u8; DIGITS]) -> Option<[u8; DIGITS]>
         → (k : ℕ) × (k < 32) × (hex_digit_value (slice_index digits.now k) ≡ None) }
 {
     let mut values = [0; DIGITS];
-    // The greatest value so far. It is `NO_DIGIT` once a byte was no digit.
+    // The greatest value so far. It is `NO_DIGIT` if a byte so far isn't a digit.
     let mut greatest = 0u8;
     for i in 0..DIGITS {
         let value = digit_value(digits[i]);
@@ -56,8 +56,8 @@ fn values_of(digits: &[u8; DIGITS]) -> Option<[u8; DIGITS]>
     }
 }
 
-/// Returns the byte that the values of two digits encode. Because it computes with one number
-/// instead of two, the compiler can make all bytes of a piece at once.
+/// Returns the byte that the values of two digits encode. It computes with one number instead of
+/// two, so that the compiler can make all bytes of a piece at once.
 fn byte_of(values: [u8; 2]) -> u8
     requires high { slice_index values 0 < 16 }
     requires low { slice_index values 1 < 16 }
@@ -83,7 +83,7 @@ fn decode_piece(digits: &[u8; DIGITS]) -> Option<[u8; PIECE]>
 }
 
 /// Returns the bytes that HEX encodes, or `None` if the word isn't HEX. If the number of digits is
-/// odd, it allocates no memory.
+/// odd, allocates no memory.
 pub(crate) fn hex_bytes(alloc: Global, word: &[u8]) -> Result<Option<Vec<u8>>, AllocError>
     ensures { IfOk result (λ bytes. option_map (λ v. v.items) bytes ≡ hex_bytes word.now) }
 {

@@ -35,15 +35,16 @@ fn fault_of(error: &Error) -> ScriptFault
     }
 }
 
-/// Returns the result for a line that nothing follows.
+/// Returns the result of a read that has reached the end of the input, with `line` as its last
+/// bytes.
 fn last_part(line: &[u8]) -> Got
     ensures { result ≡ (if length line.now == 0 then Got.End else Got.Cut) }
 {
     if line.is_empty() { Got::End } else { Got::Cut }
 }
 
-/// Appends the bytes that the reader has ready to a part of a line, up to the newline. Once the
-/// line has ended, returns the result. After an error all is as it was.
+/// Appends the bytes that the reader has ready to a part of a line, up to the newline. If the line
+/// has ended, returns the result. After an error nothing has changed.
 fn read_part<R: BufRead>(reader: &mut R, line: &mut Vec<u8>) -> Result<Option<Got>, ScriptFault>
     requires { IsLine line.old.items }
     ensures ok { IfOk result (λ got. (before : Option (List ℕ))
@@ -76,7 +77,7 @@ fn read_part<R: BufRead>(reader: &mut R, line: &mut Vec<u8>) -> Result<Option<Go
     }
 }
 
-/// Reads a line into `line`, in place of what was there.
+/// Reads a line into `line`, and overwrites what `line` had before.
 pub(crate) fn read_line<R: BufRead>(reader: &mut R, line: &mut Vec<u8>) -> Result<Got, ScriptFault>
     ensures ok { IfOk result
         (GotLine (R.remaining reader.old) (R.remaining reader.new) line.new.items) }
@@ -95,7 +96,7 @@ pub(crate) fn read_line<R: BufRead>(reader: &mut R, line: &mut Vec<u8>) -> Resul
 }
 
 /// Takes the line whose newline is at position `end` of the bytes that were read before, and puts
-/// it into `line`, in place of what was there. The reader isn't asked for more bytes.
+/// it into `line`, overwriting what `line` had. Doesn't ask the reader for more bytes.
 pub(crate) fn take_line<R: Read>(
     pages: &mut BufReader<&mut R>,
     end: usize,

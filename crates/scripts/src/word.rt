@@ -25,7 +25,7 @@ fn is_name(word: &[u8]) -> bool
     !word.is_empty() && are_visible(word)
 }
 
-/// Returns the word, if it is a NAME.
+/// Returns the word if it is a NAME, otherwise `None`.
 pub(crate) fn named(word: &[u8]) -> Option<&[u8]>
     ensures { option_map (λ n. n.now) result ≡ named word.now }
 {
@@ -46,7 +46,8 @@ fn words_of(alloc: Global, words: &[u8]) -> Result<Vec<&[u8]>, AllocError>
     words.split(|b| *b == b' ').collect(alloc)
 }
 
-/// Reads NAMEs, each after a space.
+/// Returns the NAMEs in `rest`, each of which comes after a space, or `None` if `rest` has another
+/// form.
 pub(crate) fn names_behind(alloc: Global, rest: &[u8]) -> Result<Option<Vec<&[u8]>>, AllocError>
     ensures { IfOk result
         (λ names. option_map (λ v. map (λ n. n.now) v.items) names ≡ names_behind rest.now) }
@@ -78,7 +79,7 @@ pub(crate) fn word_in_front(bytes: &[u8]) -> &[u8]
     &bytes[..front_length(bytes)]
 }
 
-/// Returns the number that BASE encodes.
+/// Returns the number that BASE encodes, or `None` if the word isn't a BASE.
 pub(crate) fn base_in(word: &[u8]) -> Option<u64>
     ensures { result ≡ base_of word.now }
 {

@@ -1,4 +1,4 @@
--- Texts without a newline.
+-- Lemmas about texts without a newline.
 use Rattle.std.proofs.Common.{◌≡◌, ℕ, zero, suc, Bool, true, false, List, [], ◌∷◌, Result, Ok, Err, refl, sym, subst, arith}
 use Rattle.std.specs.Prelude.{◌≢◌, ◌&&◌, ◌==◌, ◌/◌, ◌%◌, not, All, IsOk, OnOk, slice_index}
 use Rattle.std.specs.List.{list_all}
@@ -9,7 +9,7 @@ use Rattle.hex.specs.Hex.{encode_lower, encode_with, lower_digits}
 use Rattle.roots.specs.Entry.{IsNameByte}
 use Rattle.text_output.specs.Pieces.{IsWithinLine}
 
--- a text has no newline, by a test that computes
+-- if a computed test finds no newline in a text, the text has none
 pub no_newline : (text : List ℕ) → list_all (λ b. not (b == 10)) text ≡ true → IsWithinLine text
 no_newline [] h = All-nil (λ b. b ≢ 10)
 no_newline (b ∷ text) h = by (b == 10) (list_all (λ b. not (b == 10)) text) h refl (no_newline text)
@@ -25,7 +25,8 @@ name_within (b ∷ name) h =
     let visible = All-head IsNameByte b name h in
     All-cons (λ b. b ≢ 10) b name (λ e. omega (arith, visible.0.0, e)) (name_within name (All-tail IsNameByte b name h))
 
--- a property of each element and of 0 is true at each position, because past the end there is 0
+-- if a property holds for each element and for 0, it holds at each position, because a position past the
+-- end has 0
 pub at_each : (P : ℕ → Type 0) → P 0 → (xs : List ℕ) → All P xs → (i : ℕ) → P (slice_index xs i)
 at_each P z [] h i = z
 at_each P z (x ∷ xs) h zero = All-head P x xs h
@@ -42,7 +43,7 @@ digits_within (b ∷ bytes) =
     All-cons (λ b. b ≢ 10) (slice_index lower_digits (b / 16)) (slice_index lower_digits (b % 16) ∷ encode_lower bytes) (no_digit (b / 16))
     (All-cons (λ b. b ≢ 10) (slice_index lower_digits (b % 16)) (encode_lower bytes) (no_digit (b % 16)) (digits_within bytes))
 
--- bytes encoded in digits have no newline
+-- the encoded digits of bytes have no newline
 pub spelt_within : {T E : Type 0} (r : Result T E) (spelt bytes : List ℕ) → IsOk r → OnOk r (spelt ≡ encode_lower bytes) → IsWithinLine spelt
 spelt_within (Ok t) spelt bytes ok is = subst IsWithinLine (sym is) (digits_within bytes)
 spelt_within (Err e) spelt bytes ok is = absurd (false≢true ok)

@@ -10,7 +10,7 @@ use Rattle.program_parts.specs.declared.status.Status.TheVariants as status
 use Rattle.tool_commands.specs.declared.form.Purpose.{Purpose}
 use Rattle.tool_commands.specs.declared.form.Purpose.TheVariants.{Script, Update}
 
--- the line that installs a file of these bytes
+-- the line that installs a file with these bytes
 abbrev pub install_line : List ℕ → List ℕ
 install_line bytes = codes "install " ++ encode_lower bytes ++ codes "\n"
 
@@ -36,7 +36,7 @@ abbrev pub commit_text : Purpose → List ℕ
 commit_text Script = []
 commit_text Update = codes "commit\n"
 
--- what follows the libraries of a script
+-- the text after the lines for the libraries: the preloads, and for an update also `commit`
 abbrev pub last_text : Purpose → List (List ℕ) → List ℕ
 last_text Script preloads = preload_text preloads
 last_text Update preloads = preload_text preloads ++ commit_text Update
@@ -45,7 +45,7 @@ last_text Update preloads = preload_text preloads ++ commit_text Update
 abbrev pub script_text : Purpose → State → List ℕ
 script_text purpose s = flat_map install_text s.libraries ++ last_text purpose s.preloads
 
--- the script of the first k libraries, cut: its last line has no newline
+-- the script for the first k libraries, which is cut: its last line has no newline
 abbrev pub cut_text : State → ℕ → List ℕ
 cut_text s k = flat_map install_text (take k s.libraries) ++ codes "cut"
 

@@ -1,21 +1,23 @@
--- How the forms end over a state, and how a disk ends: the output, standard error and the status (own).
-use Rattle.std.specs.Prelude.{◌≡◌, ◌≢◌, ◌⊎◌, ◌↔◌, ◌≤◌, ◌<◌, ℕ, List, All, Option, None, Ok, Err, length, slice_index_or, codes, count_by, is_none}
+-- How the forms end in a state, and how a form ends on a disk: the output, standard error and the status
+-- (own).
+use Rattle.std.specs.Prelude.{◌≡◌, ◌≢◌, ◌⊎◌, ◌↔◌, ◌≤◌, ◌<◌, ℕ, List, All, Option, None, Ok, Err, length, slice_index_or, codes, count_by, is_none, sum_by}
 use Rattle.extents.specs.Layout.{unused_count}
 use Rattle.extents.specs.Runs.{unused_runs}
 use Rattle.requests.specs.Library.{IsLibrary}
-use Rattle.sector_disk.specs.Disk.{DiskFacts}
+use Rattle.sector_disk.specs.Disk.{AreCallsAtMost, AreCallsExactly, DiskFacts}
 use Rattle.states.specs.Cost.{free}
 use Rattle.states.specs.State.{Library, State}
 use Rattle.store.specs.Holds.{layout_in_use}
-use Rattle.store.specs.IsRead.{IsRead}
+use Rattle.store.specs.IsRead.{IsRead, file_sectors}
 use Rattle.store.specs.Names.{IsFileSize}
 use Rattle.store.specs.Opened.{IsAt, Opened}
 use Rattle.store.specs.Opens.{OpensByEntries}
 use Rattle.store.specs.Stands.{no_library}
 use Rattle.store.specs.Step.{longest_unused, refusal_of_new}
+use Rattle.store.specs.declared.placed_entry.PlacedEntry.{PlacedEntry}
 use Rattle.store.specs.declared.refusal.StoreRefusal.{StoreRefusal}
 use Rattle.contents.specs.File.{HasFile}
-use Rattle.contents.specs.Finding.{IsFinding, is_unreadable}
+use Rattle.contents.specs.Finding.{IsFinding, LacksMemory, is_unreadable}
 use Rattle.contents.specs.declared.finding.Finding.{Finding}
 use Rattle.contents.specs.declared.finding.Finding.TheVariants.{Sound, Unreadable}
 use Rattle.program_parts.specs.Status.{disk_status}
@@ -33,28 +35,29 @@ use Rattle.tool_commands.specs.Said.{not_installed_line}
 use Rattle.tool_parts.specs.Streams.{Streams, CannotWrite, IsSilent, Says, SaysOnly, Tells, TellsOnly}
 use Rattle.tool_commands.specs.declared.form.Purpose.{Purpose}
 
--- A file of a new name is installed without a refusal exactly if it has at most `largest` bytes.
--- That number is 0, or the length of a file.
+-- A file with a new name is installed without a refusal exactly if it has at most `largest` bytes.
+-- `largest` is 0 or a possible length of a file.
 pub record IsLargest {D : Type 0} (facts : D → DiskFacts) (store : Opened D) (s : State) (largest : ℕ) : Type 0 where
   pub exact : (bytes : List ℕ) → IsFileSize (length bytes)
       → (length bytes ≤ largest) ↔ (refusal_of_new (facts store.disk).sectors (longest_unused store) s bytes ≡ None)
   pub form : (largest ≡ 0) ⊎ IsFileSize largest
 
--- `info`: each number is written as it is defined
+-- `info`: the lines have the numbers that are defined for the state and the disk
 abbrev pub InfoEnds : {D : Type 0} → (D → DiskFacts) → Opened D → State → Streams → Status → Type 0
 InfoEnds facts store s io status = (largest : ℕ) × IsLargest facts store s largest
     × TellsOnly Done (info_text (facts store.disk).sectors s.generation (length s.libraries) (length s.preloads)
     (unused_count (layout_in_use store)) (free (facts store.disk).sectors s) (length (unused_runs (layout_in_use store))) largest) io status
 
--- how forms end that read byte strings, which took a disk's facts from `old` to `new`
+-- The forms read byte strings, and their calls changed the disk's facts from `old` to `new`.
 module _ (old new : DiskFacts) where
-  -- `check`: the finding for each library is written, and at least one call failed for each library
-  -- that can't be read; or memory was refused
-  abbrev pub CheckEnds : State → Streams → Status → Type 0
-  CheckEnds s io status =
+  -- `check`: the finding for each library is written, and at least one call failed for each library that
+  -- can't be read; or memory was refused for a library's bytes before the library was read, or for a test
+  -- of a library
+  abbrev pub CheckEnds : List PlacedEntry → State → Streams → Status → Type 0
+  CheckEnds entries s io status =
       ((findings : List Finding) × AreFindings s.libraries findings × HaveFailed old new (count_by is_unreadable findings)
       × TellsOnly (check_status findings) (check_text s.libraries findings) io status)
-      ⊎ SaysOnly NoMemory memory_line io status
+      ⊎ (LacksMemory old new entries s × SaysOnly NoMemory memory_line io status)
 
   -- `digest`: the SHA-256 of each library's bytes is written, and at least one call failed for each
   -- library that can't be read; or memory was refused
@@ -64,61 +67,71 @@ module _ (old new : DiskFacts) where
       × TellsDigests s.libraries digests io status)
       ⊎ SaysOnly NoMemory memory_line io status
 
-  -- `file`: exactly the bytes of the library named `name` are written; or there is no such library,
-  -- or its bytes can't be read
+  -- `file`: either exactly the bytes of the library named `name` are written, or there is no such
+  -- library, or its bytes can't be read
   abbrev pub FileEnds : State → List ℕ → Streams → Status → Type 0
   FileEnds s name io status =
       ((bytes : List ℕ) × HasFile s name bytes × TellsOnly Done bytes io status)
       ⊎ ((All (λ library. library.name ≢ name) s.libraries × SaysOnly Refused not_installed_line io status)
       ⊎ IsUnread old new io status)
 
-  -- standard error reports why a script is cut at a library: it can't be read, because a call
-  -- failed, or isn't a library of its entry's name; or memory was refused
+  -- Standard error reports why a script is cut at a library. Either the library can't be read because a
+  -- call failed, or the file isn't a library with its entry's name, or memory was refused.
   abbrev pub IsCutFor : Library → Streams → Status → Type 0
   IsCutFor l io status =
       ((finding : Finding) × IsFinding l finding × (finding ≢ Sound) × (finding ≡ Unreadable → old.failures < new.failures)
       × (status ≡ cut_status finding) × Says io (said_line (finding_text l finding)))
       ⊎ ((status ≡ NoMemory) × Says io memory_line)
 
-  -- `dump`: exactly the script for this purpose is written, and each library is one of its entry's
-  -- name; or exactly the script up to some library, cut there; or the output failed
+  -- `dump`: either exactly the script for this purpose is written, and each file is a library with its
+  -- entry's name; or exactly the script up to some library is written, cut there; or the output failed
   abbrev pub DumpEnds : Purpose → State → Streams → Status → Type 0
   DumpEnds purpose s io status =
       ((status ≡ Done) × All IsLibrary s.libraries × Tells io (script_text purpose s) × IsSilent io)
       ⊎ (((k : ℕ) × (k < length s.libraries) × IsCutFor (slice_index_or s.libraries k no_library) io status × Tells io (cut_text s k))
       ⊎ CannotWrite io status)
 
--- the question is answered about an opened disk, and the calls left the disk as `left`
+-- the question is answered for an opened disk in state s; `left` is the disk after that
 abbrev pub FormEnds : {D : Type 0} → (D → DiskFacts) → Opened D → D → State → Question → Streams → Status → Type 0
 FormEnds facts store left s info io status = InfoEnds facts store s io status
-FormEnds facts store left s check io status = CheckEnds (facts store.disk) (facts left) s io status
+FormEnds facts store left s check io status = CheckEnds (facts store.disk) (facts left) store.entries s io status
 FormEnds facts store left s digest io status = DigestEnds (facts store.disk) (facts left) s io status
 FormEnds facts store left s (file name) io status = FileEnds (facts store.disk) (facts left) s name io status
 FormEnds facts store left s (dump purpose) io status = DumpEnds (facts store.disk) (facts left) purpose s io status
 
--- The disk isn't opened: nothing is written, except for a dump, whose script is `cut` unless the
--- output failed.
+-- How much is read of a disk whose libraries have these entries: `info` makes no call, and `check` and
+-- `digest` read no sector of a library twice.
+abbrev pub FormReads : (old new : DiskFacts) → List PlacedEntry → Question → Type 0
+FormReads old new entries info = AreCallsExactly 0 old new
+FormReads old new entries check = AreCallsAtMost (sum_by file_sectors entries) old new
+FormReads old new entries digest = AreCallsAtMost (sum_by file_sectors entries) old new
+FormReads old new entries (file name) = Unit {0}
+FormReads old new entries (dump purpose) = Unit {0}
+
+-- The disk can't be opened. Nothing is written, except by a dump, which writes the script `cut` unless
+-- the output fails.
 abbrev pub EndsUnopened : Question → Status → Option (List ℕ) → Option (List ℕ) → Status → Type 0
 EndsUnopened (dump purpose) ends before after status = IsTold ends (codes "cut") before after status
 EndsUnopened question ends before after status = (status ≡ ends) × (after ≡ before)
 
--- A disk was opened, whatever named byte strings it holds, the question was answered about it, and
--- the disk is returned as that left it.
+-- A disk was opened, whatever named byte strings it holds, and the question was answered for it. `left`
+-- is the disk after that.
 pub record IsAsked {D : Type 0} (facts : D → DiskFacts) (disk : D) (question : Question) (io : Streams) (status : Status) (left : D) : Type 0 where
   pub store : Opened D
-  -- no file was read
+  -- opening the disk read no library's file
   pub opened : OpensByEntries facts disk (Ok store)
-  -- after that the disk was only read
+  -- after the opening, the disk was only read
   pub read : Opened D
   pub only_read : IsRead facts store read
+  pub calls : FormReads (facts store.disk) (facts left) store.entries question
   pub back : left ≡ read.disk
-  -- an honest disk is at one state, and the answer is about that state
+  -- an honest disk is at one state, and the answer is for that state
   pub ends : (s : State) → IsAt facts store s → FormEnds facts store left s question io status
-  -- on any disk, also on one that lies
+  -- the answer on any disk, even on a disk that lies
   pub told : FormTells (facts store.disk) (facts left) question io status
 
--- the question is answered about the disk, or standard error reports why the disk was refused; the
--- disk is returned
+-- either the question is answered for the disk, or standard error reports why the disk was refused;
+-- `left` is the disk after that
 abbrev pub DiskEnds : {D : Type 0} → (D → DiskFacts) → D → Question → Streams → Status → D → Type 0
 DiskEnds facts disk question io status left =
     IsAsked facts disk question io status left

@@ -1,4 +1,4 @@
--- The executable file of a bound program, and how a form ends that writes it (own).
+-- The executable file of a bound program, and how a form that writes it ends (own).
 use Rattle.std.specs.Prelude.{◌≡◌, ◌⊎◌, ◌≤◌, ℕ, List, codes}
 use Rattle.elf_file.specs.Header.{header_count}
 use Rattle.image.specs.Image.{MemoryImage}
@@ -11,12 +11,12 @@ use Rattle.program_parts.specs.declared.status.Status.TheVariants.{Done, Refused
 use Rattle.tool_parts.specs.Said.{said_line}
 use Rattle.tool_parts.specs.Streams.{Streams, CannotWrite, IsSilent, Says, SaysOnly, Tells}
 
--- The warning about a file whose program headers don't fit in one page of 4,096 bytes: Linux before
--- 6.17 accepts no more than fit in such a page.
+-- The warning for a file whose program headers don't fit in one page of 4,096 bytes: Linux before 6.17
+-- accepts no more than fit in such a page.
 abbrev pub many_headers_line : List ℕ
 many_headers_line = said_line (codes "Linux before 6.17 starts no file with more than 73 program headers\n")
 
--- beside a file, standard error gets at most the warning, and nothing if the file has at most 73
+-- if a file is written, standard error gets at most the warning, and nothing if the file has at most 73
 -- program headers
 abbrev pub SaysBeside : List ℕ → Streams → Type 0
 SaysBeside file io = Says io many_headers_line × (header_count file ≤ 73 → IsSilent io)
@@ -30,7 +30,7 @@ executable_status other = Refused
 abbrev pub TellsFile : List ℕ → Streams → Status → Type 0
 TellsFile file io status = ((status ≡ Done) × Tells io file × SaysBeside file io) ⊎ CannotWrite io status
 
--- exactly the image's file was written; or there is none, and standard error reports why
+-- either exactly the image's file was written, or there is no such file, and standard error reports why
 abbrev pub TellsExecutable : MemoryImage → Streams → Status → Type 0
 TellsExecutable image io status =
     ((file : List ℕ) × IsExecutableOf image file × TellsFile file io status)

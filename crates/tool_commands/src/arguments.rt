@@ -15,9 +15,9 @@ use std::rt::{Clock, Files};
 use store::StoreRefusal;
 use tool_parts::say_refusal;
 
-/// Does what `run_words` does with arguments that were read. If they weren't read because memory
-/// was refused, reports that. If they weren't read for another reason, reports the usage, as for
-/// arguments that are none of the forms.
+/// Does the same as `run_words` if the arguments could be read. If memory for them was refused,
+/// reports that. If they couldn't be read for another reason, reports the usage, as for arguments
+/// that have none of the forms.
 pub fn run_arguments<R: Files<File = File> + Clock, I: Read, O: Write, E: Write>(
     rt: &R,
     alloc: Global,
@@ -28,7 +28,7 @@ pub fn run_arguments<R: Files<File = File> + Clock, I: Read, O: Write, E: Write>
 ) -> u8
     ensures most { result ≤ 4 }
 
-    // Arguments that were read end as they do in `run_words`.
+    // If the arguments could be read, the program ends as `run_words` would end.
     ensures ends { OnOk words (LineEnds O.contents (line_read words) (record {
       unread = I.remaining input.old;
       before = O.contents output.old;
@@ -37,7 +37,7 @@ pub fn run_arguments<R: Files<File = File> + Clock, I: Read, O: Write, E: Write>
       errors_after = E.contents errors.new;
     }) result) }
 
-    // Arguments that weren't read end according to the reason.
+    // If the arguments couldn't be read, the end depends on the error.
     ensures not_read { IfErr words (λ e. UnreadEnds O.contents (error_kind e) (record {
       unread = I.remaining input.old;
       before = O.contents output.old;

@@ -19,7 +19,7 @@ use tool_parts::cannot_write;
 /// The maximum number of program headers in one page of 4,096 bytes.
 const MOST_IN_A_PAGE: u16 = 73;
 
-/// If a file has more program headers than fit in a page, reports that not every kernel starts it.
+/// If `file` has more program headers than fit in a page, reports that not every kernel starts it.
 fn say_many_headers<E: Write>(file: &Executable, errors: &mut E)
     ensures said { AppendsFront (E.contents errors.old) (E.contents errors.new)
         many_headers_line }
@@ -52,7 +52,7 @@ fn write_executable<O: Write, E: Write>(file: &Executable, output: &mut O, error
     }
 }
 
-/// Appends to `line` the line that says why there is no executable file.
+/// Appends to `line` the line that reports why there is no executable file.
 fn spell_executable_refusal(
     line: &mut Vec<u8>,
     refusal: &ExecutableRefusal,

@@ -1,10 +1,11 @@
-// Tests the installed libraries, and writes what is found.
+// Tests the installed libraries, and writes the findings.
 
-ghost use Rattle.std.specs.Prelude.{◌≡◌, List, OnOk, length};
+ghost use Rattle.std.specs.Prelude.{◌≡◌, List, OnOk, length, sum_by};
 ghost use Rattle.std.specs.List.{list_all};
 ghost use Rattle.std.specs.Io.KnownBytes.{Appends};
+ghost use Rattle.sector_disk.specs.Disk.{AreCallsAtMost};
 ghost use Rattle.states.specs.State.{Library, State};
-ghost use Rattle.store.specs.IsRead.{IsRead};
+ghost use Rattle.store.specs.IsRead.{IsRead, file_sectors};
 ghost use Rattle.store.specs.Opened.{IsAt};
 ghost use Rattle.text_output.specs.Sends.{Sends};
 ghost use Rattle.tool_commands.specs.AnyDisk.{CheckTells};
@@ -23,7 +24,7 @@ use store::{Store, StoreRefusal};
 use text_output::WriteFault;
 use tool_parts::{cannot_write, say_refusal};
 
-/// Puts the line of each library, in their order.
+/// Appends the line for each library, in their order, to the buffered text.
 fn put_findings<D: Disk, W: Write>(
     store: &Store<D>,
     findings: &[Finding],
@@ -42,7 +43,7 @@ fn put_findings<D: Disk, W: Write>(
     Ok(())
 }
 
-/// Puts the line of each library, and the line `end`.
+/// Appends the line for each library, and the line `end`, to the buffered text.
 fn put_check<D: Disk, W: Write>(
     store: &Store<D>,
     findings: &[Finding],
@@ -58,7 +59,7 @@ fn put_check<D: Disk, W: Write>(
     line.put(out, b"end\n")
 }
 
-/// Writes the line of each library, and the line `end`.
+/// Writes the line for each library, and the line `end`.
 fn write_findings<D: Disk, W: Write>(
     store: &Store<D>,
     findings: &[Finding],
@@ -74,7 +75,7 @@ fn write_findings<D: Disk, W: Write>(
     line.send(out)
 }
 
-/// Returns whether a finding is that the file is a library of its entry's name.
+/// Returns whether a finding is that the file is a library with its entry's name.
 fn is_sound(finding: Finding) -> bool
     ensures { result ≡ is_sound finding }
 {
@@ -122,7 +123,7 @@ fn tell_findings<D: Disk, O: Write, E: Write>(
     }
 }
 
-/// Reads each library, and writes a line for each with what was found, in their order, and then the
+/// Reads each library, and writes a line with the finding for each, in their order. Then writes the
 /// line `end`.
 pub fn run_check<D: Disk, O: Write, E: Write>(
     contents: &mut Contents<D>,
@@ -132,20 +133,25 @@ pub fn run_check<D: Disk, O: Write, E: Write>(
 ) -> Status
     ensures read { IsRead D.facts contents.old contents.new }
     ensures ends { (s : State) → IsAt D.facts contents.old s
-        → CheckEnds (D.facts contents.old.disk) (D.facts contents.new.disk) s (record {
+        → CheckEnds (D.facts contents.old.disk) (D.facts contents.new.disk) contents.old.entries s
+        (record {
           before = O.contents output.old;
           after = O.contents output.new;
           errors_before = E.contents errors.old;
           errors_after = E.contents errors.new;
         }) result }
 
-    // The same on any disk.
+    // The following holds on any disk.
     ensures told { CheckTells (D.facts contents.old.disk) (D.facts contents.new.disk) (record {
       before = O.contents output.old;
       after = O.contents output.new;
       errors_before = E.contents errors.old;
       errors_after = E.contents errors.new;
     }) result }
+
+    // No sector of a library is read twice.
+    ensures calls { AreCallsAtMost (sum_by file_sectors contents.old.entries)
+        (D.facts contents.old.disk) (D.facts contents.new.disk) }
 {
     match contents.check(alloc) {
         Ok(findings) => tell_findings(contents.store(), &findings, output, errors),

@@ -13,8 +13,8 @@ use std::fs::File;
 use std::io::{Read, Write};
 use std::rt::{Clock, Files};
 
-/// Does what is asked, unless a standard stream leads, or may lead, to the disk's file: the output
-/// would then be written into the disk, or the input read from it.
+/// Does what the arguments ask for, unless a standard stream is open, or may be open, to the disk's
+/// file: the output would then be written into the disk, or the input read from it.
 fn run_apart<R: Files<File = File> + Clock, I: Read, O: Write, E: Write>(
     rt: &R,
     alloc: Global,
@@ -40,9 +40,10 @@ fn run_apart<R: Files<File = File> + Clock, I: Read, O: Write, E: Write>(
     }
 }
 
-/// Does what the program does with the arguments after its name, and returns its exit status: 0 if
-/// it is done, 1 if it is refused, 2 if the arguments are none of the forms, 3 if the disk, its
-/// file or a stream failed, 4 if memory was refused. Only `update` reads the input.
+/// Does what the program does with `words`, the arguments after its name, and returns its exit
+/// status. The status is 0 if the action was carried out, 1 if it was refused, and 2 if the
+/// arguments have none of the forms. It is 3 if the disk, its file or a stream failed, and 4 if
+/// memory was refused. Only `update` reads the input.
 pub fn run_words<R: Files<File = File> + Clock, I: Read, O: Write, E: Write>(
     rt: &R,
     alloc: Global,
@@ -53,8 +54,8 @@ pub fn run_words<R: Files<File = File> + Clock, I: Read, O: Write, E: Write>(
 ) -> u8
     ensures most { result ≤ 4 }
 
-    // How the program ends with these arguments: with which status, output and messages on standard
-    // error. The status is 2 exactly if the arguments are none of the forms.
+    // How the program ends with these arguments: its status, its output, and its messages on
+    // standard error. The status is 2 exactly if the arguments have none of the forms.
     ensures ends { LineEnds O.contents (command_line (map (λ word. string_bytes word) words.now))
         (record {
           unread = I.remaining input.old;
@@ -68,16 +69,17 @@ pub fn run_words<R: Files<File = File> + Clock, I: Read, O: Write, E: Write>(
     ensures unread { asks_for reads_input (command_line (map (λ word. string_bytes word) words.now))
         ≡ false → input.new ≡ input.old }
 
-    // Arguments that are none of the forms leave the output as it is.
+    // If the arguments have none of the forms, nothing is written to the output.
     ensures same { command_line (map (λ word. string_bytes word) words.now) ≡ None
         → output.new ≡ output.old }
 
-    // With status 0 nothing is written to standard error, except for an executable file.
+    // With status 0 nothing is written to standard error, except when an executable file is
+    // written.
     ensures silent { asks_for warns (command_line (map (λ word. string_bytes word) words.now))
         ≡ false → result ≡ 0 → E.contents errors.new ≡ E.contents errors.old }
 
-    // Unless something failed, at most one of standard error and the output is written to, except
-    // by the forms that may write to both.
+    // Unless something failed, only one of standard error and the output is written to, except by
+    // the forms that may write to both.
     ensures apart { asks_for says_beside (command_line (map (λ word. string_bytes word) words.now))
         ≡ false → result ≢ 3 → (E.contents errors.new ≡ E.contents errors.old)
         ⊎ (O.contents output.new ≡ O.contents output.old) }

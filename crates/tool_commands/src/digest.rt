@@ -1,9 +1,10 @@
-// The digests of the libraries.
+// Writes the digests of the libraries.
 
-ghost use Rattle.std.specs.Prelude.{◌≡◌, List, IfSome, OnOk, length, true};
+ghost use Rattle.std.specs.Prelude.{◌≡◌, List, IfSome, OnOk, length, sum_by, true};
 ghost use Rattle.std.specs.Io.KnownBytes.{Appends};
+ghost use Rattle.sector_disk.specs.Disk.{AreCallsAtMost};
 ghost use Rattle.states.specs.State.{Library, State};
-ghost use Rattle.store.specs.IsRead.{IsRead};
+ghost use Rattle.store.specs.IsRead.{IsRead, file_sectors};
 ghost use Rattle.store.specs.Opened.{IsAt};
 ghost use Rattle.program_parts.specs.Said.{AppendsFront};
 ghost use Rattle.text_output.specs.Sends.{Sends};
@@ -26,7 +27,7 @@ use store::{Store, StoreRefusal};
 use text_output::WriteFault;
 use tool_parts::{cannot_write, say_refusal};
 
-/// Puts what goes to the stream `stream` for each library, in their order.
+/// Appends the line for each library on the stream `stream`, in their order, to the buffered text.
 fn put_stream<D: Disk, W: Write>(
     store: &Store<D>,
     digests: &[Option<[u8; 32]>],
@@ -45,7 +46,7 @@ fn put_stream<D: Disk, W: Write>(
     Ok(())
 }
 
-/// Writes what goes to the stream `stream`.
+/// Writes the lines for the stream `stream`.
 fn write_stream<D: Disk, W: Write>(
     store: &Store<D>,
     digests: &[Option<[u8; 32]>],
@@ -69,7 +70,8 @@ fn are_read(digests: &[Option<[u8; 32]>]) -> bool
     digests.iter().all(|digest| digest.is_some())
 }
 
-/// Returns the lines of the libraries that can't be read, or `None` if memory for them is refused.
+/// Returns the lines for the libraries that can't be read, or `None` if memory for the lines is
+/// refused.
 fn unread_lines<D: Disk>(
     store: &Store<D>,
     alloc: Global,
@@ -125,8 +127,8 @@ fn end_digests<D: Disk, E: Write>(
     Status::Refused
 }
 
-/// Writes the line of each library that could be read, and reports the others; or reports that the
-/// output failed.
+/// Writes the line for each library that could be read, and reports the others. If the output
+/// fails, reports that instead.
 fn tell_digests<D: Disk, O: Write, E: Write>(
     store: &Store<D>,
     alloc: Global,
@@ -151,7 +153,7 @@ fn tell_digests<D: Disk, O: Write, E: Write>(
 
 /// Reads each library, and then writes the digests in the libraries' order, as GNU sha256sum does.
 /// A library that can't be read has no line on the output, and is reported on standard error.
-/// Doesn't test whether the bytes are those of libraries.
+/// Doesn't test whether the files are libraries.
 pub fn run_digest<D: Disk, O: Write, E: Write>(
     contents: &mut Contents<D>,
     alloc: Global,
@@ -167,13 +169,17 @@ pub fn run_digest<D: Disk, O: Write, E: Write>(
           errors_after = E.contents errors.new;
         }) result }
 
-    // The same on any disk.
+    // The following holds on any disk.
     ensures told { DigestTells (D.facts contents.old.disk) (D.facts contents.new.disk) (record {
       before = O.contents output.old;
       after = O.contents output.new;
       errors_before = E.contents errors.old;
       errors_after = E.contents errors.new;
     }) result }
+
+    // No sector of a library is read twice.
+    ensures calls { AreCallsAtMost (sum_by file_sectors contents.old.entries)
+        (D.facts contents.old.disk) (D.facts contents.new.disk) }
 {
     match contents.digests(alloc) {
         Ok(digests) => tell_digests(contents.store(), alloc, &digests, output, errors),

@@ -1,4 +1,4 @@
-// The line of a library's digest, as GNU sha256sum prints it.
+// The line for a library's digest, as GNU sha256sum prints it.
 
 ghost use Rattle.std.specs.Prelude.{◌≡◌, OnOk};
 ghost use Rattle.std.specs.List.{flat_map, list_any};
@@ -29,7 +29,7 @@ fn has_escape(name: &[u8]) -> bool
     name.iter().any(|byte| is_escaped(*byte))
 }
 
-/// Returns what a line begins with: a backslash if a byte of the name is escaped, and otherwise
+/// Returns the beginning of a line: a backslash if a byte of the name is escaped, and otherwise
 /// nothing.
 fn mark_of(name: &[u8]) -> &'static [u8]
     ensures { result.now ≡ escape_mark name.now }
@@ -37,7 +37,7 @@ fn mark_of(name: &[u8]) -> &'static [u8]
     if has_escape(name) { b"\\" } else { b"" }
 }
 
-/// Puts the digits of a digest.
+/// Appends the digits of a digest to the buffered text.
 fn put_digits<W: Write>(line: &mut Line, out: &mut W, digest: &[u8; 32]) -> Result<(), WriteFault>
     ensures { OnOk result (Sends (W.contents out.old) line.old (W.contents out.new) line.new
         (encode_lower digest.now)) }
@@ -47,7 +47,7 @@ fn put_digits<W: Write>(line: &mut Line, out: &mut W, digest: &[u8; 32]) -> Resu
     line.put(out, &digits)
 }
 
-/// Puts a byte of a name, or its escape.
+/// Appends a byte of a name, or its escape, to the buffered text.
 fn put_escaped_byte<W: Write>(line: &mut Line, out: &mut W, byte: u8) -> Result<(), WriteFault>
     ensures { OnOk result (Sends (W.contents out.old) line.old (W.contents out.new) line.new
         (escaped_byte byte)) }
@@ -60,7 +60,7 @@ fn put_escaped_byte<W: Write>(line: &mut Line, out: &mut W, byte: u8) -> Result<
     }
 }
 
-/// Puts a name with its escapes.
+/// Appends a name with its escapes to the buffered text.
 fn put_escaped<W: Write>(line: &mut Line, out: &mut W, name: &[u8]) -> Result<(), WriteFault>
     ensures { OnOk result (Sends (W.contents out.old) line.old (W.contents out.new) line.new
         (flat_map escaped_byte name.now)) }
@@ -71,7 +71,7 @@ fn put_escaped<W: Write>(line: &mut Line, out: &mut W, name: &[u8]) -> Result<()
     Ok(())
 }
 
-/// Puts the line of a name and its digest.
+/// Appends the line for a name and its digest to the buffered text.
 fn put_sum<W: Write>(
     line: &mut Line,
     out: &mut W,
@@ -88,8 +88,8 @@ fn put_sum<W: Write>(
     line.put(out, b"\n")
 }
 
-/// Puts what goes to the stream `stream` for a library named `name`: to the output, the line of its
-/// digest if it could be read; to standard error, a line if it can't be read.
+/// Appends the line for a library named `name` on the stream `stream` to the buffered text. The
+/// output has a line if the library could be read, and standard error has one if it can't be read.
 pub(crate) fn put_stream_line<W: Write>(
     stream: Stream,
     line: &mut Line,

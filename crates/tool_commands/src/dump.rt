@@ -35,14 +35,14 @@ use store::{Store, StoreRefusal};
 use text_output::{PieceBuffer, WriteFault};
 use tool_parts::{cannot_write, say_refusal};
 
-/// The library at which a script was cut, and why.
+/// The library at which a script was cut, and the reason.
 #[derive(Clone, Copy, PartialEq, Eq)]
 struct Cut {
     position: usize,
     lack: Lack,
 }
 
-/// Puts the line that installs a file.
+/// Appends the line that installs a file to the buffered text.
 fn put_install<W: Write>(
     script: &mut PieceBuffer,
     out: &mut W,
@@ -58,8 +58,8 @@ fn put_install<W: Write>(
     Ok(())
 }
 
-/// Puts the lines of the libraries, in their order, with one library in memory at a time. Stops at
-/// a library whose file isn't returned.
+/// Appends the lines for the libraries, in their order, to the buffered text, with one library in
+/// memory at a time. Stops at a library whose file isn't returned.
 fn put_libraries<D: Disk, W: Write>(
     contents: &mut Contents<D>,
     alloc: Global,
@@ -86,7 +86,7 @@ fn put_libraries<D: Disk, W: Write>(
     Ok(None)
 }
 
-/// Puts the names of the preloads, with a space before each.
+/// Appends the names of the preloads, with a space before each, to the buffered text.
 fn put_preload_names<D: Disk, W: Write>(
     store: &Store<D>,
     script: &mut PieceBuffer,
@@ -106,7 +106,7 @@ fn put_preload_names<D: Disk, W: Write>(
     Ok(())
 }
 
-/// Puts the line that sets the preloads, if there are any.
+/// Appends the line that sets the preloads, if there are any, to the buffered text.
 fn put_preloads<D: Disk, W: Write>(
     store: &Store<D>,
     script: &mut PieceBuffer,
@@ -125,7 +125,7 @@ fn put_preloads<D: Disk, W: Write>(
     Ok(())
 }
 
-/// Puts the line `commit`, if the script is for an update.
+/// Appends the line `commit`, if the script is for an update, to the buffered text.
 fn put_commit<W: Write>(
     purpose: Purpose,
     script: &mut PieceBuffer,
@@ -144,7 +144,8 @@ fn put_commit<W: Write>(
     }
 }
 
-/// Puts what follows the libraries: the preloads and perhaps `commit`; or `cut`, without a newline.
+/// Appends the text after the lines for the libraries: the preloads and, for an update, `commit`;
+/// or `cut` without a newline, if the script is cut.
 fn put_end<D: Disk, W: Write>(
     store: &Store<D>,
     purpose: Purpose,
@@ -190,7 +191,7 @@ fn write_script<D: Disk, W: Write>(
     Ok(cut)
 }
 
-/// Appends to `spelt` the line of a finding for a library named `name` of `length` bytes.
+/// Appends to `spelt` the line for a library named `name` of `length` bytes with this finding.
 fn spell_finding(
     finding: Finding,
     name: &[u8],
@@ -206,7 +207,7 @@ fn spell_finding(
     line.send(spelt)
 }
 
-/// Reports what was found of a library, if there is memory for the line. Returns the status.
+/// Reports the finding for a library, if there is memory for the line. Returns the status.
 fn say_finding<E: Write>(
     alloc: Global,
     finding: Finding,
@@ -257,7 +258,7 @@ fn say_cut<D: Disk, E: Write>(store: &Store<D>, alloc: Global, cut: Cut, errors:
     }
 }
 
-/// Reports why a script was cut, if it was. Returns the status.
+/// Reports why a script was cut, if it was cut. Returns the status.
 fn end_dump<D: Disk, E: Write>(
     store: &Store<D>,
     alloc: Global,
@@ -277,8 +278,8 @@ fn end_dump<D: Disk, E: Write>(
 
 /// Writes the script that makes the registry again: an `install` line for each library, in their
 /// order, a `preload` line if there are preloads, and for an update the line `commit`. One library
-/// is in memory at a time, and its sectors are read once. If a library can't be read, or isn't a
-/// library of its entry's name, or memory is refused, the script ends with `cut`, without a
+/// is in memory at a time, and its sectors are read once. If a file can't be read, or isn't a
+/// library with its entry's name, or memory is refused, the script ends with `cut`, without a
 /// newline.
 pub fn run_dump<D: Disk, O: Write, E: Write>(
     contents: &mut Contents<D>,
@@ -296,7 +297,7 @@ pub fn run_dump<D: Disk, O: Write, E: Write>(
           errors_after = E.contents errors.new;
         }) result }
 
-    // The same on any disk.
+    // The following holds on any disk.
     ensures told { DumpTells (D.facts contents.old.disk) (D.facts contents.new.disk) purpose
         (record {
           before = O.contents output.old;

@@ -1,4 +1,4 @@
-// The line that reports what was found of a library.
+// The line that reports the finding for a library.
 
 ghost use Rattle.std.specs.Prelude.{◌++◌, codes, OnOk};
 ghost use Rattle.std.specs.Fmt.{decimal};
@@ -16,7 +16,7 @@ use text_output::{LINE, OutputBuffer, WriteFault};
 /// The buffer of a line that goes to a writer.
 pub(crate) type Line = OutputBuffer<LINE>;
 
-/// Puts a name between two texts.
+/// Appends a name between two texts to the buffered text.
 pub(crate) fn put_around<W: Write>(
     line: &mut Line,
     out: &mut W,
@@ -32,7 +32,7 @@ pub(crate) fn put_around<W: Write>(
     line.put(out, back)
 }
 
-/// Puts the line of a library that is sound.
+/// Appends the line for a library that is sound to the buffered text.
 fn put_sound<W: Write>(
     line: &mut Line,
     out: &mut W,
@@ -50,7 +50,7 @@ fn put_sound<W: Write>(
     Ok(())
 }
 
-/// Puts the line of a library that a test refuses.
+/// Appends the line for a library that a test refuses to the buffered text.
 fn put_refused<W: Write>(
     line: &mut Line,
     out: &mut W,
@@ -69,7 +69,8 @@ fn put_refused<W: Write>(
     Ok(())
 }
 
-/// Puts the line of a finding for a library named `name` of `length` bytes.
+/// Appends the line for a library named `name` of `length` bytes with this finding to the buffered
+/// text.
 pub(crate) fn put_finding<W: Write>(
     line: &mut Line,
     out: &mut W,

@@ -1,4 +1,4 @@
-// The forms of the program, and the form that arguments have.
+// The forms of the program, and which form the arguments have.
 
 ghost use Rattle.std.specs.Prelude.{◌≡◌, ◌∷◌, map, string_bytes};
 ghost use Rattle.std.specs.Option.{option_map};
@@ -14,7 +14,7 @@ use program_parts::parse_base;
 pub enum Purpose {
     /// For `rlibreg script`, which carries out each line before it reads the next.
     Script,
-    /// For an update, which carries out all lines together at their end: its last line is `commit`.
+    /// For an update, which carries out all lines together at the end. The last line is `commit`.
     Update,
 }
 
@@ -23,11 +23,11 @@ pub enum Purpose {
 pub enum Form<'a> {
     /// Writes the numbers of the whole registry.
     Info,
-    /// Writes for each library whether it is one.
+    /// Tests each library, and writes the finding for it.
     Check,
     /// Writes the digest of each library.
     Digest,
-    /// Writes the bytes of the library of this name.
+    /// Writes the bytes of the library with the given name.
     File(&'a str),
     /// Writes the script that makes the registry again.
     Dump(Purpose),
@@ -38,9 +38,9 @@ pub enum Form<'a> {
 pub enum Action<'a> {
     /// Answers a question about what the disk has. The disk is only read.
     Tell(Form<'a>),
-    /// Replaces the library of the same name by the file at this path.
+    /// Replaces the library with the same name by the file at the given path.
     Replace(&'a str),
-    /// Removes the library of this name.
+    /// Removes the library with the given name.
     Remove(&'a str),
     /// Makes all the changes that the lines of the input ask for, in one commit.
     Update,
@@ -48,19 +48,19 @@ pub enum Action<'a> {
     Executable {
         /// The path of the program's file.
         program: &'a str,
-        /// The address at which it is bound.
+        /// The address at which the program is bound.
         base: u64,
     },
     /// Writes what the symbols of a program are bound to.
     Bindings {
         /// The path of the program's file.
         program: &'a str,
-        /// The address at which it is bound.
+        /// The address at which the program is bound.
         base: u64,
     },
 }
 
-/// What arguments ask for: an action, and the path of the disk.
+/// The action that arguments ask for, and the path of the disk.
 #[derive(Clone, Copy, PartialEq, Eq)]
 pub struct Asked<'a> {
     /// The path of the disk.
@@ -69,7 +69,7 @@ pub struct Asked<'a> {
     pub action: Action<'a>,
 }
 
-/// Reads the argument DISK, for a form that has no other argument.
+/// Reads the argument DISK of a form that has no other argument, and returns DISK and `action`.
 fn read_disk<'a>(action: Action<'a>, words: &'a [String]) -> Option<Asked<'a>>
     ensures { option_map line_of result
         ≡ of_one (deed_of action.entry) (map (λ word. string_bytes word) words.now) }
@@ -80,7 +80,7 @@ fn read_disk<'a>(action: Action<'a>, words: &'a [String]) -> Option<Asked<'a>>
     }
 }
 
-/// Reads the argument after DISK, which says what a dump is for.
+/// Reads the argument after DISK, which names the purpose of a dump.
 fn read_purpose(word: &str) -> Option<Purpose>
     ensures { result ≡ purpose_of word.now }
 {
@@ -200,7 +200,7 @@ fn read_form<'a>(name: &str, words: &'a [String]) -> Option<Asked<'a>>
     }
 }
 
-/// Reads the arguments after the program's name. Returns `None` if they are none of the forms.
+/// Reads the arguments after the program's name. Returns `None` if they have none of the forms.
 /// Allocates nothing.
 pub fn read_words(words: &[String]) -> Option<Asked<'_>>
     ensures { option_map line_of result

@@ -11,7 +11,7 @@ use text_output::{PieceBuffer, WriteFault};
 /// The number of bytes that are encoded at once.
 const PIECE_BYTES: usize = 32;
 
-/// Puts bytes in lower-case hexadecimal after the buffered text, without a newline.
+/// Appends bytes in lower-case hexadecimal to the buffered text, without a newline.
 pub(crate) fn put_hex<W: Write>(
     text: &mut PieceBuffer,
     out: &mut W,
@@ -28,7 +28,7 @@ pub(crate) fn put_hex<W: Write>(
     Ok(())
 }
 
-/// Puts at most `PIECE_BYTES` bytes in the same way.
+/// Appends at most `PIECE_BYTES` bytes in lower-case hexadecimal to the buffered text.
 fn put_hex_piece<W: Write>(
     text: &mut PieceBuffer,
     out: &mut W,

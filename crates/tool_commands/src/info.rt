@@ -22,7 +22,7 @@ use tool_parts::cannot_write;
 /// The buffer of a line that goes to a writer.
 type Line = OutputBuffer<LINE>;
 
-/// Puts a number between two texts.
+/// Appends a number between two texts to the buffered text.
 fn put_number<W: Write>(
     line: &mut Line,
     out: &mut W,
@@ -38,7 +38,7 @@ fn put_number<W: Write>(
     line.put(out, back)
 }
 
-/// Puts the lines about the disk and the number of its changes.
+/// Appends the lines about the disk and the number of its changes to the buffered text.
 fn put_disk<W: Write>(line: &mut Line, out: &mut W, info: &Info) -> Result<(), WriteFault>
     ensures { OnOk result (Sends (W.contents out.old) line.old (W.contents out.new) line.new
         (disk_lines info.now.sectors info.now.generation)) }
@@ -48,7 +48,8 @@ fn put_disk<W: Write>(line: &mut Line, out: &mut W, info: &Info) -> Result<(), W
     put_number(line, out, b"generation ", info.generation, b"\n")
 }
 
-/// Puts the lines about the installed libraries and the preloads, with their limits.
+/// Appends the lines about the installed libraries and the preloads, with their limits, to the
+/// buffered text.
 fn put_counts<W: Write>(line: &mut Line, out: &mut W, info: &Info) -> Result<(), WriteFault>
     ensures { OnOk result (Sends (W.contents out.old) line.old (W.contents out.new) line.new
         (count_lines info.now.libraries info.now.preloads)) }
@@ -63,7 +64,8 @@ fn put_counts<W: Write>(line: &mut Line, out: &mut W, info: &Info) -> Result<(),
     put_number(line, out, b"preloads ", info.preloads as u64, b" of 16\n")
 }
 
-/// Puts the lines about the unused sectors, with the largest file that can be installed.
+/// Appends the lines about the unused sectors, with the largest file that can be installed, to the
+/// buffered text.
 fn put_room<W: Write>(line: &mut Line, out: &mut W, info: &Info) -> Result<(), WriteFault>
     ensures { OnOk result (Sends (W.contents out.old) line.old (W.contents out.new) line.new
         (room_lines info.now.unused.sectors info.now.unused.free info.now.unused.runs
@@ -81,7 +83,7 @@ fn put_room<W: Write>(line: &mut Line, out: &mut W, info: &Info) -> Result<(), W
     )
 }
 
-/// Puts all lines.
+/// Appends all lines to the buffered text.
 fn put_info<W: Write>(line: &mut Line, out: &mut W, info: &Info) -> Result<(), WriteFault>
     ensures { OnOk result (Sends (W.contents out.old) line.old (W.contents out.new) line.new
         (info_text info.now.sectors info.now.generation info.now.libraries info.now.preloads
@@ -123,8 +125,8 @@ fn tell_info<O: Write, E: Write>(info: &Info, output: &mut O, errors: &mut E) ->
     }
 }
 
-/// Writes the numbers of the whole registry: all lines, with one write. Allocates nothing, and
-/// makes no call of the disk.
+/// Writes the numbers of the whole registry in one write. Allocates nothing, and makes no call of
+/// the disk.
 pub fn run_info<D: Disk, O: Write, E: Write>(
     contents: &Contents<D>,
     output: &mut O,
@@ -138,7 +140,7 @@ pub fn run_info<D: Disk, O: Write, E: Write>(
           errors_after = E.contents errors.new;
         }) result }
 
-    // The same on any disk.
+    // The following holds on any disk.
     ensures told { InfoTells (record {
       before = O.contents output.old;
       after = O.contents output.new;

@@ -1,4 +1,4 @@
-// Applies a command to the registry on any disk, whatever its libraries are.
+// Applies a command to the registry on any disk, even if some files aren't libraries.
 
 ghost use Rattle.requests.specs.Request.{request_of};
 ghost use Rattle.requests.specs.declared.reply.Reply.{Reply};
@@ -14,7 +14,7 @@ use std::alloc::Global;
 use std::io::Write;
 use tool_parts::say_refusal;
 
-/// Applies a command to a registry, and writes the reply.
+/// Applies `command` to `registry`, and writes the reply.
 fn answer<D: Disk, O: Write, E: Write>(
     registry: &mut Registry<D>,
     alloc: Global,
@@ -36,8 +36,8 @@ fn answer<D: Disk, O: Write, E: Write>(
     tell(alloc, telling, &reply, output, errors)
 }
 
-/// Opens the registry on a disk without testing its libraries, applies a command, and writes the
-/// reply; or reports why the disk is refused. So a library that is damaged or can't be read can be
+/// Opens the registry on `disk` without testing its libraries, applies `command`, and writes the
+/// reply. If the disk is refused, reports why. So a library that is damaged or can't be read can be
 /// replaced or removed, and doesn't prevent changes of other libraries. Returns the status and the
 /// disk. If the output fails, the status is `Failed`, although the command was applied.
 pub fn run_request<D: Disk, O: Write, E: Write>(

@@ -8,7 +8,7 @@ ghost use Rattle.tool_commands.specs.Said.{not_installed_line, usage_line};
 use program_parts::{Status, say};
 use std::io::Write;
 
-/// Reports that no library of that name is installed.
+/// Reports that no library with that name is installed.
 pub(crate) fn say_not_installed<E: Write>(errors: &mut E) -> Status
     ensures status { result ≡ Refused }
     ensures said { AppendsFront (E.contents errors.old) (E.contents errors.new)
@@ -18,7 +18,7 @@ pub(crate) fn say_not_installed<E: Write>(errors: &mut E) -> Status
     Status::Refused
 }
 
-/// Reports that the arguments are none of the forms, and which forms there are.
+/// Reports that the arguments have none of the forms, and which forms there are.
 pub(crate) fn bad_words<E: Write>(errors: &mut E) -> Status
     ensures status { result ≡ BadWords }
     ensures said { AppendsFront (E.contents errors.old) (E.contents errors.new) usage_line }

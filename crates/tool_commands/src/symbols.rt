@@ -60,8 +60,8 @@ fn write_bindings<O: Write, E: Write>(
     }
 }
 
-/// Places the objects of an order, and writes what their symbols are bound to; or reports why they
-/// can't be placed.
+/// Places the objects of an order, and writes what their symbols are bound to. If they can't be
+/// placed, reports why.
 fn tell_placed<O: Write, E: Write>(
     alloc: Global,
     order: &Order<'_>,
@@ -127,8 +127,8 @@ fn write_dependencies<O: Write, E: Write>(
     }
 }
 
-/// Writes, for a program that lacks libraries, which libraries were found and which names are
-/// missing.
+/// Writes which libraries were found and which names are missing, for a program that lacks
+/// libraries.
 fn tell_lacking<O: Write, E: Write>(
     alloc: Global,
     program: &Admitted<'_>,
@@ -150,8 +150,8 @@ fn tell_lacking<O: Write, E: Write>(
     }
 }
 
-/// Writes what the symbols of a program are bound to with the libraries in `found`; or, if names
-/// are missing, which ones.
+/// Writes what the symbols of a program are bound to, with the libraries in `found`. If names are
+/// missing, writes which ones instead.
 fn tell_found<O: Write, E: Write>(
     alloc: Global,
     program: &Admitted<'_>,
@@ -180,7 +180,7 @@ fn tell_found<O: Write, E: Write>(
     }
 }
 
-/// Finds the libraries of a program that is admitted, and writes what the symbols are bound to.
+/// Finds the libraries of an admitted program, and writes what the symbols are bound to.
 fn tell_admitted<D: Disk, O: Write, E: Write>(
     registry: &mut Registry<D>,
     alloc: Global,
@@ -226,10 +226,10 @@ fn tell_program<D: Disk, O: Write, E: Write>(
     }
 }
 
-/// Opens the registry on a disk without testing its libraries, and binds the symbols of a program
+/// Opens the registry on `disk` without testing its libraries, and binds the symbols of a program
 /// at the address `base`. Writes what each symbol that a relocation names is bound to, object by
 /// object in load order. If needed names aren't installed, writes instead which libraries are
-/// found, and all names that are missing. If it can do neither, reports why. Reads only the
+/// found, and all names that are missing. If neither is possible, reports why. Reads only the
 /// libraries that the program needs, and returns the status and the disk. The status is `Refused`
 /// if a symbol is undefined or a name is missing.
 pub fn run_bindings<D: Disk, O: Write, E: Write>(

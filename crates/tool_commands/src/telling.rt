@@ -19,10 +19,10 @@ use tool_parts::cannot_write;
 /// How a reply is written.
 #[derive(Clone, Copy, PartialEq, Eq)]
 pub enum Telling {
-    /// As its text, on the output.
+    /// The text of the reply goes to the output.
     Text,
-    /// An image as an executable file, on the output; any other reply as its text, on standard
-    /// error.
+    /// An image goes to the output as an executable file. The text of any other reply goes to
+    /// standard error.
     Executable,
 }
 
@@ -65,7 +65,7 @@ pub(crate) fn say_reply<E: Write>(alloc: Global, reply: &Reply, errors: &mut E) 
     Status::of_reply(reply)
 }
 
-/// Writes a reply as `telling` says. If the output fails, returns `Failed`.
+/// Writes `reply` in the way that `telling` names. If the output fails, returns `Failed`.
 pub(crate) fn tell<O: Write, E: Write>(
     alloc: Global,
     telling: Telling,

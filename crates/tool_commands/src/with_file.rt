@@ -1,4 +1,4 @@
-// Requests that are made with the bytes of a file.
+// Requests that need the bytes of a file.
 
 ghost use Rattle.std.specs.Prelude.{◌≡◌};
 ghost use Rattle.requests.specs.Request.{request_of};
@@ -9,20 +9,20 @@ use crate::telling::Telling;
 use file_disk::Access;
 use requests::Command;
 
-/// A request to a registry that is made with the bytes of a file.
+/// A request to a registry that needs the bytes of a file.
 #[derive(Clone, Copy)]
 pub(crate) enum WithFile {
-    /// Replaces the library of the same name by the file.
+    /// Writes the executable file of the program that is read from the file.
     Replace,
-    /// Writes the executable file of the program that the file is.
+    /// Writes the executable file of the program whose file is read.
     Executable {
-        /// The address at which it is bound.
+        /// The address at which the program is bound.
         base: u64,
     },
 }
 
 impl WithFile {
-    /// Returns the command, with these bytes.
+    /// Returns the command with the file `bytes`.
     pub(crate) fn command(self, bytes: &[u8]) -> Command<'_>
         ensures { request_of result ≡ request_with self bytes.now }
     {
@@ -35,7 +35,7 @@ impl WithFile {
         }
     }
 
-    /// Returns how the disk is opened.
+    /// Returns the access with which the disk is opened.
     pub(crate) fn access(self) -> Access
         ensures { result ≡ access_of self }
     {

@@ -4,7 +4,7 @@ use Rattle.store.specs.declared.refusal.StoreRefusal.{StoreRefusal}
 use Rattle.store.specs.declared.refusal.StoreRefusal.TheVariants as store
 use Rattle.program_parts.specs.Refusal.{disk_refusal_text}
 
--- a line on standard error: each, except the usage, begins with the program's name
+-- a line on standard error with this text; every line except the usage begins with the program's name
 abbrev pub said_line : List ℕ → List ℕ
 said_line text = codes "rlibreg-tool: " ++ text
 

@@ -7,8 +7,8 @@ use Rattle.scripts.specs.declared.fault.ScriptFault.TheVariants as fault
 use Rattle.updates.specs.declared.answer.UpdateRefusal.{UpdateRefusal}
 use Rattle.updates.specs.declared.answer.UpdateRefusal.TheVariants.{Refused}
 
--- the status of an update that is refused: if a command or the commit is refused, that of the
--- refusal
+-- the status of an update that is refused; if a command or the commit is refused, it is the status of
+-- that refusal
 abbrev pub update_status : UpdateRefusal → Status
 update_status (Refused refusal) = refusal_status refusal
 update_status refusal = status.Refused

@@ -20,12 +20,12 @@ pub enum UpdateRefusal {
     CutLine,
     /// L3: no line is `commit`.
     NoCommit,
-    /// The command of a line was refused, or the commit.
+    /// The command of a line, or the commit, was refused.
     Refused(Refusal),
 }
 
-/// Puts the text of an answer to a line after the buffered text: `planned` for a change and `bound`
-/// for a bind, because neither is on the disk yet.
+/// Appends the text of an answer to the buffered text: `planned` for a change and `bound` for a
+/// bind, because neither is on the disk yet.
 pub(crate) fn put_plan<W: Write>(
     waiting: &mut Line,
     out: &mut W,
@@ -44,7 +44,7 @@ pub(crate) fn put_plan<W: Write>(
     Ok(())
 }
 
-/// Puts the text that reports why an update is refused after the buffered text. Returns the status.
+/// Appends the text that reports why an update is refused to the buffered text. Returns the status.
 pub(crate) fn put_refusal<W: Write>(
     waiting: &mut Line,
     out: &mut W,

@@ -1,4 +1,4 @@
-// Reads and answers the lines of an update, up to what ends them.
+// Reads and answers the lines of an update, until something ends them.
 
 ghost use Rattle.std.specs.Prelude.{◌≡◌, ◌⊎◌, IfErr, IfOk, MatchResult, bytes_eq, false};
 ghost use Rattle.std.specs.Io.Buffered.{reader_remaining};
@@ -18,7 +18,7 @@ use sector_disk::Disk;
 use std::alloc::Global;
 use std::io::{BufReader, Read, Write};
 
-/// What ended the lines of an update.
+/// The reason why the lines of an update ended.
 #[derive(Drop)]
 pub(crate) enum Ending {
     /// The line `commit`.
@@ -45,8 +45,8 @@ fn accepted(reply: Reply) -> Result<Reply, Refusal>
     }
 }
 
-/// Applies the command of a line to the draft and writes the answer, or returns how the lines end
-/// with this line. Doesn't write a refusal: the caller that ends the update does.
+/// Applies the command of a line to the draft and writes the answer, or returns how the line ends
+/// the update. Doesn't write a refusal: the caller, which ends the update, writes it.
 fn answer_asked<D: Disk, O: Write>(
     asked: &AskedCommand<'_>,
     update: &mut Update<D>,
@@ -69,7 +69,7 @@ fn answer_asked<D: Disk, O: Write>(
     }
 }
 
-/// Answers a whole line, or returns how the lines end with it.
+/// Answers a whole line, or returns how the line ends the update.
 fn answer_line<D: Disk, O: Write>(
     alloc: Global,
     line: &[u8],
@@ -98,8 +98,8 @@ fn answer_line<D: Disk, O: Write>(
     }
 }
 
-/// Reads lines and answers each, up to the one that ends them. Some answers may still be in the
-/// buffer when it returns.
+/// Reads lines and answers each, until something ends them. Some answers may still be in the buffer
+/// when it returns.
 fn read_lines<D: Disk, I: Read, O: Write>(
     alloc: Global,
     update: &mut Update<D>,
@@ -131,9 +131,9 @@ fn read_lines<D: Disk, I: Read, O: Write>(
     Err(ScriptFault::Read)
 }
 
-/// Reads lines and answers each, up to the one that ends them, and reads no line after that.
-/// Whatever ends them, all answers have been written when it returns, unless the output failed. It
-/// can't commit: the caller keeps the update.
+/// Reads lines and answers each, until something ends them, and reads no line after that. All
+/// answers have been written when it returns, unless the output failed. It can't commit: the caller
+/// keeps the update.
 pub(crate) fn answer_lines<D: Disk, I: Read, O: Write>(
     alloc: Global,
     update: &mut Update<D>,

@@ -1,4 +1,4 @@
-// Reports how an update ended, once its draft is committed or given up.
+// Reports how an update ended, after its draft was committed or given up.
 
 ghost use Rattle.requests.specs.Step.{answer_of};
 ghost use Rattle.program_parts.specs.Reply.{reply_text};
@@ -15,8 +15,8 @@ use requests::{Refusal, Reply};
 use std::io::Write;
 use tool_parts::cannot_write;
 
-/// Writes why an update is refused, and returns the status for it. If the output fails, reports
-/// that on standard error.
+/// Writes why an update is refused, and returns its status. If the output fails, reports that on
+/// standard error.
 pub(crate) fn report_refusal<O: Write, E: Write>(
     refusal: UpdateRefusal,
     output: &mut O,

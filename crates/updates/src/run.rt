@@ -16,7 +16,7 @@ use std::alloc::Global;
 use std::io::{BufReader, Read, Write};
 use tool_parts::say_refusal;
 
-/// The number of bytes that are read at once.
+/// The number of bytes that are read from the input at once.
 const PAGE: usize = 0x10000;
 
 /// Begins an update of a registry, answers its lines, and commits it or gives it up. Only this
@@ -58,13 +58,13 @@ fn run_opened<D: Disk, I: Read, O: Write, E: Write>(
     }
 }
 
-/// Runs an update of the registry on a disk. Opens the registry without testing its libraries, so
+/// Runs an update of the registry on `disk`. Opens the registry without testing its libraries, so
 /// that a library that is damaged or can't be read can be replaced or removed. Each line up to
 /// `commit` is answered: a change by `planned`, a listing by its text, and a bind by `bound`.
 /// `commit` makes all changes at once and is answered by `ok`; nothing after it is read. The first
-/// refusal is written, ends the update, and leaves what the disk holds as it was. The same happens
+/// refusal is written, ends the update, and leaves the disk's contents unchanged. The same happens
 /// if a line asks for nothing, if a line has no newline, and if the input ends. Until `commit`
-/// writes its root, a stop leaves what the disk held.
+/// writes its root, a stop leaves the state that the disk held.
 ///
 /// If the disk is refused, memory for a line is refused, or a stream fails, reports that on
 /// `errors`. If the output fails before the commit, nothing is changed. Returns the status and the

@@ -6,7 +6,7 @@ use Rattle.requests.specs.Request.{Request, bind, list}
 use Rattle.commands.specs.Words.{CommandLine}
 use Rattle.commands.specs.Words as words
 
--- the path of the disk: every command except `image` has one
+-- the path of a command's disk; every command except `image` has one
 abbrev pub disk_of : CommandLine → Option (List ℕ)
 disk_of (words.image program base) = None
 disk_of (words.format disk sectors) = Some disk
@@ -19,7 +19,7 @@ disk_of (words.list disk) = Some disk
 disk_of (words.bind disk program base) = Some disk
 disk_of (words.script disk) = Some disk
 
--- a listing and a bind only read
+-- the access that a request needs: a listing and a bind only read
 abbrev pub access_of : Request → Access
 access_of list = Reading
 access_of (bind program base) = Reading

@@ -1,4 +1,4 @@
--- The result of a binder's step that is refused.
+-- The results of a binder's step if a read or the bind is refused.
 use Rattle.std.specs.Prelude.{Result, Ok, Err}
 use Rattle.image.specs.declared.refusal.BindRefusal.{BindRefusal}
 use Rattle.image.specs.declared.refusal.BindRefusal.TheVariants as binding

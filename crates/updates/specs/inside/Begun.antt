@@ -23,7 +23,7 @@ use Rattle.updates.specs.declared.answer.UpdateRefusal.{UpdateRefusal}
 
 module _ {D O : Type 0} (facts : D → DiskFacts) (contents : O → Option (List ℕ)) where
   module _ (io : Streams) (lines : List (List ℕ)) (answers : List Reply) (u : Drafted D) (status : Status) (new : Opened D) where
-    -- after lines that led to a draft came `commit`
+    -- after the planned lines came `commit`
     abbrev pub IsCommitted : Type 0
     IsCommitted = (held : O) × (answer : Result (Unit {0}) Refusal) × BeginsWith io.unread lines (ended commit_line)
         × Appends io.before (contents held) (plan_texts answers) × Commits facts u answer new
@@ -39,7 +39,7 @@ module _ {D O : Type 0} (facts : D → DiskFacts) (contents : O → Option (List
     IsBroken = (fault : ScriptFault) × (part : List ℕ) × StopsAt part 10 × BeginsWith io.unread lines part × (new ≡ u.store)
         × BreaksOff fault (plan_texts answers) io status
 
-  -- Lines were answered, from one draft to another, and then `commit`, a refusal or a fault came.
+  -- Lines were answered and changed the draft, and then `commit`, a refusal or a fault came.
   abbrev pub EndsBegun : Drafted D → Streams → Status → Opened D → Type 0
   EndsBegun old io status new = (lines : List (List ℕ)) × (answers : List Reply) × (u : Drafted D) × ArePlanned facts old u lines answers
       × (IsCommitted io lines answers u status new ⊎ (IsRefused io lines answers u status new ⊎ IsBroken io lines answers u status new))

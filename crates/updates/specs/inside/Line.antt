@@ -23,9 +23,9 @@ module _ {D : Type 0} (facts : D → DiskFacts) where
   abbrev pub IsAccepted : Drafted D → List ℕ → Reply → Drafted D → Type 0
   IsAccepted old line answer new = LineStep facts old line answer new × (is_refusal answer ≡ false)
 
-  -- The effects of a line's command. `waits` and `now` are the bytes that the writer holds,
-  -- followed by the buffered text, before and after. The command is answered; or it is refused,
-  -- which ends the update, and nothing is written.
+  -- The effects of a line's command. `waits` and `now` are the bytes that the writer holds before and
+  -- after, each followed by the buffered text. Either the command is answered, or it is refused, which
+  -- ends the update, and nothing is written.
   abbrev pub AskedEnds : Drafted D → Drafted D → Request → Option (List ℕ) → Option (List ℕ) → Option Ending → Type 0
   AskedEnds old new request waits now None = (answer : Reply) × DraftAnswers facts old request answer new × (is_refusal answer ≡ false)
       × Appends waits now (plan_text answer)
@@ -43,8 +43,8 @@ module _ {D : Type 0} (facts : D → DiskFacts) where
   EndsLine old new line (Refused (refusal.Refused why)) = LineStep facts old line (reply.Refused why) new
   EndsLine old new line (Refused other) = ⊥
 
-  -- The effects of one whole line. `waits` and `now` are the bytes that the writer holds, followed
-  -- by the buffered text, before and after. The line is answered; or it ends the update, and
+  -- The effects of one whole line. `waits` and `now` are the bytes that the writer holds before and
+  -- after, each followed by the buffered text. Either the line is answered, or it ends the update, and
   -- nothing is written.
   abbrev pub LineEnds : Drafted D → Drafted D → List ℕ → Option (List ℕ) → Option (List ℕ) → Option Ending → Type 0
   LineEnds old new line waits now None = (answer : Reply) × IsAccepted old line answer new × Appends waits now (plan_text answer)
@@ -56,7 +56,7 @@ module _ {D : Type 0} (facts : D → DiskFacts) where
   MissesLine old new line waits now Write = (answer : Reply) × IsAccepted old line answer new
   MissesLine old new line waits now fault = (new ≡ old) × (now ≡ waits)
 
-  -- after lines that were answered comes what ends them: `commit`, or a refusal
+  -- after the answered lines came what ended them: `commit`, or a refusal
   abbrev pub EndsLines : Option (List ℕ) → List (List ℕ) → Drafted D → Drafted D → Ending → Type 0
   EndsLines unread lines old new Commit = (new ≡ old) × BeginsWith unread lines (ended commit_line)
   EndsLines unread lines old new (Refused why) = IsRefusedAt facts unread lines old new why

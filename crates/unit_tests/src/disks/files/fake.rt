@@ -83,9 +83,10 @@ impl SectorFile for Fake {
 
     fn count_sectors(&mut self) -> Result<u32, OpenFault> {
         match self.call() {
-            Ok(()) => u32::try_from(self.sectors.len())
-                .ok()
-                .ok_or(OpenFault::BadLength),
+            Ok(()) => match u32::try_from(self.sectors.len()) {
+                Ok(sectors) => Ok(sectors),
+                Err(_) => Err(OpenFault::CannotOpen),
+            },
             Err(_) => Err(OpenFault::CannotOpen),
         }
     }

@@ -220,13 +220,16 @@ const MADE: [&str; 3] = [
 // The lengths of files, and the result of opening a disk over each.
 const LENGTHS: [(u64, Result<u32, OpenFault>); 8] = [
     (0, Ok(0)),
-    (511, Err(OpenFault::BadLength)),
+    (511, Err(OpenFault::BadLength(511))),
     (512, Ok(1)),
     (7 * 512, Ok(7)),
-    (8 * 512 + 1, Err(OpenFault::BadLength)),
+    (8 * 512 + 1, Err(OpenFault::BadLength(8 * 512 + 1))),
     (4_194_305 * 512, Ok(4_194_305)),
     (4_294_967_295 * 512, Ok(u32::MAX)),
-    (4_294_967_296 * 512, Err(OpenFault::BadLength)),
+    (
+        4_294_967_296 * 512,
+        Err(OpenFault::BadLength(4_294_967_296 * 512)),
+    ),
 ];
 
 // Returns the first path that is opened or made with another result.
