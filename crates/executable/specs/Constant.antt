@@ -56,7 +56,8 @@ PT_INTERP = 3
 abbrev pub PT_NOTE : ℕ
 PT_NOTE = 4
 
--- the p_align of the notes that are read; each name and each descriptor is padded to a multiple of it
+-- the p_align of notes that are read; the name and the descriptor of a note are padded to multiples of
+-- it
 abbrev pub NOTE_ALIGNMENT : ℕ
 NOTE_ALIGNMENT = 4
 
@@ -64,14 +65,15 @@ NOTE_ALIGNMENT = 4
 abbrev pub NOTE_HEADER_SIZE : ℕ
 NOTE_HEADER_SIZE = 12
 
--- the name of the note of a program that calls its libraries' functions itself (own): `rlibreg` and a zero, as a number of eight bytes; the size of this name
+-- the name of the calls note, by which a program calls its libraries' functions itself (own): `rlibreg`
+-- and a zero, as a number of eight bytes; and the size of this name
 abbrev pub CALLS_NAME : ℕ
 CALLS_NAME = 0x67657262696c72
 
 abbrev pub CALLS_NAME_SIZE : ℕ
 CALLS_NAME_SIZE = 8
 
--- the type of this note, which has no descriptor
+-- the type of the calls note, which has no descriptor
 abbrev pub CALLS_TYPE : ℕ
 CALLS_TYPE = 1
 

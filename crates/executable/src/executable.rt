@@ -138,7 +138,7 @@ fn writable_code(alloc: Global, name: &[u8]) -> ExecutableRefusal
 
 /// Returns the image's entry, if the program doesn't relocate itself, and no object has functions
 /// that nobody would call. Otherwise returns the refusal of the first of these tests that applies.
-/// A program can have a note, which says that the program itself calls these functions.
+/// A program may have a note that it calls these functions itself.
 fn entry_to_call(alloc: Global, image: &Image) -> Result<u64, ExecutableRefusal>
     ensures entry { IfOk result (λ entry. entry_of image.now ≡ Some entry) }
     ensures called { OnOk result (HasNoCalls image.now) }
@@ -188,7 +188,8 @@ fn file_of(
 /// Otherwise returns the first of these refusals: the program has no entry in code of its own; it
 /// is a static PIE; it has pre-initializers; a library has initializers; a library has finalizers;
 /// there are more program headers than the kernel accepts; memory may be written and executed
-/// although no segment in it requests both; no pages are free for the headers.
+/// although no segment in it requests both; no pages are free for the headers. The three refusals
+/// for functions don't apply if the program has a note that it calls these functions itself.
 ///
 /// Allocates as much memory as the image's bytes, and up to three times as much if segments are
 /// joined. Makes two passes over the bytes.

@@ -13,16 +13,16 @@ pub enum ExecutableRefusal {
     /// The program is a static PIE: it has DF_1_PIE, and no PT_INTERP.
     #[error("the program relocates itself, for which it looks for what the file lacks")]
     StaticPie,
-    /// The program has a DT_PREINIT_ARRAY with entries.
+    /// The program has a DT_PREINIT_ARRAY with entries, and no note that it calls them itself.
     #[error("the program has pre-initializers, which nobody would run")]
     PreInitializers,
-    /// A library has a DT_INIT, or a DT_INIT_ARRAY with entries.
+    /// A library has a DT_INIT, or a DT_INIT_ARRAY with entries, and the program has no such note.
     #[error("a library has initializers, which nobody would run")]
     Initializers {
         /// The library's name.
         name: Name,
     },
-    /// A library has a DT_FINI, or a DT_FINI_ARRAY with entries.
+    /// A library has a DT_FINI, or a DT_FINI_ARRAY with entries, and the program has no such note.
     #[error("a library has finalizers, which nobody would run")]
     Finalizers {
         /// The library's name.
