@@ -44,6 +44,11 @@ def replaced(text, mark, lines):
     return f'{before}{begin}\n\n' + '\n'.join(lines) + f'\n{end}' + rest.split(end)[1]
 
 
+def crates():
+    """Returns the names of the crates of crates.txt, in its order."""
+    return re.findall(r'^(\w+)(?: staticlib)?:', (ROOT / 'crates.txt').read_text(), re.M)
+
+
 def pages():
     """Returns the generated pages as they have to be."""
     files, first, needed = definitions.all_of_them()
@@ -52,7 +57,7 @@ def pages():
         PROOFS: replaced(text, 'reading', definitions.reading(files)),
         DEFINITIONS: definitions.page(files, first, needed),
         CLAUSES: clauses.page(definitions.CRATES),
-        MAP: file_map.page(definitions.CRATES)[0]}
+        MAP: file_map.page(crates())[0]}
 
 
 def written():
@@ -116,7 +121,7 @@ def unlisted():
 def faults_of_files():
     """Yields what is wrong with the lists of files and calls, and with the pictures."""
     yield from (f'bench/README.md names {name} not once' for name in unlisted())
-    yield from (f'{name} has no comment at its head' for name in file_map.page(definitions.CRATES)[1])
+    yield from (f'{name} has no comment at its head' for name in file_map.page(crates())[1])
     yield from promised.broken()
     if '--check' in sys.argv:
         yield from pictures.wrong()
