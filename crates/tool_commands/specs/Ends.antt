@@ -99,8 +99,8 @@ FormEnds facts store left s digest io status = DigestEnds (facts store.disk) (fa
 FormEnds facts store left s (file name) io status = FileEnds (facts store.disk) (facts left) s name io status
 FormEnds facts store left s (dump purpose) io status = DumpEnds (facts store.disk) (facts left) purpose s io status
 
--- How much is read of a disk whose libraries have these entries: `info` makes no call, and `check` and
--- `digest` read no sector of a library twice.
+-- The number of calls that the question makes of a disk whose libraries have these entries: none for `info`;
+-- for `check` and `digest`, at most one for each sector of each library.
 abbrev pub FormReads : (old new : DiskFacts) → List PlacedEntry → Question → Type 0
 FormReads old new entries info = AreCallsExactly 0 old new
 FormReads old new entries check = AreCallsAtMost (sum_by file_sectors entries) old new

@@ -177,7 +177,7 @@ pub fn run_digest<D: Disk, O: Write, E: Write>(
       errors_after = E.contents errors.new;
     }) result }
 
-    // No sector of a library is read twice.
+    // It makes at most one call of the disk for each sector of each library.
     ensures calls { AreCallsAtMost (sum_by file_sectors contents.old.entries)
         (D.facts contents.old.disk) (D.facts contents.new.disk) }
 {
