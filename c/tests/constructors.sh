@@ -8,8 +8,8 @@ fi
 [ ! -d "$objects/constructors" ] || exit 0 # once: the driver isn't what the two compilers make
 mkdir "$objects/constructors"
 PATH=$built:$PATH
-mkdir constructors kept
-chmod 700 kept
+mkdir constructors constructors/kept
+chmod 700 constructors/kept
 cd constructors
 cp "$here"/programs/{named,named_main,busy,busy_main}.c "$here"/programs/driver_* .
 gcc=rlibreg-gcc
@@ -28,7 +28,7 @@ library() {
 by() {
     case $1 in
         loader) ended "$built/rlibreg-run" disk "./$2" "${@:3}" ;;
-        kept) ended "$built/rlibreg-run" -v -c ../kept disk "./$2" "${@:3}" ;;
+        kept) ended "$built/rlibreg-run" -v -c kept disk "./$2" "${@:3}" ;;
         executable)
             rm -f alone
             if "$built/rlibreg-tool" executable disk "$2" 0x10000000 > alone; then
@@ -186,7 +186,7 @@ sleep 2.1
 for program in named 'busy word'; do
     by kept $program > told
     said=$(by loader $program)
-    want "$program, kept" "rlibreg-run: ../kept: its image is taken
+    want "$program, kept" "rlibreg-run: kept: its image is taken
 $said" "$(by kept $program)"
 done
 cd ..
