@@ -114,7 +114,7 @@ program() {
         object=crates/$crate/out/$crate.o
     fi
     linked 4 "$stream" "$message" "$name" \
-        -Wl,--gc-sections,--wrap=open,--wrap=fsync,--wrap=flock,--wrap=main c/rlibreg_{main,front,names,turn}.c \
+        -Wl,--gc-sections,--wrap=open,--wrap=pwrite,--wrap=fsync,--wrap=flock,--wrap=main c/rlibreg_{main,front,names,turn}.c \
         c/rlibreg_program_{lock,sync}.c "$object" "$kit/c/libos_c.a" \
         "$kit/c/liblibc_c.a" -lm
 }

@@ -3,6 +3,7 @@ pub mod Buffered
 pub mod FileDisk
 pub mod Gathered
 pub mod Left
+pub mod Length
 pub mod Medium
 pub mod MemoryFile
 pub mod SectorFile
