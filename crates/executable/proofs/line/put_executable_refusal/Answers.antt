@@ -1,4 +1,4 @@
-use Rattle.std.proofs.Common.{codes, sym, subst}
+use Rattle.std.proofs.Common.{sym, subst}
 use Rattle.std.specs.Prelude.{OnOk}
 use Rattle.text_output.specs.Sends.{Sends}
 use Rattle.executable.specs.Outcome.{executable_refusal_text}
