@@ -107,7 +107,7 @@ fn lock<R: Clock>(rt: &R, file: &File, access: Access, is_device: bool) -> Resul
 
 /// Refuses a path that leads to neither a regular file nor a block device, before it is opened.
 /// Opening a pipe would wait for its other end.
-fn look<R: Files>(rt: &R, path: &str) -> Result<(), OpenFault>
+fn check_kind<R: Files>(rt: &R, path: &str) -> Result<(), OpenFault>
     ensures { IfErr result IsLengthFault }
 {
     match fs::metadata(rt, path) {
@@ -135,7 +135,7 @@ pub(crate) fn open_locked<R: Files<File = File> + Clock>(
     ensures { IfErr result IsLengthFault }
 {
     for _ in 0..TRIES {
-        look(rt, path)?;
+        check_kind(rt, path)?;
         let Ok((file, is_read_only)) = open_file(rt, path, access) else {
             return Err(OpenFault::CannotOpen);
         };

@@ -9,8 +9,8 @@ ghost use Rattle.file_disk.specs.declared.open.OpenFault.TheVariants.{OutOfMemor
 use crate::disk::FileDisk;
 use crate::disk_file::{Access, DiskFile};
 use crate::locked::open_locked;
-use crate::new_name::NewName;
 use crate::sector_file::SectorFile;
+use crate::unnamed_file::UnnamedFile;
 use sector_disk::{Disk, SECTOR_BYTES};
 use std::alloc::{AllocError, Global};
 use std::fs::File;
@@ -118,7 +118,7 @@ pub struct Made<'a> {
     /// The disk.
     pub disk: FileDisk<DiskFile>,
     /// The name, if the file was made.
-    pub name: Option<NewName<'a>>,
+    pub name: Option<UnnamedFile<'a>>,
 }
 
 impl FileDisk<DiskFile> {
@@ -137,7 +137,7 @@ impl FileDisk<DiskFile> {
 
     /// Opens the file at `path` as a disk of `sectors` sectors, for changes. If no file exists
     /// there, makes a disk of zeros. An existing file is then on the medium under its name, because
-    /// its folder is synced. A file that was made gets its name by `NewName::give`, once its
+    /// its folder is synced. A file that was made gets its name by `UnnamedFile::publish`, once its
     /// contents are synced.
     pub fn make<'a, R: Files<File = File> + Clock>(
         rt: &R,
@@ -171,7 +171,7 @@ fn make_new<'a, R: Files<File = File>>(
     ensures sectors { IfOk result (λ made. (file_facts made.disk).sectors ≡ sectors) }
 {
     let length = u64::from(sectors) * SECTOR_BYTES as u64;
-    let (file, name) = NewName::make(rt, alloc, path, length)?;
+    let (file, name) = UnnamedFile::make(rt, alloc, path, length)?;
     match over_made(alloc, file, sectors) {
         Ok(disk) => Ok(Made {
             disk,

@@ -153,7 +153,7 @@ fn all_names_by_place<'a>(
 }
 
 /// Returns the symbols with the numbers of their names.
-fn give_numbers(mut symbols: Vec<NumberedSymbol>, numbers: &[u32]) -> Vec<NumberedSymbol>
+fn set_numbers(mut symbols: Vec<NumberedSymbol>, numbers: &[u32]) -> Vec<NumberedSymbol>
     requires { length numbers.now ≡ length symbols.items }
     ensures size { length result.items ≡ length symbols.items }
     ensures given { (k : ℕ) → k < length symbols.items → nth_symbol result.items k
@@ -174,10 +174,10 @@ pub fn numbered_symbols(
 {
     if let Some(gathered) = all_short_names(alloc, objects)? {
         if let Some(numbers) = numbers_in_table(alloc, &gathered.names)? {
-            return Ok(give_numbers(gathered.symbols, &numbers));
+            return Ok(set_numbers(gathered.symbols, &numbers));
         }
     }
     let (gathered, endings) = all_names_by_place(alloc, objects)?;
     let numbers = numbers_of_endings(alloc, &gathered.names, endings)?;
-    Ok(give_numbers(gathered.symbols, &numbers))
+    Ok(set_numbers(gathered.symbols, &numbers))
 }

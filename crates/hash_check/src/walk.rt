@@ -43,7 +43,7 @@ fn climb(
 
 /// Stores the places of the indices of the path, which begins at `from`. Begins with the last
 /// index, because each place is computed from the next index's place.
-fn settle(places: &mut [Option<Place>], path: &mut Vec<u32>, chains: &Chains<'_, '_>, from: u32)
+fn place_path(places: &mut [Option<Place>], path: &mut Vec<u32>, chains: &Chains<'_, '_>, from: u32)
     requires words { AreIndices (length chains.now) chains.now }
     requires size { length places.old ≡ length chains.now }
     requires limit { length chains.now < 2 ^ 32 }
@@ -87,7 +87,7 @@ pub(crate) fn follow(
 {
     let ends = climb(places, path, chains, from)?;
     if ends {
-        settle(places, path, chains, from);
+        place_path(places, path, chains, from);
     }
     Ok(ends)
 }

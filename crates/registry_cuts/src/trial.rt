@@ -10,7 +10,7 @@ use crate::seen::{Seen, look, look_on};
 use crate::tally::Tally;
 use crate::task::{Asked, Task};
 use anyhow::{Result, bail};
-use file_disk::{FileDisk, FilePlan, MemoryFile, Turn};
+use file_disk::{CallOutcome, FileDisk, FilePlan, MemoryFile};
 use sector_disk::Memory;
 use std::alloc::Global;
 use std::fmt::Debug;
@@ -40,7 +40,7 @@ const TURNS: [(usize, bool, bool); 6] = [
 // The plan of a file whose calls are never cut.
 const UNCUT: FilePlan = FilePlan {
     call: u64::MAX,
-    turn: Turn {
+    outcome: CallOutcome {
         most: 0,
         fails: true,
     },
@@ -48,11 +48,11 @@ const UNCUT: FilePlan = FilePlan {
 };
 
 // Returns the plan that cuts call number `call` in one of these ways.
-fn plan(call: u64, turn: (usize, bool, bool)) -> FilePlan {
-    let (most, fails, forever) = turn;
+fn plan(call: u64, outcome: (usize, bool, bool)) -> FilePlan {
+    let (most, fails, forever) = outcome;
     FilePlan {
         call,
-        turn: Turn { most, fails },
+        outcome: CallOutcome { most, fails },
         forever,
     }
 }
@@ -161,9 +161,9 @@ impl<'a> Trial<'a> {
         let (told, disk) = self.task.play(alloc, disk)?;
         let file = disk.into_file();
         let left = file.calls_left();
-        let place = (plan.call, plan.turn.most, plan.forever);
+        let place = (plan.call, plan.outcome.most, plan.forever);
         self.open(tally, &told, &file.into_medium(), &place)?;
-        if !plan.turn.fails || left > 0 {
+        if !plan.outcome.fails || left > 0 {
             tally.count(self.is_whole(&told), &place, "the answers of a whole run");
         }
         Ok(left)
@@ -174,8 +174,8 @@ impl<'a> Trial<'a> {
     fn cut_each_of_file(&mut self, tally: &mut Tally) -> Result<()> {
         let calls = UNCUT.call.saturating_sub(self.cut_file(tally, UNCUT)?);
         for call in 2..=calls {
-            for turn in TURNS {
-                let _ = self.cut_file(tally, plan(call, turn))?;
+            for outcome in TURNS {
+                let _ = self.cut_file(tally, plan(call, outcome))?;
             }
         }
         Ok(())

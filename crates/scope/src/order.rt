@@ -7,7 +7,7 @@ ghost use Rattle.scope.specs.LoadOrder.{available};
 ghost use Rattle.scope.specs.Objects.{IsOrder, IsTaken, name_at, file_at, program_name};
 ghost use Rattle.scope.specs.inside.Definitions.{IsFound};
 
-use crate::found::Found;
+use crate::definition_table::DefinitionTable;
 use crate::library::Library;
 use crate::loaded::LoadedObject;
 use crate::worth::worthy_table;
@@ -31,7 +31,7 @@ pub fn program_name<'a>() -> &'a [u8]
 #[derive(Drop)]
 pub struct Order<'a> {
     objects: Vec<LoadedObject<'a>>,
-    table: Option<Found>,
+    table: Option<DefinitionTable>,
 }
 
 impl<'a> Model for Order<'a> {
@@ -114,7 +114,7 @@ impl<'a> Order<'a> {
     }
 
     /// The definitions found for all symbols, if the order has them.
-    pub(crate) fn table(&self) -> Option<&Found>
+    pub(crate) fn table(&self) -> Option<&DefinitionTable>
         ensures { IfSome result (λ t. IsFound self.now (map (λ r. r.items) t.now.rows.items)) }
     {
         match &self.table {

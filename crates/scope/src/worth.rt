@@ -5,10 +5,10 @@ ghost use Rattle.std.specs.List.{All};
 ghost use Rattle.scope.specs.Objects.{IsTaken};
 ghost use Rattle.scope.specs.inside.Definitions.{IsFound};
 
-use crate::found::Found;
+use crate::definition_table::DefinitionTable;
 use crate::loaded::LoadedObject;
 use elf_dynamic::{Object, R_X86_64_64, R_X86_64_GLOB_DAT, R_X86_64_JUMP_SLOT, Relocation};
-use hash_check::Room;
+use hash_check::NameBudget;
 use std::alloc::Global;
 
 /// The number of walk steps that take as long as putting one name into a table, or less.
@@ -85,12 +85,12 @@ fn may_be_long(objects: &[LoadedObject<'_>]) -> bool {
 /// that many of them are tails of others. Hashing such names one by one would cost the sum of their
 /// lengths.
 fn share_bytes(object: &Object<'_>) -> bool {
-    let mut room = Room::new(object.string_table().len());
+    let mut budget = NameBudget::new(object.string_table().len());
     for i in 0..object.rela_count() {
         let relocation = object.rela(i);
         if is_lookup(relocation)
             && relocation.symbol < object.symbol_count()
-            && !room.take(object.name_of(relocation.symbol).len())
+            && !budget.take(object.name_of(relocation.symbol).len())
         {
             return true;
         }
@@ -109,12 +109,12 @@ fn any_share_bytes(objects: &[LoadedObject<'_>]) -> bool {
 
 /// Finds the definitions of all symbols, if lookups by walks may cost more. Returns `None` if they
 /// don't, or if memory is refused.
-pub(crate) fn worthy_table(alloc: Global, objects: &[LoadedObject<'_>]) -> Option<Found>
+pub(crate) fn worthy_table(alloc: Global, objects: &[LoadedObject<'_>]) -> Option<DefinitionTable>
     requires { All (λ o. IsTaken o.file) objects.now }
     ensures { IfSome result (λ t. IsFound objects.now (map (λ r. r.items) t.rows.items)) }
 {
     if !may_be_long(objects) && !any_share_bytes(objects) {
         return None;
     }
-    Found::new(alloc, objects).ok()
+    DefinitionTable::new(alloc, objects).ok()
 }

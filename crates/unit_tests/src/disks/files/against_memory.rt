@@ -3,7 +3,7 @@
 use crate::disks::alike::{are_same, call_both};
 use crate::disks::files::fake::{Fake, Plan, WELL, disk, reopened};
 use crate::disks::stops::{fill, is_filled, read, write};
-use file_disk::{FileDisk, FilePlan, MemoryFile, OpenFault, Turn};
+use file_disk::{CallOutcome, FileDisk, FilePlan, MemoryFile, OpenFault};
 use sector_disk::{Disk, Memory};
 use std::alloc::Global;
 
@@ -133,13 +133,13 @@ const OVER: [(u32, u64, Result<u32, OpenFault>); 5] = [
 // Makes a disk over a file of `sectors` sectors, whose call number `call` fails. Returns the disk's
 // number of sectors.
 fn over(alloc: Global, sectors: u32, call: u64) -> Result<u32, OpenFault> {
-    let turn = Turn {
+    let outcome = CallOutcome {
         most: 0,
         fails: true,
     };
     let plan = FilePlan {
         call,
-        turn,
+        outcome,
         forever: false,
     };
     let file = MemoryFile::new(Memory::new(alloc, sectors)?, plan);

@@ -17,7 +17,7 @@ fn sectors(rt: &HostRuntime, path: &str) -> Result<u32, OpenFault> {
 fn make(rt: &HostRuntime, path: &str) -> Result<FileDisk<DiskFile>, OpenFault> {
     let Made { disk, name } = FileDisk::make(rt, rt.alloc(), path, 8)?;
     let is_named = match name {
-        Some(name) => name.give(rt).is_ok(),
+        Some(name) => name.publish(rt).is_ok(),
         None => true,
     };
     if is_named {
