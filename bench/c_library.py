@@ -19,7 +19,7 @@ import time
 from disks import install
 from libraries import Made
 
-RUNS, ROOM, MOST, RLIBREG_CHANGES = 5, 1 << 26, 2048, 1
+RUNS, ROOM, MOST, RLIBREG_READ_WRITE = 5, 1 << 26, 2048, 1
 
 
 class Answer(ctypes.Structure):
@@ -68,7 +68,7 @@ def fill(path, number, length):
 def install_one(it, path, file):
     """Prints how long an installation takes with its syncs, once the disk is open."""
     registry = ctypes.c_void_p(it.rlibreg_create())
-    assert it.rlibreg_open(registry, path.encode(), RLIBREG_CHANGES) == 0
+    assert it.rlibreg_open(registry, path.encode(), RLIBREG_READ_WRITE) == 0
     start = time.perf_counter()
     assert it.rlibreg_install(registry, *bytes_and_length(file)) == 0, it.rlibreg_text(registry)
     print(f'  rlibreg_install: {1000 * (time.perf_counter() - start):.1f} ms')

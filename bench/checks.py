@@ -68,7 +68,7 @@ class CLibrary(Program):
         return ended.status == 9 and not ended.output and ended.errors.startswith(b'tool: ')
 
     def held(self, ended, disk):
-        return ended[:3] == (9, b'', b'tool: the file is held\n')
+        return ended[:3] == (9, b'', b'tool: the file is locked\n')
 
 
 class Checks:

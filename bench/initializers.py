@@ -3,14 +3,18 @@
 
     python3 bench/initializers.py FOLDER [GRAPHS [START]]
 
-FOLDER has rlibreg and rlibreg-run (c/build.sh). Each graph has libraries that need each other at random, also in circles,
+FOLDER has rlibreg, rlibreg-run, rlibreg-tool and rlibreg-gcc (c/build.sh). Each graph has libraries that need each other at random, also in circles,
 with or without DT_INIT, DT_FINI, arrays, DF_1_INITFIRST and preloads. A program needs some of them. Each function writes
 its name, so everything that is called is compared, in its order. gcc makes the functions, and ld links them. For the
 system's loader the program also needs its C library, after all others: without a C library that loader doesn't finalize.
+
+If there is a musl-gcc, the order is also compared with that in a program of rlibreg-gcc: under rlibreg-run, in its file of
+`rlibreg-tool executable`, and under musl's loader, if that is there. In the last two the program itself makes the calls.
 """
 
 import os
 import random
+import shutil
 import subprocess
 import sys
 import tempfile
@@ -20,6 +24,9 @@ PROGRAMS = Path(__file__).resolve().parent.parent / 'c' / 'tests' / 'programs'
 COMPILE = ['gcc', '-O1', '-fPIC', '-nostdlib', '-fno-stack-protector', '-fno-asynchronous-unwind-tables']
 LINK = ['ld', '--hash-style=sysv', '--no-as-needed', '--allow-shlib-undefined']
 MOST, C_LIBRARY = 24, 'libc.so.6'
+MUSL = Path('/lib/ld-musl-x86_64.so.1')
+MAIN = '#include <unistd.h>\nint main(void) { return write(1, " entered", 8) != 8; }\n'
+DRIVEN = ['-Wl,--no-as-needed,--allow-shlib-undefined']
 
 
 def name(number):
@@ -68,6 +75,8 @@ class Bench:
             run(*COMPILE, f'-DNAME="{number}"', '-c', '-o', self.folder / f'{number}.o', PROGRAMS / 'stage.c')
             run(*LINK, '-shared', f'-soname={name(number)}', '-o', f'before{number}', f'{number}.o', cwd=self.folder)
         run(*COMPILE, '-c', '-o', self.folder / '0.o', PROGRAMS / 'bare.c')
+        self.has_driver = shutil.which('musl-gcc') is not None
+        (self.folder / 'main.c').write_text(MAIN)
 
     def link(self, graph):
         def needed(number):
@@ -79,6 +88,9 @@ class Bench:
         words = ['-pie', '-dynamic-linker=/lib64/ld-linux-x86-64.so.2', '0.o', *needed(0)]
         run(*LINK, '-o', 'program', *words, cwd=self.folder)
         run(*LINK, '-o', 'program.system', *words, f'-L{self.system_folder()}', f'-l:{C_LIBRARY}', cwd=self.folder)
+
+        if self.has_driver:
+            run(self.built / 'rlibreg-gcc', '-o', 'driven', 'main.c', *DRIVEN, *needed(0), cwd=self.folder)
 
     @staticmethod
     def system_folder():
@@ -92,6 +104,22 @@ class Bench:
         run(self.built / 'rlibreg', 'format', disk, '4096')
         run(self.built / 'rlibreg', 'script', disk, input=''.join(f'{it}\n' for it in lines).encode())
         return run(self.built / 'rlibreg-run', disk, 'program', cwd=self.folder)
+
+    def driven(self):
+        """The orders of a program of rlibreg-gcc, which has the disk of `ours`."""
+        if not self.has_driver:
+            return
+        yield run(self.built / 'rlibreg-run', 'disk', 'driven', cwd=self.folder)
+        alone = self.folder / 'alone'
+        alone.write_bytes(run(self.built / 'rlibreg-tool', 'executable', 'disk', 'driven', '0x10000000', cwd=self.folder))
+        alone.chmod(0o755)
+        yield run(alone)
+
+    def under_musl(self, graph):
+        """The order of that program under musl's loader."""
+        if self.has_driver and MUSL.exists():
+            preloads = ' '.join(name(it) for it in graph.preloads)
+            yield run('./driven', cwd=self.folder, env={'LD_LIBRARY_PATH': '.', 'LD_PRELOAD': preloads})
 
     def system(self, graph):
         preloads = ' '.join(name(it) for it in graph.preloads)
@@ -108,13 +136,15 @@ def main():
         for number in range(count):
             graph = Graph(choose)
             bench.link(graph)
-            ours, system = bench.ours(graph), bench.system(graph)
+            ours = bench.ours(graph)
+            others = [bench.system(graph), *bench.driven(), *bench.under_musl(graph)]
             cyclic += graph.is_cyclic()
             called += len(ours.split())
-            if ours != system:
+            if any(ours != it for it in others):
                 different += 1
-                print(f'graph {number}: needs {graph.needs}, preloads {graph.preloads}\n  {ours}\n  {system}')
-    print(f'{count} graphs, {cyclic} of them with circles: {called} calls, and {different} graphs with another order')
+                print(f'graph {number}: needs {graph.needs}, preloads {graph.preloads}', ours, *others, sep='\n  ')
+    print(f'{count} graphs, {cyclic} of them with circles: {called} calls, {1 + len(others)} starts each, '
+          f'and {different} graphs with another order')
     sys.exit(different > 0)
 
 

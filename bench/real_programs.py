@@ -6,7 +6,7 @@ own commands.
 
 PROGRAMS has rlibreg, rlibreg-run, rlibreg-tool and rlibreg-gcc (c/build.sh). Each program has musl inside, and its own code
 in libraries of a registry, as docs/LINKING.md says. Its output, its status and the files that it leaves are compared with
-those of the same sources linked statically. The executable of its image is compared too, if rlibreg-tool makes one. If the
+those of the same sources linked statically. The executable of its image is compared too. If the
 script runs as root, a user without privileges does all of it once more. SOURCES keeps the archives; `apt-get source` gets
 those that aren't there. What this machine lacks is left out, with a line that says so.
 """
@@ -68,11 +68,8 @@ class Bench:
         if self.has_executables:
             words = [self.programs / 'rlibreg-tool', 'executable', disk, linked, BASE]
             made = subprocess.run(words, capture_output=True)
-            if made.stderr.startswith(b'rlibreg-tool: refused Initializers '):
-                self.checks.skip(f'{program}, executable', 'a library of it has initializers')
-            else:
-                assert made.returncode == 0, (words, made)
-                yield Variant('executable', made.stdout, [])
+            assert made.returncode == 0, (words, made)
+            yield Variant('executable', made.stdout, [])
 
     def start(self, trial, step, before):
         words = [*map(str, before), f'./{trial.program}', *step.words]

@@ -144,7 +144,16 @@ soname=librlibreg.so.${version%.*}
 
 # The driver, with its specs, what links, where its programs begin, what C++ asks for, what reads version
 # scripts and files of words, and the kernel's headers.
-$cc $flags -g0 -c -o "$folder/rlibreg_begin.o" c/rlibreg_begin.c
+(
+    # One object, which is small, since a start takes as long as it touches pages. No stack protector is
+    # set up yet.
+    for part in begin begin_calls objects; do
+        $cc $flags -g0 -Os -fno-stack-protector -c -o "$folder/begins_$part.o" "c/rlibreg_$part.c"
+    done
+    cd "$folder"
+    ld -r -o rlibreg_begin.o begins_{begin,begin_calls,objects}.o
+    rm begins_{begin,begin_calls,objects}.o
+)
 cp c/rlibreg-{gcc,ld} c/rlibreg{,_plus}.specs c/rlibreg_plus.cc c/rlibreg_{versions,words}.awk "$folder/"
 ln -sf rlibreg-gcc "$folder/rlibreg-g++"
 mkdir -p "$folder/rlibreg_kernel"

@@ -37,10 +37,10 @@ static const char *text_of(uint32_t status) {
 static uint32_t format_path(const char *path, unsigned flags) {
     rlibreg *it = rlibreg_create();
     WANT(it);
-    rlibreg_wait_limit(it, 20);
+    rlibreg_set_wait_limit(it, 20);
     uint32_t status = rlibreg_format(it, path, 64, flags);
     int why = errno;
-    WANT(rlibreg_last(it)->status == status);
+    WANT(rlibreg_last_answer(it)->status == status);
     WANT(!strcmp(rlibreg_text(it), text_of(status)));
     if (!status) {
         int was_on = watched.is_on;
@@ -68,7 +68,7 @@ static int fails_by(uint32_t status, int why) {
 static uint64_t generation_of(const char *path) {
     rlibreg_listing listing;
     rlibreg *it = rlibreg_create();
-    WANT(!rlibreg_open(it, path, 0) && !rlibreg_listing_of(it, &listing) && !listing.libraries);
+    WANT(!rlibreg_open(it, path, 0) && !rlibreg_get_listing(it, &listing) && !listing.libraries);
     rlibreg_listing_free(&listing);
     rlibreg_close(it);
     return listing.generation;
@@ -291,7 +291,7 @@ static void try_stolen(void) {
     thefts = 16;
     watched.before = steal;
     clear();
-    WANT(format(0) == RLIBREG_HELD && !is_there(DISK));
+    WANT(format(0) == RLIBREG_LOCKED && !is_there(DISK));
     unwatch();
     WANT(here(""));
 }
@@ -335,7 +335,7 @@ static void try_held(void) {
         put(OTHER, "x", 1);
         int fd = open(OTHER, O_RDONLY);
         WANT(fd >= 0 && !flock(fd, kinds[i]));
-        WANT(format(0) == RLIBREG_HELD && format(RLIBREG_WAIT) == RLIBREG_HELD);
+        WANT(format(0) == RLIBREG_LOCKED && format(RLIBREG_WAIT) == RLIBREG_LOCKED);
         WANT(here(OTHER " ") && !close(fd) && !format(0));
         clear();
     }

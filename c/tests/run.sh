@@ -147,7 +147,7 @@ case $(stat -f -c %T "$objects") in
 esac
 
 # The files that build.sh has made, as they are: these tests don't compile the library's C again.
-for part in shared installed manual python driver; do
+for part in shared installed manual python driver constructors; do
     (. "$here/$part.sh")
 done
 # The switch of two disks; only once, because no compiler makes it.

@@ -1,4 +1,4 @@
-// What happens to a registry with binders.
+// Events of a registry with binders, and their replies.
 use requests::{Command, Reply};
 
 /// A command, or something that is done with a binder.
@@ -10,7 +10,7 @@ pub enum Event<'a> {
     Begin {
         /// The bytes of the program's file.
         program: &'a [u8],
-        /// The address at which it starts.
+        /// The program's base address.
         base: u64,
     },
     /// The binder in this slot makes its next step.
@@ -19,13 +19,14 @@ pub enum Event<'a> {
     Cancel(usize),
 }
 
-/// What an event is answered.
+/// The reply to an event.
 #[derive(Drop)]
 pub enum EventReply {
-    /// The reply to a command, the last answer of a binder, Done of a cancelled one, or a refusal.
+    /// The reply to a command, the last answer of a binder, Done for a cancelled binder, or a
+    /// refusal.
     Replied(Reply),
     /// The slot of the binder that was begun.
     Slot(usize),
-    /// The binder has more to do.
+    /// The binder has more steps to make.
     Going,
 }

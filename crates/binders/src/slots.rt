@@ -6,7 +6,7 @@ ghost use Rattle.binders.specs.Slotted.{lowest_free};
 use registry::Binder;
 use std::marker::Model;
 
-/// 8 slots, each with a binder or free. Contracts see the list of them.
+/// 8 slots, each with a binder or free. Contracts see the list of the slots.
 #[derive(Drop)]
 pub(crate) struct Slots {
     binders: [Option<Binder>; 8],
@@ -24,7 +24,7 @@ impl Model for Slots {
 }
 
 impl Slots {
-    /// All free.
+    /// Makes 8 free slots.
     pub(crate) fn new() -> Slots
         ensures { result ≡ replicate 8 None }
     {
@@ -33,7 +33,7 @@ impl Slots {
         }
     }
 
-    /// The lowest slot that is free.
+    /// Returns the lowest free slot.
     pub(crate) fn lowest_free(&self) -> Option<usize>
         ensures lowest { result ≡ lowest_free self.now }
         ensures within { IfSome result (λ slot. slot < 8) }
@@ -49,7 +49,7 @@ impl Slots {
         self.binders[slot] = Some(binder);
     }
 
-    /// Takes the binder out of a slot, if one lives there.
+    /// Takes the binder out of a slot, if there is one.
     pub(crate) fn take(&mut self, slot: usize) -> Option<Binder>
         ensures taken { result ≡ slice_index_or self.old slot None }
         ensures within { IfSome result (λ _. slot < 8) }

@@ -1,4 +1,4 @@
--- The current root of the sectors that bytes are, and the generation of the state that they hold.
+-- The current root of the sectors of bytes, and the generation of the state that they hold.
 use Rattle.std.proofs.Common.{◌≡◌, ◌∙◌, List, ℕ, sym, ap}
 use Rattle.std.specs.Prelude.{Result, Ok, Option, Some}
 use Rattle.roots.specs.declared.root.Root.{Root}

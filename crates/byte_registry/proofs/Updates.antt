@@ -1,4 +1,4 @@
--- From what an update of an opened registry does to what is said of the bytes and of the plan.
+-- From an update of an opened registry to clauses about the bytes and the plan.
 use Rattle.std.proofs.Common.{◌≡◌, ◌⊎◌, inl, inr, ⊎_elim, ℕ, ◌+◌, ◌<◌, List, [], ◌∷◌, ◌++◌, length, map, take, drop, get_or, Bool, false, Ok, Err, IsTrue, refl, sym, ◌∙◌, ap, subst, append_assoc, arith}
 use Rattle.std.specs.Prelude.{Result, MatchResult, IfErr, OnOk}
 use Rattle.std.specs.List.{list_any}
@@ -42,7 +42,7 @@ pub refused_in : (old new : Drafted ByteDisk) (request : Request) (answer : Repl
 refused_in old new request answer (Ok done) did is = tt
 refused_in old new request answer (Err refusal) did is = subst (λ (a : Reply). DraftAnswers byte_facts old request a new) is did
 
--- Requests to a draft, one after the other.
+-- Requests to a draft are planned one after the other.
 pub plans_none : (u : Drafted ByteDisk) → Plans byte_facts u u [] []
 plans_none u = record { run = ([], tt, refl); accepted = All-nil (λ (a : Reply). is_refusal a ≡ false) }
 
@@ -53,7 +53,7 @@ plans_more old mid new requests answers request answer plans did is = record {
   accepted = All-push (λ (a : Reply). is_refusal a ≡ false) answers answer plans.accepted is;
 }
 
--- a list in front of an element, it, and the rest
+-- a list is its items before an item, the item, and the rest
 split_at : (xs : List Command) (i : ℕ) (d : Command) → i < length xs → xs ≡ take i xs ++ get_or xs i d ∷ drop (i + 1) xs
 split_at xs i d lt =
     sym (take-append-drop (i + 1) xs) ∙ ap (λ l. l ++ drop (i + 1) xs) (take_more xs i d lt) ∙ append_assoc (take i xs) (get_or xs i d ∷ []) (drop (i + 1) xs)
@@ -98,7 +98,7 @@ module _ (old : Opened ByteDisk) (s : State) (at : IsAt byte_facts old s) where
     abbrev to : State
     to = committed u.touched s (drafted_by s requests)
 
-    -- the commit led to another disk
+    -- the commit led to another disk,
     module _ (new : Opened ByteDisk) (left : LeavesOnly (byte_facts u.store.disk) (byte_facts new.disk) (λ m. sectors.Stands m s ⊎ sectors.Stands m to)) where
       commit_leaves : LeavesOnly (byte_facts u.store.disk) (byte_facts new.disk) (λ m. sectors.Stands m s ⊎ sectors.Stands m (updated s requests))
       commit_leaves =
@@ -107,7 +107,7 @@ module _ (old : Opened ByteDisk) (s : State) (at : IsAt byte_facts old s) where
       is_committed : IsCommitted (begun old) s requests new.disk
       is_committed = record { after = u; planned = planned; any_moment = commit_leaves }
 
-      -- it was made
+      -- because it was made,
       pub is_made : IsAt byte_facts new to → MakesUpdate old new s requests (Ok tt)
       is_made ends = record {
         table = is_committed;
@@ -119,7 +119,7 @@ module _ (old : Opened ByteDisk) (s : State) (at : IsAt byte_facts old s) where
         device = tt;
       }
 
-      -- or a call of it failed
+      -- or because a call of it failed
       pub is_uncommitted : (most n : ℕ) (refusal : Refusal) → n ≡ length requests
           → Changed byte_facts Device Reopen u.store new most (λ e. (e ≡ Device) ⊎ (e ≡ Reopen)) (Err refusal) → MakesUpdate old new s requests (Err (n, refusal))
       is_uncommitted most n refusal count changed =
@@ -142,7 +142,7 @@ module _ (old : Opened ByteDisk) (s : State) (at : IsAt byte_facts old s) where
     device = λ is. omega (arith, stops.refused.on_any_disk.device (ap Refused is));
   }
 
-  -- or memory was, before any request
+  -- or memory was refused, before any request
   pub is_unbegun : (requests : List Request) (refusal : Refusal) → ((refusal ≡ Reopen) × IsTrue old.failed) ⊎ ((refusal ≡ OutOfMemory) × (old.failed ≡ false))
       → MakesUpdate old old s requests (Err (0, refusal))
   is_unbegun requests refusal why =

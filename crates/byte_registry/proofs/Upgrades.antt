@@ -1,4 +1,4 @@
--- Making and upgrading a registry on given bytes.
+-- Registries that are made or upgraded on given bytes.
 use Rattle.std.proofs.Common.{◌≡◌, ◌⊎◌, inl, inr, ⊎_elim, ℕ, ◌+◌, ◌≤◌, List, ◌∷◌, length, Err, refl, sym, ◌∙◌, ap, subst, arith}
 use Rattle.std.proofs.lemmas.Bool.{both_ways}
 use Rattle.std.proofs.lemmas.List.{length-map}
@@ -33,7 +33,7 @@ use Rattle.byte_registry.specs.Plans.{behind_sync, synced_plan}
 use Rattle.byte_registry.proofs.Asking.{leads_from, starts_with}
 use Rattle.byte_registry.proofs.Syncs.{plan_few}
 
--- what a registry at a state leaves stands for it
+-- whatever a stop leaves of a registry at a state holds that state
 found_at : (opened : Opened ByteDisk) (s : State) → IsAt byte_facts opened s → (m : List Sector) → Mixture (byte_facts opened.disk) m → Stands m s
 found_at opened s at m mixture = record { stored = (opened.root, opened.entries, at.stored.stands m mixture); libraries = at.libraries }
 
@@ -55,7 +55,7 @@ formatted bytes old opened is leaves at unformatted log = record {
 two_not_one : Two ≡ One → ⊥
 two_not_one e = cc
 
--- No sectors stand for a state by both rules.
+-- No sectors hold a state by both rules.
 pub not_old : (m : List Sector) (s : State) → Stands m s → IsNotOld m
 not_old m s stands t old =
     let a = stands.stored in
@@ -88,7 +88,7 @@ module _ (bytes : List ℕ) (old : ByteDisk) (is : IsDiskOf bytes old) (opened :
             ));
       }
 
--- Of one of version 2 a disk to which no call was made has the plan: a sync.
+-- If the registry is of version 2, a disk to which no call was made has the plan: a sync.
 module _ (bytes : List ℕ) (disk : ByteDisk) (is : IsDiskOf bytes disk) (s : State) (stands : Stands (sectors_in bytes) s) where
   still : (m : List Sector) → Mixture (byte_facts disk) m → Stands m s
   still m mixture = subst (λ n. Stands n s) (sym (starts_with bytes disk is m mixture)) stands
@@ -100,7 +100,7 @@ module _ (bytes : List ℕ) (disk : ByteDisk) (is : IsDiskOf bytes disk) (s : St
     ap (λ steps. Sync ∷ behind_sync steps) is.unplanned,
   )
 
--- The disk that is made anew then has that plan: of bytes that are a disk there is one.
+-- So a disk that is made again of the bytes has that plan: bytes that are a disk have one.
 pub upgraded_anew : (bytes : List ℕ) (made : Result ByteDisk (StoreRefusal × Option ByteDisk)) (s : State) → Stands (sectors_in bytes) s → IfOk made (IsDiskOf bytes)
     → IfOk made (λ disk. (x : State) × IsUpgraded bytes x (synced_plan disk))
 upgraded_anew bytes (Ok disk) s stands is = (s, upgraded_current bytes disk is s stands)
@@ -111,7 +111,7 @@ pub is_disk : (bytes : List ℕ) (made : Result ByteDisk (StoreRefusal × Option
 is_disk bytes (Ok disk) size bad = tt
 is_disk bytes (Err refused) size bad = absurd (bad.1 size)
 
--- Which rules sectors hold a state by is told by the version of their current root.
+-- The version of the current root of sectors decides by which rules they hold a state.
 module _ (m : List Sector) (is_current : Bool)
     (tells : (version : Version) (root : Root) (entries : List PlacedEntry) (s : State) → StandsBy version m root entries s
     → IsTrue is_current ↔ (version ≡ Two)) (s : State) where

@@ -1,3 +1,3 @@
--- What the code keeps as it goes. Nobody has to believe it.
+-- What the code keeps as it goes. Nobody has to believe these definitions.
 pub mod Opening
 pub mod Planning

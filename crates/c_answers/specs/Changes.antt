@@ -1,4 +1,4 @@
--- What the changes of an update ask: each has its bytes at a place of a buffer (own).
+-- What the changes of an update ask for: each has its bytes at an offset of a buffer (own).
 use Rattle.std.specs.Prelude.{◌≡◌, ◌⊎◌, ◌+◌, ◌≤◌, ℕ, List, [], ◌∷◌, drop, length, map, take}
 use Rattle.requests.specs.Request.{Request, install, replace, remove, set_preloads}
 use Rattle.c_answers.specs.Names.{AreNames}
@@ -10,8 +10,8 @@ use Rattle.c_answers.specs.declared.change_place.ChangePlace.{ChangePlace}
 abbrev pub own_bytes : List ℕ → ChangePlace → List ℕ
 own_bytes bytes change = take change.length (drop change.from bytes)
 
--- Of the kind 1 it installs a library, of the kind 2 it replaces one, by the bytes of its file; of the
--- kind 3 it removes one, by its name; of the kind 4 it chooses the preloads, by names in a row.
+-- A change of kind 1 installs a library and one of kind 2 replaces one, by the bytes of its file.
+-- One of kind 3 removes a library, by its name. One of kind 4 sets the preloads, by names in a row.
 abbrev pub Asks : ℕ → List ℕ → Request → Type 0
 Asks kind own request =
     ((kind ≡ 1) × (request ≡ install own))
@@ -19,18 +19,19 @@ Asks kind own request =
     ⊎ ((kind ≡ 3) × (request ≡ remove own))
     ⊎ ((kind ≡ 4) × ((names : List (List ℕ)) × AreNames names own × (request ≡ set_preloads names)))
 
--- A change asks this: its place is in the bytes, and they are as its kind has them.
+-- A change is valid and asks for this request: its bytes lie within `bytes`, and have the form that
+-- its kind needs.
 pub record Means (bytes : List ℕ) (change : ChangePlace) (request : Request) : Type 0 where
   pub inside : change.from + change.length ≤ length bytes
   pub asks : Asks change.kind (own_bytes bytes change) request
 
--- changes ask these, one each, in their order
+-- the changes are valid and ask for these requests, one each, in their order
 abbrev pub Mean : List ℕ → List ChangePlace → List Request → Type 0
 Mean bytes [] [] = Unit {0}
 Mean bytes (change ∷ changes) (request ∷ requests) = Means bytes change request × Mean bytes changes requests
 Mean bytes changes requests = ⊥
 
--- what a change that was read asks
+-- the request that a change asks for
 abbrev pub request_asked : AskedChange → Request
 request_asked (asked.Install bytes) = install bytes.now
 request_asked (asked.Replace bytes) = replace bytes.now

@@ -35,7 +35,7 @@ executable_number (refusal.WritableCode name) = 408
 executable_number refusal.NoRoom = 409
 executable_number refusal.OutOfMemory = out_of_memory
 
--- It is told why there is no file: by its number and by its line.
+-- The call reports why there is no file, by the refusal's number and line.
 pub record TellsNoFile (refusal : ExecutableRefusal) (text : List ℕ) (told_size told_file told : ℕ) : Type 0 where
   pub status : told ≡ executable_number refusal
   pub file : told_file ≡ 0
@@ -46,27 +46,29 @@ abbrev pub IsNoFileTold : ExecutableRefusal → List ℕ → Answer → ℕ → 
 IsNoFileTold refusal text answer status =
     (TellsNoFile refusal text answer.text answer.file_refusal status ⊎ WantsMemory text answer.text answer.file_refusal status) × IsUncounted answer
 
--- the file of an image is given, of which the program headers are counted, or memory for it was
--- refused; or there is none, by the first test that applies or for want of memory, and it is told why
+-- the buffer has the file of an image, with the number of its program headers, or is too small; or
+-- there is no file, because of the first test that applies or for lack of memory, and the call
+-- reports why
 abbrev pub IsExecutableTold : MemoryImage → (bytes text : List ℕ) → Answer → ℕ → Type 0
 IsExecutableTold image bytes text answer status =
     ((file : List ℕ) × IsExecutableOf image file × IsGiven done (header_count file) file bytes answer status)
     ⊎ ((refusal : ExecutableRefusal) × IsAnswer image refusal × IsNoFileTold refusal text answer status)
 
--- what a reply to a bind is told by
+-- how a reply to a bind is reported
 abbrev pub IsBoundTold : Reply → (bytes text : List ℕ) → Answer → ℕ → Type 0
 IsBoundTold (reply.Bound image) bytes text answer status = IsExecutableTold image bytes text answer status
 IsBoundTold other bytes text answer status = IsToldAlone other text answer status
 
--- A bind with the registry that the bytes hold was asked, and its image's file is given, or it is told
--- why not; or there is no registry, and it is told why.
+-- A bind was asked of the registry that the bytes hold, and the buffer has its image's file, or the
+-- call reports why not; or there is no registry, and the call reports why.
 abbrev pub IsExecutableAnswered : (disk : List ℕ) → Request → (bytes text : List ℕ) → Answer → ℕ → Type 0
 IsExecutableAnswered disk request bytes text answer status =
     ((s : State) × (reply : Reply) × (steps : List Step) × IsAsked disk s request reply steps × IsBoundTold reply bytes text answer status)
     ⊎ ((refusal : StoreRefusal) × IsUnopened disk refusal × IsTurnedAway refusal text answer status)
 
--- The buffer has the executable file of the image that is defined for a program at a base over the
--- state that the bytes hold, with the defined byte at each address. Each file that it needs is a library.
+-- The buffer has the executable file of the image that is defined for a program at the address
+-- `base` over the state that the bytes hold, with the defined byte at each address. Each file that
+-- the bind reads is a library.
 pub record IsExecutableFileOf (disk program : List ℕ) (base : ℕ) (bytes : List ℕ) (answer : Answer) : Type 0 where
   pub state : State
   pub holds : HoldStore disk state

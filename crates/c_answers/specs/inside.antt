@@ -1,2 +1,2 @@
--- What stands between the parts of an answer: nothing here has to be believed.
+-- What lies between the parts of an answer: nothing here has to be believed.
 pub mod Bindings

@@ -1,21 +1,22 @@
-// A change of an update, by a place in bytes.
+// A change of an update, with an offset in a buffer.
 ghost use Rattle.std.specs.Prelude.{◌≡◌, ◌+◌, ◌<◌, ◌≤◌, MatchOption, length};
 ghost use Rattle.c_answers.specs.Changes.{own_bytes};
 
-/// A change of an update. The bytes at its place are those of a file, a name, or names in a row.
+/// A change of an update. Its bytes in a buffer are those of a file, of a name, or of names in a
+/// row.
 #[repr(C)]
 #[derive(Clone, Copy)]
 pub struct ChangePlace {
-    /// 1 installs a library, 2 replaces one, by the bytes of its file; 3 removes one, by its name;
-    /// 4 chooses the preloads, by their names, each with a byte 0 behind it.
+    /// The kind: 1 installs a library and 2 replaces one, by the bytes of its file; 3 removes a
+    /// library, by its name; 4 sets the preloads, by their names, each with a byte 0 after it.
     pub kind: u64,
-    /// The place in the buffer of bytes at which they begin.
+    /// The offset of its bytes in the buffer of bytes.
     pub from: u64,
-    /// How many there are.
+    /// The number of its bytes.
     pub length: u64,
 }
 
-/// The bytes at the place of a change, where it is in these.
+/// Returns the bytes of a change in `bytes`, or `None` if they don't lie within `bytes`.
 pub(crate) fn own_bytes<'a>(change: &ChangePlace, bytes: &'a [u8]) -> Option<&'a [u8]>
     ensures { MatchOption result (length bytes.now < change.now.from + change.now.length)
         (λ own. (change.now.from + change.now.length ≤ length bytes.now)

@@ -1,4 +1,4 @@
-// A listing.
+// Lists the libraries and preloads.
 ghost use Rattle.std.specs.Prelude.{◌≡◌};
 ghost use Rattle.byte_registry.specs.Bytes.{HoldStore};
 ghost use Rattle.requests.specs.declared.reply.Reply.TheVariants as variant;
@@ -14,7 +14,7 @@ use byte_registry::{ask, generation_of};
 use requests::{Command, Listing, Reply};
 use std::alloc::Global;
 
-/// Gives a listing, which a reply is, and says it.
+/// Puts the listing of a reply into the buffers, and reports the reply.
 fn give(
     alloc: Global,
     reply: &Reply,
@@ -38,7 +38,8 @@ fn give(
     }
 }
 
-/// Gives the listing that a reply on a disk is, and the generation, or says the reply.
+/// Puts the listing of a reply into the buffers, with the generation of the disk, or reports the
+/// reply.
 fn tell_list(
     alloc: Global,
     disk: &[u8],
@@ -61,7 +62,7 @@ fn tell_list(
     }
 }
 
-/// Lists, and says how it ended.
+/// Lists the libraries and preloads of a disk's registry in the buffers, or reports why it can't.
 pub fn list_on(
     alloc: Global,
     disk: &[u8],

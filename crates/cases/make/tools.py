@@ -19,7 +19,8 @@ from samples import DEFINED, FUNC, GLOBAL, R_64, R_GLOB_DAT, WEAK, Object, Symbo
 from scripts import MOST_LIBRARIES, MOST_PRELOADS, SECTOR, catalogues_for, soname
 
 PAGE, LOWEST, WRITE, EXECUTE = 4096, 0x10000, 2, 1
-INIT, FINI = 12, 13
+INIT, FINI, PREINIT, PREINIT_SIZE = 12, 13, 32, 33
+CALLS = b'rlibreg\0', 1, 0  # the note of a program that calls its libraries' functions itself: name, type, size of its descriptor
 ROWS = []  # the disk and the words of each case
 
 
@@ -130,10 +131,42 @@ class Executable:
         o = self.order[0]
         if self.entry == o.base or not any(it[0] is o and it[1] <= self.entry < it[2] and it[3] & EXECUTE for it in self.segments):
             refuse('NoEntry')
+        if self.calls_itself():
+            return
+        tags = dict(self.order[0].elf.entries())
+        if PREINIT in tags and tags.get(PREINIT_SIZE, 0) >= 8:
+            refuse('PreInitializers')
         for o in self.order[1:]:
             for tag, name in ((INIT, 'Initializers'), (FINI, 'Finalizers')):
                 if any(it[0] == tag for it in o.elf.entries()):
                     refuse(f'{name} {rules.printed_name(o.name)}')
+
+    def noted(self):
+        """The object whose notes are read."""
+        return self.order[0]
+
+    def is_of_notes(self, header):
+        kind, *_, align = struct.unpack('<IIQQQQQQ', header)
+        return kind == 4 and align == 4
+
+    def notes(self):
+        """The notes of the first program header of notes that are padded to multiples of four, as far as they are whole."""
+        o = self.noted()
+        offset, count = struct.unpack_from('<Q', o.data, 32)[0], struct.unpack_from('<H', o.data, 56)[0]
+        headers = [o.data[offset + 56 * i:offset + 56 * (i + 1)] for i in range(count)]
+        found = next((it for it in headers if self.is_of_notes(it)), bytes(56))
+        address, size = struct.unpack_from('<Q', found, 16)[0], struct.unpack_from('<Q', found, 32)[0]
+        content = bytes(self.held.get(o.base + address + i, 0) for i in range(size))
+        while len(content) >= 12:
+            name, described, kind = struct.unpack_from('<III', content)
+            end = 12 + -(-name // 4) * 4 + -(-described // 4) * 4
+            if end > len(content):
+                return
+            yield content[12:12 + name], kind, described
+            content = content[end:]
+
+    def calls_itself(self):
+        return CALLS in self.notes()
 
     def pages(self):
         """What each page permits: what any of its segments does, but writing and executing only where one asks for both."""
@@ -233,6 +266,12 @@ WRONG = [
     formed('AllPagesAreOnePiece', touches=lambda self, piece, page, flags: piece[3] == page - 1),
     formed('WritesZeros', content=lambda self, start, end, flags: bytes(self.held.get(k, 0) for k in range(start, end))),
     formed('TestsNothing', test=lambda self: None),
+    formed('ReadsNoNotes', notes=lambda self: []),
+    formed('ReadsNotesOfLibraries', noted=lambda self: self.order[-1]),
+    formed('ReadsAllNotes', is_of_notes=lambda self, header: header[0] == 4),
+    formed('ReadsOneNote', calls_itself=lambda self: [CALLS] == list(self.notes())[:1]),
+    formed('ReadsNoType', calls_itself=lambda self: any(it[0] == CALLS[0] for it in self.notes())),
+    formed('ReadsNoName', calls_itself=lambda self: any(it[1] == CALLS[1] for it in self.notes())),
 ]
 
 
@@ -303,6 +342,43 @@ def two_segments(first, second):
     return with_entry(file + bytes(range(168)), 0x40, first)
 
 
+def note(name, kind, descriptor=b''):
+    """A note; a name that has no whole number of four bytes is padded."""
+    return struct.pack('<III', len(name), len(descriptor), kind) + name + bytes(-len(name) % 4) + descriptor + bytes(-len(descriptor) % 4)
+
+
+def noted(o, notes, size=None, align=4, more=()):
+    """An object with notes at the end of its data, of `size` bytes by its program header, and with other headers of notes before that."""
+    o.data += len(notes)
+    o.headers = [bytes(56)] * (1 + len(more))
+    end = build(o)[1]['data'] + o.data
+    headers = [*more, program_header(4, 4, end - len(notes), end - len(notes), len(notes) if size is None else size, len(notes), align)]
+    o.headers = [it[:24] + it[16:24] + it[32:] for it in headers]
+    file = build(o)[0]
+    return file[:end - len(notes)] + notes + file[end:]
+
+
+def prepare_noted():
+    """Programs that need a library with functions that nobody would call, and call them themselves or don't; such a library."""
+    def program(notes, **words):
+        return with_entry(noted(Object(needed=[b'a'], symbols=[Symbol(b'f')], data=8, relocations=[(R_64, 0, 1, 0)],
+                                       entries=[(PREINIT, 0), (PREINIT_SIZE, 8)]), notes, **words), 0x40)
+    own, other = note(*CALLS[:2]), note(b'GNU\0', 1, bytes(6))
+    keep('calls.so', program(other + own))
+    keep('calls-alone.so', program(own))
+    keep('calls-behind.so', program(own, more=[program_header(4, 4, 0, 0, 64, 64, 8)]))
+    keep('calls-second.so', program(own, more=[program_header(4, 4, 0, 0, 12, 12, 4)]))
+    keep('calls-aligned.so', program(own, align=8))
+    keep('calls-cut.so', program(own, size=len(own) - 1))
+    keep('calls-type.so', program(note(CALLS[0], 2)))
+    keep('calls-name.so', program(note(b'rlibrey\0', 1)))
+    keep('calls-longer.so', program(note(b'rlibreg\0\0', 1)))
+    keep('calls-told.so', program(note(*CALLS[:2], b'more')))
+    keep('calls-within.so', program(note(b'GNU\0', 1, own)))
+    keep('calls-end.so', program(struct.pack('<III', 4, 0xffffffff, 1) + b'GNU\0' + own))
+    keep('calls-library.so', noted(Object(soname=b'a', entries=[(INIT, 0x100)], symbols=[Symbol(b'f', GLOBAL, FUNC, DEFINED)]), own))
+
+
 def prepare():
     """Programs that start, libraries with functions that nobody would call, and the program of a missing definition."""
     asks = Object(needed=[b'a'], symbols=[Symbol(b'f'), Symbol(b'g', WEAK)], data=16, relocations=[
@@ -356,11 +432,19 @@ def parts():
             on(with_library('finalized.so'), 'executable starts-needing.so 0x20000', '1 error rlibreg-tool: refused Finalizers a'),
             on('formatted.disk', 'executable page-5-6.so 0x20000', '1 error rlibreg-tool: refused WritableCode /program'),
             on('formatted.disk', 'executable starts-needing.so 0x20000', '1 error rlibreg-tool: refused B3 Missing /program a')]),
+        ('Executables of programs that call their libraries\' functions themselves, by a note.', [
+            on(with_library(library), f'executable {program}.so 0x20000')
+            for library, program in (('initialized.so', 'calls'), ('finalized.so', 'calls-alone'), ('finalized.so', 'calls-behind'))]),
+        ('No executable: the note is another one, isn\'t whole, or isn\'t the program\'s.', [
+            on(with_library('finalized.so'), f'executable calls-{it}.so 0x20000', '1 error rlibreg-tool: refused PreInitializers')
+            for it in ('second', 'aligned', 'cut', 'type', 'name', 'longer', 'told', 'within', 'end')] + [
+            on(with_library('calls-library.so'), 'executable starts-needing.so 0x20000', '1 error rlibreg-tool: refused Initializers a')]),
     ]
 
 
 if __name__ == '__main__':
     prepare()
+    prepare_noted()
     find_files()
     made = parts()
     tell_wrong()

@@ -1,21 +1,23 @@
-// The file of a case: one of the folder, spelt, or made as a text says, with what is changed in it.
+// The file of a case: one of the folder, one that is written in digits, or one that a text
+// describes; and the changes to it.
 
 use crate::number::parse_number;
 use anyhow::{Context, Result, bail};
 use std::alloc::Global;
 use std::fs;
 
-/// The bytes that digits spell.
+/// Returns the bytes that hexadecimal digits encode.
 pub(crate) fn spelt(alloc: Global, digits: &str) -> Result<Vec<u8>> {
     Ok(hex::decode(alloc, digits)?)
 }
 
-/// The bytes of a file of the folder.
+/// Returns the bytes of a file of the folder.
 fn file_bytes(rt: &HostRuntime, name: &str) -> Result<Vec<u8>> {
     fs::read(rt, name).context(format_args!("the file {name}"))
 }
 
-/// The text of a file of the folder; it is said what the file is, where it can't be read.
+/// Returns the text of a file of the folder. If it can't be read, the error names the file and says
+/// `what` it is.
 pub(crate) fn text_of_file(rt: &HostRuntime, what: &str, name: &str) -> Result<String> {
     fs::read_to_string(rt, name).context(format_args!("{what} {name}"))
 }
@@ -31,7 +33,7 @@ fn put(bytes: &mut [u8], at: usize, new: &[u8]) -> Result<()> {
     Ok(())
 }
 
-/// Bytes that are spelt, or behind `@` those of a file of the folder.
+/// Returns bytes that are written in digits, or, after `@`, the bytes of a file of the folder.
 fn new_bytes(rt: &HostRuntime, value: &str) -> Result<Vec<u8>> {
     match value.strip_prefix('@') {
         Some(name) => file_bytes(rt, name),
@@ -49,7 +51,7 @@ fn change(rt: &HostRuntime, bytes: &mut Vec<u8>, what: &str, value: &str) -> Res
     Ok(())
 }
 
-/// A file of the folder, or the bytes that `bytes=BYTES` spells.
+/// Returns the bytes of a file of the folder, or the bytes that `bytes=BYTES` encodes.
 fn plain_bytes(rt: &HostRuntime, name: &str) -> Result<Vec<u8>> {
     match name.strip_prefix("bytes=") {
         Some(digits) => spelt(rt.alloc(), digits),
@@ -57,7 +59,7 @@ fn plain_bytes(rt: &HostRuntime, name: &str) -> Result<Vec<u8>> {
     }
 }
 
-/// Bytes with the changes that words say, from left to right.
+/// Makes the changes that words describe, from left to right.
 fn with_changes(rt: &HostRuntime, bytes: Vec<u8>, changes: &str) -> Result<Vec<u8>> {
     let mut bytes = bytes;
     for word in changes.split_whitespace() {
@@ -69,16 +71,16 @@ fn with_changes(rt: &HostRuntime, bytes: Vec<u8>, changes: &str) -> Result<Vec<u
     Ok(bytes)
 }
 
-/// The bytes that a text says: its first line is a file of the folder or spelt, with changes, and
-/// each other line has changes.
+/// Returns the bytes that a text describes. Its first line names a file of the folder, or has its
+/// bytes in digits, and then changes. Each other line has changes.
 fn made_bytes(rt: &HostRuntime, name: &str) -> Result<Vec<u8>> {
     let text = text_of_file(rt, "the text", name)?;
     let (first, changes) = text.split_once(' ').context("a text without changes")?;
     with_changes(rt, plain_bytes(rt, first)?, changes)
 }
 
-/// The bytes of a file before its changes: those that the text NAME of `made=NAME` says, or those
-/// of a file of the folder, or spelt ones.
+/// Returns the bytes of a file before its changes: those that the text NAME of `made=NAME`
+/// describes, those of a file of the folder, or bytes that are written in digits.
 fn first_bytes(rt: &HostRuntime, name: &str) -> Result<Vec<u8>> {
     match name.strip_prefix("made=") {
         Some(text) => made_bytes(rt, text),
@@ -86,7 +88,7 @@ fn first_bytes(rt: &HostRuntime, name: &str) -> Result<Vec<u8>> {
     }
 }
 
-/// The bytes of a file after the changes that the words say.
+/// Returns the bytes of a file after the changes that the words describe.
 pub(crate) fn changed_file(rt: &HostRuntime, words: &str) -> Result<Vec<u8>> {
     let (name, changes) = words.split_once(' ').unwrap_or((words, ""));
     with_changes(rt, first_bytes(rt, name)?, changes)

@@ -17,7 +17,7 @@ module _ {D : Type 0} (facts : D → DiskFacts) (disk left : D) (old new : Opene
   abbrev MayBeLeft : State → State → List Sector → Type 0
   MayBeLeft s s' m = Mixture (facts disk) m ⊎ MayLeaveWithin (phase_of facts old s) request reply s' m
 
-  -- a registry that was opened and then answered
+  -- a registry that was opened and then answered a request
   pub answered : EndsOpening facts disk (Ok old) → DiskStep facts old request reply new → left ≡ new.disk → IsAnswered facts disk request reply left
   answered opened step back = record {
     old = old;

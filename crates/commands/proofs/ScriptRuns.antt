@@ -21,7 +21,7 @@ use Rattle.program_parts.specs.declared.status.Status.TheVariants.{Done}
 use Rattle.commands.specs.declared.summary.Summary.{Summary}
 use Rattle.commands.proofs.Seen.{run_seen}
 
--- a line that asks something has one event more, any other line none
+-- a line that asks for something adds one event, and any other line adds none
 asks : {X Y : Type 0} (f : X → Option Y) (x : X) (xs : List X) (y : Y) → f x ≡ Some y → filter_map f (x ∷ xs) ≡ y ∷ filter_map f xs
 asks f x xs y e = rw e refl
 
@@ -29,7 +29,7 @@ asks_none : {X Y : Type 0} (f : X → Option Y) (x : X) (xs : List X) → f x �
 asks_none f x xs e = rw e refl
 
 module _ {D : Type 0} (facts : D → DiskFacts) where
-  -- what lines ask happened, one after the other
+  -- what the lines ask for happened, one after the other
   happened : (mid : Slotted D) (lines : List (List ℕ)) (answers : List Answer) (states : List (Slotted D))
       → Steps (LineStep (EventStep facts)) mid lines answers states → Run (EventStep facts) mid (happenings lines) (replied answers) (last_of mid states)
   happened mid [] [] [] h = ([], tt, refl)
@@ -46,18 +46,18 @@ module _ {D : Type 0} (facts : D → DiskFacts) where
   happened mid (line ∷ lines) [] ts h = absurd h
   happened mid (line ∷ lines) (y ∷ answers) [] h = absurd h
 
-  -- so what the lines ask is a run
+  -- so what the lines ask for is a run,
   pub lines_ran : (old new : Slotted D) (lines : List (List ℕ)) (answers : List Answer) → Run (LineStep (EventStep facts)) old lines answers new → LinesRan facts old new lines answers
   lines_ran old new lines answers run =
       events_ran facts old new (happenings lines) (replied answers)
       (subst (λ (k : Slotted D). Run (EventStep facts) old (happenings lines) (replied answers) k) (sym run.2) (happened old lines answers run.0 run.1))
 
   module _ (io : Streams) (old new : Slotted D) where
-    -- so of a script that was read to its end
+    -- for a script that was read to its end,
     pub finishes_on_disk : (summary : Summary) → Finishes (EventStep facts) io old new summary → FinishesOnDisk facts io old new summary
     finishes_on_disk summary h = (h.0, h.1, h.2, h.3, lines_ran old new h.0 h.2 h.3.run)
 
-    -- and of one that ended early
+    -- and for a script that ended early
     pub stops_on_disk : (fault : ScriptFault) → Stops (EventStep facts) io old new fault → StopsOnDisk facts io old new fault
     stops_on_disk fault h = (h.0, h.1, h.2, h.3, lines_ran old new h.0 h.2 h.3.run)
 
@@ -67,7 +67,7 @@ module _ {D : Type 0} (facts : D → DiskFacts) (io : Streams) (old new : Slotte
   lines_seen lines answers run =
       lines_ran facts old new lines answers (run_seen (λ (p : Slotted D × Status). p.0) (Worsens (EventStep facts)) (EventStep facts) (λ s s' q r k. k.0) (old, Done) (new, worst) lines answers run)
 
-  -- so of a script whose status is told
+  -- so a script with a status is a run too
   pub runs_on_disk : (summary : Summary) → Finishes (Worsens (EventStep facts)) io (old, Done) (new, worst) summary → status ≡ greatest worst (lines_status summary.refused)
       → RunsOnDisk facts io old new status
   runs_on_disk summary e is = (worst, summary, e.0, e.1, e.2, e.3, lines_seen e.0 e.2 e.3.run, is)

@@ -1,4 +1,4 @@
--- Scripts go on.
+-- Scripts go on, line by line.
 use Rattle.std.proofs.Common.{◌≡◌, ◌≢◌, ℕ, ◌+◌, ◌<◌, Bool, true, if◌then◌else◌, List, [], ◌∷◌, ◌++◌, length, append-nil, Option, refl, sym, subst, ◌∙◌, arith}
 use Rattle.std.specs.List.{flat_map}
 use Rattle.std.specs.Io.{StopsAt}
@@ -22,12 +22,12 @@ use Rattle.commands.specs.declared.summary.Summary.{Summary}
 use Rattle.scripts.proofs.Lines.{rest_known, front_known, stops_ended}
 use Rattle.commands.proofs.Lines.{flat_more, counts_more}
 
--- what the streams of a script are from one place to another
+-- the streams of a script from one place to another
 abbrev pub streams : Place → Place → Streams
 streams p q = record { unread = p.unread; before = p.written; after = q.written }
 
 module _ {S : Type 0} (step : S → Happening → EventReply → S → Type 0) where
-  -- nothing was read yet
+  -- no line was read yet
   pub answered_none : (p : Place) (s : S) (m : Summary) → m.lines ≡ 0 → m.refused ≡ 0 → Answered step p p s s m [] []
   answered_none p s m lines refused = record {
     read = Consumes-nil p.unread;
@@ -38,7 +38,7 @@ module _ {S : Type 0} (step : S → Happening → EventReply → S → Type 0) w
   }
 
   module _ (p q : Place) (s t : S) (m : Summary) (whole : List (List ℕ)) (answers : List Answer) (so_far : Answered step p q s t m whole answers) where
-    -- one more whole line
+    -- after one more whole line
     pub answered_more : (r : Place) (u : S) (n : Summary) (line : List ℕ) (answer : Answer) (refused : Bool) → Consumes q.unread r.unread (ended line) → IsLine line → LineStep step t line answer u
         → Appends q.written r.written (answer_text answer) → refused ≡ is_refused answer → n.lines ≡ u64_saturate (m.lines + 1) → n.refused ≡ u64_saturate (m.refused + (if refused then 1 else 0))
         → Answered step p r s u n (whole ++ line ∷ []) (answers ++ answer ∷ [])
@@ -51,7 +51,7 @@ module _ {S : Type 0} (step : S → Happening → EventReply → S → Type 0) w
       counts = counts_more m n answers answer refused is so_far.counts counted refusals;
     }
 
-    -- nothing is left
+    -- nothing is left to read
     pub ends_here : IsAll q.unread [] → Ends step (streams p q) s t m whole [] answers
     ends_here all = record {
       read = rest_known p.unread q.unread (flat_map ended whole) [] so_far.read all;
@@ -96,7 +96,7 @@ module _ {S : Type 0} (step : S → Happening → EventReply → S → Type 0) w
       written = λ h. absurd (h is);
     }
 
-    -- what was done but for a line that was read and not applied, or of a line that was applied
+    -- a line was read and not applied, or it was applied and its answer not written
     pub breaks_unapplied : (r : Place) (u : S) (line : List ℕ) (fault : ScriptFault) → Consumes q.unread r.unread (ended line) → IsLine line → u ≡ t
         → (fault ≢ Write → Appends q.written r.written []) → Breaks step (streams p r) s u fault whole (ended line) answers
     breaks_unapplied r u line fault read is_line same written =

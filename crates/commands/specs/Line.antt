@@ -1,4 +1,4 @@
--- What a line of a script asks (own).
+-- What a line of a script asks for (own).
 use Rattle.std.specs.Prelude.{ℕ, ◌-◌, Bool, true, false, not, if◌then◌else◌}
 use Rattle.std.specs.Prelude.{List, [], ◌∷◌, drop, codes, Option, Some, None}
 use Rattle.std.specs.Char.{is_ascii_digit}
@@ -8,7 +8,7 @@ use Rattle.binders.specs.Events.{Happening, apply, begin, advance, cancel}
 use Rattle.scripts.specs.Asked.{request_meaning}
 use Rattle.scripts.specs.Words.{has_front, program_behind}
 
--- SLOT: exactly one decimal digit, and the slot that it is
+-- the slot that SLOT names: SLOT is exactly one decimal digit
 abbrev pub slot_of : List ℕ → Option ℕ
 slot_of (digit ∷ []) = if is_ascii_digit digit then Some (digit - 48) else None
 slot_of word = None
@@ -21,22 +21,22 @@ binder_meaning line =
     else if has_front (codes "cancel ") line then option_map cancel (slot_of (drop 7 line))
     else None
 
--- a command, or else what is asked of a binder
+-- what is asked for: a command, or else a step of a binder
 abbrev pub first_of : Option Request → Option Happening → Option Happening
 first_of (Some request) other = Some (apply request)
 first_of None other = other
 
--- what a line without its newline asks: none of these forms asks nothing
+-- what a line without its newline asks for: a line of none of these forms asks for nothing
 abbrev pub meaning : List ℕ → Option Happening
 meaning line = first_of (request_meaning line) (binder_meaning line)
 
--- what may happen is a change, of the registry or of a binder
+-- whether an event is a change, of the registry or of a binder
 abbrev pub is_change : Happening → Bool
 is_change (apply list) = false
 is_change (apply (bind program base)) = false
 is_change happening = true
 
--- what is asked is no change: a listing, a bind, or nothing
+-- whether no change is asked for: a listing, a bind, or nothing
 abbrev pub is_no_change : Option Happening → Bool
 is_no_change (Some happening) = not (is_change happening)
 is_no_change None = true

@@ -11,14 +11,13 @@ use Rattle.registry.specs.Opening.{EndsMaking, EndsUpgrading}
 abbrev pub SystemDisk : Type 0
 SystemDisk = FileDisk DiskFile ghosts
 
--- it was made on a new disk of so many sectors: without failure, by exactly the calls of making,
--- and nothing is held
+-- a registry was made on a new disk of n sectors: without failure, by exactly the calls of making, and nothing is held
 pub record IsMade (n : ℕ) (disk : SystemDisk) (registry : Opened SystemDisk) : Type 0 where
   pub new : IsNew disk
   pub sectors : (file_facts disk).sectors ≡ n
   pub making : EndsMaking file_facts disk (Ok registry)
 
--- it was opened or upgraded on a new disk: of a good size, without failure, by calls of that disk,
+-- a registry was opened or upgraded on a new disk: of a good size, without failure, by calls of that disk,
 -- and nothing is held
 pub record IsUpgraded (disk : SystemDisk) (registry : Opened SystemDisk) : Type 0 where
   pub new : IsNew disk

@@ -1,4 +1,4 @@
-// The words of the process.
+// The arguments of the process.
 
 ghost use Rattle.std.specs.Prelude.{◌≡◌, ◌≢◌, ◌≤◌, ◌⊎◌, IfOk, IfErr, MatchResult, false};
 ghost use Rattle.std.specs.Prelude.{map, string_bytes};
@@ -15,8 +15,8 @@ use std::io;
 use std::io::{ErrorKind, Read, Write};
 use std::rt::{Clock, Files};
 
-/// Does what `run_words` does with words that were read. Where they weren't, want of memory is
-/// answered as want of memory, and anything else as a bad command line.
+/// Does what `run_words` does, if the arguments were read. If memory for them was refused, reports
+/// S11 (OutOfMemory). After any other error, reports a bad command line.
 pub fn run_arguments<R: Files<File = File> + Clock, I: Read, O: Write, E: Write>(
     rt: &R,
     alloc: Global,
@@ -27,7 +27,7 @@ pub fn run_arguments<R: Files<File = File> + Clock, I: Read, O: Write, E: Write>
 ) -> u8
     ensures most { result ≤ 4 }
 
-    // Words that were read end as they do in `run_words`.
+    // If the arguments were read, the command ends as in `run_words`.
     ensures ends { IfOk words (λ list.
         LineEnds (command_line (map (λ word. string_bytes word) list.items)) (record {
           unread = I.remaining input.old;
@@ -37,7 +37,7 @@ pub fn run_arguments<R: Files<File = File> + Clock, I: Read, O: Write, E: Write>
           errors_after = E.contents errors.new;
         }) result) }
 
-    // Words that weren't: by why not.
+    // If they weren't, the end depends on the error.
     ensures not_read { IfErr words (λ e. UnreadEnds (error_kind e) (record {
       unread = I.remaining input.old;
       before = O.contents output.old;

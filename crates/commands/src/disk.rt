@@ -1,4 +1,4 @@
-// The disk of a command: made over a file, or why there is none.
+// The disk of a command: made over a file, or the reason why there is none.
 
 ghost use Rattle.std.specs.Prelude.{◌≡◌, false, OnOk, IfErr};
 ghost use Rattle.store.specs.Opened.{Opened};
@@ -18,7 +18,7 @@ use std::io::Write;
 use std::rt::{Clock, Files};
 use store::StoreRefusal;
 
-/// Why there is no registry to ask.
+/// Why there is no registry for a command.
 #[derive(Clone, Copy)]
 pub(crate) enum NoRegistry {
     /// The file can't be opened or made.
@@ -27,8 +27,8 @@ pub(crate) enum NoRegistry {
     Refused(StoreRefusal),
 }
 
-/// Why a file is no disk, in these words: a length that isn't that of whole sectors, or not of
-/// those that were asked for, is S6.
+/// Returns why a file is no disk. A length that isn't one of whole sectors, or not that of the
+/// wanted sectors, is refused with S6 (BadGeometry).
 pub(crate) fn no_disk(fault: OpenFault) -> NoRegistry
     ensures open { IsNoRegistry IsOpenRefusal result }
     ensures format { IsNoRegistry IsFormatRefusal result }
@@ -41,7 +41,7 @@ pub(crate) fn no_disk(fault: OpenFault) -> NoRegistry
     }
 }
 
-/// Gives a registry's file its name, where it was made.
+/// Gives a registry's file its name, if the file was made.
 fn name_file<R: Files<File = File>>(rt: &R, name: Option<NewName<'_>>) -> Result<(), NoRegistry>
     ensures refused { IfErr result (IsNoRegistry IsFormatRefusal) }
 {
@@ -52,15 +52,15 @@ fn name_file<R: Files<File = File>>(rt: &R, name: Option<NewName<'_>>) -> Result
     }
 }
 
-/// Takes away what was made of a registry's file.
+/// Deletes a registry's file, if the file was made.
 fn take_away<R: Files<File = File>>(rt: &R, name: Option<NewName<'_>>) {
     if let Some(name) = name {
         name.take_away(rt);
     }
 }
 
-/// Makes an empty registry on the disk of so many sectors that a file is, and makes the file where
-/// none stands: it has its name once all of it is on the medium.
+/// Makes an empty registry on a disk of `sectors` sectors, which is the file at `path`. If the file
+/// doesn't exist, makes it, and gives it its name once all of it is on the medium.
 pub(crate) fn make_registry<R: Files<File = File> + Clock>(
     rt: &R,
     alloc: Global,
@@ -86,7 +86,7 @@ pub(crate) fn make_registry<R: Files<File = File> + Clock>(
     }
 }
 
-/// Says why there is no registry.
+/// Reports why there is no registry.
 pub(crate) fn turn_away<O: Write, E: Write>(
     why: NoRegistry,
     path: &str,

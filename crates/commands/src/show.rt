@@ -1,4 +1,4 @@
-// Showing the image of a program.
+// Shows the image of a program.
 
 ghost use Rattle.std.specs.Prelude.{◌≡◌, IfOk, IfErr};
 ghost use Rattle.commands.specs.RunImage.{Shows};
@@ -15,14 +15,14 @@ use store::StoreRefusal;
 pub enum Shown {
     /// The image.
     Image,
-    /// Why there is none.
+    /// The reason why there is no image.
     Refused,
-    /// That memory was refused.
+    /// The line that memory was refused.
     NoMemory,
 }
 
-/// Writes the text of the image of a program that needs no library, bound at a base, or of the
-/// refusal. After a fault it is open what the writer holds.
+/// Binds a program that needs no library at a base, and writes the text of its image, or of the
+/// refusal. After a fault it is unspecified what the writer holds.
 pub fn run_image<W: Write>(
     alloc: Global,
     program: &[u8],

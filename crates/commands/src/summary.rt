@@ -1,14 +1,14 @@
-// What a script did.
+// The numbers of lines of a script.
 
 ghost use Rattle.std.specs.Prelude.{◌≡◌, ◌+◌, if◌then◌else◌};
 ghost use Rattle.std.specs.Io.Iter.{u64_saturate};
 
-/// What a script did. Each number stays at the greatest once it is there.
+/// The numbers of lines of a script. Each number stops at the greatest `u64`.
 #[derive(Clone, Copy, PartialEq, Eq)]
 pub struct Summary {
-    /// How many lines there were, one without a newline among them.
+    /// The number of lines, including one without a newline.
     pub lines: u64,
-    /// How many of them were refused: lines that ask nothing, a line without a newline, and
+    /// The number of refused lines: lines that ask for nothing, a line without a newline, and
     /// commands that were refused.
     pub refused: u64,
 }

@@ -1,4 +1,4 @@
-// What a script's events go to.
+// What a script sends its events to.
 
 ghost use Rattle.binders.specs.Events.{Happening, happening_of};
 ghost use Rattle.binders.specs.declared.event.EventReply.{EventReply};
@@ -8,13 +8,13 @@ use crate::watched::Watched;
 use binders::{Binders, Event, EventReply};
 use sector_disk::Disk;
 
-/// What takes events: a registry on a disk with its binders, and whatever else answers as its own
-/// steps say.
+/// A type that takes events: a registry on a disk with its binders, or anything else
+/// that answers by its own steps.
 pub trait TakesEvents {
-    /// What may be answered to what happens, from one value to the next.
+    /// Whether an event may be answered with a reply, and may lead from one value to another.
     ghost step: { Self → Happening → EventReply → Self → Type 0 };
 
-    /// Lets an event happen, and gives its one reply.
+    /// Carries out an event, and returns its one reply.
     fn happen(&mut self, event: &Event<'_>) -> EventReply
         ensures step { step self.old (happening_of event.now) result self.new };
 }

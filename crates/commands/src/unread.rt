@@ -22,7 +22,7 @@ pub(crate) fn no_memory<O: Write>(output: &mut O) -> Status
     }
 }
 
-/// Says why a file wasn't read.
+/// Reports why a file wasn't read.
 pub(crate) fn not_read<O: Write, E: Write>(
     fault: FileFault,
     path: &str,

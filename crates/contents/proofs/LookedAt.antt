@@ -1,4 +1,4 @@
--- Libraries that are looked at one after the other.
+-- Looking at libraries one after the other.
 use Rattle.std.proofs.Common.{◌≡◌, ℕ, ◌+◌, ◌-◌, ◌<◌, ◌≤◌, Bool, true, false, cond, List, [], ◌∷◌, ◌++◌, length, get_or, take, sum_by, refl, sym, ap, subst, ◌∙◌, ⊎_elim, arith}
 use Rattle.std.specs.Prelude.{count_by}
 use Rattle.std.proofs.lemmas.Bool.{cases_lt}
@@ -14,9 +14,9 @@ use Rattle.store.specs.Stands.{no_library}
 use Rattle.store.proofs.IsReadLemmas.{read_none, read_more}
 use Rattle.store.proofs.UsedAlone.{no_entry}
 
--- `Is l x`: x is what is seen of a library. `is_unread x`: it is seen that it can't be read.
+-- `Is l x`: `x` is true of the library `l`. `is_unread x`: `x` says that the library can't be read.
 module _ {T : Type 0} (Is : Library → T → Type 0) (is_unread : T → Bool) where
-  -- The libraries before this position were looked at, and these were seen.
+  -- The libraries before this position were looked at, and `seen` is true of them, one by one.
   pub record SeenSoFar {D : Type 0} (facts : D → DiskFacts) (start now : Opened D) (position : ℕ) (seen : List T) : Type 0 where
     pub read : IsRead facts start now
     pub count : length seen ≡ position
@@ -24,12 +24,12 @@ module _ {T : Type 0} (Is : Library → T → Type 0) (is_unread : T → Bool) w
     pub failures : (facts start.disk).failures + count_by is_unread seen ≤ (facts now.disk).failures
     pub calls : AreCallsAtMost (sum_by file_sectors (take position start.entries)) (facts start.disk) (facts now.disk)
 
--- one that can't be read is one failure more
+-- each library that can't be read adds one failure
 counted : (unread : Bool) (count before after : ℕ) → (unread ≡ true → before < after) → before ≤ after → count ≤ before → count + cond unread 1 0 ≤ after
 counted true count before after failed later so_far = omega (arith, failed refl, so_far)
 counted false count before after failed later so_far = omega (arith, later, so_far)
 
--- one behind others
+-- one more element after the others
 pushed : {T : Type 0} (P : ℕ → T → Type 0) (seen : List T) (x : T) (position : ℕ) → length seen ≡ position
     → ((k : ℕ) → k < position → (d : T) → P k (get_or seen k d)) → P position x
     → (k : ℕ) → k < position + 1 → (d : T) → P k (get_or (seen ++ x ∷ []) k d)
@@ -51,7 +51,7 @@ module _ {T : Type 0} (Is : Library → T → Type 0) (is_unread : T → Bool) {
     calls = exactly_at_most (exactly_none (facts start.disk)) (omega arith);
   }
 
-  -- the calls up to one more
+  -- the calls up to one more library
   pub more_calls : {start mid : Opened D} {position : ℕ} {seen : List T} (new : Opened D) → position < length start.entries → SeenSoFar Is is_unread facts start mid position seen
       → ((d : PlacedEntry) → AreCallsAtMost (file_sectors (get_or mid.entries position d)) (facts mid.disk) (facts new.disk))
       → AreCallsAtMost (sum_by file_sectors (take (position + 1) start.entries)) (facts start.disk) (facts new.disk)
@@ -61,7 +61,7 @@ module _ {T : Type 0} (Is : Library → T → Type 0) (is_unread : T → Bool) {
     sum_by_more file_sectors start.entries position no_entry lt,
   ))
 
-  -- one library more
+  -- one more library
   pub one_seen : {start mid new : Opened D} {position : ℕ} {seen : List T} (x : T) → position < length start.entries
       → SeenSoFar Is is_unread facts start mid position seen → IsRead facts mid new
       → ((s : State) → IsAt facts mid s → Is (get_or s.libraries position no_library) x)
@@ -80,7 +80,7 @@ module _ {T : Type 0} (Is : Library → T → Type 0) (is_unread : T → Bool) {
     calls = more_calls new lt so_far calls;
   }
 
-  -- The calls up to one more are some of those for all.
+  -- The calls up to one more library are at most the calls for all.
   pub some_calls : {start mid : Opened D} {position : ℕ} {seen : List T} (new : Opened D) → position < length start.entries → SeenSoFar Is is_unread facts start mid position seen
       → ((d : PlacedEntry) → AreCallsAtMost (file_sectors (get_or mid.entries position d)) (facts mid.disk) (facts new.disk))
       → AreCallsAtMost (sum_by file_sectors start.entries) (facts start.disk) (facts new.disk)
@@ -90,7 +90,7 @@ module _ {T : Type 0} (Is : Library → T → Type 0) (is_unread : T → Bool) {
     sum_by_more_le file_sectors start.entries position no_entry lt,
   ))
 
-  -- All were looked at.
+  -- All libraries were looked at.
   pub all_counted : {start now : Opened D} {position : ℕ} {seen : List T} → SeenSoFar Is is_unread facts start now position seen → length start.entries ≡ position
       → length seen ≡ length start.entries
   all_counted so_far all = so_far.count ∙ sym all

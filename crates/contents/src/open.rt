@@ -7,11 +7,11 @@ use store::{Store, StoreRefusal};
 impl<D: Disk> Contents<D> {
     ghost use Rattle.store.specs.Opens.{OpensByEntries};
 
-    /// Opens a disk of version 2, after a stop too; OldFormat where its current root is of version
-    /// 1. It writes nothing: it syncs, and reads the two root sectors, each catalogue and one
-    /// sector an entry. Where it refuses it hands the disk back.
+    /// Opens a disk of version 2, also after a stop. Refuses with S12 (OldFormat) if the current
+    /// root is of version 1. Syncs, reads the two root sectors, each catalogue, and one sector for
+    /// each entry, and writes nothing. If it refuses, hands the disk back.
     pub fn open(alloc: Global, disk: D) -> Result<Contents<D>, (StoreRefusal, D)>
-        // Whether the files of its state are libraries doesn't matter.
+        // Whether the files of the disk's state are libraries doesn't matter.
         ensures { OpensByEntries D.facts disk result }
     {
         let store = Store::open(alloc, disk)?;

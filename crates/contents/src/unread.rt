@@ -1,10 +1,10 @@
-// Why a library's bytes aren't given.
+// Why a library's bytes aren't returned.
 use std::alloc::AllocError;
 
-/// Why the bytes of a library aren't given.
+/// Why the bytes of a library aren't returned.
 #[derive(Clone, Copy, PartialEq, Eq)]
 pub enum Unread {
-    /// No library of this name is installed.
+    /// No library with this name is installed.
     NotInstalled,
     /// A read of the disk failed: S1.
     Unreadable,

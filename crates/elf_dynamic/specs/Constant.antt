@@ -1,7 +1,7 @@
 -- The numbers of symbols and relocations (gABI chapter 4; psABI, relocation types).
 use Rattle.std.specs.Prelude.{ℕ}
 
--- bytes of a word of the hash table
+-- the size of a word of the hash table, in bytes
 abbrev pub WORD_SIZE : ℕ
 WORD_SIZE = 4
 

@@ -1,3 +1,3 @@
--- What the code keeps to be fast: nothing here has to be believed.
+-- Definitions of what the code keeps to be fast. None of them has to be believed.
 pub mod Tables
 pub mod Symbols

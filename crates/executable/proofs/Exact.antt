@@ -82,7 +82,7 @@ table-fits place n p q = record {
 stack-fits : HeaderFits stack_header
 stack-fits = record { kind = omega arith; flags = omega arith; offset = omega arith; address = omega arith; file_size = omega arith; memory_size = omega arith; alignment = omega arith }
 
--- where the pages of the pieces begin
+-- the offset at which the pages of the pieces begin
 abbrev pub start_of : List Loaded → ℕ
 start_of pieces = length (padded (replicate (headers_size (header_count_of pieces)) 0))
 

@@ -16,4 +16,6 @@ pub mod Placing
 pub mod Congruent
 pub mod Counting
 pub mod Final
+pub mod Notes
+pub mod Uncalled
 pub mod Refusing

@@ -12,7 +12,7 @@ use Rattle.image.specs.Permissions.{permission_bits}
 use Rattle.executable.specs.File.{piece_bytes, load_header, load_headers, own_header, put_in_order}
 use Rattle.executable.specs.Place.{headers_size}
 
--- the permissions of each have no other bits
+-- the permissions of each piece have no other bits
 abbrev pub AllPermissions : List Loaded → Type 0
 AllPermissions [] = Unit {0}
 AllPermissions (p ∷ rest) = (permission_bits p.heading.permissions ≡ p.heading.permissions) × AllPermissions rest
@@ -33,7 +33,7 @@ same-loaded : (a b c a' b' c' : ℕ) (s s' : List ℕ) → a ≡ a' → b ≡ b'
     ≡ (let l : Loaded = record { heading = record { address = a'; permissions = b'; size = c' }; contents = s' } in l)
 same-loaded a b c a' b' c' s s' p q r t = cc
 
--- a piece is loaded from where its pages begin
+-- a piece is loaded from the offset at which its pages begin
 piece-loaded : (F pre more : List ℕ) (p : Loaded) (at : ℕ) → F ≡ pre ++ (piece_bytes p ++ more) → length pre ≡ at → permission_bits p.heading.permissions ≡ p.heading.permissions
     → loaded_at 0 F (load_header at p) ≡ p
 unfolding piece_bytes pad
@@ -45,7 +45,7 @@ piece-loaded F pre more p at e f perms =
     same-loaded _ _ _ p.heading.address p.heading.permissions p.heading.size _ p.contents (omega arith) perms refl
     (ap (λ n. take (length p.contents) (drop (at + n) F)) (sym long) ∙ contents-at F pre lead p.contents (tail ++ more) at split f)
 
--- and so are all
+-- all pieces are loaded
 pub pieces-loaded : (F pre : List ℕ) (pieces : List Loaded) (at : ℕ) → F ≡ pre ++ flat_map piece_bytes pieces → length pre ≡ at → AllPermissions pieces
     → map (loaded_at 0 F) (load_headers at pieces) ≡ pieces
 pieces-loaded F pre [] at e f perms = refl

@@ -1,4 +1,4 @@
--- The program headers of a file are those that were written.
+-- The program headers that are read from a file are those that were written.
 use Rattle.std.proofs.Common.{◌≡◌, ℕ, ◌+◌, ◌*◌, ◌<◌, List, [], ◌∷◌, ◌++◌, length, map, drop, refl, sym, ap, ◌∙◌, arith, append_assoc}
 use Rattle.std.specs.Prelude.{◌^◌}
 use Rattle.std.specs.List.{flat_map, range_with_len}
@@ -12,7 +12,7 @@ use Rattle.elf_file.specs.Segment.{header_at}
 use Rattle.elf_file.specs.declared.segment.ProgramHeader.{ProgramHeader}
 use Rattle.executable.specs.File.{header_bytes}
 
--- each number fits its bytes
+-- each number fits into its bytes
 pub record HeaderFits (h : ProgramHeader) : Type 0 where
   pub kind : h.kind < 256 ^ 4
   pub flags : h.flags < 256 ^ 4
@@ -26,7 +26,7 @@ abbrev pub AllHeadersFit : List ProgramHeader → Type 0
 AllHeadersFit [] = Unit {0}
 AllHeadersFit (h ∷ rest) = HeaderFits h × AllHeadersFit rest
 
--- a number behind others is that of the rest
+-- a number after other bytes is a number of the rest
 behind : (F pre xs : List ℕ) (n at k : ℕ) → F ≡ pre ++ xs → length pre ≡ at → number_at n F (at + k) ≡ little_number n (drop k xs)
 unfolding number_at
 behind F pre xs n at k e f = ap (little_number n) (ap (λ s. drop (at + k) s) e ∙ ap (λ m. drop (m + k) (pre ++ xs)) (sym f) ∙ drop-append-add pre xs k)

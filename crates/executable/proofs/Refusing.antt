@@ -10,12 +10,12 @@ use Rattle.image.specs.Image.{MemoryImage, ImageSegment}
 use Rattle.image.specs.declared.object.ImageObject.{ImageObject}
 use Rattle.executable.specs.Constant.{MOST_HEADERS}
 use Rattle.executable.specs.Entry.{entry_of, entry_among, is_code}
-use Rattle.executable.specs.Initializers.{first_initialized, first_finalized, is_preinitialized}
 use Rattle.executable.specs.inside.Calls.{HasNoCalls}
 use Rattle.executable.specs.Piece.{pieces_of}
 use Rattle.executable.specs.Place.{header_count_of, place_of}
 use Rattle.executable.specs.Refusal.{executable_refusal}
 use Rattle.executable.specs.StaticPie.{is_static_pie}
+use Rattle.executable.specs.Uncalled.{first_uninitialized, first_unfinalized, is_uncalled_before}
 use Rattle.executable.specs.WritableCode.{first_unasked}
 use Rattle.executable.specs.declared.refusal.ExecutableRefusal.{ExecutableRefusal}
 use Rattle.executable.specs.declared.refusal.ExecutableRefusal.TheVariants.{NoEntry, StaticPie, PreInitializers, Initializers, Finalizers, TooManyHeaders, WritableCode, NoRoom}
@@ -31,19 +31,19 @@ are_many image = nat_lt MOST_HEADERS (header_count_of (pieces_of image.segments)
 abbrev place_in : MemoryImage → Option ℕ
 place_in image = place_of (pieces_of image.segments)
 
--- the refusal where there is an entry
-with-entry : (image : MemoryImage) (entry : ℕ) (static before : Bool) (name last : Option (List ℕ)) → entry_of image ≡ Some entry → is_static_pie image ≡ static → is_preinitialized image ≡ before
-    → first_initialized image ≡ name → first_finalized image ≡ last
+-- the refusal of an image that has an entry
+with-entry : (image : MemoryImage) (entry : ℕ) (static before : Bool) (name last : Option (List ℕ)) → entry_of image ≡ Some entry → is_static_pie image ≡ static → is_uncalled_before image ≡ before
+    → first_uninitialized image ≡ name → first_unfinalized image ≡ last
     → executable_refusal image ≡ refusal_by (Some entry) static before name last (are_many image) (first_unasked image) (place_in image)
 unfolding executable_refusal
 with-entry image entry static before name last e t b n l =
-    ap (λ x. refusal_by x (is_static_pie image) (is_preinitialized image) (first_initialized image) (first_finalized image) (are_many image) (first_unasked image) (place_in image)) e
-    ∙ ap (λ x. refusal_by (Some entry) x (is_preinitialized image) (first_initialized image) (first_finalized image) (are_many image) (first_unasked image) (place_in image)) t
-    ∙ ap (λ x. refusal_by (Some entry) static x (first_initialized image) (first_finalized image) (are_many image) (first_unasked image) (place_in image)) b
-    ∙ ap (λ x. refusal_by (Some entry) static before x (first_finalized image) (are_many image) (first_unasked image) (place_in image)) n
+    ap (λ x. refusal_by x (is_static_pie image) (is_uncalled_before image) (first_uninitialized image) (first_unfinalized image) (are_many image) (first_unasked image) (place_in image)) e
+    ∙ ap (λ x. refusal_by (Some entry) x (is_uncalled_before image) (first_uninitialized image) (first_unfinalized image) (are_many image) (first_unasked image) (place_in image)) t
+    ∙ ap (λ x. refusal_by (Some entry) static x (first_uninitialized image) (first_unfinalized image) (are_many image) (first_unasked image) (place_in image)) b
+    ∙ ap (λ x. refusal_by (Some entry) static before x (first_unfinalized image) (are_many image) (first_unasked image) (place_in image)) n
     ∙ ap (λ x. refusal_by (Some entry) static before name x (are_many image) (first_unasked image) (place_in image)) l
 
--- the refusal where nothing else would be called
+-- the refusal of an image without functions that nobody calls
 uncalled : (image : MemoryImage) (entry : ℕ) (many : Bool) (code : Option (List ℕ)) (place : Option ℕ) → entry_of image ≡ Some entry → HasNoCalls image
     → are_many image ≡ many → first_unasked image ≡ code → place_in image ≡ place
     → executable_refusal image ≡ refusal_by (Some entry) false false None None many code place
@@ -56,20 +56,20 @@ uncalled image entry many code place e c m w p =
 pub no-entry : (image : MemoryImage) → entry_of image ≡ None → executable_refusal image ≡ Some NoEntry
 unfolding executable_refusal
 no-entry image e =
-    ap (λ x. refusal_by x (is_static_pie image) (is_preinitialized image) (first_initialized image) (first_finalized image) (are_many image) (first_unasked image) (place_in image)) e
+    ap (λ x. refusal_by x (is_static_pie image) (is_uncalled_before image) (first_uninitialized image) (first_unfinalized image) (are_many image) (first_unasked image) (place_in image)) e
 
 pub static-pie : (image : MemoryImage) (entry : ℕ) → entry_of image ≡ Some entry → is_static_pie image ≡ true → executable_refusal image ≡ Some StaticPie
 static-pie image entry e t = with-entry image entry true _ _ _ e t refl refl refl
 
-pub pre-initializers : (image : MemoryImage) (entry : ℕ) → entry_of image ≡ Some entry → is_static_pie image ≡ false → is_preinitialized image ≡ true → executable_refusal image ≡ Some PreInitializers
+pub pre-initializers : (image : MemoryImage) (entry : ℕ) → entry_of image ≡ Some entry → is_static_pie image ≡ false → is_uncalled_before image ≡ true → executable_refusal image ≡ Some PreInitializers
 pre-initializers image entry e t b = with-entry image entry false true _ _ e t b refl refl
 
-pub initializers : (image : MemoryImage) (entry : ℕ) (name : List ℕ) → entry_of image ≡ Some entry → is_static_pie image ≡ false → is_preinitialized image ≡ false → first_initialized image ≡ Some name
+pub initializers : (image : MemoryImage) (entry : ℕ) (name : List ℕ) → entry_of image ≡ Some entry → is_static_pie image ≡ false → is_uncalled_before image ≡ false → first_uninitialized image ≡ Some name
     → executable_refusal image ≡ Some (Initializers name)
 initializers image entry name e t b n = with-entry image entry false false (Some name) _ e t b n refl
 
-pub finalizers : (image : MemoryImage) (entry : ℕ) (name : List ℕ) → entry_of image ≡ Some entry → is_static_pie image ≡ false → is_preinitialized image ≡ false → first_initialized image ≡ None
-    → first_finalized image ≡ Some name → executable_refusal image ≡ Some (Finalizers name)
+pub finalizers : (image : MemoryImage) (entry : ℕ) (name : List ℕ) → entry_of image ≡ Some entry → is_static_pie image ≡ false → is_uncalled_before image ≡ false → first_uninitialized image ≡ None
+    → first_unfinalized image ≡ Some name → executable_refusal image ≡ Some (Finalizers name)
 finalizers image entry name e t b n l = with-entry image entry false false None (Some name) e t b n l
 
 pub too-many : (image : MemoryImage) (entry : ℕ) → entry_of image ≡ Some entry → HasNoCalls image

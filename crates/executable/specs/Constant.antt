@@ -1,4 +1,4 @@
--- The numbers of executable files (gABI chapters 4 and 5; elf(5)), and the kernel's limits.
+-- The constants of executable files (gABI chapters 4 and 5; elf(5)), and the kernel's limits.
 use Rattle.std.specs.Prelude.{ℕ}
 
 -- e_type of an executable file
@@ -9,11 +9,11 @@ ET_EXEC = 2
 abbrev pub PT_PHDR : ℕ
 PT_PHDR = 6
 
--- what may be done with the stack, by p_type
+-- the segment with the permissions of the stack, by p_type
 abbrev pub PT_GNU_STACK : ℕ
 PT_GNU_STACK = 0x6474e551
 
--- tags by d_tag: an initializer, an array of them, its size in bytes
+-- the tags of an initializer, of an array of initializers, and of its size in bytes, by d_tag
 abbrev pub DT_INIT : ℕ
 DT_INIT = 12
 
@@ -23,7 +23,7 @@ DT_INIT_ARRAY = 25
 abbrev pub DT_INIT_ARRAYSZ : ℕ
 DT_INIT_ARRAYSZ = 27
 
--- the same of what is called at the end
+-- the same tags for functions that are called at the end
 abbrev pub DT_FINI : ℕ
 DT_FINI = 13
 
@@ -33,32 +33,56 @@ DT_FINI_ARRAY = 26
 abbrev pub DT_FINI_ARRAYSZ : ℕ
 DT_FINI_ARRAYSZ = 28
 
--- an array of functions that are called before all others, of a program alone; its size in bytes
+-- the tags of an array of functions that are called before all others, which only a program has, and of its size in
+-- bytes
 abbrev pub DT_PREINIT_ARRAY : ℕ
 DT_PREINIT_ARRAY = 32
 
 abbrev pub DT_PREINIT_ARRAYSZ : ℕ
 DT_PREINIT_ARRAYSZ = 33
 
--- flags of an object, by d_tag; of these, that it is a position-independent executable
+-- the tag of an object's flags, by d_tag; the flag of a position-independent executable
 abbrev pub DT_FLAGS_1 : ℕ
 DT_FLAGS_1 = 0x6ffffffb
 
 abbrev pub DF_1_PIE : ℕ
 DF_1_PIE = 0x08000000
 
--- the name of an interpreter, by p_type
+-- the segment that names an interpreter, by p_type
 abbrev pub PT_INTERP : ℕ
 PT_INTERP = 3
 
--- bytes of an entry of such an array
+-- the p_type of notes
+abbrev pub PT_NOTE : ℕ
+PT_NOTE = 4
+
+-- the p_align of the notes that are read; each name and each descriptor is padded to a multiple of it
+abbrev pub NOTE_ALIGNMENT : ℕ
+NOTE_ALIGNMENT = 4
+
+-- the number of bytes of a note before its name: the size of its name, the size of its descriptor, and its type
+abbrev pub NOTE_HEADER_SIZE : ℕ
+NOTE_HEADER_SIZE = 12
+
+-- the name of the note of a program that calls its libraries' functions itself (own): `rlibreg` and a zero, as a number of eight bytes; the size of this name
+abbrev pub CALLS_NAME : ℕ
+CALLS_NAME = 0x67657262696c72
+
+abbrev pub CALLS_NAME_SIZE : ℕ
+CALLS_NAME_SIZE = 8
+
+-- the type of this note, which has no descriptor
+abbrev pub CALLS_TYPE : ℕ
+CALLS_TYPE = 1
+
+-- the size in bytes of an entry of such an array
 abbrev pub ARRAY_ENTRY_SIZE : ℕ
 ARRAY_ENTRY_SIZE = 8
 
--- the lowest address that the kernel gives to whoever isn't root (vm.mmap_min_addr)
+-- the lowest address that the kernel lets a process map unless the process runs as root (vm.mmap_min_addr)
 abbrev pub LOWEST : ℕ
 LOWEST = 0x10000
 
--- the most program headers that the kernel takes: 65,536 bytes of them
+-- the maximum number of program headers that the kernel accepts: 65,536 bytes of them
 abbrev pub MOST_HEADERS : ℕ
 MOST_HEADERS = 1170

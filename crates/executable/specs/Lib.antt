@@ -2,6 +2,8 @@ pub mod Constant
 pub mod Entry
 pub mod Initializers
 pub mod StaticPie
+pub mod Note
+pub mod Uncalled
 pub mod Piece
 pub mod WritableCode
 pub mod Place

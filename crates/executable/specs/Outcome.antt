@@ -1,4 +1,4 @@
--- What comes of an image: its executable file, or the line of why there is none (own).
+-- The outcome of an image: its executable file, or the line of a refusal (own).
 use Rattle.std.specs.Prelude.{◌≡◌, ℕ, List, All, ◌++◌, Some, None, codes}
 use Rattle.elf_file.specs.Header.{entry_address}
 use Rattle.elf_file.specs.Segment.{loads}
@@ -10,8 +10,8 @@ use Rattle.executable.specs.Refusal.{executable_refusal}
 use Rattle.executable.specs.declared.refusal.ExecutableRefusal.{ExecutableRefusal}
 use Rattle.executable.specs.declared.refusal.ExecutableRefusal.TheVariants as refusal
 
--- No test refuses the image, and the file loads its bytes, and besides only its own headers, and
--- zeros between segments whose pages are the same or touch.
+-- No test refuses the image. The file loads the image's bytes, and besides them only its own headers, and zeros between
+-- segments whose pages are the same or touch.
 pub record IsExecutableOf (image : MemoryImage) (file : List ℕ) : Type 0 where
   pub accepted : executable_refusal image ≡ None
   pub header : IsExecutable file
@@ -26,7 +26,7 @@ pub record IsExecutableOf (image : MemoryImage) (file : List ℕ) : Type 0 where
 abbrev pub object_text : (says name : List ℕ) → List ℕ
 object_text says name = says ++ name_text name ++ codes "\n"
 
--- the line of why there is no file
+-- the line of a refusal to make a file
 abbrev pub executable_refusal_text : ExecutableRefusal → List ℕ
 executable_refusal_text refusal.NoEntry = codes "refused NoEntry\n"
 executable_refusal_text refusal.StaticPie = codes "refused StaticPie\n"

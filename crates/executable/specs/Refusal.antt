@@ -5,22 +5,23 @@ use Rattle.elf_file.specs.FirstOf.{◌when◌, first_of}
 use Rattle.image.specs.Image.{MemoryImage}
 use Rattle.executable.specs.Constant.{MOST_HEADERS}
 use Rattle.executable.specs.Entry.{entry_of}
-use Rattle.executable.specs.Initializers.{first_initialized, first_finalized, is_preinitialized}
 use Rattle.executable.specs.Piece.{pieces_of}
 use Rattle.executable.specs.Place.{header_count_of, place_of}
 use Rattle.executable.specs.StaticPie.{is_static_pie}
+use Rattle.executable.specs.Uncalled.{first_uninitialized, first_unfinalized, is_uncalled_before}
 use Rattle.executable.specs.WritableCode.{first_unasked}
 use Rattle.executable.specs.declared.refusal.ExecutableRefusal.{ExecutableRefusal}
 use Rattle.executable.specs.declared.refusal.ExecutableRefusal.TheVariants.{NoEntry, StaticPie, PreInitializers, Initializers, Finalizers, TooManyHeaders, WritableCode, NoRoom, OutOfMemory}
 
--- no entry in own code; a static PIE; functions that nobody calls; too many headers; writable code that no file asks for; no room
+-- the tests: no entry in own code; a static PIE; functions that nobody calls (three tests); too many headers; memory
+-- that may be written and executed although no file requests it; no room
 abbrev pub executable_tests : MemoryImage → List (Option ExecutableRefusal)
 executable_tests image =
     (NoEntry when is_none (entry_of image))
     ∷ (StaticPie when is_static_pie image)
-    ∷ (PreInitializers when is_preinitialized image)
-    ∷ option_map Initializers (first_initialized image)
-    ∷ option_map Finalizers (first_finalized image)
+    ∷ (PreInitializers when is_uncalled_before image)
+    ∷ option_map Initializers (first_uninitialized image)
+    ∷ option_map Finalizers (first_unfinalized image)
     ∷ (TooManyHeaders when nat_lt MOST_HEADERS (header_count_of (pieces_of image.segments)))
     ∷ option_map WritableCode (first_unasked image)
     ∷ (NoRoom when is_none (place_of (pieces_of image.segments)))
@@ -30,6 +31,6 @@ executable_tests image =
 unfoldable pub executable_refusal : MemoryImage → Option ExecutableRefusal
 executable_refusal image = first_of (executable_tests image)
 
--- an answer where no file is given: that refusal, or want of memory
+-- an answer if no file is returned: the refusal, or refused memory
 abbrev pub IsAnswer : MemoryImage → ExecutableRefusal → Type 0
 IsAnswer image answer = (executable_refusal image ≡ Some answer) ⊎ (answer ≡ OutOfMemory)

@@ -13,7 +13,7 @@ use text_output::{LINE, OutputBuffer, WriteFault};
 /// A line on its way to a writer.
 type Line = OutputBuffer<LINE>;
 
-/// The line of a refusal that names an object.
+/// Puts the line of a refusal that names an object.
 fn put_object<W: Write>(
     line: &mut Line,
     out: &mut W,
@@ -28,7 +28,7 @@ fn put_object<W: Write>(
     line.put(out, b"\n")
 }
 
-/// The line of why there is no executable file, as `refused NoEntry`.
+/// Puts the line of a refusal, such as `refused NoEntry`.
 pub fn put_executable_refusal<W: Write>(
     line: &mut OutputBuffer<LINE>,
     out: &mut W,
@@ -56,7 +56,7 @@ pub fn put_executable_refusal<W: Write>(
     }
 }
 
-/// Writes that line, with one write.
+/// Writes the line of a refusal, with one write.
 pub fn write_executable_refusal<W: Write>(
     out: &mut W,
     refusal: &ExecutableRefusal,

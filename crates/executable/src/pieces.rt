@@ -1,4 +1,4 @@
-// The pieces of segments, before any two of them are one.
+// The pieces of segments, before any two of them are joined.
 
 ghost use Rattle.std.specs.Prelude.{◌≡◌, ◌+◌, ◌<◌, ◌≤◌, ◌++◌, ◌∷◌, IfOk, OnOk, List};
 ghost use Rattle.std.specs.Prelude.{length, map};
@@ -14,7 +14,7 @@ use crate::place::PAGE;
 use image::Segment;
 use std::alloc::{AllocError, Global};
 
-/// Puts what a piece has below a page, and gives the rest.
+/// Appends the part of a piece below `page` to `done`, if there is one, and returns the rest.
 fn put_lower(done: &mut Vec<Piece>, mut piece: Piece, page: u64) -> Result<Piece, AllocError>
     requires full { IsFull piece }
     requires within { page < end_of piece }
@@ -32,7 +32,8 @@ fn put_lower(done: &mut Vec<Piece>, mut piece: Piece, page: u64) -> Result<Piece
     Ok(rest)
 }
 
-/// Joins a piece to one in the page where it begins, as far as the page goes, and gives the last.
+/// Joins to `piece`, which lies in `page`, as much of `next` as lies in this page. If `next` ends
+/// there, returns the joined piece. Otherwise appends it to `done`, and returns the rest of `next`.
 fn put_page(
     done: &mut Vec<Piece>,
     mut piece: Piece,
@@ -61,7 +62,8 @@ fn put_page(
     Ok(rest)
 }
 
-/// Puts what is done of a piece and one behind it, and gives the last.
+/// Appends to `done` all finished parts of `piece` and of `next`, which comes after it, and returns
+/// the last part.
 fn put(done: &mut Vec<Piece>, piece: Piece, next: Piece) -> Result<Piece, AllocError>
     requires full { IsFull piece }
     requires next_full { IsFull next }
@@ -82,7 +84,8 @@ fn put(done: &mut Vec<Piece>, piece: Piece, next: Piece) -> Result<Piece, AllocE
     put_page(done, upper, next, page)
 }
 
-/// The piece that may go on after a segment with bytes, and in `done` those before it.
+/// Returns the piece that may continue after a segment with bytes, and appends the pieces before it
+/// to `done`.
 fn add(
     alloc: Global,
     done: &mut Vec<Piece>,
@@ -106,7 +109,7 @@ fn add(
     }
 }
 
-/// The pieces of segments. One pass over them, which copies their bytes.
+/// Returns the pieces of segments. Makes one pass over the segments, which copies their bytes.
 pub(crate) fn cut_pieces(alloc: Global, segments: &[Segment]) -> Result<Vec<Piece>, AllocError>
     requires { AreRising 0 segments.now }
     ensures { IfOk result (λ pieces. pieces.items ≡ map finished (cut_pieces segments.now)) }

@@ -1,4 +1,4 @@
--- A file with what waits to be given to it.
+-- A file with its write buffer.
 use Rattle.std.proofs.Common.{◌≡◌, ◌<◌, ◌≤◌, ◌+◌, ◌-◌, ◌⊎◌, ◌&&◌, inl, inr, ⊎_elim, ℕ, Bool, true, false, List, length, refl, sym, ◌∙◌, ap, subst, arith}
 use Rattle.std.proofs.Common.{Option, Some, None, IsSome, if◌then◌else◌, nat_le, nat_lt}
 use Rattle.std.specs.Cmp.Derive.{both_true}
@@ -18,7 +18,7 @@ use Rattle.file_disk.specs.inside.Buffered.{IsStill, IsGiven}
 use Rattle.file_disk.specs.inside.Transfer.{StaysWithin, IsWrittenAt}
 use Rattle.file_disk.proofs.Transfers.{within_none, within_more, within_weaker, within_then}
 
--- there is something exactly where the test holds
+-- if the test holds, there is an element
 some_true : {X : Type 0} (b : Bool) (x : X) → b ≡ true → ◌≡◌ {A = Option X} (if b then Some x else None) (Some x)
 some_true true x is = refl
 some_true false x is = absurd cc
@@ -31,7 +31,7 @@ pub cases_option : {X : Type 0} (o : Option X) → (o ≡ None) ⊎ ((x : X) × 
 cases_option None = inl refl
 cases_option (Some x) = inr (x, refl)
 
--- sectors in a row, told by the number of one of them
+-- if sector k is one of these adjacent sectors and has the content c, c is at the position of k among them
 row_at : (start count k : ℕ) (contents : List Sector) (c : Sector)
     → ◌≡◌ {A = Option Sector} (if nat_le start k && nat_lt (k - start) count then Some (sector contents (k - start)) else None) (Some c)
     → (start ≤ k) × (k - start < count) × (c ≡ sector contents (k - start))
@@ -40,7 +40,7 @@ row_at start count k contents c is =
     let parts = and_parts (nat_le start k) (nat_lt (k - start) count) test.0 in
     (leb-true start k parts.0, ltb-true (k - start) count parts.1, sym test.1)
 
--- what waits is given to its place, and nothing else is
+-- each buffered sector is written to its place, and nothing else is written
 pub waits_given : (gathered : Gathered) (k : ℕ) (c : Sector) → gathered_at gathered k ≡ Some c → IsGivenTo gathered.start gathered.contents.items k c
 waits_given gathered k c is =
     let row = row_at gathered.start (length gathered.contents.items) k gathered.contents.items c is in
@@ -53,7 +53,7 @@ given_waits gathered k c given =
     both_true (le-leb gathered.start k (omega (arith, given.2))) (lt-ltb (k - gathered.start) (length gathered.contents.items) (omega (arith, given.1, place))) in
     some_true _ (sector gathered.contents.items (k - gathered.start)) test ∙ ap Some (ap (sector gathered.contents.items) place ∙ sym given.3)
 
--- what is kept is what was read
+-- the read-ahead buffer has what was read
 pub kept_of : (ahead : Ahead) (now : List Sector) → ((i : ℕ) → i < ahead.count → sector ahead.contents.items i ≡ sector now (ahead.start + i)) → KeepsOf ahead now
 kept_of ahead now read k c is =
     let row = row_at ahead.start ahead.count k ahead.contents.items c is in
@@ -67,7 +67,7 @@ module _ {F : Type 0} {g : Ghosts F} where
   pub shown_some : (b : Buffered F g) (k : ℕ) (c : Sector) → gathered_at b.gathered k ≡ Some c → shown_at b k ≡ c
   shown_some b k c some = ap (λ o. or_else o (sector (g.facts b.file).now k)) some
 
-  -- what a stop may leave after some calls it may have left before
+  -- what a stop may leave after some calls, it might have left before
   pub leaves_before : (old new : Buffered F g) → StaysWithin (Leaves old) (g.facts old.file) (g.facts new.file) → new.gathered ≡ old.gathered
       → (k : ℕ) (c : Sector) → Leaves new k c → Leaves old k c
   leaves_before old new within same k c left = ⊎_elim
@@ -75,13 +75,13 @@ module _ {F : Type 0} {g : Ghosts F} where
       (λ has. within.each (g.facts new.file).time k c within.later (omega arith) has)
       left
 
-  -- the sectors were counted
+  -- counting the sectors leaves only what a stop may leave
   pub within_counted : {E : Type 0} (b : Buffered F g) (new : FileFacts) (result : Result ℕ E) → IsCounted (g.facts b.file) new result → StaysWithin (Leaves b) (g.facts b.file) new
   within_counted b new result counted =
       within_more (Leaves b) _ (g.facts b.file) (g.facts b.file) new (within_none (Leaves b) (g.facts b.file) (λ k c has. inr has)) counted.call
       (λ k c has. inr (counted.same.medium k c has))
 
-  -- calls, and then a sync
+  -- some calls, followed by a sync, leave only what a stop may leave
   pub within_synced : {T E : Type 0} (b : Buffered F g) (mid new : FileFacts) (result : Result T E) → StaysWithin (Leaves b) (g.facts b.file) mid → IsFileSync mid new result
       → StaysWithin (Leaves b) (g.facts b.file) new
   within_synced b mid new result within step =
@@ -89,11 +89,11 @@ module _ {F : Type 0} {g : Ghosts F} where
       (λ k c has. within.each mid.time k c within.later (omega arith) (step.medium k c has))
 
   module _ (b : Buffered F g) (done : ℕ) (new : FileFacts) (written : IsWrittenAt b.gathered.start b.gathered.contents.items done (g.facts b.file) new) where
-    -- all that waits was given to the file
+    -- writing the write buffer to the file leaves only what a stop may leave
     pub within_given : StaysWithin (Leaves b) (g.facts b.file) new
     within_given = within_weaker _ (Leaves b) (g.facts b.file) new (λ k c allowed. ⊎_elim (λ has. inr has) (λ given. inl (given_waits b.gathered k c given)) allowed) written.within
 
-    -- what is kept isn't among it
+    -- the read-ahead buffer stays valid, because it has no sector of the write buffer
     pub kept_given : KeepsOf b.ahead (g.facts b.file).now → KeepsOf b.ahead new.now
     kept_given kept k c is = ⊎_elim
         (λ same. kept k c is ∙ sym same)
@@ -112,7 +112,7 @@ module _ {F : Type 0} {g : Ghosts F} where
       ap (sector new.now) given.2 ∙ written.now.moved given.0 given.1 ∙ sym given.3 ∙ sym (shown_some b k some.0 some.1))
       (cases_option (gathered_at b.gathered k))
 
-  -- the file was left as it is, and then some calls were made
+  -- The file stays the same, and then some calls are made.
   module _ (old mid new : Buffered F g) (still : IsStill old mid) (waits : mid.gathered ≡ old.gathered) where
     still_then : StaysWithin (Leaves mid) (g.facts mid.file) (g.facts new.file) → StaysWithin (Leaves old) (g.facts old.file) (g.facts new.file)
     still_then within = within_then (Leaves old) (Leaves mid) (g.facts old.file) (g.facts mid.file) (g.facts new.file) (leaves_before old mid still.within waits) still.within within

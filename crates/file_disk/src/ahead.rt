@@ -1,4 +1,5 @@
-// Sectors in a row that were read from the file, some of them ahead of being asked for.
+// Adjacent sectors that were read from the file. Some of them were read ahead, before a caller
+// asked for them.
 ghost use Rattle.std.specs.Prelude.{◌≡◌, ◌≤◌, ◌<◌, vec_len, vec_capacity};
 
 use crate::sector_file::SectorFile;
@@ -6,22 +7,23 @@ use crate::transfer::read_most;
 use sector_disk::{DiskFault, SECTOR_BYTES};
 use std::alloc::{AllocError, Global};
 
-/// How many sectors are read at once at most: 128 KiB.
+/// The maximum number of sectors that one read asks for: 128 KiB.
 const MOST: usize = 256;
 
-/// How many are read at once at least: 4 KiB.
+/// The minimum number of sectors that a read asks for, unless fewer can be read: 4 KiB.
 const FIRST: usize = 8;
 
-/// Sectors in a row, with what the file gave for them.
+/// The read-ahead buffer: adjacent sectors, with the contents that the file returned for them.
 #[derive(Drop)]
 pub(crate) struct Ahead {
     start: u32,
     count: usize,
-    // How many sectors there is room for.
+    // The number of sectors that there is room for.
     room: usize,
-    // How many the last read asked for.
+    // The number of sectors that the last read asked for.
     asked: usize,
-    // The memory for them is reserved. As much of it is touched as a read has asked for.
+    // The memory for all sectors is reserved. Only as much of it is touched as a read has asked
+    // for.
     contents: Vec<[u8; SECTOR_BYTES]>,
     ghost some: { 0 < room },
     ghost most: { room ≤ 256 },
@@ -37,8 +39,8 @@ impl Ahead {
     ghost use Rattle.file_disk.specs.Ahead.{ahead_at, IsForgotten};
     ghost use Rattle.file_disk.specs.inside.Transfer.{IsFilled};
 
-    /// None are there. Takes the memory for all that may be, of a disk of so many sectors, and
-    /// touches none of it.
+    /// Makes an empty read-ahead buffer for a disk of `sectors` sectors. Allocates all the memory
+    /// that the buffer will ever use, and touches none of it.
     pub(crate) fn new(alloc: Global, sectors: u32) -> Result<Ahead, AllocError>
         ensures { IfOk result (λ ahead. (k : ℕ) → ahead_at ahead k ≡ None) }
     {
@@ -52,7 +54,7 @@ impl Ahead {
         })
     }
 
-    /// What the file gave for a sector.
+    /// Returns the content that the file returned for sector `at`, if it is kept.
     pub(crate) fn get(&self, at: u32) -> Option<&[u8; SECTOR_BYTES]>
         ensures { option_copied result ≡ ahead_at self.now at }
     {
@@ -67,7 +69,7 @@ impl Ahead {
         }
     }
 
-    /// Forgets a sector, and with it all others.
+    /// If sector `at` is kept, forgets it and all others.
     pub(crate) fn forget(&mut self, at: u32)
         ensures here { ahead_at self.new at ≡ None }
         ensures others { (k : ℕ) → IsForgotten self.old self.new k }
@@ -77,8 +79,8 @@ impl Ahead {
         }
     }
 
-    // How many sectors to ask for: twice as many as before where the sector is the next one, and
-    // half as many where it isn't.
+    // Sets the number of sectors to ask for: twice the number before if `at` is the next sector,
+    // and half of it otherwise.
     fn ask(&mut self, at: u32)
         ensures some { 0 < self.new.asked }
         ensures most { self.new.asked ≤ self.new.room }
@@ -97,7 +99,7 @@ impl Ahead {
         self.count = 0;
     }
 
-    // Has so many sectors be there for a read.
+    // Lengthens the contents to at least `most` sectors, for a read.
     fn lengthen(&mut self, most: usize)
         requires { most ≤ self.old.room }
         ensures size { most ≤ vec_len self.new.contents }
@@ -114,7 +116,8 @@ impl Ahead {
         }
     }
 
-    /// Reads a sector, and as many behind it as are worth it, but no more than `most` in all.
+    /// Reads sector `at`, and as many sectors after it as are worth reading ahead, but at most
+    /// `most` sectors in all.
     pub(crate) fn fill<F: SectorFile>(
         &mut self,
         file: &mut F,

@@ -1,4 +1,4 @@
-// A file with its two buffers: what waits to be given to it, and what was read of it ahead.
+// A file with its two buffers: the write buffer and the read-ahead buffer.
 ghost use Rattle.std.specs.Prelude.{◌≡◌, ◌≤◌, ◌<◌, ◌^◌, false, IsTrue};
 ghost use Rattle.file_disk.specs.Ahead.{KeepsOf};
 ghost use Rattle.file_disk.specs.Gathered.{gathered_end};
@@ -11,18 +11,18 @@ use crate::transfer::write_all;
 use sector_disk::{DiskFault, SECTOR_BYTES};
 use std::alloc::{AllocError, Global};
 
-/// A file of so many sectors, with its two buffers.
+/// A file of `sectors` sectors, with its two buffers.
 #[derive(Drop)]
 pub(crate) struct Buffered<F: SectorFile> {
     pub(crate) file: F,
     pub(crate) sectors: u32,
     pub(crate) gathered: Gathered,
     pub(crate) ahead: Ahead,
-    // Whether a write or a sync has failed. Then the file isn't asked for anything any more.
+    // Whether a write or a sync has failed. From then on no call of the file is made.
     pub(crate) failed: bool,
-    // Whether the file's length was compared since it was opened, or since the last sync.
+    // Whether the file's length was compared since the file was opened, or since the last sync.
     compared: bool,
-    // What is kept as the file gave it is never what a write has replaced.
+    // The read-ahead buffer never keeps a content that a write has replaced.
     ghost apart: { IsApart gathered ahead },
     ghost few: { sectors < 2 ^ 32 },
     ghost inside: { gathered_end gathered ≤ sectors },
@@ -39,7 +39,7 @@ impl<F: SectorFile + Drop> Buffered<F> {
     ghost use Rattle.file_disk.specs.Ahead.{ahead_at};
     ghost use Rattle.file_disk.specs.Gathered.{gathered_at};
 
-    /// Over a file that has so many sectors, none of them read or written.
+    /// Makes the buffers over a file that has `sectors` sectors. Nothing was read or written yet.
     pub(crate) fn new(alloc: Global, file: F, sectors: u32) -> Result<Buffered<F>, AllocError>
         requires sectors { IsTrue F.is_honest → (F.facts file).sectors ≡ sectors }
         requires trusted { IsTrue F.is_honest → (F.facts file).sync_failed ≡ false }
@@ -69,7 +69,7 @@ impl<F: SectorFile> Buffered<F> {
     ghost use Rattle.file_disk.specs.inside.Buffered.{IsStill, IsFailed, IsRefused, IsGiven, IsRoomy};
     ghost use Rattle.file_disk.specs.inside.Buffered.{IsPut, IsSettled};
 
-    /// The file. What waits is lost.
+    /// Returns the file. The write buffer is lost.
     pub(crate) fn into_file(self) -> F
         ensures { result ≡ self.file }
     {
@@ -99,9 +99,9 @@ impl<F: SectorFile> Buffered<F> {
         }
     }
 
-    // Compares the length before the first write after the opening or a sync, so that a file that
-    // was cut isn't written, and before each write that reaches the file's end, which would hide a
-    // cut from the next sync.
+    // Compares the length before the first write after the opening or a sync, so that a truncated
+    // file isn't written. It is also compared before each write that reaches the file's end,
+    // because such a write would hide a truncation from the next sync.
     fn check_write(&mut self) -> Result<(), DiskFault>
         requires { self.old.failed ≡ false }
         ensures sectors { self.new.sectors ≡ self.old.sectors }
@@ -117,7 +117,7 @@ impl<F: SectorFile> Buffered<F> {
         self.check_length()
     }
 
-    // Writes all that waits to the file. It waits on.
+    // Writes the write buffer to the file. The buffer stays as it is.
     fn give(&mut self) -> Result<(), DiskFault>
         requires { self.old.failed ≡ false }
         ensures sectors { self.new.sectors ≡ self.old.sectors }
@@ -135,7 +135,7 @@ impl<F: SectorFile> Buffered<F> {
         Err(DiskFault::Failed)
     }
 
-    // Gives all that waits to the file, and has none of it wait any more.
+    // Writes the write buffer to the file, and clears it.
     fn flush(&mut self) -> Result<(), DiskFault>
         requires { self.old.failed ≡ false }
         ensures sectors { self.new.sectors ≡ self.old.sectors }
@@ -153,7 +153,7 @@ impl<F: SectorFile> Buffered<F> {
         Ok(())
     }
 
-    // Gives what waits to the file where a sector has no room beside it.
+    // Writes the write buffer to the file if it has no room for sector `at`.
     fn make_room(&mut self, at: u32) -> Result<(), DiskFault>
         requires { self.old.failed ≡ false }
         ensures sectors { self.new.sectors ≡ self.old.sectors }
@@ -173,7 +173,7 @@ impl<F: SectorFile> Buffered<F> {
         self.flush()
     }
 
-    /// Has a sector wait with this content.
+    /// Puts the content `from` of sector `at` into the write buffer.
     pub(crate) fn gather(&mut self, at: u32, from: &[u8; SECTOR_BYTES]) -> Result<(), DiskFault>
         requires { at < self.old.sectors }
         ensures sectors { self.new.sectors ≡ self.old.sectors }
@@ -199,7 +199,8 @@ impl<F: SectorFile> Buffered<F> {
         Ok(())
     }
 
-    /// Brings all that was written to the medium. It waits until it is there.
+    /// Writes the write buffer to the file and syncs the file, so that the medium has all written
+    /// contents. The write buffer keeps its contents until then.
     pub(crate) fn settle(&mut self) -> Result<(), DiskFault>
         ensures sectors { self.new.sectors ≡ self.old.sectors }
         ensures ahead { self.new.ahead ≡ self.old.ahead }
@@ -214,7 +215,7 @@ impl<F: SectorFile> Buffered<F> {
             return Err(DiskFault::Failed);
         }
         self.check_length()?;
-        self.give()?; // what waits is let go only once it is synced
+        self.give()?; // the buffer is cleared only after the sync
         if self.file.sync().is_ok() {
             self.gathered.clear();
             self.compared = false;
@@ -224,7 +225,8 @@ impl<F: SectorFile> Buffered<F> {
         Err(DiskFault::Failed)
     }
 
-    // Reads a sector from the file and some behind it, but none that waits.
+    // Reads sector `at` from the file and some sectors after it, but none that is in the write
+    // buffer.
     fn read_ahead(&mut self, at: u32) -> Result<(), DiskFault>
         requires inside { at < self.old.sectors }
         requires open { self.old.failed ≡ false }
@@ -248,7 +250,8 @@ impl<F: SectorFile> Buffered<F> {
         self.ahead.fill(&mut self.file, at, most)
     }
 
-    /// Gives the content of a sector. After a failure the file isn't asked for it.
+    /// Copies the content of sector `at` to `into`. After a failed write or sync, no call of the
+    /// file is made.
     pub(crate) fn fetch(&mut self, at: u32, into: &mut [u8; SECTOR_BYTES]) -> Result<(), DiskFault>
         requires inside { at < self.old.sectors }
         ensures sectors { self.new.sectors ≡ self.old.sectors }

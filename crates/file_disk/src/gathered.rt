@@ -1,18 +1,20 @@
-// Neighbouring sectors that were written, and wait to be given to the file at once.
+// The write buffer: adjacent sectors that were written to the disk, and are written to the file
+// together.
 ghost use Rattle.std.specs.Prelude.{◌≡◌, ◌≤◌, ◌<◌, All, vec_len, vec_capacity};
 ghost use Rattle.sector_disk.specs.Disk.{IsWhole};
 
 use sector_disk::SECTOR_BYTES;
 use std::alloc::{AllocError, Global};
 
-/// How many sectors wait at most: 128 KiB.
+/// The maximum number of buffered sectors: 128 KiB.
 const MOST: usize = 256;
 
-/// Sectors in a row, each with the content that was written to it last.
+/// The write buffer: adjacent sectors, each with the content that was written to it last.
 #[derive(Drop)]
 pub(crate) struct Gathered {
     start: u32,
-    // How many may wait. The memory for them is reserved, and isn't touched before they do.
+    // The maximum number of buffered sectors. The memory for them is reserved, and isn't touched
+    // before they are buffered.
     room: usize,
     contents: Vec<[u8; SECTOR_BYTES]>,
     ghost some: { 0 < room },
@@ -26,8 +28,8 @@ impl Gathered {
     ghost use Rattle.std.specs.Prelude.{[]};
     ghost use Rattle.file_disk.specs.Gathered.{gathered_at, has_room, gathered_end};
 
-    /// None wait. Takes the memory for all that may, on a disk of so many sectors, and touches none
-    /// of it.
+    /// Makes an empty write buffer for a disk of `sectors` sectors. Allocates all the memory that
+    /// the buffer will ever use, and touches none of it.
     pub(crate) fn new(alloc: Global, sectors: u32) -> Result<Gathered, AllocError>
         ensures none { IfOk result (λ gathered. (k : ℕ) → gathered_at gathered k ≡ None) }
         ensures end { IfOk result (λ gathered. gathered_end gathered ≡ 0) }
@@ -40,21 +42,21 @@ impl Gathered {
         })
     }
 
-    /// The number of the first of them.
+    /// Returns the number of the first buffered sector.
     pub(crate) fn start(&self) -> u32
         ensures { result ≡ self.now.start }
     {
         self.start
     }
 
-    /// The number of the sector after the last of them.
+    /// Returns the number of the sector after the last buffered one.
     pub(crate) fn end(&self) -> usize
         ensures { result ≡ gathered_end self.now }
     {
         self.start as usize + self.contents.len()
     }
 
-    /// Whether none wait.
+    /// Returns whether the buffer is empty.
     pub(crate) fn is_empty(&self) -> bool
         ensures none { result ≡ true → (k : ℕ) → gathered_at self.now k ≡ None }
         ensures some { result ≡ false → gathered_at self.now self.now.start ≢ None }
@@ -63,7 +65,7 @@ impl Gathered {
         self.contents.is_empty()
     }
 
-    /// The content of a sector that waits.
+    /// Returns the content of sector `at`, if it is buffered.
     pub(crate) fn get(&self, at: u32) -> Option<&[u8; SECTOR_BYTES]>
         ensures { option_copied result ≡ gathered_at self.now at }
     {
@@ -78,8 +80,8 @@ impl Gathered {
         }
     }
 
-    /// Whether the sector can wait with them: it is one of them, or the next one and there is
-    /// room, or none wait.
+    /// Returns whether sector `at` can be buffered: it is buffered already, or it is the next
+    /// sector and there is room, or the buffer is empty.
     pub(crate) fn has_room(&self, at: u32) -> bool
         ensures { result ≡ has_room self.now at }
     {
@@ -93,7 +95,7 @@ impl Gathered {
         place <= self.contents.len() && place < self.room
     }
 
-    /// The sector waits with this content.
+    /// Puts the content `from` of sector `at` into the buffer.
     pub(crate) fn put(&mut self, at: u32, from: &[u8; SECTOR_BYTES])
         requires { has_room self.old at ≡ true }
         ensures here { gathered_at self.new at ≡ Some from.now }
@@ -111,14 +113,14 @@ impl Gathered {
         self.contents.push_reserved(*from);
     }
 
-    /// The contents of all of them, in a row.
+    /// Returns the contents of all buffered sectors, in their order.
     pub(crate) fn contents(&self) -> &[[u8; SECTOR_BYTES]]
         ensures { result.now ≡ self.now.contents.items }
     {
         &self.contents
     }
 
-    /// None wait any more.
+    /// Empties the buffer.
     pub(crate) fn clear(&mut self)
         ensures none { (k : ℕ) → gathered_at self.new k ≡ None }
         ensures empty { self.new.contents.items ≡ [] }

@@ -1,8 +1,8 @@
 //! A disk of sectors over a file.
 //!
-//! `FileDisk` is a `Disk` over a `SectorFile`, and an honest one where the file is. Neighbouring
-//! sectors are gathered into large writes and read ahead in large reads; a sync is one of the file;
-//! and once a write or a sync has failed all later ones fail, until the file is opened again.
+//! `FileDisk` is a `Disk` over a `SectorFile`. It is honest if the file is honest. Adjacent sectors
+//! are gathered into large writes, and read ahead in large reads. A sync of the disk is a sync of
+//! the file. After a failed write or sync, all later ones fail until the file is opened again.
 #![tactic(auto)]
 
 mod ahead;

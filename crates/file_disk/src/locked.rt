@@ -1,4 +1,4 @@
-// Opening a file under its lock.
+// Opens a file under its lock.
 
 ghost use Rattle.std.specs.Prelude.{◌≡◌, true};
 ghost use Rattle.std.specs.Fs.{new_options, with_read, with_write};
@@ -15,17 +15,17 @@ use std::thread::sleep;
 use std::time::Duration;
 use std::{fs, io};
 
-/// How often a file is opened anew that was replaced before it was locked, and another name tried
-/// anew that others make and take away.
+/// The number of tries to open a file that is replaced before it is locked, and to make a file
+/// under another name that other processes make and remove.
 pub(crate) const TRIES: u32 = 16;
 
-/// How often the lock of a device is tried, and how many milliseconds pass between two tries: two
-/// seconds in all. The system's udev holds it for a moment after each writer has let the device go.
+/// The number of tries to lock a device, and the milliseconds between two tries: two seconds in
+/// all. The system's udev locks the device for a moment after each writer has closed it.
 const DEVICE_TRIES: u32 = 200;
 
 const PAUSE: u64 = 10;
 
-/// Reading alone, of a file that stands.
+/// Returns the options to open an existing file only for reading.
 fn reading() -> OpenOptions
     ensures { result ≡ with_read new_options true }
 {
@@ -34,7 +34,8 @@ fn reading() -> OpenOptions
     how
 }
 
-/// Reading and writing, of a file that stands: it isn't made, and none of its bytes are cut.
+/// Returns the options to open an existing file for reading and writing. The file isn't created,
+/// and it isn't truncated.
 fn writing() -> OpenOptions
     ensures { result ≡ with_write (with_read new_options true) true }
 {
@@ -43,7 +44,7 @@ fn writing() -> OpenOptions
     how
 }
 
-/// Whether writing isn't allowed.
+/// Returns whether an error means that writing isn't allowed.
 fn is_denied(kind: ErrorKind) -> bool {
     matches!(
         kind,
@@ -51,8 +52,8 @@ fn is_denied(kind: ErrorKind) -> bool {
     )
 }
 
-/// Opens a file for what it is opened for; for reading alone where writing isn't allowed. Says
-/// whether it is open for reading alone.
+/// Opens a file for `access`, but only for reading if writing isn't allowed. Also returns whether
+/// the file is open only for reading.
 fn open_file<R: Files<File = File>>(
     rt: &R,
     path: &str,
@@ -68,12 +69,12 @@ fn open_file<R: Files<File = File>>(
     Ok((reading().open(rt, path)?, true))
 }
 
-/// Whether two names or descriptors lead to one file.
+/// Returns whether two names or descriptors lead to the same file.
 pub(crate) fn is_same_file(one: &Metadata, other: &Metadata) -> bool {
     one.dev() == other.dev() && one.ino() == other.ino()
 }
 
-/// Locks a file, without waiting: with others who read it, or alone for changes.
+/// Locks a file without waiting: shared with other readers, or exclusively for changes.
 fn try_lock(file: &File, access: Access) -> Result<(), TryLockError> {
     match access {
         Access::Reading => file.try_lock_shared(),
@@ -81,8 +82,8 @@ fn try_lock(file: &File, access: Access) -> Result<(), TryLockError> {
     }
 }
 
-/// Locks a device for changes, where that can be had within two seconds; anything else at once or
-/// not at all.
+/// Locks a file. A device is locked for changes if that succeeds within two seconds; anything else
+/// is locked at once or not at all.
 fn lock<R: Clock>(rt: &R, file: &File, access: Access, is_device: bool) -> Result<(), OpenFault> {
     let tries = match access {
         Access::Changes if is_device => DEVICE_TRIES,
@@ -98,8 +99,8 @@ fn lock<R: Clock>(rt: &R, file: &File, access: Access, is_device: bool) -> Resul
     try_lock(file, access).map_err(|_| OpenFault::CannotOpen)
 }
 
-/// Refuses a path that leads to neither a regular file nor a block device before it is opened: to
-/// open a pipe waits for its other end.
+/// Refuses a path that leads to neither a regular file nor a block device, before it is opened.
+/// Opening a pipe would wait for its other end.
 fn look<R: Files>(rt: &R, path: &str) -> Result<(), OpenFault> {
     match fs::metadata(rt, path) {
         Ok(found) if found.is_file() || found.file_type().is_block_device() => Ok(()),
@@ -107,7 +108,7 @@ fn look<R: Files>(rt: &R, path: &str) -> Result<(), OpenFault> {
     }
 }
 
-/// Whether a path leads to an open file.
+/// Returns whether a path leads to an open file.
 fn leads_to<R: Files>(rt: &R, path: &str, open: &Metadata) -> bool {
     match fs::metadata(rt, path) {
         Ok(named) => is_same_file(&named, open),
@@ -116,7 +117,7 @@ fn leads_to<R: Files>(rt: &R, path: &str, open: &Metadata) -> bool {
 }
 
 /// Opens a regular file or a block device and locks it. A file that was replaced before it was
-/// locked is opened anew. A device that is in use isn't opened for changes.
+/// locked is opened again. A device that is in use isn't opened for changes.
 pub(crate) fn open_locked<R: Files<File = File> + Clock>(
     rt: &R,
     alloc: Global,

@@ -1,4 +1,4 @@
-// A file in memory. Its test stops it, or has a call of it fail.
+// A file in memory. A test can stop it, or have one of its calls fail.
 ghost use Rattle.std.specs.Prelude.{◌≡◌, ◌-◌, length};
 
 use crate::medium::{get, put, settle};
@@ -8,19 +8,19 @@ use sector_disk::{CallCount, Disk, DiskFault, Memory, Past, SECTOR_BYTES};
 use std::io;
 use std::io::ErrorKind;
 
-/// What becomes of a call of a `MemoryFile`.
+/// The outcome of a call of a `MemoryFile`.
 #[derive(Clone, Copy)]
 pub struct Turn {
-    /// How many sectors a read or a write moves at most. A sync that fails has done its work
-    /// where this isn't 0.
+    /// The maximum number of sectors that a read or a write moves. A sync that fails has done its
+    /// work if this isn't 0.
     pub most: usize,
-    /// Whether it fails, behind what it moved.
+    /// Whether the call fails, after it has moved its sectors.
     pub fails: bool,
 }
 
-/// Which call of a `MemoryFile` doesn't do all that it was asked for: number `call`, counted from
-/// 1, and none where that is 0. With `forever` all later ones fail and move nothing: the system
-/// has stopped.
+/// Which call of a `MemoryFile` doesn't do everything that it was asked for: call number `call`,
+/// counted from 1; none if `call` is 0. With `forever` all later calls fail and move nothing, as if
+/// the system had stopped.
 #[derive(Clone, Copy)]
 pub struct FilePlan {
     pub call: u64,
@@ -28,16 +28,16 @@ pub struct FilePlan {
     pub forever: bool,
 }
 
-/// An honest file in memory. Its medium is a disk that can be stopped: what was written since its
-/// last sync comes there sector by sector, in any order, or not at all. Once a sync has failed,
-/// later ones succeed and bring nothing to the medium.
+/// An honest file in memory. Its medium is a disk that can be stopped. Contents that were written
+/// since the last sync reach the medium sector by sector, in any order, or not at all. After a
+/// failed sync, later syncs succeed and bring nothing to the medium.
 pub struct MemoryFile {
     medium: Memory,
     plan: FilePlan,
-    // How many calls there are up to the planned one, 0 after it.
+    // The number of calls up to and including the planned one; 0 after it.
     wait: u64,
     sync_failed: bool,
-    // The medium at each moment that is past.
+    // The medium at each past moment.
     past: Past<Memory>,
     calls: CallCount,
     ghost waits: { wait ≡ plan.call - length past.items },
@@ -51,7 +51,7 @@ impl MemoryFile {
     ghost use Rattle.sector_disk.specs.Disk.{Sector, StartsWith};
     ghost use Rattle.sector_disk.specs.Memory.{memory_facts};
 
-    /// A file of what this disk has, with this plan of its calls.
+    /// Makes a file with the contents of the disk `medium`, and with this plan for its calls.
     pub fn new(medium: Memory, plan: FilePlan) -> MemoryFile
         ensures medium { medium_of result ≡ medium }
         ensures plan { plan_of result ≡ plan }
@@ -59,7 +59,7 @@ impl MemoryFile {
         ensures failures { (memory_file_facts result).failures ≡ 0 }
         ensures sync_failed { (memory_file_facts result).sync_failed ≡ false }
 
-        // Over a disk as it starts, the file is found with the sectors of the disk.
+        // If the disk is at its start, the file is found with the disk's sectors.
         ensures reopen { (contents : List Sector) → StartsWith (memory_facts medium) contents
             → IsFoundWith (memory_file_facts result) contents }
     {
@@ -73,14 +73,14 @@ impl MemoryFile {
         }
     }
 
-    /// How many calls there are up to the planned one, and 0 once it was made.
+    /// Returns the number of calls up to and including the planned one; 0 after it.
     pub fn calls_left(&self) -> u64
         ensures { result ≡ (plan_of self.now).call - (memory_file_facts self.now).time }
     {
         self.wait
     }
 
-    /// The medium, which can be stopped, with what was written to it since it was synced.
+    /// Returns the medium, which can be stopped. It has what was written to it since it was synced.
     pub fn into_medium(self) -> Memory
         ensures { result ≡ medium_of self }
     {
@@ -95,7 +95,7 @@ impl MemoryFile {
         medium
     }
 
-    // Begins a call, and says what becomes of it.
+    // Begins a call, and returns its outcome.
     fn begin_call(&mut self) -> Turn
         ensures turn { result ≡ next_turn self.old }
         ensures past { self.new.past.items ≡ self.old.past.items ++ self.old.medium ∷ [] }
@@ -122,14 +122,14 @@ impl MemoryFile {
         turn
     }
 
-    // Whether a sync with this turn does its work.
+    // Returns whether a sync with this turn does its work.
     fn does_work(&self, turn: Turn) -> bool
         ensures { result ≡ does_work self.now turn }
     {
         !self.sync_failed && (turn.most > 0 || !turn.fails)
     }
 
-    // Ends a call that moved so many sectors, and fails or not.
+    // Ends a call that moved `count` sectors, with an error if `fails` is true.
     fn end_call(&mut self, fails: bool, count: usize) -> io::Result<usize>
         ensures ok { IfOk result (λ moved. moved ≡ count) }
         ensures few { moved result ≤ count }

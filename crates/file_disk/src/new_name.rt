@@ -1,4 +1,4 @@
-// A file that is made whole under another name before it gets its own.
+// A file that is made complete under another name before it gets its own name.
 
 use crate::locked::{TRIES, is_same_file};
 use crate::open::{OpenFault, is_free, open_folder};
@@ -10,27 +10,27 @@ use std::rt::Files;
 use std::{fs, io};
 use thiserror::Error;
 
-/// How many bytes a name has at most.
+/// The maximum length of a name in bytes.
 const LONGEST_NAME: usize = 255;
 
-/// What the other name ends in.
+/// The end of the other name.
 const ENDING: &str = ".rlibreg-new";
 
-/// Why a file that was made whole didn't get its name.
+/// Why a file that was made complete didn't get its name, or may lose it.
 #[derive(Clone, Copy, Debug, PartialEq, Eq, Error)]
 pub enum NameFault {
-    /// It didn't get it, and the file is gone.
+    /// The file didn't get its name, and it no longer exists.
     #[error("the file can't be given its name")]
     NotGiven,
-    /// It got it, but that may not outlast a power cut.
+    /// The file got its name, but the name may not outlast a power cut.
     #[error("the folder of the file can't be synced")]
     NotSynced,
 }
 
-/// The name that a file has yet to get. Its lock is held as long as this stands.
+/// The name that a file is still to get. The file stays locked as long as this value exists.
 ///
-/// The other name, in the same folder, is given and taken away only by who holds the lock of the
-/// file that it names.
+/// The other name is in the same folder. Only a process that holds the lock of the file under the
+/// other name gives the file its own name, or removes the other name.
 #[derive(Drop)]
 pub struct NewName<'a> {
     file: File,
@@ -38,7 +38,7 @@ pub struct NewName<'a> {
     path: &'a str,
 }
 
-/// The other name of a path's file, or nothing where the path ends in no name.
+/// Returns the other name for the file of `path`, or nothing if the path doesn't end in a name.
 fn other_name(alloc: Global, path: &str) -> Result<Option<String>, AllocError> {
     let Some(name) = Path::new(path).file_name() else {
         return Ok(None);
@@ -56,7 +56,7 @@ fn other_name(alloc: Global, path: &str) -> Result<Option<String>, AllocError> {
     Ok(Some(other))
 }
 
-/// Whether a name is that of an open file, and no link to it.
+/// Returns whether `name` is a name of the open file `file`, and not a symbolic link to it.
 fn is_name_of<R: Files>(rt: &R, name: &str, file: &File) -> bool {
     match (fs::symlink_metadata(rt, name), file.metadata()) {
         (Ok(named), Ok(open)) => is_same_file(&named, &open),
@@ -64,8 +64,9 @@ fn is_name_of<R: Files>(rt: &R, name: &str, file: &File) -> bool {
     }
 }
 
-/// Takes away a name that a process left which is gone: the file isn't written, since it may be a
-/// finished registry that has another name too. What is held, or no regular file, stays.
+/// Removes the other name if a process that has ended left it behind. The file isn't written,
+/// because it may be a finished registry that has another name too. A file that is locked, or isn't
+/// a regular file, stays.
 fn take_leftover<R: Files<File = File>>(rt: &R, other: &str) -> Result<(), OpenFault> {
     match fs::symlink_metadata(rt, other) {
         Ok(found) if found.is_file() => {}
@@ -86,7 +87,8 @@ fn take_leftover<R: Files<File = File>>(rt: &R, other: &str) -> Result<(), OpenF
     Ok(())
 }
 
-/// Locks a file that was just made. Nothing where another process took it for one that was left.
+/// Locks a file that was just made. Returns nothing if another process took the file for a
+/// leftover.
 fn lock_made<R: Files<File = File>>(
     rt: &R,
     other: &str,
@@ -96,7 +98,7 @@ fn lock_made<R: Files<File = File>>(
         Ok(()) if is_name_of(rt, other, &file) => Ok(Some(file)),
         Ok(()) | Err(TryLockError::WouldBlock) => Ok(None),
         Err(TryLockError::Error(_)) => {
-            // Nobody can lock it here.
+            // The file can't be locked here by any process.
             if is_name_of(rt, other, &file) {
                 let _ = fs::remove_file(rt, other);
             }
@@ -105,7 +107,7 @@ fn lock_made<R: Files<File = File>>(
     }
 }
 
-/// Makes an empty file under the other name, always anew, and locks it.
+/// Makes an empty file under the other name and locks it. The file is always a new one.
 fn make_locked<R: Files<File = File>>(rt: &R, other: &str) -> Result<File, OpenFault> {
     for _ in 0..TRIES {
         match File::create_new(rt, other) {
@@ -121,7 +123,7 @@ fn make_locked<R: Files<File = File>>(rt: &R, other: &str) -> Result<File, OpenF
     Err(OpenFault::CannotOpen)
 }
 
-/// Whether a hard link was refused since the file system has none.
+/// Returns whether a hard link was refused because the file system has no hard links.
 fn lacks_links(kind: ErrorKind) -> bool {
     matches!(
         kind,
@@ -129,7 +131,7 @@ fn lacks_links(kind: ErrorKind) -> bool {
     )
 }
 
-/// Whether the name that was given is on the medium.
+/// Returns Ok if both syncs succeeded: the new name is on the medium.
 fn both(first: io::Result<()>, second: io::Result<()>) -> Result<(), NameFault> {
     match (first, second) {
         (Ok(()), Ok(())) => Ok(()),
@@ -138,8 +140,8 @@ fn both(first: io::Result<()>, second: io::Result<()>) -> Result<(), NameFault> 
 }
 
 impl<'a> NewName<'a> {
-    /// Makes a file of so many bytes of zeros for a path where nothing stands, under its other
-    /// name, and gives it for reading and writing.
+    /// Makes a file of `bytes` bytes, all zero, under the other name of `path`. No file exists at
+    /// `path` yet. Returns the file, open for reading and writing.
     pub(crate) fn make<R: Files<File = File>>(
         rt: &R,
         alloc: Global,
@@ -165,7 +167,7 @@ impl<'a> NewName<'a> {
         self.file.try_clone()
     }
 
-    /// Takes the other name away: the file is gone once it is closed.
+    /// Removes the other name. The file no longer exists once it is closed.
     pub fn take_away<R: Files>(self, rt: &R) {
         let NewName { file, other, .. } = self;
         if is_name_of(rt, &other, &file) {
@@ -174,8 +176,8 @@ impl<'a> NewName<'a> {
         drop(file);
     }
 
-    /// Gives the file its name, where nothing stands there, and takes the other one away; then
-    /// syncs the folder. The file itself has been synced before.
+    /// Gives the file its name, if no file exists there, and removes the other name. Then syncs the
+    /// folder. The file itself must have been synced before.
     pub fn give<R: Files<File = File>>(self, rt: &R) -> Result<(), NameFault> {
         let Ok(folder) = open_folder(rt, self.path) else {
             return self.refuse(rt);
@@ -187,7 +189,7 @@ impl<'a> NewName<'a> {
             Ok(()) => both(fs::remove_file(rt, self.other.as_str()), folder.sync_all()),
             Err(fault) if lacks_links(fault.kind()) && is_free(rt, self.path) => {
                 match fs::rename(rt, self.other.as_str(), self.path) {
-                    // FAT keeps a file's length beside its name.
+                    // FAT keeps a file's length next to its name.
                     Ok(()) => both(self.file.sync_all(), folder.sync_all()),
                     Err(_) => self.refuse(rt),
                 }

@@ -1,5 +1,5 @@
-//! The program `growths`: takes a registry on a disk in memory through each of its calls, and tells
-//! what is answered, and what stands afterwards, where a growth of memory is refused.
+//! The program `growths`: makes each call of a registry on a disk in memory, and prints the
+//! answers, and the state afterwards, if a growth (a request for memory) is refused.
 #![tactic(auto)]
 
 mod asked;

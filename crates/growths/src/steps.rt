@@ -1,8 +1,8 @@
-// The commands, one after the other, with what each is answered where no growth is refused.
+// The commands, one after the other, with their answers if no growth is refused.
 
 use crate::asked::Asked;
 
-/// A command's name, the command, and what it is answered.
+/// A command's name, the command, and its answer.
 pub(crate) type Step = (&'static str, Asked, &'static str);
 
 /// The commands, in their order. At the end a and b are installed, and b is the preload.

@@ -1,4 +1,4 @@
--- The path of a walk: one index more, one index less, and a path through all indices.
+-- The path of a walk: one more index, one index less, and a path through all indices.
 use Rattle.std.proofs.Common.{◌≡◌, ◌≢◌, ℕ, true, false, ◌<◌, ◌+◌, List, [], ◌∷◌, ◌++◌, length, arith, refl, ◌∙◌, sym, ap, subst, Some, None, inl, inr}
 use Rattle.std.specs.Prelude.{Option, slice_index}
 use Rattle.std.specs.Option.{is_some}
@@ -48,14 +48,14 @@ path-front c from front i h = record {
   before = λ k lt. let less : k < length (front ++ i ∷ []) = omega (arith, length_push front i) in h.before k less;
 }
 
--- a path through as many indices as there are isn't that of a walk that ends
+-- a path through as many indices as there are chain words isn't that of a walk that ends
 pub path-full : (c : List ℕ) (from : ℕ) (path : List ℕ) → AreIndices (length c) c → from < length c → IsPath c from path → length path ≡ length c → Ends c from → ⊥
 path-full c from path words lt h full ends =
     let d = depth-from-ends c from ends in
     let small : d.0 < length path = omega (arith, depth-small c from d.0 words lt d.1) in
     h.before d.0 small d.1.arrives
 
--- the index that is taken from a path
+-- an index that is taken from a path is an index of the table
 pub popped-index : (c : List ℕ) (from : ℕ) (path front : List ℕ) (i : ℕ) → AreIndices (length c) c → from < length c → IsPath c from path → path ≡ front ++ i ∷ [] → i < length c
 popped-index c from path front i words lt h e =
     subst (λ j. j < length c) (sym (path-last c from front i (subst (IsPath c from) e h))) (walk-index c from (length front) words lt)
@@ -66,7 +66,7 @@ popped-known c ps from path front i h known e =
     let longer : length path ≡ length front + 1 = ap length e ∙ length_push front i in
     subst (Known ps) (ap (walk c from) longer ∙ walk-next c from (length front) ∙ ap (slice_index c) (sym (path-last c from front i (subst (IsPath c from) e h)))) known
 
--- what has no place isn't 0
+-- a test for a place finds only indices that have one
 pub known-tested : (ps : List (Option Place)) (i : ℕ) (o : Option Place) → o ≡ place_at ps i → is_some o ≡ true → Known ps i
 known-tested ps i None e t = let f : false ≡ true = t in absurd (cc)
 known-tested ps i (Some p) e t = record { place = p; is = sym e }

@@ -1,4 +1,4 @@
--- The indices on a walk that ends, and how far a search along it has come.
+-- The indices on a walk that ends, and the progress of a search along it.
 use Rattle.std.proofs.Common.{◌≡◌, ◌≢◌, ℕ, ◌<◌, ◌≤◌, ◌+◌, Bool, true, false, cond, List, length, map, take, arith, refl, ◌∙◌, sym, ap, inl, inr, suc, zero, eqb, below_more}
 use Rattle.std.specs.Prelude.{not}
 use Rattle.std.specs.List.{take_while, prefix_len, range_with_len}
@@ -12,7 +12,7 @@ use Rattle.hash_check.specs.Search.{up_to}
 use Rattle.hash_check.specs.inside.Places.{Depth}
 use Rattle.hash_check.proofs.Walks.{depth-small, depth-from-ends}
 
--- a test along the values of a function, by its answers before the d-th and there
+-- the number of elements before the first that fails a test, along the values of a function
 prefix : (p : ℕ → Bool) (f : ℕ → ℕ) (a n d : ℕ) → d < n → ((k : ℕ) → k < d → p (f (a + k)) ≡ true) → p (f (a + d)) ≡ false → prefix_len p (map f (range_with_len a n)) ≡ d
 prefix p f a zero d lt before at = absurd (omega arith)
 prefix p f a (suc n) zero lt before at =
@@ -62,7 +62,7 @@ walked-is c from d words lt h =
     (λ k less. ap (λ j. not (eqb (walk c from j) 0)) (bare k) ∙ ap not (unequal (walk c from k) (h.before k less)))
     (ap (λ j. not (eqb (walk c from j) 0)) (bare d) ∙ ap (λ w. not (eqb w 0)) h.arrives)
 
--- what is known where a search has compared so many names and found nothing: they were those of the walk before 0
+-- a search has compared `n` symbols and found none: they are the first `n` of the walk, before 0
 pub record Searching (c : List ℕ) (from n : ℕ) (p : ℕ → Bool) : Type 0 where
   pub before : (k : ℕ) → k < n → walk c from k ≢ 0
   pub missed : (k : ℕ) → k < n → p (walk c from k) ≡ false
@@ -102,7 +102,7 @@ compared-miss c from n p words lt h z =
     let bare : (k : ℕ) → 0 + k ≡ k = λ k. omega arith in
     sym (ap (up_to p) (walked-is c from n words lt (depth-here c from n p h z)) ∙ miss p (walk c from) 0 n (λ k lt. ap (λ j. p (walk c from j)) (bare k) ∙ h.missed k lt))
 
--- one index more that isn't the one
+-- the same after one more symbol that isn't the one
 pub searching-more : (c : List ℕ) (from n : ℕ) (p : ℕ → Bool) → Searching c from n p → walk c from n ≢ 0 → p (walk c from n) ≡ false → Searching c from (n + 1) p
 searching-more c from n p h some missed = record {
   before = below_more (λ k. walk c from k ≢ 0) n h.before some;

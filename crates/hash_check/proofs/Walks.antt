@@ -38,7 +38,7 @@ pub walk-index : (c : List ℕ) (v n : ℕ) → AreIndices (length c) c → v < 
 walk-index c v zero words lt = rw (walk-zero c v) lt
 walk-index c v (suc n) words lt = rw (walk-suc c v n) (walk-index c (slice_index c v) n words (words v 0 lt))
 
--- the walk from further along
+-- the rest of a walk, from an index further along
 pub depth-along : (c : List ℕ) (v d k : ℕ) → Depth c v d → k ≤ d → Depth c (walk c v k) (d - k)
 depth-along c v d k h le = record {
   arrives = let e : k + (d - k) ≡ d = omega arith in sym (walk-add c v k (d - k)) ∙ ap (walk c v) e ∙ h.arrives;
@@ -48,7 +48,7 @@ depth-along c v d k h le = record {
 pub depth-zero : (c : List ℕ) → Depth c 0 0
 depth-zero c = record { arrives = walk-zero c 0; before = λ k lt z. absurd (omega arith) }
 
--- one index more in front of a walk
+-- a walk with one more index at its front
 nonzero-before : (c : List ℕ) (v e : ℕ) → v ≢ 0 → Depth c (slice_index c v) e → (k : ℕ) → k < e + 1 → walk c v k ≢ 0
 nonzero-before c v e some h zero lt z = some (sym (walk-zero c v) ∙ z)
 nonzero-before c v e some h (suc k) lt z = let below : k < e = omega arith in h.before k below (sym (walk-suc c v k) ∙ z)
@@ -68,7 +68,7 @@ depth-unique c v d e h i = elim (cases_lt d e) [
   ]
 ]
 
--- a walk that ends has a first 0
+-- a walk that ends reaches 0 a first time
 pub depth-from-steps : (c : List ℕ) (v n : ℕ) → walk c v n ≡ 0 → (d : ℕ) × Depth c v d
 depth-from-steps c v zero z = (0, subst (λ w. Depth c w 0) (sym (sym (walk-zero c v) ∙ z)) (depth-zero c))
 depth-from-steps c v (suc n) z = elim (cases_eq v 0) [

@@ -1,11 +1,11 @@
--- Numbers that tell names from one another (own).
+-- Numbers that distinguish names (own).
 use Rattle.std.specs.Prelude.{ℕ, List, [], ◌≡◌, ◌<◌, ◌≤◌, ◌+◌, ◌-◌, length, slice_index, slice_index_or}
 
--- the name of a number
+-- name number `k`
 abbrev pub nth_text : List (List ℕ) → ℕ → List ℕ
 nth_text names k = slice_index_or names k []
 
--- each name has the number of one that is the same, counted from 1, and the same names have the same number
+-- each name has the number, counted from 1, of a name that is the same; names that are the same have the same number
 pub record AreNumbers (names : List (List ℕ)) (numbers : List ℕ) : Type 0 where
   pub size : length numbers ≡ length names
   pub some : (k : ℕ) → k < length names → 1 ≤ slice_index numbers k

@@ -1,8 +1,8 @@
 //! Admission of a shared object, and the search for a name by its hash table (System V gABI
 //! chapters 4 and 5).
 //!
-//! `Admitted::admit` takes an object exactly where it exports no name twice and its hash table can
-//! be trusted: then `find` gives, for every list of bytes, the symbol that the object exports
+//! `Admitted::admit` accepts an object exactly if it exports no name twice and its hash table can
+//! be trusted. Then `find` returns, for every list of bytes, the symbol that the object exports
 //! under that name.
 #![tactic(auto)]
 

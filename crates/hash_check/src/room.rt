@@ -1,12 +1,12 @@
-// How many bytes of names are read one by one.
+// A limit for the bytes of names that are read one by one.
 
 ghost use Rattle.std.specs.Prelude.{◌≡◌, ◌≤◌, ◌↔◌, ◌-◌, IsTrue};
 
 use std::marker::Model;
 
-/// How many bytes of names are still read one by one. Names of which none is a tail of another one
-/// have no more bytes than their string tables: so where they have more than twice as many, and 64
-/// KiB, many share bytes.
+/// The number of bytes of names that may still be read one by one. Names have no more bytes than
+/// their string tables if none of them is a tail of another. So if names have more than twice as
+/// many bytes, plus 64 KiB, many of them share bytes.
 #[derive(Drop)]
 pub struct Room {
     left: usize,
@@ -21,7 +21,7 @@ impl Model for Room {
 }
 
 impl Room {
-    /// Room for the names of string tables that have so many bytes.
+    /// Makes room for the names of string tables that have `size` bytes.
     pub fn new(size: usize) -> Room
         ensures { size ≤ result }
     {
@@ -29,7 +29,8 @@ impl Room {
         Room { left }
     }
 
-    /// Takes as many bytes as a name has, and says whether there were so many.
+    /// Takes the `length` bytes of a name from the room, and returns whether the room had that
+    /// many.
     pub fn take(&mut self, length: usize) -> bool
         ensures fits { IsTrue result ↔ length ≤ self.old }
         ensures left { self.new ≡ self.old - length }

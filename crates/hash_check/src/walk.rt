@@ -1,4 +1,4 @@
-// The walks of a hash table, each chain word followed once.
+// The walks of a hash table. Each chain word is followed once.
 
 ghost use Rattle.std.specs.Prelude.{◌≡◌, ◌<◌, ◌^◌, [], length, IsTrue, IfOk};
 ghost use Rattle.std.specs.Prelude.{MatchBool};
@@ -11,9 +11,9 @@ use crate::jump::place_before;
 use crate::place::{Place, place_of};
 use std::alloc::AllocError;
 
-/// Follows the walk from an index up to one that has a place, and puts the indices before it on the
-/// path. Answers whether the walk ends: one that doesn't fills the path with as many indices as
-/// there are chain words.
+/// Follows the walk from `from` up to an index that has a place, and puts the indices before it on
+/// the path. Returns whether the walk ends. A walk that doesn't end fills the path with as many
+/// indices as there are chain words.
 fn climb(
     places: &[Option<Place>],
     path: &mut Vec<u32>,
@@ -41,7 +41,8 @@ fn climb(
     Ok(true)
 }
 
-/// Gives places to the indices of the path from an index, the last one first.
+/// Gives places to the indices of the path, which begins at `from`. The last index gets its place
+/// first.
 fn settle(places: &mut [Option<Place>], path: &mut Vec<u32>, chains: &Chains<'_, '_>, from: u32)
     requires words { AreIndices (length chains.now) chains.now }
     requires size { length places.old ≡ length chains.now }
@@ -61,7 +62,8 @@ fn settle(places: &mut [Option<Place>], path: &mut Vec<u32>, chains: &Chains<'_,
     }
 }
 
-/// Gives places to all indices on the walk from an index, and answers whether it ends.
+/// Gives places to all indices on the walk from `from` if the walk ends, and returns whether it
+/// does.
 pub(crate) fn follow(
     places: &mut [Option<Place>],
     path: &mut Vec<u32>,

@@ -1,4 +1,4 @@
--- The answers for a program, from those of its parts.
+-- The answers about a program, from those of its parts.
 use Rattle.std.proofs.Common.{◌≡◌, ℕ, Bool, true, false, List, [], ◌∷◌, Option, Some, None, refl, ap, ◌∙◌, inl, inr}
 use Rattle.std.specs.Prelude.{not}
 use Rattle.std.specs.Option.{option_map}
@@ -23,7 +23,7 @@ behind-by (Some r) good rest taken at = cc
 behind-by None false rest taken at = cc
 behind-by None true rest taken at = refl
 
--- where the file is taken and the base is good, the others decide
+-- if the file is accepted and the base is good, the other tests decide
 pub behind : (file : List ℕ) (base : ℕ) (libraries : List Named) (preloads : List ℕ) → first_file_refusal file ≡ None → is_good_base file base ≡ true
     → bind_refusal file base libraries preloads
     ≡ first_of (option_map missing_by (missing file libraries preloads) ∷ placed_refusal (objects_of file base libraries preloads) ∷ [])
@@ -36,7 +36,7 @@ alone-by : (o : Option BindRefusal) → first_of (o ∷ []) ≡ o
 alone-by None = refl
 alone-by (Some e) = refl
 
--- a program that is taken by itself
+-- the file of a program that isn't refused by itself is accepted
 pub program-taken : (file : List ℕ) (base : ℕ) → program_refusal file base ≡ None → first_file_refusal file ≡ None
 unfolding program_refusal
 program-taken file base h = by (first_file_refusal file) (is_good_base file base) h
@@ -66,7 +66,7 @@ own-first file base libraries preloads e h =
     by None false rest h = h
     by None true rest h = cc
 
--- the answer where a program isn't taken by itself
+-- the answer if a program is refused by itself
 pub program-answer : (file : List ℕ) (base : ℕ) (libraries : List Named) (preloads : List ℕ) (e : BindRefusal) → IsProgramAnswer file base e
     → IsAnswer file base libraries preloads e
 program-answer file base libraries preloads (Program r) h = own-first file base libraries preloads (Program r) h
@@ -76,14 +76,14 @@ program-answer file base libraries preloads NoRoom h = own-first file base libra
 program-answer file base libraries preloads (Undefined object symbol) h = own-first file base libraries preloads (Undefined object symbol) h
 program-answer file base libraries preloads OutOfMemory h = h
 
--- a library is missing
+-- the refusal if a library is missing
 missing-is : (file : List ℕ) (base : ℕ) (libraries : List Named) (preloads : List ℕ) (need : Need) → first_file_refusal file ≡ None → is_good_base file base ≡ true
     → missing file libraries preloads ≡ Some need → bind_refusal file base libraries preloads ≡ Some (missing_by need)
 missing-is file base libraries preloads need taken good h =
     behind file base libraries preloads taken good
     ∙ ap (λ m. first_of (option_map missing_by m ∷ placed_refusal (objects_of file base libraries preloads) ∷ [])) h
 
--- none is
+-- the refusal if no library is missing
 pub placed-is : (file : List ℕ) (base : ℕ) (libraries : List Named) (preloads : List ℕ) → first_file_refusal file ≡ None → is_good_base file base ≡ true
     → missing file libraries preloads ≡ None → bind_refusal file base libraries preloads ≡ placed_refusal (objects_of file base libraries preloads)
 placed-is file base libraries preloads taken good h =
@@ -91,7 +91,7 @@ placed-is file base libraries preloads taken good h =
     ∙ ap (λ m. first_of (option_map missing_by m ∷ placed_refusal (objects_of file base libraries preloads) ∷ [])) h
     ∙ alone-by (placed_refusal (objects_of file base libraries preloads))
 
--- the answer where there is no load order
+-- the answer if there is no load order
 pub order-answer : (file : List ℕ) (base : ℕ) (libraries : List Named) (preloads : List ℕ) (e : OrderRefusal) → first_file_refusal file ≡ None
     → is_good_base file base ≡ true → IsRefusal (missing file libraries preloads) e → IsAnswer file base libraries preloads (of_order e)
 order-answer file base libraries preloads (order.Missing needer name) taken good h =
@@ -116,14 +116,14 @@ memory-by file base libraries preloads NoRoom w h = cc
 memory-by file base libraries preloads (Undefined object symbol) w h = cc
 memory-by file base libraries preloads OutOfMemory w h = w
 
--- the answer where its objects aren't bound
+-- the answer if the program's objects aren't bound
 pub placed-answer : (file : List ℕ) (base : ℕ) (libraries : List Named) (preloads : List ℕ) (e : BindRefusal) → first_file_refusal file ≡ None
     → bind_refusal file base libraries preloads ≡ placed_refusal (objects_of file base libraries preloads)
     → IsPlacedAnswer (objects_of file base libraries preloads) e → IsAnswer file base libraries preloads e
 placed-answer file base libraries preloads e taken is (inl h) = answer-by file base libraries preloads e (taken_with_memory file taken) (is ∙ h)
 placed-answer file base libraries preloads e taken is (inr h) = memory-by file base libraries preloads e (taken_with_memory file taken) h.0
 
--- an answer of the tests behind those of the program
+-- an answer of the tests after those of the program
 pub later-answer : (file : List ℕ) (base : ℕ) (libraries : List Named) (preloads : List ℕ) (e : BindRefusal) → first_file_refusal file ≡ None → is_good_base file base ≡ true
     → IsFirstOrWantsMemory (first_of (option_map missing_by (missing file libraries preloads) ∷ placed_refusal (objects_of file base libraries preloads) ∷ [])) e
     → IsAnswer file base libraries preloads e

@@ -25,7 +25,7 @@ one-more ws (Some w) old a =
     ap (λ l. written_or (find (λ w. within w.place 8 a) l) old a) (reverse-append ws (w ∷ []))
     ∙ last-by w (last_write_at ws a) old a (within w.place 8 a)
 
--- the last write after one relocation more: that relocation's, where it writes at the address
+-- the last write after one more relocation: that relocation's, if it writes at the address
 pub written_or-more : (f : Relocation → Option Write) (rs : List Relocation) (r : Relocation) (old : Option ℕ) (a : ℕ)
     → written_or (last_write_at (filter_map f (rs ++ r ∷ [])) a) old a ≡ after (f r) (written_or (last_write_at (filter_map f rs) a) old a) a
 written_or-more f rs r old a =
@@ -36,7 +36,7 @@ then-by : (o old : Option Write) (loaded : Option ℕ) (a : ℕ) → written_or 
 then-by (Some w) old loaded a = refl
 then-by None old loaded a = refl
 
--- the last write of some, and of others behind them
+-- the last write of some writes, and of others after them
 pub written_or-then : (ws vs : List Write) (old : Option ℕ) (a : ℕ)
     → written_or (last_write_at (ws ++ vs) a) old a ≡ written_or (last_write_at vs a) (written_or (last_write_at ws a) old a) a
 written_or-then ws vs old a =
@@ -45,13 +45,13 @@ written_or-then ws vs old a =
     ∙ ap (λ o. written_or o old a) (find-append p (reverse vs) (reverse ws))
     ∙ then-by (last_write_at vs a) (last_write_at ws a) old a
 
--- so many places, and the next one
+-- the first n numbers, and the next one
 pub places-more : (n : ℕ) → range_with_len 0 (n + 1) ≡ range_with_len 0 n ++ n ∷ []
 places-more n =
     sym (map-id (range_with_len 0 (n + 1))) ∙ map-range_with_len_more (λ (k : ℕ). k) 0 n n (omega arith)
     ∙ ap (λ ks. ks ++ n ∷ []) (map-id (range_with_len 0 n))
 
--- what the relocations of so many objects write, and those of the next one
+-- what the relocations of the first n objects write, and those of the next object
 pub writes-more : (f : ℕ → List Write) (n : ℕ) → flat_map f (range_with_len 0 (n + 1)) ≡ flat_map f (range_with_len 0 n) ++ f n
 writes-more f n =
     ap (flat_map f) (places-more n) ∙ flat_map-append f (range_with_len 0 n) (n ∷ [])

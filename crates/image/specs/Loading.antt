@@ -8,7 +8,7 @@ use Rattle.image.specs.Heading.{Heading, holds}
 use Rattle.image.specs.Permissions.{permission_bits}
 use Rattle.image.specs.Placement.{Placed}
 
--- a PT_LOAD in memory: its heading, and the first of its bytes, which the file has
+-- a PT_LOAD in memory: its heading, and the bytes that come from the file, which are its first
 pub record Loaded : Type 0 where
   pub heading : Heading
   pub contents : List ℕ
@@ -29,11 +29,11 @@ loaded_of object = map (loaded_at object.base object.file) (loads object.file)
 abbrev pub all_loaded : List Placed → List Loaded
 all_loaded objects = flat_map loaded_of objects
 
--- byte i of a PT_LOAD: the file's, and 0 behind the file's bytes
+-- byte i of a PT_LOAD: the file's, or 0 after the file's bytes
 abbrev pub loaded_byte : Loaded → ℕ → ℕ
 loaded_byte s i = if nat_lt i (length s.contents) then slice_index s.contents i else 0
 
--- the byte that loading puts at an address, where a PT_LOAD holds it
+-- the byte that loading puts at an address, if a PT_LOAD holds it
 abbrev pub loaded_byte_at : List Loaded → ℕ → Option ℕ
 loaded_byte_at segments address =
     option_map (λ s. loaded_byte s (address - s.heading.address)) (find (λ s. holds address s.heading) segments)

@@ -1,7 +1,9 @@
-//! A registry as a plain list of names and bytes, with which cuts compare a registry on a disk.
+//! A registry as a plain list of names and bytes, with which tests of stops compare a registry on a
+//! disk.
 //!
-//! It shares with that registry the words of commands and replies, and what admits a file and binds
-//! a program; none of its tests of a command, and not the step table, whose faults it shows.
+//! It shares with that registry the types of commands and replies, and the code that admits a file
+//! and binds a program. It shares none of the tests of a command, and not the step table, so it
+//! shows faults in these.
 #![tactic(auto)]
 
 mod libraries;

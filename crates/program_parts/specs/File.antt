@@ -1,6 +1,6 @@
--- Which files are read.
+-- The files that are read.
 use Rattle.std.specs.Prelude.{ℕ}
 
--- the length from which on a file isn't read: 1 GiB
+-- a file of this length or more isn't read: 1 GiB
 abbrev pub read_limit : ℕ
 read_limit = 1073741824

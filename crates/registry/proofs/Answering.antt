@@ -7,7 +7,7 @@ use Rattle.requests.specs.declared.reply.Reply.{Reply}
 use Rattle.registry.specs.Answered.{Answered, AreAnswered}
 
 module _ {D : Type 0} (facts : D → DiskFacts) where
-  -- one answer more
+  -- after one more answer
   pub answered_more : (old mid new : Opened D) (qs : List Request) (rs : List Reply) (q : Request) (r : Reply) → AreAnswered facts old mid qs rs → Answered facts mid new q r
       → AreAnswered facts old new (qs ++ q ∷ []) (rs ++ r ∷ [])
   answered_more old mid new [] [] q r so_far answered = (new, subst (λ k. Answered facts k new q r) so_far answered, refl)

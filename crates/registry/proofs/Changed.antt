@@ -1,4 +1,4 @@
--- What a change answers on any disk, by what the store answered.
+-- The answer of a change on any disk, given what the store answered.
 use Rattle.std.proofs.Common.{◌≡◌, ◌≢◌, ◌↔◌, ◌∙◌, ◌<◌, ℕ, List, length, Result, Ok, Err, IfErr, IsTrue, IsFalse, refl, sym, ap, subst, arith}
 use Rattle.std.specs.Prelude.{OnOk}
 use Rattle.std.proofs.lemmas.Bool.{false≢true}
@@ -32,11 +32,11 @@ change_may e.Reopen may = tt
 change_may e.GenerationEnd may = tt
 change_may other may = absurd may
 
--- and want of memory is none of them.
+-- and refused memory is none of them.
 pub change_ample : (answer : Result (Unit {0}) StoreRefusal) → IfErr answer IsRefusalOfChange → answer ≡ Err e.OutOfMemory → ⊥
 change_ample answer refused is = subst (λ a. IfErr a IsRefusalOfChange) is refused
 
--- the store's refusals of each change, in the registry's words
+-- the store's refusals of each change, as refusals of the registry
 pub install_may : (refusal : StoreRefusal) → IsRefusalOfPutNew refusal → IsInstallRefusal (refusal_of refusal)
 install_may e.Device may = tt
 install_may e.Reopen may = tt
@@ -68,7 +68,7 @@ preloads_may e.Reopen may = tt
 preloads_may e.GenerationEnd may = tt
 preloads_may other may = absurd may
 
--- no other refusal has the word of a failing device, or of a store that has to be opened again
+-- only S1 of the store becomes S1, and only S2 becomes S2
 device_alone : (refusal : StoreRefusal) → refusal_of refusal ≡ Device → refusal ≡ e.Device
 device_alone e.Device is = refl
 device_alone other is = cc
@@ -80,20 +80,20 @@ reopen_alone other is = cc
 same_refusal : {A : Type 0} (r s : Refusal) → ◌≡◌ {A = Result A Refusal} (Err r) (Err s) → r ≡ s
 same_refusal r s is = cc
 
--- what a file that is no library is refused with
+-- the refusals of a file that is no library
 pub library_refused : (bytes : List ℕ) (refusal : Refusal) → IsLibraryRefusal bytes refusal
     → (refusal ≢ Reopen) × (refusal ≢ Device) × IsInstallRefusal refusal × IsReplaceRefusal refusal
 library_refused bytes (Object refusal) is = (λ same. cc, λ same. cc, tt, tt)
 library_refused bytes OutOfMemory is = (λ same. cc, λ same. cc, tt, tt)
 library_refused bytes other is = absurd is
 
--- a change is answered by its result
+-- a change is answered with its result
 pub change_answers : (Refuses : Refusal → Type 0) (answer : Result (Unit {0}) Refusal) → IfErr answer Refuses → IsChangeAnswer Refuses (answer_of answer)
 change_answers Refuses (Ok done) may = tt
 change_answers Refuses (Err refusal) may = may
 
 module _ {D : Type 0} (facts : D → DiskFacts) where
-  -- it was refused before the store was asked, as a test told,
+  -- it was refused before the store was asked, by a test,
   pub changed_none : {A : Type 0} (store : Opened D) {most : ℕ} {Refuses : Refusal → Type 0} (refusal : Refusal) → (◌≡◌ {A = Result A Refusal} (Err refusal) (Err Reopen) ↔ IsTrue store.failed)
       → (◌≡◌ {A = Result A Refusal} (Err refusal) (Err Device) → ⊥) → Refuses refusal → Changed facts Device Reopen store store most Refuses (Err refusal)
   changed_none store refusal reopen other may = record {
@@ -106,7 +106,7 @@ module _ {D : Type 0} (facts : D → DiskFacts) where
     calls = exactly_at_most (exactly_none (facts store.disk)) (omega arith);
   }
 
-  -- or because it has to be opened again,
+  -- or because the disk has to be opened again,
   pub changed_reopen : (store : Opened D) {most : ℕ} {Refuses : Refusal → Type 0} → IsTrue store.failed → Refuses Reopen → Changed facts Device Reopen store store most Refuses (Err Reopen)
   changed_reopen store failed may = changed_none {A = Unit {0}} store Reopen (λ is. failed, λ is. refl) (λ is. cc) may
 
@@ -139,14 +139,14 @@ module _ {D : Type 0} (facts : D → DiskFacts) where
     calls = changed.calls;
   }
 
-  -- an accepted change made its calls, which the number of libraries tells
+  -- an accepted change made its calls, whose number follows from the number of libraries
   pub calls_accepted : (old new : Opened D) (s : State) → IsAt facts old s → (IsTrue (facts old.disk).honest → HoldsNow (facts old.disk)) → (calls : ℕ → ℕ) (answer : Result (Unit {0}) Refusal)
       → OnOk answer (AreCallsExactly (calls (length old.entries)) (facts old.disk) (facts new.disk))
       → IfAccepted (answer_of answer) (AreCallsExactly (calls (length s.libraries)) (facts old.disk) (facts new.disk))
   calls_accepted old new s at holds calls (Ok done) made = subst (λ n. AreCallsExactly (calls n) (facts old.disk) (facts new.disk)) (count_is facts old s at holds) made
   calls_accepted old new s at holds calls (Err refusal) made = tt
 
-  -- the calls of a command and its answer by other words
+  -- the number of calls of the same command and answer under other names
   pub calls_as : (old new : Opened D) (s : State) {q q' : Request} {r r' : Reply} → q' ≡ q → r' ≡ r
       → IfAccepted r (AreCallsExactly (calls_of s q) (facts old.disk) (facts new.disk)) → IfAccepted r' (AreCallsExactly (calls_of s q') (facts old.disk) (facts new.disk))
   calls_as old new s {q = q} {r' = r'} asked told made =

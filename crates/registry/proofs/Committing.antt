@@ -1,4 +1,4 @@
--- The commit of an update, and what gives one up, are exchanges of a run.
+-- The commit of an update is an exchange of a run, and so is giving an update up.
 use Rattle.std.proofs.Common.{◌≡◌, ◌⊎◌, ℕ, inl, inr, ⊎_elim, List, [], ◌∷◌, Result, Ok, Err, All, IsTrue, refl, sym, ap, subst}
 use Rattle.std.specs.Prelude.{OnOk}
 use Rattle.std.specs.List.{list_any}
@@ -30,11 +30,11 @@ use Rattle.registry.specs.Updating.{DraftAnswers, IsUpdate, Plans, asks_change, 
 use Rattle.registry.proofs.Changed.{changed_in_words}
 use Rattle.registry.proofs.Updating.{begun_at, each_next, is_update, plans_moment}
 
--- the same of registries, where each file is a library
+-- the same of registries whose files are all libraries
 listed : (m : List Sector) (s : State) → All IsLibrary s.libraries → sectors.Stands m s → Stands m s
 listed m s libraries stands = record { stored = stands; libraries = libraries }
 
--- what the store answers to a commit, in the registry's words
+-- the store's answer to a commit, as an answer of the registry
 pub ok_in_words : (P : Type 0) (answer : Result (Unit {0}) StoreRefusal) → OnOk answer P → OnOk (in_words answer) P
 ok_in_words P (Ok done) h = h
 ok_in_words P (Err refusal) h = tt
@@ -48,13 +48,13 @@ pub committed_in_words : {D : Type 0} (facts : D → DiskFacts) {old new : Opene
     → Changed facts Device Reopen old new most (λ refusal. (refusal ≡ Device) ⊎ (refusal ≡ Reopen)) (in_words answer)
 committed_in_words facts answer changed = changed_in_words facts (λ refusal. (refusal ≡ Device) ⊎ (refusal ≡ Reopen)) commit_may answer changed
 
--- a draft of what stands was begun on a registry at a state
+-- a draft of the current state was begun on a registry at a state,
 module _ {D : Type 0} (facts : D → DiskFacts) (old : Opened D) (s : State) (at : IsAt facts old s) (holds : IsTrue (facts old.disk).honest → HoldsNow (facts old.disk))
     (requests : List Request) (answers : List Reply) (u : Drafted D) where
   starts : IsDraftedAt facts (begun old) s s
   starts = begun_at facts s old holds at.stored
 
-  -- its requests were planned
+  -- requests to it were planned,
   module _ (plans : Plans facts (begun old) u requests answers) where
     pub planned : IsUpdate facts (begun old) u s requests answers
     planned = is_update facts s (begun old) u requests answers refl starts plans
@@ -68,7 +68,7 @@ module _ {D : Type 0} (facts : D → DiskFacts) (old : Opened D) (s : State) (at
     abbrev MayLeave : List Sector → Type 0
     MayLeave m = Stands m s ⊎ Stands m to
 
-    -- and committed
+    -- and it was committed
     module _ (new : Opened D)
         (left : LeavesOnly (facts u.store.disk) (facts new.disk) (λ m. sectors.Stands m s ⊎ sectors.Stands m (committed u.touched s (drafted_by s requests)))) where
       any_moment : LeavesOnly (facts old.disk) (facts new.disk) MayLeave
@@ -106,7 +106,7 @@ module _ {D : Type 0} (facts : D → DiskFacts) (old : Opened D) (s : State) (at
             },
           )
 
-  -- what stands does so still, and the draft is at some state, or a write of it failed
+  -- the current state stays, and the draft is at some state, or a write of it failed
   abbrev Stays : Drafted D → Type 0
   Stays v = LeavesOnly (facts old.disk) (facts v.store.disk) (λ m. sectors.Stands m s) × (((d : State) × IsDraftedAt facts v s d) ⊎ IsTrue v.store.failed)
 

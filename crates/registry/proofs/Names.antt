@@ -22,7 +22,7 @@ pub isnt_true : (a : Bool) → (a ≡ true → ⊥) → a ≡ false
 isnt_true true h = absurd (h refl)
 isnt_true false h = refl
 
--- tests that pass together
+-- two tests are equal if each passes whenever the other does
 pub same_tests : (a b : Bool) → (a ≡ true → b ≡ true) → (b ≡ true → a ≡ true) → a ≡ b
 same_tests true b to from = sym (to refl)
 same_tests false true to from = from refl
@@ -35,20 +35,20 @@ count_names libraries = length-map libraries (λ l. l.name)
 pub name_at : (s : State) (i : ℕ) (d : List ℕ) → i < length s.libraries → get_or (names_of s.libraries) i d ≡ (get_or s.libraries i no_library).name
 name_at s i d lt = get_or-map (λ l. l.name) s.libraries i no_library d lt
 
--- a name that stands at a position is installed,
+-- a name at a position is installed,
 pub name_stands : (s : State) (name : List ℕ) (i : ℕ) → i < length s.libraries → (get_or s.libraries i no_library).name ≡ name → has_name (names_of s.libraries) name ≡ true
 name_stands s name i lt is =
     list_any_at (bytes_eq name) (names_of s.libraries) i [] (omega (arith, lt, count_names s.libraries))
     ((bytes_eq-Decides name (get_or (names_of s.libraries) i [])).1 (sym (name_at s i [] lt ∙ is)))
 
--- and one that stands nowhere isn't
+-- and a name at no position isn't
 pub name_nowhere : (s : State) (name : List ℕ) → ((i : ℕ) → i < length s.libraries → (get_or s.libraries i no_library).name ≡ name → ⊥) → has_name (names_of s.libraries) name ≡ false
 name_nowhere s name none = list_any_none (bytes_eq name) (names_of s.libraries) (λ k d lt.
     let within : k < length s.libraries = omega (arith, lt, count_names s.libraries) in
     isnt_true (bytes_eq name (get_or (names_of s.libraries) k d))
     (λ yes. none k within (sym ((bytes_eq-Decides name (get_or (names_of s.libraries) k d)).0 yes ∙ name_at s k d within))))
 
--- a position stands among others where its name does
+-- a position is among the positions of the preloads exactly if its name is among their names
 pub same_preload : (s : State) (name : List ℕ) (position : ℕ) (positions : List ℕ) → All (λ p. p < length s.libraries) positions
     → ((p : ℕ) → (position ≡ p) ↔ ((p < length s.libraries) × ((get_or s.libraries p no_library).name ≡ name)))
     → list_any (λ p. p == position) positions ≡ has_name (names_at s.libraries positions) name
@@ -61,7 +61,7 @@ same_preload s name position (p ∷ positions) inside at =
     let there = same_preload s name position positions (All-tail (λ p. p < length s.libraries) p positions inside) at in
     λ i. here i || there i
 
--- where names are those at some positions, none of them is lacking
+-- no name at one of these positions is lacking
 pub none_lacks : (s : State) (positions : List ℕ) → All (λ p. p < length s.libraries) positions → list_any (λ name. not (has_name (names_of s.libraries) name)) (names_at s.libraries positions) ≡ false
 none_lacks s [] inside = refl
 none_lacks s (p ∷ positions) inside =
@@ -69,7 +69,7 @@ none_lacks s (p ∷ positions) inside =
     let there = none_lacks s positions (All-tail (λ p. p < length s.libraries) p positions inside) in
     λ i. not (here i) || there i
 
--- one library more is listed
+-- the listing after one more library,
 pub listed_more : (s : State) (i : ℕ) (items : List (List ℕ × ℕ)) (name : List ℕ) (size : ℕ) → i < length s.libraries → items ≡ map entry_of (take i s.libraries)
     → name ≡ (get_or s.libraries i no_library).name → size ≡ length (get_or s.libraries i no_library).bytes → items ++ (name, size) ∷ [] ≡ map entry_of (take (i + 1) s.libraries)
 listed_more s i items name size lt is named sized =
@@ -78,11 +78,11 @@ listed_more s i items name size lt is named sized =
     ∙ sym (map-append entry_of (take i s.libraries) (get_or s.libraries i no_library ∷ []))
     ∙ ap (map entry_of) (sym (take_more s.libraries i no_library lt))
 
--- all of them
+-- and after all of them
 pub listed_all : (s : State) (i : ℕ) → length s.libraries ≤ i → map entry_of (take i s.libraries) ≡ map entry_of s.libraries
 listed_all s i le = ap (map entry_of) (take_all i s.libraries le)
 
--- one name more is told
+-- the names after one more position
 pub told_more : (s : State) (i : ℕ) (positions : List ℕ) (items : List (List ℕ)) (name : List ℕ) → i < length positions → items ≡ names_at s.libraries (take i positions)
     → name ≡ (get_or s.libraries (get_or positions i 0) no_library).name → items ++ name ∷ [] ≡ names_at s.libraries (take (i + 1) positions)
 told_more s i positions items name lt is named =
@@ -96,7 +96,7 @@ some_same is = cc
 pub none_some : {a : ℕ} → ◌≡◌ {A = Option ℕ} None (Some a) → ⊥
 none_some is = absurd cc
 
--- one name of several stands nowhere
+-- a name at no position is lacking
 pub lacks_at : (s : State) (names : List (List ℕ)) (i : ℕ) → i < length names → ((k : ℕ) → k < length s.libraries → (get_or s.libraries k no_library).name ≡ get_or names i [] → ⊥)
     → list_any (λ name. not (has_name (names_of s.libraries) name)) names ≡ true
 lacks_at s names i lt none = list_any_at (λ name. not (has_name (names_of s.libraries) name)) names i [] lt (ap not (name_nowhere s (get_or names i []) none))
@@ -113,7 +113,7 @@ named_more {entries = entries} {positions = positions} p name named lt is = reco
   each = λ d. let are = named.each d in let here = is d in map-append (λ position. name_of (get_or entries position d).entry) positions (p ∷ []) ∙ (λ k. are k ++ here k ∷ []);
 }
 
--- positions of names of which none stands twice
+-- if no name occurs twice, no position does
 pub distinct_named : (entries : List PlacedEntry) (positions : List ℕ) (names : List (List ℕ)) → AreNamed entries positions names → has_repeat names ≡ false → AreDistinct positions
 distinct_named entries positions names named once i j d lt fits = λ same.
     no_repeat names once i j [] lt (omega (arith, fits, count)) (at i (omega (arith, lt, fits)) ∙ ap (λ p. name_of (get_or entries p no_entry).entry) same ∙ sym (at j fits))
@@ -124,7 +124,7 @@ distinct_named entries positions names named once i j d lt fits = λ same.
     at : (k : ℕ) → k < length positions → get_or names k [] ≡ name_of (get_or entries (get_or positions k d) no_entry).entry
     at k k_lt = ap (λ ns. get_or ns k []) (sym (named.each no_entry)) ∙ get_or-map (λ position. name_of (get_or entries position no_entry).entry) positions k d [] k_lt
 
--- a name stands at one position
+-- a name is at only one position
 pub one_place : (entries : List PlacedEntry) → HaveOwnNames entries → (p q : ℕ) (d : PlacedEntry) → p < length entries → q < length entries
     → name_of (get_or entries p d).entry ≡ name_of (get_or entries q d).entry → p ≡ q
 one_place entries own p q d p_lt q_lt same = ⊎_elim
@@ -138,7 +138,7 @@ one_place entries own p q d p_lt q_lt same = ⊎_elim
 isnt_equal : (a b : ℕ) → (a == b) ≡ false → a ≡ b → ⊥
 isnt_equal a b differs is = let yes : (a == b) ≡ true = grind (arith, nat_tests, is) in false≢true (sym differs ∙ yes)
 
--- where a position isn't among others, neither is its name
+-- if a position isn't among others, neither is its name
 pub no_preload : (entries : List PlacedEntry) (name : List ℕ) (position : ℕ) (positions : List ℕ) → HaveOwnNames entries → position < length entries
     → ((d : PlacedEntry) → name_of (get_or entries position d).entry ≡ name)
     → All (λ p. p < length entries) positions → list_any (λ p. p == position) positions ≡ false → All (λ p. (d : PlacedEntry) → name_of (get_or entries p d).entry ≢ name) positions

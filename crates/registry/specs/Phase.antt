@@ -7,7 +7,7 @@ use Rattle.store.specs.Step.{longest_unused}
 use Rattle.states.specs.State.{State}
 use Rattle.requests.specs.Phase.{Phase}
 
--- the phase of a registry at a state, in the words of the step table
+-- the phase of a registry at a state: all that the step table needs to know of it
 abbrev pub phase_of : {D : Type 0} → (D → DiskFacts) → Opened D → State → Phase
 phase_of facts registry s = record {
   sectors = (facts registry.disk).sectors;

@@ -11,7 +11,6 @@ use Rattle.registry.specs.Stands.{Stands, StandsOld}
 abbrev pub IsNotOld : List Sector → Type 0
 IsNotOld m = (s : State) → StandsOld m s → ⊥
 
--- The registry is at the state that these sectors held, or, where they held it by the old rules,
--- at the one after it.
+-- The registry is at the state that the sectors m held; or, if they held it by the old rules, at the upgraded state.
 abbrev pub IsUpgradeOf : {D : Type 0} → (D → DiskFacts) → Opened D → List Sector → State → Type 0
 IsUpgradeOf facts registry m s = (Stands m s × IsAt facts registry s) ⊎ (StandsOld m s × IsAt facts registry (upgraded s))

@@ -11,7 +11,7 @@ use std::alloc::Global;
 use std::marker::Model;
 use store::StoreRefusal;
 
-/// The file of a library that was read from a disk: no test refuses it, and its name is its SONAME.
+/// The file of a library that was read from a disk. No test refuses it, and its name is its SONAME.
 /// It was tested once. Contracts see the library.
 #[derive(Drop)]
 pub(crate) struct LibraryFile {
@@ -31,7 +31,8 @@ impl Model for LibraryFile {
 }
 
 impl LibraryFile {
-    /// A file that is a library of this name, or S5 where it is none.
+    /// Makes a library file of `name` and `bytes`. If they aren't a library, returns S5 (Damaged);
+    /// if memory is refused, S11 (OutOfMemory).
     pub(crate) fn new(
         alloc: Global,
         name: &[u8],
@@ -50,21 +51,21 @@ impl LibraryFile {
         Ok(LibraryFile { name, bytes })
     }
 
-    /// Its name.
+    /// Returns the library's name.
     pub(crate) fn name(&self) -> &[u8]
         ensures { result.now ≡ self.now.name }
     {
         self.name.as_bytes()
     }
 
-    /// The admitted object that it is. It costs what `Object::of_accepted` costs.
+    /// Returns the file as an admitted object. It costs what `Object::of_accepted` costs.
     pub(crate) fn admitted(&self) -> Admitted<'_>
         ensures { result ≡ self.now.bytes }
     {
         Admitted::of_accepted(&self.bytes)
     }
 
-    /// The library that it is. It costs what `Object::of_accepted` costs.
+    /// Returns the file as a library. It costs what `Object::of_accepted` costs.
     pub(crate) fn library(&self) -> Library<'_>
         ensures { result ≡ object_of self.now }
     {

@@ -23,8 +23,8 @@ use sector_disk::Disk;
 use std::alloc::{AllocError, Global};
 use store::{Store, StoreRefusal};
 
-/// A walk by levels through the files that a program needs: what is needed, and the files that were
-/// read, in load order.
+/// A walk by levels through the files that a program needs: what is needed so far, and the files
+/// that were read, in load order.
 #[derive(Drop)]
 pub(crate) struct Walk {
     pub(crate) needs: Needs,
@@ -32,7 +32,7 @@ pub(crate) struct Walk {
 }
 
 impl Walk {
-    /// A walk at its start: the program was looked at, and no file was read.
+    /// Starts a walk: notes what the program needs, and reads no file.
     pub(crate) fn start<N: Named>(
         alloc: Global,
         names: &N,
@@ -56,7 +56,7 @@ impl Walk {
         Ok(Walk { needs, files })
     }
 
-    /// Whether a file is left to be read.
+    /// Returns whether a file is left to be read.
     pub(crate) fn has_next(&self) -> bool
         ensures yes { result ≡ true
             → length self.now.files.items + 1 < length self.now.needs.places.places }
@@ -68,14 +68,14 @@ impl Walk {
         self.files.len() + 1 < self.needs.places.count()
     }
 
-    // Does nothing: it tells proofs that no place is there twice.
+    // Does nothing. It tells proofs that no place occurs twice.
     fn places_are_apart(&self)
         ensures { AreApart self.now.needs.places.limit self.now.needs.places.places }
     {
         let _ = self.needs.places.count();
     }
 
-    /// The position of the file that is to be read next.
+    /// Returns the position of the file that is read next.
     pub(crate) fn next_position(&self) -> usize
         requires next { length self.now.files.items + 1 < length self.now.needs.places.places }
         requires first { get_or self.now.needs.places.places 0 1 ≡ 0 }
@@ -89,8 +89,8 @@ impl Walk {
         self.needs.places.at(self.files.len() + 1) - 1
     }
 
-    /// Takes the next file, which was read, and looks at what it needs. Where memory is refused the
-    /// walk stays as it was.
+    /// Takes the next file, which was read, and adds what it needs. If memory is
+    /// refused, the walk stays as it was.
     pub(crate) fn take<N: Named>(
         &mut self,
         alloc: Global,
@@ -120,8 +120,8 @@ impl Walk {
         Ok(())
     }
 
-    /// Reads the next file, whole, admits it, and looks at what it needs. A refusal leaves the walk
-    /// as it was.
+    /// Reads the next file, whole, admits it, and adds what it needs. A
+    /// refusal leaves the walk as it was.
     pub(crate) fn step<D: Disk>(
         &mut self,
         alloc: Global,

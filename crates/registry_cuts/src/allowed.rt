@@ -22,7 +22,7 @@ impl Allowed {
         self.most = self.least;
     }
 
-    // Notes an answer that isn't the wanted one. A disk may have a change that failed, or not.
+    // Notes an answer that isn't the expected one. A disk may or may not have a change that failed.
     fn refuse(&mut self, answer: &[u8], is_change: bool) {
         self.right = self.right && (answer == DEVICE || answer == REOPEN);
         if is_change && answer == DEVICE {
@@ -30,7 +30,7 @@ impl Allowed {
         }
     }
 
-    /// The states that a disk may have after these answers to a task.
+    /// Returns the states that a disk may have after these answers to a task.
     pub(crate) fn by(task: &Task, told: &Told) -> Allowed {
         let mut allowed = Allowed {
             least: 0,

@@ -1,14 +1,15 @@
-// How many openings the rows of a file made, and how many of them were wrong.
+// The number of openings that the rows of a file made, and the number of wrong ones.
 
 use std::fmt::Debug;
 
-/// How many openings were made, and how many gave something else than was wanted.
+/// The number of openings that were made, and the number of those with another result than
+/// expected.
 #[derive(Drop)]
 pub(crate) struct Tally<'a> {
     pub(crate) rt: &'a HostRuntime,
     pub(crate) openings: u64,
     pub(crate) wrong: u64,
-    /// Whether the rows are wrong on purpose, so that nothing is printed of what is seen to be.
+    /// Whether the rows are wrong on purpose. Then nothing is printed about wrong openings.
     pub(crate) on_purpose: bool,
 }
 
@@ -30,7 +31,7 @@ impl<'a> Tally<'a> {
         }
         self.wrong = self.wrong.saturating_add(1);
         if !self.on_purpose {
-            // Where this fails, so does the line of the file.
+            // If this fails, printing the line of the file fails too.
             let _ = println!(self.rt; "wrong: {what} at {place:?}");
         }
     }

@@ -11,7 +11,7 @@ use sector_disk::{Disk, Memory};
 use std::alloc::Global;
 use std::rc::Rc;
 
-/// How the events of a task are asked.
+/// The form in which the events of a task are given to the registry.
 #[derive(Clone, Copy, PartialEq, Eq)]
 pub(crate) enum Asked {
     /// As commands, each of which is accepted by itself.
@@ -58,7 +58,7 @@ fn draft<D: Disk>(
     Ok(answers)
 }
 
-// Makes lines an update, and commits it.
+// Gives lines to a new update, and commits it.
 fn update<D: Disk>(
     alloc: Global,
     registry: Registry<D>,
@@ -128,7 +128,7 @@ impl Task {
         Ok(())
     }
 
-    /// Does the task on this disk: returns the answers, and the disk.
+    /// Does the task on this disk. Returns the answers, and the disk.
     pub(crate) fn play<D: Disk + Drop>(&self, alloc: Global, disk: D) -> Result<(Told, D)> {
         let registry = match Registry::open(alloc, disk) {
             Ok(registry) => registry,

@@ -1,4 +1,5 @@
-// Tasks on a disk or on a disk over a file, cut at each call. Each content that may be left is opened.
+// Tasks on a disk, or on a disk over a file, cut at each call. Each content that may be left is
+// opened.
 
 use crate::allowed::Allowed;
 use crate::cut::Cut;
@@ -36,7 +37,7 @@ const TURNS: [(usize, bool, bool); 6] = [
     (1, false, false),
 ];
 
-// The plan of a file that cuts only a call that nobody makes.
+// The plan of a file that cuts only a call that is never made.
 const UNCUT: FilePlan = FilePlan {
     call: u64::MAX,
     turn: Turn {
@@ -46,7 +47,7 @@ const UNCUT: FilePlan = FilePlan {
     forever: true,
 };
 
-// The plan that cuts a call in one of these ways.
+// Returns the plan that cuts a call in one of these ways.
 fn plan(call: u64, turn: (usize, bool, bool)) -> FilePlan {
     let (most, fails, forever) = turn;
     FilePlan {
@@ -64,7 +65,7 @@ struct Trial<'a> {
     found: Vec<bool>,
 }
 
-// A disk over a file in memory.
+// Makes a disk over a file in memory.
 fn over(alloc: Global, medium: Memory, plan: FilePlan) -> Result<FileDisk<MemoryFile>> {
     Ok(FileDisk::over(alloc, MemoryFile::new(medium, plan))?)
 }
@@ -86,7 +87,7 @@ impl<'a> Trial<'a> {
         }
     }
 
-    // Notes a state that was found: returns whether the disk may have it.
+    // Notes a state that was found. Returns whether the disk may have it.
     fn note(&mut self, seen: &Seen, allowed: Allowed) -> bool {
         let mut is_right = false;
         for number in allowed.least..=allowed.most {
@@ -119,7 +120,7 @@ impl<'a> Trial<'a> {
         Ok(())
     }
 
-    // Whether these are the answers of a run without a cut.
+    // Returns whether these are the answers of a run without a cut.
     fn is_whole(&self, told: &Told) -> bool {
         match told {
             Ok(answers) => *answers == self.task.wanted,
@@ -127,7 +128,7 @@ impl<'a> Trial<'a> {
         }
     }
 
-    // Cuts the call after the first `call` ones: returns whether the task makes it.
+    // Cuts the call after the first `call` calls. Returns whether the task makes it.
     fn cut_disk(&mut self, tally: &mut Tally, call: u64, way: u64) -> Result<bool> {
         let alloc = tally.rt.alloc();
         let cut = Cut::nth(0, call, way);
@@ -136,7 +137,8 @@ impl<'a> Trial<'a> {
         Ok(!self.is_whole(&told))
     }
 
-    // Cuts each call of the disk, early and late, once and for ever; and one that nobody makes.
+    // Cuts each call of the disk, early and late, once and for ever; and one call that is never
+    // made.
     fn cut_each(&mut self, tally: &mut Tally) -> Result<()> {
         for before in 0..MOST_CALLS {
             let mut is_made = false;
@@ -150,7 +152,8 @@ impl<'a> Trial<'a> {
         bail!("more calls than {MOST_CALLS}")
     }
 
-    // Does the task over a file of this plan: returns how many calls are left up to the cut one.
+    // Does the task over a file with this plan. Returns how many calls are left before the one that
+    // is cut.
     fn cut_file(&mut self, tally: &mut Tally, plan: FilePlan) -> Result<u64> {
         let alloc = tally.rt.alloc();
         let disk = over(alloc, self.task.disk.copy()?, plan)?;
@@ -165,7 +168,7 @@ impl<'a> Trial<'a> {
         Ok(left)
     }
 
-    // Cuts each call of the file in each way, but the first, which counts its sectors.
+    // Cuts each call of the file in each way, except the first call, which counts its sectors.
     fn cut_each_of_file(&mut self, tally: &mut Tally) -> Result<()> {
         let calls = UNCUT.call.saturating_sub(self.cut_file(tally, UNCUT)?);
         for call in 2..=calls {
@@ -194,8 +197,8 @@ fn cut(tally: &mut Tally, task: &Task, under: Under) -> Result<()> {
     Trial::of(tally.rt.alloc(), task, under)?.cut_all(tally)
 }
 
-/// Cuts `events` as commands on a disk over a file, or as an update on both kinds of disks. The disk
-/// has `sectors` sectors, and the registry the changes `start`.
+/// Cuts `events` as commands on a disk over a file, or as an update on both kinds of disks. The
+/// disk has `sectors` sectors, and the registry the changes `start`.
 pub(crate) fn cut_task(
     tally: &mut Tally,
     asked: Asked,

@@ -1,4 +1,4 @@
--- A registry that was given the requests of a dump, and each was done.
+-- A registry that was given the requests of a dump, if each was done.
 use Rattle.std.proofs.Common.{◌≡◌, ◌≤◌, ◌+◌, List, [], ◌∷◌, length, map, IsFalse, refl, sym, ap, subst, ◌∙◌, arith, ⊎_elim}
 use Rattle.std.specs.Prelude.{All, fold}
 use Rattle.std.proofs.lemmas.Bool.{false≢true}
@@ -30,12 +30,12 @@ all_acknowledged : (requests : List Request) → acknowledged (map done requests
 all_acknowledged [] = refl
 all_acknowledged (r ∷ requests) = ap (λ rs. command r ∷ rs) (all_acknowledged requests)
 
--- the state after commands alone
+-- the state after commands only
 after_commands : (s : State) (requests : List Request) → state_after s (map command requests) ≡ fold accepted s requests
 after_commands s [] = refl
 after_commands s (r ∷ requests) = after_commands (accepted s r) requests
 
--- where each was answered Done
+-- each request was answered Done
 pub all_done : (requests : List Request) (answers : List Reply) → length answers ≡ length requests → All (λ answer. answer ≡ Done) answers → commanded requests answers ≡ map done requests
 all_done [] [] same all = refl
 all_done [] (a ∷ answers) same all = refl
@@ -45,7 +45,7 @@ all_done (r ∷ requests) (a ∷ answers) same all =
     ∙ ap (λ (xs : List Exchange). done r ∷ xs) (all_done requests answers (omega (arith, same)) (All-tail (λ answer. answer ≡ Done) a answers all))
 
 module _ {D : Type 0} (facts : D → DiskFacts) where
-  -- a change that was done leaves a registry that can go on
+  -- after a change that was done, the registry is usable
   usable_behind : (old new : Opened D) (request : Request) → IsChange request → Leaves old new request Done → IsFalse new.failed
   usable_behind old new (install bytes) change leaves = leaves
   usable_behind old new (set_preloads names) change leaves = leaves

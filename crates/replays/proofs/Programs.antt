@@ -1,4 +1,4 @@
--- What the two programs do, one behind the other.
+-- What the two programs do, one after the other.
 use Rattle.std.proofs.Common.{◌≡◌, ℕ, ◌+◌, Bool, true, false, cond, List, [], ◌∷◌, ◌++◌, append-nil, map}
 use Rattle.std.proofs.Common.{Option, Some, IsTrue, refl, sym, ap, subst, ◌∙◌, arith, inl, inr, ⊎_elim, if◌then◌else◌}
 use Rattle.std.specs.Prelude.{◌⊎◌, ◌==◌, All, count_by, IfSome}
@@ -47,7 +47,7 @@ use Rattle.replays.proofs.Readings.{same_head, same_tail}
 use Rattle.replays.proofs.Scripts.{asking, cut_ends, is_script}
 use Rattle.replays.proofs.Statuses.{not_done}
 
--- ---- lines that ask these requests, each answered and none refused
+-- ---- lines that ask for these requests, each answered and none refused
 
 no_end : {X : Type 0} (x : X) (xs : List X) → [] ≡ x ∷ xs → ⊥
 no_end x xs h = cc h
@@ -113,7 +113,7 @@ module _ {D : Type 0} (facts : D → DiskFacts) where
       ∙ ap (λ (xs : List Exchange). done r ∷ xs) (exchanges_done requests replies passed t steps.1 (All-tail IsChange r requests changes) (All-tail is_accepted e replies fine))
 
   module _ (s : State) (h : IsStateOfBytes s) where
-    -- the lines of a dump, none of them refused, lead to the copy
+    -- if no line of a dump is refused, its lines lead to the copy
     pub lines_copied : (old new : Slotted D) (whole : List (List ℕ)) (cut : List ℕ) (answers : List Answer) → LinesRan facts old new whole answers
         → IsAt facts old.registry empty_state → dump_text s ≡ flat_map ended whole ++ cut → All IsLine whole → IsLine cut → count_by is_refused (answers ++ cut_answer cut) ≡ 0
         → IsAt facts new.registry (copy_of s)
@@ -162,7 +162,7 @@ unsaturated refused n is zero = omega (arith, is, zero)
 abbrev counted : Answer → ℕ
 counted a = cond (is_refused a) 1 0
 
--- the answer to a line that was cut is a refusal
+-- the answer to a line that was cut off is a refusal
 cut_counted : (answers : List Answer) → count_by is_refused (answers ++ answer.CutLine ∷ []) ≡ 0 → ⊥
 cut_counted answers h = omega (arith, h, sum_by-append counted answers (answer.CutLine ∷ []), sum_by-cons counted answer.CutLine [])
 
@@ -192,7 +192,7 @@ module _ {D : Type 0} (facts : D → DiskFacts) where
         (mixture_stands facts new.registry (copy_of s) at (facts new.registry.disk).now (holds new.registry.disk at.stored.honest))
     program_copies holds disk left io honest empty unread (inr told) = absurd (not_told told.0 told.2)
 
-  -- a script that was cut doesn't end with status 0
+  -- a script that was cut off doesn't end with status 0
   pub cut_refused : (s : State) (k : ℕ) (disk left : D) (io : Streams) → io.unread ≡ Some (cut_text s k) → DiskScriptEnds facts disk io status.Done left → ⊥
   cut_refused s k disk left io unread (inl scripted) = ⊎_elim ran (λ broke. not_greatest broke.0 broke.1 broke.7) scripted.run
     where

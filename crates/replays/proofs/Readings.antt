@@ -1,4 +1,4 @@
--- A text is cut into lines in one way.
+-- There is only one way to cut a text into lines.
 use Rattle.std.proofs.Common.{◌≡◌, ℕ, List, [], ◌∷◌, ◌++◌, append_assoc, refl, sym, ap, subst, ◌∙◌, inl, inr}
 use Rattle.std.specs.Prelude.{◌≢◌, ◌⊎◌, All}
 use Rattle.std.specs.List.{flat_map}
@@ -42,12 +42,12 @@ no_newline_in : (a c : List ℕ) → IsLine (a ++ 10 ∷ c) → ⊥
 no_newline_in [] c h = All-head (λ b. b ≢ 10) 10 c h refl
 no_newline_in (x ∷ a) c h = no_newline_in a c (All-tail (λ b. b ≢ 10) x (a ++ 10 ∷ c) h)
 
--- a line, its newline and what comes behind
+-- a line, its newline, and what comes after it
 ended_more : (line rest cut : List ℕ) → (ended line ++ rest) ++ cut ≡ line ++ 10 ∷ (rest ++ cut)
 ended_more [] rest cut = refl
 ended_more (x ∷ line) rest cut = ap (λ l. x ∷ l) (ended_more line rest cut)
 
--- a text is cut in one way into lines and what comes behind the last newline
+-- there is only one way to cut a text into lines and a rest after the last newline
 pub one_reading : (lines : List (List ℕ)) (tail : List ℕ) → All IsLine lines → IsLine tail → (others : List (List ℕ)) (cut : List ℕ) → All IsLine others → IsLine cut
     → flat_map ended lines ++ tail ≡ flat_map ended others ++ cut → (others ≡ lines) × (cut ≡ tail)
 one_reading [] tail l t [] cut w c h = (refl, sym h)
@@ -59,7 +59,7 @@ one_reading (x ∷ lines) tail l t (w ∷ ws) cut all c h =
     let rest = one_reading lines tail (All-tail IsLine x lines l) t ws cut (All-tail IsLine w ws all) c both.1 in
     (ap (λ z. z ∷ ws) (sym both.0) ∙ ap (λ l. x ∷ l) rest.0, rest.1)
 
--- what begins a text, and is whole lines, is the first of its lines
+-- if a text begins with whole lines, these are the first of its lines
 pub front_lines : (lines : List (List ℕ)) (tail : List ℕ) → All IsLine lines → IsLine tail → (others : List (List ℕ)) (rest : List ℕ) → All IsLine others
     → flat_map ended lines ++ tail ≡ flat_map ended others ++ rest → (more : List (List ℕ)) × (lines ≡ others ++ more)
 front_lines lines tail l t [] rest all h = (lines, refl)
@@ -70,14 +70,14 @@ front_lines (x ∷ lines) tail l t (w ∷ ws) rest all h =
     let so = front_lines lines tail (All-tail IsLine x lines l) t ws rest (All-tail IsLine w ws all) both.1 in
     (so.0, ap (λ z. z ∷ lines) both.0 ∙ ap (λ ls. w ∷ ls) so.1)
 
--- so are lines, and one behind them
+-- the same for lines and one line after them
 pub line_behind : (all : List (List ℕ)) (tail : List ℕ) → All IsLine all → IsLine tail → (lines : List (List ℕ)) (line others : List ℕ) → All IsLine lines → IsLine line
     → flat_map ended all ++ tail ≡ flat_map ended lines ++ ended line ++ others → (more : List (List ℕ)) × (all ≡ lines ++ line ∷ more)
 line_behind all tail each t lines line others ls l is =
     let so = front_lines all tail each t (lines ++ line ∷ []) others (All-push IsLine lines line ls l) (is ∙ ap (λ text. text ++ others) (sym (flat_more ended lines line))) in
     (so.0, so.1 ∙ append_assoc lines (line ∷ []) so.0)
 
--- an element of a list is its last one, or one before it
+-- an element of a list is its last one, or one before that
 pub last_or_before : {X : Type 0} (xs : List X) (last : X) (ys : List X) (y : X) (more : List X) → xs ++ last ∷ [] ≡ ys ++ y ∷ more
     → ((xs ≡ ys) × (last ≡ y)) ⊎ ((rest : List X) × (xs ≡ ys ++ y ∷ rest))
 last_or_before [] last [] y more h = inl (refl, same_head last y [] more h)

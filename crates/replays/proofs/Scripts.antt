@@ -37,7 +37,7 @@ use Rattle.replays.proofs.Meanings.{and_left, and_right, are_bytes, install_aske
 use Rattle.replays.proofs.Readings.{one_reading, same_head, same_tail}
 use Rattle.replays.proofs.States.{install_of}
 
--- ---- what holds of a library's file and name
+-- ---- what is true of a library's file and name
 
 long_enough : (file : List ℕ) → first_refusal file ≡ None → is_too_short file ≡ false
 unfolding first_refusal
@@ -74,7 +74,7 @@ all_visible (b ∷ name) h =
 some_length : (n : ℕ) → nat_le 1 n ≡ true → not (n == 0) ≡ true
 some_length n h = grind (arith, nat_tests)
 
--- the name of a library is one of a script
+-- the name of a library is a name in scripts
 name_of_script : (name : List ℕ) → is_library_name name ≡ true → is_name name ≡ true
 unfolding is_library_name
 name_of_script name h =
@@ -85,7 +85,7 @@ name_of_script name h =
 library_named : (l : Library) → IsLibrary l → is_name l.name ≡ true
 library_named l is = name_of_script l.name (good_name l is.named (badly_named l.bytes is.accepted))
 
--- what is one of the names of libraries is a name of a script
+-- each of the libraries' names is a name in scripts
 found_named : (libraries : List Library) (name : List ℕ) → All IsLibrary libraries → has_name (names_of libraries) name ≡ true → is_name name ≡ true
 found_named [] name h found = cc found
 found_named (l ∷ libraries) name h found =
@@ -157,7 +157,7 @@ whole_lines s =
     ∙ ap (λ rest. flat_map ended (map line_of s.libraries) ++ rest) (whole_preloads s.preloads)
     ∙ sym (flat_map-append ended (map line_of s.libraries) (preload_lines s.preloads))
 
--- each asks its request
+-- each line asks for its request
 pub lines_ask : (s : State) → IsStateOfBytes s → map request_meaning (lines_of s) ≡ map some_request (requests_for s)
 lines_ask s h =
     map-append request_meaning (map line_of s.libraries) (preload_lines s.preloads)
@@ -167,7 +167,7 @@ lines_ask s h =
 
 -- ---- the text as a script
 
--- what lines ask for they ask for in a script too
+-- what lines ask for in an update, they ask for in a script too
 all_mean : (lines : List (List ℕ)) (requests : List Request) → map request_meaning lines ≡ map some_request requests → map meaning lines ≡ map asking requests
 all_mean [] [] h = refl
 all_mean [] (r ∷ requests) h = absurd (cc h)
@@ -205,7 +205,7 @@ whole_update s = sym (append_assoc (flat_map install_text s.libraries) (preload_
 pub whole_update_lines : (s : State) → flat_map ended (update_lines s) ++ [] ≡ script_text Update s
 whole_update_lines s = append-nil (flat_map ended (update_lines s)) ∙ flat_more ended (lines_of s) commit_line ∙ sym (whole_update s)
 
--- the text of a dump for an update asks its requests, and then for the commit
+-- the text of a dump for an update asks for its requests, and then for the commit
 pub is_update_text : (s : State) → IsStateOfBytes s → IsUpdateText (script_text Update s) (requests_for s)
 is_update_text s h = record {
   lines = lines_of s;
@@ -215,7 +215,7 @@ is_update_text s h = record {
   only = λ others cut lines rest is. one_reading (update_lines s) [] (each_update_line s h.state) (All-nil (λ b. b ≢ 10)) others cut lines rest (whole_update_lines s ∙ is);
 }
 
--- a script that was cut ends behind its last newline with `cut`
+-- a script that was cut off has `cut` after its last newline
 pub cut_ends : (s : State) (k : ℕ) (others : List (List ℕ)) (cut : List ℕ) → All IsLine others → IsLine cut → cut_text s k ≡ flat_map ended others ++ cut → cut ≡ codes "cut"
 cut_ends s k others cut lines rest is =
     let installs = take k s.libraries in

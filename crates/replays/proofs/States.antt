@@ -1,4 +1,4 @@
--- The states that the requests of a dump lead through.
+-- The states through which the requests of a dump lead.
 use Rattle.std.proofs.Common.{◌≡◌, ◌<◌, ℕ, ◌+◌, List, [], ◌∷◌, ◌++◌, length, length-append, append-nil, map, refl, sym, ap, subst, ◌∙◌, arith, Some}
 use Rattle.std.specs.Prelude.{All, fold}
 use Rattle.std.proofs.lemmas.List.{append_assoc, get_or_append_left, length-map}
@@ -20,7 +20,7 @@ use Rattle.replays.proofs.Refusals.{at_state, install_lacks, last_refused, of_li
 abbrev pub install_of : Library → Request
 install_of l = install l.bytes
 
--- one library more is installed
+-- one more library is installed
 install_next : (done : List Library) (l : Library) → name_of l.bytes ≡ l.name → accepted (of_libraries done) (install l.bytes) ≡ of_libraries (done ++ l ∷ [])
 install_next done l named =
     let more : length done + 1 ≡ length (done ++ l ∷ []) = omega (arith, length-append done (l ∷ [])) in
@@ -56,7 +56,7 @@ leads s h =
     by (p ∷ ps) = refl
 
 module _ (s : State) (h : IsState s) (p : Phase) where
-  -- behind some installs each request lacks room at most
+  -- after some installs, each request may only lack room
   walk : (done rest : List Library) (front back : List Request) (request : Request) (ps : List (List ℕ)) → done ++ rest ≡ s.libraries → ps ≡ s.preloads
       → map install_of rest ++ preload_requests ps ≡ front ++ request ∷ back → All IsLibrary rest
       → LacksRoomAtMost s (at_state p (fold accepted (of_libraries done) front)) request
@@ -83,7 +83,7 @@ module _ (s : State) (h : IsState s) (p : Phase) where
   lacks_room front back request is now =
       subst (λ t. LacksRoomAtMost s (at_state p t) request) (sym now) (walk [] s.libraries front back request s.preloads refl refl is h.libraries)
 
-  -- the last install is refused for room on a disk with fewer sectors than the state needs
+  -- the last install is refused for lack of room, on a disk with fewer sectors than the state needs
   pub last_lacks_room : (libraries : List Library) (last : Library) → s.libraries ≡ libraries ++ last ∷ [] → p.state ≡ fold accepted empty_state (map install_of libraries)
       → p.sectors < sectors_for s + p.lone → refusal_at p (install last.bytes) ≡ Some Full
   last_lacks_room libraries last all now small =

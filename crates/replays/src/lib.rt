@@ -1,6 +1,7 @@
-//! The laws that a dump replays: what `rlibreg-tool dump` writes of a registry makes a new one that
-//! holds the same, line by line, when `rlibreg script` runs it, and all at once, when `rlibreg-tool
-//! update` does. And the law that a bind of an update is the one that comes after its commit.
+//! The laws that a dump can be replayed. `rlibreg-tool dump` writes a dump of a registry. From the
+//! dump, `rlibreg script` makes a new registry with the same contents line by line, and
+//! `rlibreg-tool update` makes one all at once. A third law is that a bind of an update is the bind
+//! that comes after the update's commit.
 #![tactic(auto)]
 
 mod bind_law;

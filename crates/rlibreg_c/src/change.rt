@@ -1,4 +1,4 @@
-// Changes of the libraries: plans.
+// Plans changes of the libraries.
 ghost use Rattle.requests.specs.Request.{install, replace, remove};
 ghost use Rattle.rlibreg_c.specs.Planned.{IsPlanned};
 
@@ -6,7 +6,7 @@ use c_answers::{Answer, plan_change};
 use requests::Command;
 use std::alloc::Global;
 
-/// The plan of an installation: of the bytes of a library's file.
+/// Plans to install the library with the bytes `file`.
 #[unsafe(no_mangle)]
 pub extern "C" fn rlibreg_plan_install(
     alloc: Global,
@@ -24,7 +24,7 @@ pub extern "C" fn rlibreg_plan_install(
     answer.status
 }
 
-/// The plan of a replacement: a file in the place of the one of its name.
+/// Plans to replace the library of the same name by the bytes `file`.
 #[unsafe(no_mangle)]
 pub extern "C" fn rlibreg_plan_replace(
     alloc: Global,
@@ -42,7 +42,7 @@ pub extern "C" fn rlibreg_plan_replace(
     answer.status
 }
 
-/// The plan of a removal: of the library of a name.
+/// Plans to remove the library named `name`.
 #[unsafe(no_mangle)]
 pub extern "C" fn rlibreg_plan_remove(
     alloc: Global,

@@ -1,12 +1,13 @@
-// A library's bytes.
+// Returns a library's bytes.
 ghost use Rattle.std.specs.Prelude.{◌≡◌, ◌≢◌};
 ghost use Rattle.c_answers.specs.Contents.{IsFileOf, IsFileAnswered};
 
 use c_answers::{Answer, file_on};
 use std::alloc::Global;
 
-/// The bytes of a library of the registry that the sectors of `disk` hold, as it was installed. No
-/// other library's file is read, and it isn't looked at whether these bytes are a library's.
+/// Returns the bytes of the library named `name` in the registry that the sectors of `disk` hold,
+/// as it was installed. Reads no other library's file, and doesn't test whether the bytes are a
+/// library's.
 #[unsafe(no_mangle)]
 pub extern "C" fn rlibreg_file(
     alloc: Global,
@@ -21,7 +22,7 @@ pub extern "C" fn rlibreg_file(
     ensures answered { IsFileAnswered disk.now name.now bytes.new text.new answer.new result }
     ensures status { answer.new.status ≡ result }
 
-    // S1 is never the answer: what a disk of bytes fails for is want of memory.
+    // The result is never S1 (Device): a disk of bytes fails only for lack of memory.
     ensures device { result ≢ 301 }
 {
     *answer = file_on(alloc, disk, name, bytes, text);

@@ -1,4 +1,4 @@
-// What is found for all symbols of an order.
+// The definitions that are found for all symbols of an order.
 
 ghost use Rattle.std.specs.Prelude.{◌≡◌, ◌<◌, ◌≤◌, ◌+◌, ◌^◌, ◌↔◌, ℕ, [], length, map, false};
 ghost use Rattle.std.specs.Prelude.{IsTrue, IfOk, slice_index_or};
@@ -17,13 +17,13 @@ use crate::target::Target;
 use hash_check::{Admitted, NumberedSymbol, numbered_symbols};
 use std::alloc::{AllocError, Global};
 
-/// For each symbol of each object the definition of its name that is found for this object.
+/// For each symbol of each object, the definition of its name that lookup finds for this object.
 #[derive(Drop)]
 pub(crate) struct Found {
     rows: Vec<Vec<Definition>>,
 }
 
-/// The objects.
+/// Returns the admitted objects.
 fn admitted<'a>(
     alloc: Global,
     objects: &[LoadedObject<'a>],
@@ -37,7 +37,7 @@ fn admitted<'a>(
     Ok(all)
 }
 
-/// Room for what is found for the symbols of objects.
+/// Returns rows with room for a definition of each symbol of the objects.
 fn no_rows(alloc: Global, objects: &[LoadedObject<'_>]) -> Result<Vec<Vec<Definition>>, AllocError>
     ensures { IfOk result (λ v. HaveRoom objects.now (map (λ r. r.items) v.items)) }
 {
@@ -49,7 +49,7 @@ fn no_rows(alloc: Global, objects: &[LoadedObject<'_>]) -> Result<Vec<Vec<Defini
     Ok(rows)
 }
 
-/// Whether an object is symbolic.
+/// Returns whether one of the objects is symbolic.
 fn has_symbolic(objects: &[LoadedObject<'_>]) -> bool
     ensures { result ≡ false → (p : ℕ) → p < length objects.now
         → is_symbolic (file_at objects.now p) ≡ false }
@@ -62,8 +62,8 @@ fn has_symbolic(objects: &[LoadedObject<'_>]) -> bool
     false
 }
 
-/// For each symbol what its own object exports under its name; nothing where no object is symbolic,
-/// so that it isn't asked for.
+/// Returns, for each symbol, the definition of its name in its own object. Returns an empty list if
+/// no object is symbolic, because no definition of the list is used then.
 fn own_where_symbolic(
     alloc: Global,
     objects: &[LoadedObject<'_>],
@@ -81,7 +81,7 @@ fn own_where_symbolic(
     }
 }
 
-/// A definition of a list; none behind its end.
+/// Returns the definition at `at` of a list, or no definition if the list is shorter.
 fn definition_at(kept: &[Definition], at: usize) -> Definition
     ensures { result ≡ nth_target kept.now at }
 {
@@ -92,7 +92,7 @@ fn definition_at(kept: &[Definition], at: usize) -> Definition
     }
 }
 
-/// What is found for a symbol.
+/// Returns the definition that lookup finds for the symbol at `at`.
 fn found_for(
     objects: &[LoadedObject<'_>],
     symbols: &[NumberedSymbol],
@@ -118,7 +118,7 @@ fn found_for(
     definition_at(first, symbol.number as usize)
 }
 
-/// Puts what is found for a symbol of the object at a place into its row.
+/// Puts the definition found for a symbol of the object at `place` into the object's row.
 fn put(rows: &mut [Vec<Definition>], place: usize, symbol: u32, found: Definition)
     requires place { place < length rows.old }
     requires symbol { symbol
@@ -130,8 +130,8 @@ fn put(rows: &mut [Vec<Definition>], place: usize, symbol: u32, found: Definitio
 }
 
 impl Found {
-    /// What is found for all symbols of objects. It takes some 8 bytes a symbol, and some 60 more
-    /// while it is made; of 2^32 objects and more there are too many for it.
+    /// Finds the definitions for all symbols of the objects. Allocates about 8 bytes a symbol, and
+    /// about 60 more while it runs. Returns an error if there are 2^32 objects or more.
     pub(crate) fn new(alloc: Global, objects: &[LoadedObject<'_>]) -> Result<Found, AllocError>
         requires { All (λ o. IsTaken o.file) objects.now }
         ensures { IfOk result (λ f. IsFound objects.now (map (λ r. r.items) f.rows.items)) }
@@ -151,7 +151,7 @@ impl Found {
         Ok(Found { rows })
     }
 
-    /// What is found for the symbol of a number of the object at a place.
+    /// Returns the definition found for symbol number `symbol` of the object at `place`.
     pub(crate) fn of_symbol(&self, place: usize, symbol: u32) -> Option<Target>
         requires place { place < length self.now.rows.items }
         requires symbol { symbol

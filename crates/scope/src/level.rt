@@ -7,7 +7,8 @@ ghost use Rattle.scope.specs.LoadOrder.{level_0};
 use crate::places::Places;
 use std::alloc::{AllocError, Global};
 
-/// The program and the preloads, of `count` libraries, with room for all libraries.
+/// Returns a queue with the program and the preloads, which are numbers of libraries. It has room
+/// for all `count` libraries.
 pub fn first_level(alloc: Global, count: usize, preloads: &[usize]) -> Result<Places, AllocError>
     requires room { count + 1 < 2 ^ 64 }
     requires preloads { All (λ p. p < count) preloads.now }

@@ -1,4 +1,4 @@
-// Whether all symbols are looked up at once.
+// Whether it is worth finding the definitions of all symbols at once.
 
 ghost use Rattle.std.specs.Prelude.{◌≤◌, map, IfSome};
 ghost use Rattle.std.specs.List.{All};
@@ -11,10 +11,10 @@ use elf_dynamic::{Object, R_X86_64_64, R_X86_64_GLOB_DAT, R_X86_64_JUMP_SLOT, Re
 use hash_check::Room;
 use std::alloc::Global;
 
-/// How many steps of walks take as long as a name takes to be put into a table, or less.
+/// A number of walk steps that takes no longer than putting one name into a table.
 const STEPS_OF_A_NAME: u64 = 2;
 
-/// Whether a relocation asks for the value of its symbol.
+/// Returns whether a relocation uses the value of its symbol.
 fn is_lookup(relocation: Relocation) -> bool {
     matches!(
         relocation.kind,
@@ -22,8 +22,8 @@ fn is_lookup(relocation: Relocation) -> bool {
     )
 }
 
-/// How many symbols of an object are looked up, at most: as many as its relocations name, and no
-/// more than it has.
+/// Returns the maximum number of symbols of an object that are looked up: as many as its
+/// relocations name, but no more than it has.
 fn lookups_of(object: &Object<'_>) -> u64 {
     let mut naming = 0;
     for i in 0..object.rela_count() {
@@ -34,7 +34,7 @@ fn lookups_of(object: &Object<'_>) -> u64 {
     u64::from(object.symbol_count()).min(naming)
 }
 
-/// How many symbols a walk looks at from one of them on, up to so many.
+/// Returns the number of symbols on the walk from index `from`, but at most `most`.
 fn walk_length(object: &Object<'_>, from: u32, most: u32) -> u32
     ensures { result ≤ most }
 {
@@ -48,8 +48,9 @@ fn walk_length(object: &Object<'_>, from: u32, most: u32) -> u32
     most
 }
 
-/// How many symbols the longest walk of an object looks at; as many as the object has where walks
-/// share symbols, so that no more steps are made than that.
+/// Returns the number of symbols on the longest walk of an object. If the walks together have as
+/// many steps as the object has symbols, some of them share symbols. In that case it makes no more
+/// steps, and returns the number of all symbols.
 fn longest_walk(object: &Object<'_>) -> u32 {
     let mut left = object.symbol_count();
     let mut longest = 0;
@@ -64,9 +65,11 @@ fn longest_walk(object: &Object<'_>) -> u32 {
     longest
 }
 
-/// Whether the lookups, times the longest walk of each object and a step to come to it, are more
-/// than twice the names. So walks that are followed look at two symbols a name at most, and at four
-/// where objects are symbolic; a table takes a constant time for each name, as its admission did.
+/// Returns whether walks may cost more than a table. The cost of walks is the number of lookups,
+/// multiplied by the sum over all objects of the longest walk and one step to reach it. It is
+/// compared with twice the number of names. So if walks are followed, they compare at most two
+/// symbols a name, and at most four if objects are symbolic. A table takes a constant time for each
+/// name, as the name's admission did.
 fn may_be_long(objects: &[LoadedObject<'_>]) -> bool {
     let (mut lookups, mut steps, mut names) = (0u64, 0u64, 0u64);
     for loaded in objects {
@@ -78,8 +81,9 @@ fn may_be_long(objects: &[LoadedObject<'_>]) -> bool {
     lookups.saturating_mul(steps) > names.saturating_mul(STEPS_OF_A_NAME)
 }
 
-/// Whether the names of the symbols that an object looks up have so many bytes that many of them
-/// are tails of others: hashed one by one, they would cost the sum of their lengths.
+/// Returns whether the names of the symbols that an object looks up have so many bytes in total
+/// that many of them are tails of others. Hashing such names one by one would cost the sum of their
+/// lengths.
 fn share_bytes(object: &Object<'_>) -> bool {
     let mut room = Room::new(object.string_table().len());
     for i in 0..object.rela_count() {
@@ -103,7 +107,8 @@ fn any_share_bytes(objects: &[LoadedObject<'_>]) -> bool {
     false
 }
 
-/// What is found for all symbols, where walks may cost more and there is memory for it.
+/// Finds the definitions of all symbols, if walks may cost more and there is memory for the
+/// definitions.
 pub(crate) fn worthy_table(alloc: Global, objects: &[LoadedObject<'_>]) -> Option<Found>
     requires { All (λ o. IsTaken o.file) objects.now }
     ensures { IfSome result (λ t. IsFound objects.now (map (λ r. r.items) t.rows.items)) }

@@ -1,4 +1,4 @@
-// Why a run couldn't go on.
+// Why reading or writing couldn't go on.
 
 ghost use Rattle.std.specs.Prelude.{◌≡◌};
 ghost use Rattle.scripts.specs.declared.fault.ScriptFault.TheVariants.{OutOfMemory, Write};

@@ -11,13 +11,13 @@ use text_output::WriteFault;
 /// Why a line isn't run.
 #[derive(Clone, Copy)]
 pub enum LineRefusal {
-    /// L1: it asks nothing.
+    /// L1: the line asks for nothing.
     BadLine,
-    /// L2: it is the last one and has no newline.
+    /// L2: the line is the last one and has no newline.
     CutLine,
 }
 
-/// Puts the text of a refusal behind what waits.
+/// Appends the text of a refusal to the answers that wait.
 pub fn put_line_refusal<W: Write>(
     waiting: &mut Line,
     out: &mut W,

@@ -1,11 +1,11 @@
-// A disk that fails at a call of its caller's choice.
+// A disk that fails at a call that its caller chooses.
 ghost use Rattle.std.specs.Prelude.{◌≡◌, ◌-◌, length};
 
 use crate::disk::{Disk, DiskFault, SECTOR_BYTES};
 use crate::past::Past;
 
-/// Which calls fail: number `call`, counted from 1, and with `forever` all later ones. With
-/// `late` that call reaches the inner disk before it fails.
+/// Which calls fail: call number `call`, counted from 1, and with `forever` all later calls too.
+/// With `late`, call number `call` reaches the inner disk before it fails.
 #[derive(Clone, Copy)]
 pub(crate) struct Plan {
     pub call: u64,
@@ -13,7 +13,7 @@ pub(crate) struct Plan {
     pub late: bool,
 }
 
-/// What becomes of a call: it passes, or fails before or after it reached the inner disk.
+/// The outcome of a call: it passes, or it fails before or after it has reached the inner disk.
 #[derive(Clone, Copy)]
 pub(crate) enum Turn {
     Pass,
@@ -21,19 +21,19 @@ pub(crate) enum Turn {
     Late,
 }
 
-/// A call that was made.
+/// A past call: whether it reached the inner disk, and whether it failed.
 #[derive(Clone, Copy)]
 pub(crate) struct Step {
     pub reached: bool,
     pub failed: bool,
 }
 
-/// A disk that passes its calls on to an inner one, up to a call that fails. What reads give and
-/// what a stop may leave is what the inner disk gives and leaves.
+/// A disk that passes its calls on to an inner disk, and fails at planned calls. Reads return what
+/// the inner disk returns, and a stop may leave what it may leave of the inner disk.
 pub struct Fuse<D> {
     inner: D,
     plan: Plan,
-    // How many calls there are up to the planned one, 0 after it.
+    // The number of calls up to and including the planned one; 0 after it.
     wait: u64,
     past: Past<Step>,
     ghost waits: { wait ≡ plan.call - length past.items },
@@ -44,9 +44,9 @@ impl<D: Disk> Fuse<D> {
     ghost use Rattle.sector_disk.specs.Disk.{IsSameDisk};
     ghost use Rattle.sector_disk.specs.Fuse.{fuse_facts, inner_of, plan_of, next_turn};
 
-    /// The k-th read, write or sync fails, counted from 1, and with `forever` all later ones fail
-    /// too, without reaching `inner`. With `late` the k-th reaches `inner` first. With k 0 none
-    /// fails but where `inner` does.
+    /// Makes a fuse over `inner`. Its `k`-th read, write or sync fails, counted from 1. With
+    /// `forever` all later calls fail too, without reaching `inner`. With `late` the `k`-th call
+    /// reaches `inner` first. If `k` is 0, a call fails only if it fails on `inner`.
     pub fn new(inner: D, k: u64, forever: bool, late: bool) -> Fuse<D>
         ensures inner { inner_of result ≡ inner }
         ensures plan { plan_of result ≡ record { call = k; forever = forever; late = late } }
@@ -66,7 +66,7 @@ impl<D: Disk> Fuse<D> {
         }
     }
 
-    /// The inner disk, as the calls that reached it left it.
+    /// Returns the inner disk, as the calls that reached it left it.
     pub fn into_inner(self) -> D
         ensures inner { result ≡ inner_of self }
         ensures same { IsSameDisk (fuse_facts D.facts self) (D.facts result) }
@@ -80,7 +80,7 @@ impl<D: Disk> Fuse<D> {
         inner
     }
 
-    // What becomes of the next call.
+    // Returns the outcome of the next call.
     fn next_turn(&self) -> Turn
         ensures { result ≡ next_turn self.now }
     {
@@ -97,7 +97,7 @@ impl<D: Disk> Fuse<D> {
         }
     }
 
-    // Ends a call with this reply.
+    // Ends a call with `reply`. `reached` states whether the call reached the inner disk.
     fn end_call(&mut self, reached: bool, reply: Result<(), DiskFault>) -> Result<(), DiskFault>
         ensures reply { result ≡ reply }
         ensures inner { self.new.inner ≡ self.old.inner }
@@ -114,7 +114,7 @@ impl<D: Disk> Fuse<D> {
     }
 }
 
-// As that of a disk in memory.
+// Written by hand for the same reason as the drop of `Memory`.
 impl<D: Drop> Drop for Fuse<D> {
     fn drop(self) {
         let Fuse {

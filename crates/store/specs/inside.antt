@@ -1,4 +1,5 @@
--- What the code keeps as it goes. No public clause cites it, and nobody has to believe it.
+-- Definitions of the data that the code keeps while it runs. No public clause cites these
+-- definitions, so no reader has to believe them.
 pub mod Catalogues
 pub mod Change
 pub mod Claimed

@@ -1,4 +1,4 @@
-// What a change does to the list of entries, and to all that is kept of it.
+// A change of the list of entries, and of everything that is kept about the list.
 ghost use Rattle.std.specs.Prelude.{◌≡◌, ◌^◌, ◌<◌, length};
 ghost use Rattle.roots.specs.Root.{RootHasSpelling};
 ghost use Rattle.store.specs.inside.Edit.{CanEdit, CanEditSectors, IsSettled, IsWithin};
@@ -15,21 +15,21 @@ use crate::room::{give_up, release_sectors};
 use extents::Layout;
 use roots::Root;
 
-/// What a change does to the list of entries.
+/// A change of the list of entries.
 #[derive(Clone, Copy)]
 pub(crate) enum Edit {
-    /// Nothing: the same catalogues list it.
+    /// Nothing: the same catalogues list the same entries.
     Nothing,
-    /// This one stands behind the others.
+    /// The entry is put after the others.
     Behind(PlacedEntry),
-    /// This one stands in the place of the one at this position, which has its name.
+    /// The entry takes the place of the entry at the position, which has the same name.
     Over(usize, PlacedEntry),
-    /// The one at this position goes, and those behind it close up.
+    /// The entry at the position is removed, and those after it move up.
     Out(usize),
 }
 
 impl Edit {
-    /// Makes it in the list of the entries' sectors. It takes no memory.
+    /// Makes the change in the list of the entries' sectors. Allocates nothing.
     pub(crate) fn list(&self, sectors: &mut Vec<u32>)
         requires { CanEditSectors self.now sectors.old }
         ensures { sectors.new.items ≡ edited_by (λ placed. placed.at) self.now sectors.old.items }
@@ -44,7 +44,7 @@ impl Edit {
         }
     }
 
-    /// Makes it in the list of entries, and in the order of their names. It takes no memory.
+    /// Makes the change in the list of entries and in the order of their names. Allocates nothing.
     pub(crate) fn enter(&self, entries: &mut Vec<PlacedEntry>, index: &mut NameIndex)
         requires edit { CanEdit self.now entries.old index.old.room }
         requires index { IsIndex entries.old.items index.old }
@@ -67,8 +67,9 @@ impl Edit {
         }
     }
 
-    /// Frees what the state uses no longer once it is made: the catalogues, and what the entry that
-    /// goes had, unless somebody holds it.
+    /// Frees the sectors that the state no longer uses once the change is made. These are the
+    /// sectors of the old catalogues, and those of the replaced or removed entry, unless somebody
+    /// holds its byte string.
     pub(crate) fn settle(
         &self,
         root: &Root,

@@ -1,4 +1,4 @@
-// What a disk holds, as a store keeps it.
+// The contents of a disk, as a store keeps them in memory.
 ghost use Rattle.std.specs.Prelude.{◌≡◌, ◌⊎◌, [], IfOk, IfErr, length, false};
 ghost use Rattle.roots.specs.Root.{RootHasSpelling, version_of};
 ghost use Rattle.roots.specs.declared.version.Version.TheVariants.{Two};
@@ -19,7 +19,7 @@ use roots::Root;
 use sector_disk::Disk;
 use std::alloc::{AllocError, Global};
 
-/// What a disk holds, as a store keeps it.
+/// The contents of a disk, as a store keeps them in memory.
 #[derive(Drop)]
 pub(crate) struct Found {
     pub root: Root,
@@ -30,7 +30,7 @@ pub(crate) struct Found {
     pub layout: Layout,
 }
 
-/// The sectors of entries, in their order.
+/// Returns the sectors of entries, in their order.
 fn sectors_of_entries(alloc: Global, entries: &[PlacedEntry]) -> Result<Vec<u32>, AllocError>
     ensures { IfOk result (λ sectors. sectors.items ≡ entry_sectors entries.now) }
 {
@@ -38,8 +38,9 @@ fn sectors_of_entries(alloc: Global, entries: &[PlacedEntry]) -> Result<Vec<u32>
 }
 
 impl Found {
-    /// What is kept of entries that were read, and of their root. Damaged where a name stands
-    /// twice, a sector is used twice or can't be used, or too few are unused.
+    /// Returns the contents of a disk with the root `root` and the entries `entries`. Refuses with
+    /// Damaged if two entries have the same name, if a sector is used twice or can't be used, or if
+    /// too few sectors are unused.
     pub(crate) fn over(
         alloc: Global,
         root: Root,
@@ -73,7 +74,8 @@ impl Found {
         })
     }
 
-    /// What was found, as a store of version 2 over the disk where it was.
+    /// Makes a store of version 2 from these contents and the disk `disk`, on which they were
+    /// found.
     pub(crate) fn beside<D: Disk>(self, alloc: Global, disk: D) -> Store<D>
         requires version { version_of self.root ≡ Two }
         requires found { IsFound self.root self.entries.items self.sectors.items

@@ -9,7 +9,7 @@ use Rattle.std.specs.Simd.{first_chunks}
 use Rattle.hex.specs.Hex.{encode_lower}
 use Rattle.text_output.specs.Hexadecimal.{line_at, first_lines, line_count, hex_lines}
 
--- a range in two
+-- a range, split into two
 pub range-split : (a m n : ℕ) → range_with_len a (m + n) ≡ range_with_len a m ++ range_with_len (a + m) n
 range-split a zero n = ap (range_with_len a) (zero-add n) ∙ ap (λ b. range_with_len b n) (sym (add-zero a))
 range-split a (suc m) n =
@@ -38,13 +38,13 @@ pub line-of : (lines : List (List ℕ)) (n i : ℕ) (bytes d : List ℕ) → lin
 line-of lines n i bytes d e h =
     ap (λ l. encode_lower l ++ 10 ∷ []) (ap (λ (l : List (List ℕ)). slice_index_or l i d) e ∙ chunk-at n i bytes d h)
 
--- whole lines are all lines where nothing is left
+-- whole lines are all lines, if nothing is left
 pub whole-lines : (bytes : List ℕ) (i : ℕ) → i ≡ length bytes / 16 → length bytes % 16 ≡ 0 → first_lines bytes i ≡ hex_lines bytes
 whole-lines bytes i e r =
     let k : i ≡ line_count bytes = omega (arith, e, r) in
     ap (first_lines bytes) k
 
--- and else all but one
+-- if bytes are left, there is one more line
 pub last-line : (bytes rest : List ℕ) (i : ℕ) → i ≡ length bytes / 16 → 0 < length bytes % 16 → rest ≡ drop (length bytes / 16 * 16) bytes
     → length rest ≡ length bytes % 16 → first_lines bytes i ++ (encode_lower rest ++ 10 ∷ []) ≡ hex_lines bytes
 last-line bytes rest i e r d n =
@@ -53,7 +53,7 @@ last-line bytes rest i e r d n =
     let cut : rest ≡ take 16 (drop (16 * i) bytes) = sym (take_all 16 rest (omega (arith, n))) ∙ ap (take 16) (d ∙ ap (λ j. drop j bytes) at) in
     ap (λ l. first_lines bytes i ++ (encode_lower l ++ 10 ∷ [])) cut ∙ sym (lines-more (line_at bytes) i) ∙ ap (first_lines bytes) k
 
--- a list of no length
+-- a list of length 0
 pub no-length : (xs : List ℕ) → length xs ≡ 0 → xs ≡ []
 no-length [] h = refl
 no-length (x ∷ xs) h = absurd (omega (arith, h))

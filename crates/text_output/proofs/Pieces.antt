@@ -12,7 +12,7 @@ last_of b (next ∷ text) line =
     let rest = last_of next text (All-tail (λ b. b ≢ 10) b (next ∷ text) line) in
     (b ∷ rest.0, rest.1, rest.2, ap (λ l. b ∷ l) rest.3)
 
--- what ends with a text without a newline ends within a line
+-- bytes end within a line if they end with a text that isn't empty and has no newline
 pub ends_behind : (waiting text : List ℕ) → (length text == 0) ≡ false → IsWithinLine text → EndsWithinLine (waiting ++ text)
 ends_behind waiting [] some line = absurd (false≢true (sym some))
 ends_behind waiting (b ∷ text) some line =

@@ -1,4 +1,4 @@
--- Lines of zeros, and lines of zeros behind others.
+-- Lines of zeros, and lines of zeros after others.
 use Rattle.std.proofs.Common.{◌≡◌, ℕ, ◌+◌, ◌-◌, ◌*◌, ◌/◌, ◌%◌, ◌<◌, ◌≤◌, List, [], ◌∷◌, ◌++◌, length, take, drop, slice_index_or}
 use Rattle.std.proofs.Common.{sym, ap, ◌∙◌, arith, suc, zero, append-nil, refl, Option, Some, None, ◌⊎◌, inl, inr, append_assoc, min}
 use Rattle.std.specs.Prelude.{replicate}
@@ -13,7 +13,7 @@ use Rattle.hex.specs.Hex.{encode_lower, encode_with}
 use Rattle.text_output.specs.Hexadecimal.{line_at, first_lines, line_count, hex_lines}
 use Rattle.text_output.proofs.Lines.{range-split}
 
--- two ranges give the same text where they do so place by place
+-- two ranges have the same text if they have it index by index
 flat_map-moved : (f g : ℕ → List ℕ) (a b n : ℕ) → ((k : ℕ) → k < n → f (a + k) ≡ g (b + k)) → flat_map f (range_with_len a n) ≡ flat_map g (range_with_len b n)
 flat_map-moved f g a b zero h = refl
 flat_map-moved f g a b (suc n) h =
@@ -28,13 +28,13 @@ line-front a b k h =
     ap (λ l. encode_lower (take 16 l) ++ 10 ∷ []) (drop-append-le (16 * k) a b (omega (arith, h)))
     ∙ ap (λ l. encode_lower l ++ 10 ∷ []) (take-append-le 16 (drop (16 * k) a) b (omega (arith, length-drop (16 * k) a, h)))
 
--- and a line behind whole ones is a line of what is behind
+-- a line after whole lines is a line of the bytes after them
 line-back : (a b : List ℕ) (n k : ℕ) → length a ≡ 16 * n → line_at (a ++ b) (n + k) ≡ line_at b k
 line-back a b n k e =
     let at : 16 * (n + k) ≡ length a + 16 * k = omega (arith, e) in
     ap (λ l. encode_lower (take 16 l) ++ 10 ∷ []) (ap (λ j. drop j (a ++ b)) at ∙ drop-append-add a b (16 * k))
 
--- the lines of bytes behind whole lines stand behind these
+-- the lines of bytes after whole lines come after these lines
 pub hex_lines-append : (a b : List ℕ) (n : ℕ) → length a ≡ 16 * n → hex_lines (a ++ b) ≡ hex_lines a ++ hex_lines b
 hex_lines-append a b n e =
     let all : line_count (a ++ b) ≡ n + line_count b = omega (arith, length-append a b, e) in
@@ -48,7 +48,7 @@ hex_lines-append a b n e =
     ∙ ap (λ l. l ++ flat_map (line_at (a ++ b)) (range_with_len (0 + n) (line_count b))) (front ∙ ap (first_lines a) own)
     ∙ ap (λ l. hex_lines a ++ l) back
 
--- so many whole lines of zeros
+-- n whole lines of zeros
 abbrev pub zero_lines : ℕ → List ℕ
 zero_lines n = hex_lines (replicate (16 * n) 0)
 
@@ -68,14 +68,14 @@ length-one : length (zero_lines 1) ≡ 33
 unfolding encode_with
 length-one = refl
 
--- it has 33 bytes
+-- a line's text has 33 bytes
 pub length-zero_lines : (n : ℕ) → length (zero_lines n) ≡ 33 * n
 length-zero_lines zero = refl
 length-zero_lines (suc n) =
     let more : zero_lines n ++ zero_lines 1 ≡ zero_lines (suc n) = zero_lines-more n 1 ∙ ap zero_lines (let e : n + 1 ≡ suc n = omega arith in e) in
     omega (arith, ap length more, length-append (zero_lines n) (zero_lines 1), length-zero_lines n, length-one)
 
--- whole lines, of which the last are zeros, and what is behind them
+-- whole lines, of which the last are zeros, and the bytes after them
 pub lines-in-three : (bytes lines rest front : List ℕ) (n : ℕ) → lines ++ rest ≡ bytes → length lines % 16 ≡ 0 → n ≤ length lines → n % 16 ≡ 0
     → front ≡ take n lines → drop n lines ≡ replicate (length lines - n) 0
     → (hex_lines front ++ zero_lines ((length lines - n) / 16)) ++ hex_lines rest ≡ hex_lines bytes
@@ -97,7 +97,7 @@ block-at (suc n) (suc i) bytes d h =
     let e : 64 + 64 * i ≡ 64 * suc i = omega arith in
     block-at n i (drop 64 bytes) d (omega arith) ∙ ap (take 64) (drop-drop (64 * i) 64 bytes ∙ ap (λ k. drop k bytes) e)
 
--- it has zeros alone
+-- a zero block has only zeros
 pub zero-block : (blocks : List (List ℕ)) (n i : ℕ) (bytes d : List ℕ) → blocks ≡ first_chunks 64 n bytes → i < n → 64 * n ≤ length bytes
     → slice_index_or blocks i d ≡ replicate (length (slice_index_or blocks i d)) 0 → take 64 (drop (64 * i) bytes) ≡ replicate 64 0
 zero-block blocks n i bytes d e h fits z =
@@ -106,7 +106,7 @@ zero-block blocks n i bytes d e h fits z =
     let size : length block ≡ 64 = omega (arith, length-take 64 (drop (64 * i) bytes), length-drop (64 * i) bytes, h, fits) in
     sym is ∙ z ∙ ap (λ (l : List ℕ). replicate (length l) 0) is ∙ ap (λ k. replicate k 0) size
 
--- zeros before zeros
+-- zeros that come before zeros
 pub zeros-before : (bytes : List ℕ) (at n : ℕ) → at + n ≤ length bytes → take n (drop at bytes) ≡ replicate n 0
     → drop (at + n) bytes ≡ replicate (length bytes - (at + n)) 0 → drop at bytes ≡ replicate (length bytes - at) 0
 zeros-before bytes at n h block e =
@@ -116,13 +116,13 @@ zeros-before bytes at n h block e =
     ∙ ap (λ l. replicate n 0 ++ l) (drop-drop n at bytes ∙ e)
     ∙ replicate-append-replicate n (length bytes - (at + n)) 0 ∙ ap (λ k. replicate k 0) size
 
--- what waits was sent, and waits on
+-- the waiting bytes were sent, and still wait
 pub sent-and-kept : (a b : Option (List ℕ)) (waiting : List ℕ) → Appends a b waiting → Appends (append_known a waiting) (append_known b waiting) waiting
 sent-and-kept None b waiting p = tt
 sent-and-kept (Some x) None waiting p = absurd p
 sent-and-kept (Some x) (Some y) waiting p = ap (λ l. l ++ waiting) p
 
--- a whole line and zeros behind it, or a shorter one and nothing
+-- a whole line and zeros after it, or a shorter line and nothing
 line-and : (line zeros : List ℕ) → (length line ≡ 16) ⊎ (zeros ≡ []) → hex_lines line ++ hex_lines zeros ≡ hex_lines (line ++ zeros)
 line-and line zeros (inl h) = sym (hex_lines-append line zeros 1 h)
 line-and line zeros (inr h) =
@@ -131,7 +131,7 @@ line-and line zeros (inr h) =
 full-or-last : (rest zeros more : ℕ) → rest < 16 → more ≡ min zeros (16 - rest) → (rest + more ≡ 16) ⊎ (zeros - more ≡ 0)
 full-or-last rest zeros more h e = elim (cases_lt zeros (16 - rest)) [ inl l ↦ inr (omega (arith, l, e)) | inr l ↦ inl (omega (arith, l, e, h)) ]
 
--- bytes with zeros behind them: their whole lines, the line that begins with the rest, and lines of zeros
+-- bytes with zeros after them: their whole lines, the line that begins with the rest, and lines of zeros
 pub padded-lines : (bytes lines rest : List ℕ) (zeros more n : ℕ) → lines ++ rest ≡ bytes → length lines ≡ 16 * n → length rest < 16 → more ≡ min zeros (16 - length rest)
     → (hex_lines lines ++ hex_lines (take (length rest + more) (rest ++ replicate (16 - length rest) 0))) ++ hex_lines (replicate (zeros - more) 0) ≡ hex_lines (bytes ++ replicate zeros 0)
 padded-lines bytes lines rest zeros more n all whole short least =

@@ -1,7 +1,7 @@
 //! Text on its way to a writer.
 //!
-//! `OutputBuffer` holds the bytes that wait for a writer, on the stack, and spells what texts have
-//! in common: numbers, addresses, names and lines of hexadecimal digits. It takes no memory.
+//! `OutputBuffer` holds the bytes that wait for a writer, on the stack. It formats the parts that
+//! texts share: numbers, addresses, names, and lines of hexadecimal digits. It allocates nothing.
 //! `write_name` writes one name.
 #![tactic(auto)]
 

@@ -12,18 +12,20 @@ use crate::fault::WriteFault;
 use std::io::Write;
 use std::marker::Model;
 
-/// The most bytes of a piece: what a pipe takes whole or not at all.
+/// The maximum size of a piece in bytes: a pipe takes a piece of this size as a whole or not at
+/// all.
 const PIECE_BYTES: usize = 4096;
 
-/// The longest text that is put at once.
+/// The maximum length of a text that is put at once, in bytes.
 pub const LONGEST: usize = 256;
 
 /// The bytes of a piece.
 type Piece = OutputBuffer<PIECE_BYTES>;
 
-/// Lines on their way to a writer, which is given them in pieces of at most 4,096 bytes. Each but
-/// the last one ends within a line, so a text that is cut between two is seen to be cut.
-/// Contracts see the bytes that wait, an ended line's newline among them.
+/// Lines on their way to a writer, to which they are written in pieces of at most 4,096 bytes. Each
+/// piece except the last one ends within a line. So if a text is cut between two pieces, a reader
+/// sees that it is cut. Contracts see the waiting bytes, which include the newline of an ended
+/// line.
 #[derive(Drop)]
 pub struct PieceBuffer {
     piece: Piece,
@@ -46,7 +48,7 @@ impl Model for PieceBuffer {
         × (length s.piece.waiting < most_piece) };
 }
 
-/// Gives a piece to the writer, with one call of `write_all`, behind which another one comes.
+/// Writes a piece that another one will follow to the writer, with one call of `write_all`.
 fn give<W: Write>(piece: &mut Piece, out: &mut W) -> Result<(), WriteFault>
     requires { IsFrontPiece piece.old.waiting }
     ensures ok { OnOk result (Appends (W.contents out.old) (W.contents out.new)
@@ -59,7 +61,7 @@ fn give<W: Write>(piece: &mut Piece, out: &mut W) -> Result<(), WriteFault>
 }
 
 impl PieceBuffer {
-    /// A text of which nothing waits.
+    /// Makes a text of which no bytes wait.
     pub fn new() -> Self
         ensures { result.waiting ≡ [] }
     {
@@ -69,8 +71,8 @@ impl PieceBuffer {
         }
     }
 
-    /// Puts a part of a line after the bytes that wait. If there is no room for it and for a
-    /// newline, these are given to the writer first, as one piece.
+    /// Puts a part of a line after the waiting bytes. If there is no room for it and for a newline,
+    /// the waiting bytes are first written to the writer, as one piece.
     pub fn put<W: Write>(&mut self, out: &mut W, text: &[u8]) -> Result<(), WriteFault>
         requires short { length text.now ≤ LONGEST }
         requires line { IsWithinLine text.now }
@@ -97,7 +99,7 @@ impl PieceBuffer {
         Ok(())
     }
 
-    /// Ends the line. Its newline waits for the next one, or for the end.
+    /// Ends the line. Its newline waits for the next line, or for the end of the text.
     pub fn end_line(&mut self)
         requires { EndsWithinLine self.old.waiting }
         ensures { self.new.waiting ≡ self.old.waiting ++ codes "\n" }
@@ -105,7 +107,7 @@ impl PieceBuffer {
         self.line_is_ended = true;
     }
 
-    /// Gives all bytes that wait to the writer: the last piece.
+    /// Writes all waiting bytes to the writer, as the last piece.
     pub fn finish<W: Write>(self, out: &mut W) -> Result<(), WriteFault>
         ensures { OnOk result (Appends (W.contents out.old) (W.contents out.new) self.waiting) }
     {

@@ -11,13 +11,13 @@ use crate::fault::WriteFault;
 use crate::hexadecimal::{LINE_BYTES, LINE_TEXT, line};
 use std::io::Write;
 
-/// How many lines of zeros are put one by one.
+/// The maximum number of lines of zeros that are put one by one.
 const FEW: u64 = 2048;
 
-/// How many bytes are looked at at once.
+/// The number of bytes that are tested for zeros at once.
 pub(crate) const BLOCK: usize = 64;
 
-/// Whether a block has zeros alone. All of it is read, which lets the compiler read it at once.
+/// Returns whether a block has only zeros. All of it is read, so the compiler can read it at once.
 fn is_zero(block: &[u8; BLOCK]) -> bool
     ensures { result ≡ true → block.now ≡ replicate (length block.now) 0 }
 {
@@ -28,7 +28,7 @@ fn is_zero(block: &[u8; BLOCK]) -> bool
     highest == 0
 }
 
-/// Where the blocks of zeros begin that whole blocks end with.
+/// Returns the offset of the blocks of zeros that `bytes`, which has whole blocks, ends with.
 pub(crate) fn zeros_begin(bytes: &[u8]) -> usize
     requires { length bytes.now % BLOCK ≡ 0 }
     ensures within { result ≤ length bytes.now }
@@ -43,7 +43,7 @@ pub(crate) fn zeros_begin(bytes: &[u8]) -> usize
     BLOCK * count
 }
 
-/// A line that begins with these bytes and goes on with zeros.
+/// Returns a line that begins with `bytes` and continues with zeros.
 fn line_of(bytes: &[u8]) -> [u8; LINE_BYTES]
     requires { length bytes.now < LINE_BYTES }
     ensures { result ≡ bytes.now ++ replicate (LINE_BYTES - length bytes.now) 0 }
@@ -54,7 +54,7 @@ fn line_of(bytes: &[u8]) -> [u8; LINE_BYTES]
 }
 
 impl<const SIZE: usize> OutputBuffer<SIZE> {
-    /// Puts so many lines of zeros behind what waits, one by one.
+    /// Puts `count` lines of zeros after the waiting bytes, one by one.
     fn put_few_zero_lines<W: Write>(&mut self, out: &mut W, count: u64) -> Result<(), WriteFault>
         ensures ok { OnOk result (Sends (W.contents out.old) self.old (W.contents out.new) self.new
             (hex_lines (replicate (16 * count) 0))) }
@@ -70,8 +70,8 @@ impl<const SIZE: usize> OutputBuffer<SIZE> {
         Ok(())
     }
 
-    /// Puts so many lines of zeros behind what waits. Where they are many, the buffer is filled
-    /// with such lines once, and sent again and again.
+    /// Puts `count` lines of zeros after the waiting bytes. If they are many, the buffer is filled
+    /// with such lines once and sent repeatedly.
     pub(crate) fn put_zero_lines<W: Write>(
         &mut self,
         out: &mut W,
@@ -94,7 +94,7 @@ impl<const SIZE: usize> OutputBuffer<SIZE> {
         }
         self.put_few_zero_lines(out, left)
     }
-    /// Puts so many zeros in hexadecimal behind what waits, sixteen a line.
+    /// Puts `count` zeros in hexadecimal after the waiting bytes, sixteen to a line.
     fn put_zeros<W: Write>(&mut self, out: &mut W, count: u64) -> Result<(), WriteFault>
         ensures ok { OnOk result (Sends (W.contents out.old) self.old (W.contents out.new) self.new
             (hex_lines (replicate count 0))) }
@@ -105,8 +105,8 @@ impl<const SIZE: usize> OutputBuffer<SIZE> {
         self.put_lines(out, &zeros[..(count % LINE_BYTES as u64) as usize])
     }
 
-    /// Puts bytes and so many zeros behind them in hexadecimal behind what waits, sixteen a line.
-    /// The zeros are made as lines, and the lines once.
+    /// Puts `bytes`, and then `zeros` zeros, in hexadecimal after the waiting bytes, sixteen to a
+    /// line. The zeros are put as lines, whose text is made once.
     pub fn put_padded_hex_lines<W: Write>(
         &mut self,
         out: &mut W,

@@ -1,4 +1,4 @@
--- A command to a registry of which no file was read when it was opened.
+-- A command to a registry that was opened without reading a library's file.
 use Rattle.std.proofs.Common.{◌≡◌, List, Ok, inl, inr, ap, sym, subst, ◌∙◌}
 use Rattle.std.specs.Prelude.{◌≢◌, ◌⊎◌, IsTrue}
 use Rattle.sector_disk.specs.Disk.{Sector, DiskFacts, Mixture, LeavesOnly}
@@ -18,7 +18,7 @@ use Rattle.registry.specs.Applied.{MayLeaveBy}
 use Rattle.registry.specs.Phase.{phase_of}
 use Rattle.tool_commands.specs.Request.{DiskStep, IsAnswered, IsChange}
 
--- a change that is refused, but for a failed call, leaves the registry as it was
+-- a change that is refused, but not because a call failed, leaves the registry as it was
 same : {D : Type 0} (old new : Opened D) (request : Request) (refusal : Refusal) → IsChange request → Leaves old new request (Refused refusal) → refusal ≢ Device → new ≡ old
 same old new (install bytes) refusal h leaves other = leaves.1 other
 same old new (replace bytes) refusal h leaves other = leaves.1 other
@@ -32,7 +32,7 @@ module _ {D : Type 0} (facts : D → DiskFacts) (disk left : D) (old new : Opene
   abbrev MayBeLeft : State → State → List Sector → Type 0
   MayBeLeft s s' m = Mixture (facts disk) m ⊎ MayLeaveBy sectors.Stands (phase_of facts old s) request reply s' m
 
-  -- nothing was written where the registry is as it was
+  -- if the registry is as it was, nothing was written
   nothing : Opens sectors.Stands facts (store.IsAt facts) disk (Ok old) → IsTrue (facts disk).honest → left ≡ old.disk
       → LeavesOnly (facts disk) (facts left) (Mixture (facts disk)) × ((facts left).now ≡ (facts disk).now)
   nothing opened honest back = (

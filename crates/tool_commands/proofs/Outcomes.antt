@@ -1,4 +1,4 @@
--- What the forms end with: none ends as words do that are none, and what is said is apart from what is told.
+-- How the forms end: none ends as arguments that are none of the forms, and standard error and the output are kept apart.
 use Rattle.std.proofs.Common.{◌≡◌, ℕ, Bool, List, Option, Some, None, map, true, false, inl, inr, refl, sym, ap, ◌∙◌, ⊎_elim, arith}
 use Rattle.std.proofs.lemmas.Bool.{false≢true}
 use Rattle.std.specs.Prelude.{◌≢◌, ◌⊎◌, if◌then◌else◌, is_none}
@@ -60,7 +60,7 @@ use Rattle.tool_commands.specs.declared.telling.Telling.TheVariants.{Text, Execu
 
 -- ---- statuses
 
--- what is asked isn't done, but words were read
+-- the form isn't done, but its arguments were read
 abbrev IsFault : Status → Type 0
 IsFault status = (status ≢ Done) × (status ≢ BadWords)
 
@@ -127,7 +127,7 @@ bindings_words : (objects : List Placed) → bindings_status objects ≢ BadWord
 bindings_words objects =
     elim (is_none (undefined_refusal objects)) as (λ none. (if none then Done else Refused) ≢ BadWords) [ true ↦ done_words | false ↦ refused_fault.1 ]
 
--- a status that is one of these
+-- a form that ends with a status other than BadWords doesn't end with BadWords
 same_words : (ends status : Status) → ends ≢ BadWords → status ≡ ends → status ≢ BadWords
 same_words ends status other is h = other (sym is ∙ h)
 
@@ -136,13 +136,14 @@ same_fault ends status fault is = (λ h. fault.0 (sym is ∙ h), λ h. fault.1 (
 
 -- ---- the ends of each kind
 
--- what is told as an executable file may be told with a warning
+-- a warning may be written beside an executable file
 abbrev may_add : Telling → Bool
 may_add Text = false
 may_add Executable = true
 
 module _ (io : Streams) (status : Status) where
-  -- what an end says that may warn or may not, and may say something beside what it tells or may not
+  -- what an end means for a form that may or may not warn, and that may or may not write to both
+  -- streams
   abbrev Kind : (warning beside : Bool) → Type 0
   Kind warning beside = (status ≢ BadWords)
       × (warning ≡ false → status ≡ Done → IsSilent io)
@@ -159,7 +160,7 @@ module _ (io : Streams) (status : Status) where
       let other = same_fault ends status fault is in
       (other.1, λ isnt done. absurd (other.0 done), λ isnt failed. inr none)
 
-  -- beside which something may be said
+  -- the end of a form that may write to both streams
   broken : {w : Bool} (ends : Status) → IsFault ends → status ≡ ends → Kind w true
   broken ends fault is =
       let other = same_fault ends status fault is in
@@ -264,7 +265,7 @@ module _ (io : Streams) (status : Status) where
   read_bindings_kind base (inl h) = bindings_kind h.0 base h.2
   read_bindings_kind base (inr h) = untold (read_status h.0) (read_fault h.0) h.1 h.2
 
--- of an update whose lines a fault ended, both streams have something
+-- the end of an update: if a fault ended its lines, both streams may have something
 module _ (io : program.Streams) (status : Status) where
   abbrev UpdateKind : Type 0
   UpdateKind = Kind (outputs_of io) status false true

@@ -1,4 +1,4 @@
--- What is told of what the symbols of a program are bound to (own).
+-- How a form ends that reports what the symbols of a program are bound to (own).
 use Rattle.std.specs.Prelude.{◌≡◌, ◌≢◌, ◌⊎◌, ℕ, List, Option, None, Ok, Err, map, false, is_none, if◌then◌else◌}
 use Rattle.bindings.specs.Bindings.{bindings_text}
 use Rattle.bindings.specs.Dependencies.{dependencies_text}
@@ -25,48 +25,54 @@ use Rattle.store.specs.declared.refusal.StoreRefusal.{StoreRefusal}
 use Rattle.tool_parts.specs.Said.{memory_line, refusal_line, said_line}
 use Rattle.tool_parts.specs.Streams.{Streams, SaysOnly, TellsOnly}
 
--- a refusal is said as that of a bind, and nothing is told
+-- standard error reports the refusal, as that of a bind, and nothing is written to the output
 abbrev pub SaysRefusal : Refusal → Streams → Status → Type 0
 SaysRefusal refusal io status = SaysOnly (refusal_status refusal) (said_line (command_refusal_text refusal)) io status
 
--- what objects in their places end with: 1 where the symbol of a relocation is undefined
+-- the status for placed objects: Refused if the symbol of a relocation is undefined, and otherwise
+-- Done
 abbrev pub bindings_status : List Placed → Status
 bindings_status objects = if is_none (undefined_refusal objects) then Done else Refused
 
--- what their symbols are bound to is told; or they have no room, or memory was refused
+-- the output gets what the symbols of the placed objects are bound to; or the objects have no room,
+-- or memory was refused
 abbrev pub PlacedTells : List Placed → Streams → Status → Type 0
 PlacedTells objects io status =
     ((lacks_room objects ≡ false) × TellsOnly (bindings_status objects) (bindings_text objects) io status)
     ⊎ ((refusal : BindRefusal) × IsPlaceAnswer objects refusal × SaysRefusal (of_bind refusal) io status)
 
--- the same, where memory was refused before they had places
+-- the same, or memory was refused before the objects were placed
 abbrev pub WholeTells : List Placed → Streams → Status → Type 0
 WholeTells objects io status = PlacedTells objects io status ⊎ SaysOnly NoMemory memory_line io status
 
--- what each of these objects needs is told, and which names aren't among these; or memory was refused
+-- the output gets what each of the objects needs, and which of these names aren't among `names`; or
+-- memory was refused
 abbrev pub LackingTells : List (List ℕ) → List Named → Streams → Status → Type 0
 LackingTells names objects io status = TellsOnly Refused (dependencies_text names objects) io status ⊎ SaysOnly NoMemory memory_line io status
 
--- of objects in load order, the program at a base; where a name is missing, by names of libraries
+-- the bindings of `order`, the objects in load order with the program at address `base`, are
+-- reported; or, if a name is missing, what the objects need and which names aren't among `names`
 abbrev pub OrderTells : Option Need → List (List ℕ) → List Named → ℕ → Streams → Status → Type 0
 OrderTells lacks names order base io status =
     ((lacks ≡ None) × WholeTells (place base order) io status) ⊎ ((lacks ≢ None) × LackingTells names order io status)
 
--- of what was found for a program
+-- the same for a program with the libraries that were found for it
 abbrev pub FoundTells : List ℕ → ℕ → Found → Streams → Status → Type 0
 FoundTells program base found io status =
     OrderTells found.missing (names_of (map object_of found.libraries)) (available program (map object_of found.libraries)) base io status
 
--- of a program with what is installed
+-- the same for a program with the libraries that are installed
 abbrev pub StateTells : State → List ℕ → ℕ → Streams → Status → Type 0
 StateTells s program base io status =
     OrderTells (missing program (objects s) (preload_numbers s)) (names_of (objects s)) (load_order program (objects s) (preload_numbers s)) base io status
 
--- the program is refused by itself, which is said
+-- the program is refused by itself, and standard error reports why
 abbrev pub IsRefusedAlone : List ℕ → ℕ → Streams → Status → Type 0
 IsRefusedAlone program base io status = (refusal : BindRefusal) × IsProgramAnswer program base refusal × SaysRefusal (of_bind refusal) io status
 
--- over a state: the program is refused alone, or a library can't be read, S5 only where one is none
+-- Over a state: the program is refused by itself; or a library can't be read, with S5 (Damaged)
+-- only if a library that the bind reads isn't one; or the bindings, or the missing names, are
+-- reported.
 abbrev pub BindingsEnd : {D : Type 0} → (D → DiskFacts) → Opened D → Opened D → State → List ℕ → ℕ → Streams → Status → Type 0
 BindingsEnd facts old new s program base io status =
     IsRefusedAlone program base io status
@@ -74,21 +80,21 @@ BindingsEnd facts old new s program base io status =
     × (((refusal : Refusal) × IsFindRefusal facts old new refusal × (refusal ≡ Damaged → ReadsLibraries s program → ⊥) × SaysRefusal refusal io status)
     ⊎ (ReadsLibraries s program × StateTells s program base io status)))
 
--- On any disk, also on one that lies: the same of some libraries.
+-- On any disk, also on one that lies: the same with some libraries.
 abbrev pub BindingsTell : {D : Type 0} → (D → DiskFacts) → Opened D → Opened D → List ℕ → ℕ → Streams → Status → Type 0
 BindingsTell facts old new program base io status =
     IsRefusedAlone program base io status
     ⊎ (((refusal : Refusal) × IsFindRefusal facts old new refusal × SaysRefusal refusal io status)
     ⊎ ((found : Found) × FoundTells program base found io status))
 
--- A registry told of a program, and was only read.
+-- The bindings of a program were reported over a registry, which was only read.
 pub record ToldBindings {D : Type 0} (facts : D → DiskFacts) (old new : Opened D) (program : List ℕ) (base : ℕ) (io : Streams) (status : Status) : Type 0 where
   pub read : IsRead facts old new
   pub ends : (s : State) → IsAt facts old s → BindingsEnd facts old new s program base io status
   pub told : BindingsTell facts old new program base io status
 
--- A disk was opened, whatever named byte strings it holds, and told of a program, and it is handed
--- back so.
+-- A disk was opened, whatever named byte strings it holds, the bindings of a program were reported,
+-- and the disk is returned as that left it.
 pub record IsAskedFor {D : Type 0} (facts : D → DiskFacts) (disk : D) (program : List ℕ) (base : ℕ) (io : Streams) (status : Status) (left : D) : Type 0 where
   pub old : Opened D
   -- no file was read
@@ -97,7 +103,8 @@ pub record IsAskedFor {D : Type 0} (facts : D → DiskFacts) (disk : D) (program
   pub tells : ToldBindings facts old new program base io status
   pub back : left ≡ new.disk
 
--- a program is told of, or the disk was refused and handed back, which is said
+-- the bindings of a program are reported over the disk, or standard error reports why the disk was
+-- refused; the disk is returned
 abbrev pub BindingsEnds : {D : Type 0} → (D → DiskFacts) → D → List ℕ → ℕ → Streams → Status → D → Type 0
 BindingsEnds facts disk program base io status left =
     IsAskedFor facts disk program base io status left

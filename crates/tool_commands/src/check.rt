@@ -1,4 +1,4 @@
-// Whether the libraries are libraries.
+// Tests the installed libraries, and writes what is found.
 
 ghost use Rattle.std.specs.Prelude.{◌≡◌, List, OnOk, length};
 ghost use Rattle.std.specs.List.{list_all};
@@ -23,7 +23,7 @@ use store::{Store, StoreRefusal};
 use text_output::WriteFault;
 use tool_parts::{cannot_write, say_refusal};
 
-/// The line of each library, in their order.
+/// Puts the line of each library, in their order.
 fn put_findings<D: Disk, W: Write>(
     store: &Store<D>,
     findings: &[Finding],
@@ -42,7 +42,7 @@ fn put_findings<D: Disk, W: Write>(
     Ok(())
 }
 
-/// The line of each library, and the line `end`.
+/// Puts the line of each library, and the line `end`.
 fn put_check<D: Disk, W: Write>(
     store: &Store<D>,
     findings: &[Finding],
@@ -74,21 +74,21 @@ fn write_findings<D: Disk, W: Write>(
     line.send(out)
 }
 
-/// Whether it is a library of its name.
+/// Returns whether a finding is that the file is a library of its entry's name.
 fn is_sound(finding: Finding) -> bool
     ensures { result ≡ is_sound finding }
 {
     matches!(&finding, Finding::Sound)
 }
 
-/// Whether all are.
+/// Returns whether all findings are sound.
 fn are_sound(findings: &[Finding]) -> bool
     ensures { result ≡ list_all is_sound findings.now }
 {
     findings.iter().all(|finding| is_sound(*finding))
 }
 
-/// 1 where a library isn't one, or can't be read.
+/// Returns `Refused` if some finding isn't sound, and otherwise `Done`.
 fn status_of_findings(findings: &[Finding]) -> Status
     ensures { result ≡ check_status findings.now }
 {
@@ -99,7 +99,7 @@ fn status_of_findings(findings: &[Finding]) -> Status
     }
 }
 
-/// Writes what was found, or says that the output failed.
+/// Writes the findings, or reports that the output failed.
 fn tell_findings<D: Disk, O: Write, E: Write>(
     store: &Store<D>,
     findings: &[Finding],
@@ -122,7 +122,8 @@ fn tell_findings<D: Disk, O: Write, E: Write>(
     }
 }
 
-/// Reads each library, and writes what is found of it: a line for each, in their order, and `end`.
+/// Reads each library, and writes a line for each with what was found, in their order, and then the
+/// line `end`.
 pub fn run_check<D: Disk, O: Write, E: Write>(
     contents: &mut Contents<D>,
     alloc: Global,
@@ -138,7 +139,7 @@ pub fn run_check<D: Disk, O: Write, E: Write>(
           errors_after = E.contents errors.new;
         }) result }
 
-    // On any disk
+    // The same on any disk.
     ensures told { CheckTells (D.facts contents.old.disk) (D.facts contents.new.disk) (record {
       before = O.contents output.old;
       after = O.contents output.new;

@@ -26,7 +26,7 @@ use store::{Store, StoreRefusal};
 use text_output::WriteFault;
 use tool_parts::{cannot_write, say_refusal};
 
-/// What goes to a stream of each library, in their order.
+/// Puts what goes to the stream `stream` for each library, in their order.
 fn put_stream<D: Disk, W: Write>(
     store: &Store<D>,
     digests: &[Option<[u8; 32]>],
@@ -45,7 +45,7 @@ fn put_stream<D: Disk, W: Write>(
     Ok(())
 }
 
-/// Writes what goes to a stream.
+/// Writes what goes to the stream `stream`.
 fn write_stream<D: Disk, W: Write>(
     store: &Store<D>,
     digests: &[Option<[u8; 32]>],
@@ -62,14 +62,14 @@ fn write_stream<D: Disk, W: Write>(
     line.send(out)
 }
 
-/// Whether each library could be read.
+/// Returns whether each library could be read.
 fn are_read(digests: &[Option<[u8; 32]>]) -> bool
     ensures { result ≡ are_read digests.now }
 {
     digests.iter().all(|digest| digest.is_some())
 }
 
-/// The lines of the libraries that can't be read, where there is memory for them.
+/// Returns the lines of the libraries that can't be read, or `None` if memory for them is refused.
 fn unread_lines<D: Disk>(
     store: &Store<D>,
     alloc: Global,
@@ -86,7 +86,7 @@ fn unread_lines<D: Disk>(
     }
 }
 
-/// Says which libraries can't be read.
+/// Reports which libraries can't be read, if there is memory for the lines.
 fn say_unread<D: Disk, E: Write>(
     store: &Store<D>,
     alloc: Global,
@@ -104,7 +104,7 @@ fn say_unread<D: Disk, E: Write>(
     }
 }
 
-/// Says which libraries can't be read, where there are such.
+/// Reports which libraries can't be read, if there are any. Returns the status.
 fn end_digests<D: Disk, E: Write>(
     store: &Store<D>,
     alloc: Global,
@@ -125,7 +125,7 @@ fn end_digests<D: Disk, E: Write>(
     Status::Refused
 }
 
-/// Writes the line of each library that could be read, and says which can't; or says that the
+/// Writes the line of each library that could be read, and reports the others; or reports that the
 /// output failed.
 fn tell_digests<D: Disk, O: Write, E: Write>(
     store: &Store<D>,
@@ -149,9 +149,9 @@ fn tell_digests<D: Disk, O: Write, E: Write>(
     }
 }
 
-/// Reads each library, and then writes the digest of each as GNU sha256sum does, in their order.
-/// One that can't be read has no line: that is said. Whether they are those of libraries isn't
-/// looked at.
+/// Reads each library, and then writes the digests in the libraries' order, as GNU sha256sum does.
+/// A library that can't be read has no line on the output, and is reported on standard error.
+/// Doesn't test whether the bytes are those of libraries.
 pub fn run_digest<D: Disk, O: Write, E: Write>(
     contents: &mut Contents<D>,
     alloc: Global,
@@ -167,7 +167,7 @@ pub fn run_digest<D: Disk, O: Write, E: Write>(
           errors_after = E.contents errors.new;
         }) result }
 
-    // On any disk
+    // The same on any disk.
     ensures told { DigestTells (D.facts contents.old.disk) (D.facts contents.new.disk) (record {
       before = O.contents output.old;
       after = O.contents output.new;

@@ -1,4 +1,4 @@
-// A form over a disk, whatever the disk is.
+// Carries out a form over any disk.
 
 ghost use Rattle.std.specs.Prelude.{codes, OnOk};
 ghost use Rattle.std.specs.Io.KnownBytes.{Appends};
@@ -23,7 +23,7 @@ use std::io::Write;
 use text_output::{OutputBuffer, PIECE, WriteFault};
 use tool_parts::say_refusal;
 
-/// Cuts a script of which there is nothing: it is none that could be taken for a whole one.
+/// Writes `cut` as the whole script, so that the output isn't taken for a complete script.
 fn cut_script<O: Write>(output: &mut O) -> Result<(), WriteFault>
     ensures { OnOk result (Appends (O.contents output.old) (O.contents output.new) (codes "cut")) }
 {
@@ -32,7 +32,7 @@ fn cut_script<O: Write>(output: &mut O) -> Result<(), WriteFault>
     text.send(output)
 }
 
-/// What ends with this status without a disk that is opened: a script is cut.
+/// Ends a form with the status `status` if the disk wasn't opened: a script is cut.
 pub(crate) fn end_unopened<O: Write>(form: &Form<'_>, status: Status, output: &mut O) -> Status
     ensures { EndsUnopened (question_of form.now) status
         (O.contents output.old) (O.contents output.new) result }
@@ -46,7 +46,7 @@ pub(crate) fn end_unopened<O: Write>(form: &Form<'_>, status: Status, output: &m
     }
 }
 
-/// Does what is asked of what a disk has.
+/// Answers a question about what an opened disk has.
 fn run_opened<D: Disk, O: Write, E: Write>(
     contents: &mut Contents<D>,
     alloc: Global,
@@ -80,8 +80,8 @@ fn run_opened<D: Disk, O: Write, E: Write>(
     }
 }
 
-/// Opens what a disk has, does what is asked, and hands the disk back. Nothing is written to the
-/// disk.
+/// Opens what a disk has, answers a question about it, and returns the status and the disk. Writes
+/// nothing to the disk.
 pub fn run_form<D: Disk, O: Write, E: Write>(
     alloc: Global,
     disk: D,

@@ -1,4 +1,4 @@
-// The two streams of what is told.
+// The two streams that a form writes to.
 
 /// A stream that a line goes to.
 #[derive(Clone, Copy, PartialEq, Eq)]

@@ -1,4 +1,4 @@
-// What is asked with the bytes of a file.
+// Requests that are made with the bytes of a file.
 
 ghost use Rattle.std.specs.Prelude.{◌≡◌};
 ghost use Rattle.requests.specs.Request.{request_of};
@@ -9,12 +9,12 @@ use crate::telling::Telling;
 use file_disk::Access;
 use requests::Command;
 
-/// What is asked of a registry with the bytes of a file.
+/// A request to a registry that is made with the bytes of a file.
 #[derive(Clone, Copy)]
 pub(crate) enum WithFile {
-    /// Puts it in the place of the library of the same name.
+    /// Replaces the library of the same name by the file.
     Replace,
-    /// Gives the executable file of a program.
+    /// Writes the executable file of the program that the file is.
     Executable {
         /// The address at which it is bound.
         base: u64,
@@ -22,7 +22,7 @@ pub(crate) enum WithFile {
 }
 
 impl WithFile {
-    /// The command, with these bytes.
+    /// Returns the command, with these bytes.
     pub(crate) fn command(self, bytes: &[u8]) -> Command<'_>
         ensures { request_of result ≡ request_with self bytes.now }
     {
@@ -35,7 +35,7 @@ impl WithFile {
         }
     }
 
-    /// What its disk is opened for.
+    /// Returns how the disk is opened.
     pub(crate) fn access(self) -> Access
         ensures { result ≡ access_of self }
     {
@@ -45,7 +45,7 @@ impl WithFile {
         }
     }
 
-    /// How its reply is told.
+    /// Returns how the reply is written.
     pub(crate) fn telling(self) -> Telling
         ensures { result ≡ telling_of self }
     {

@@ -1,4 +1,4 @@
--- What an update that has begun ends with, by what ended its lines.
+-- How an update that has begun ends, by what ended its lines.
 use Rattle.std.proofs.Common.{◌≡◌, ◌≢◌, ℕ, List, [], ◌++◌, Option, inl, inr, ap, subst, ◌∙◌}
 use Rattle.std.specs.Prelude.{◌⊎◌, Result}
 use Rattle.std.specs.Io.KnownBytes.{Appends}
@@ -62,7 +62,7 @@ module _ (unread before after errors_before errors_after : Option (List ℕ)) (s
   cannot_write OutOfMemory is ends said = absurd (cc is)
 
   module _ {D O : Type 0} (facts : D → DiskFacts) (contents : O → Option (List ℕ)) (old last : Drafted D) (new : Opened D) where
-    -- by `commit`
+    -- the lines ended with `commit`
     pub by_commit : (held : O) (answer : Result (Unit {0}) Refusal) → Ended facts unread before (contents held) old last Commit → Commits facts last answer new
         → outputs.TellsOnly (reply_status (answer_of answer)) (reply_text (answer_of answer)) (end (contents held)) status → EndsBegun facts contents old all status new
     by_commit held answer so commits told = (
@@ -81,7 +81,7 @@ module _ (unread before after errors_before errors_after : Option (List ℕ)) (s
     )
 
     module _ (is : new ≡ last.store) where
-      -- by a refusal
+      -- the lines ended with a refusal
       pub by_refusal : (mid : Option (List ℕ)) (refusal : UpdateRefusal) → Ended facts unread before mid old last (Refused refusal)
           → outputs.TellsOnly (update_status refusal) (update_refusal_text refusal) (end mid) status → EndsBegun facts contents old all status new
       by_refusal mid refusal so told = (
@@ -92,7 +92,7 @@ module _ (unread before after errors_before errors_after : Option (List ℕ)) (s
         inr (inl (refusal, last, so.4, is, tells_behind mid (update_status refusal) (plan_texts so.1) (update_refusal_text refusal) so.5 told)),
       )
 
-      -- by either, but the output failed before it had all answers
+      -- the lines ended with either, but the output failed before all answers were written
       unsent : (lines : List (List ℕ)) (answers : List Reply) (u : Drafted D) (ending : Ending) → ArePlanned facts old u lines answers → EndsLines facts unread lines u last ending
           → CannotWrite all status → EndsBegun facts contents old all status new
       unsent lines answers u Commit planned ends failed = (
@@ -104,7 +104,7 @@ module _ (unread before after errors_before errors_after : Option (List ℕ)) (s
       )
       unsent lines answers u (Refused why) planned ends failed = (lines, answers, u, planned, inr (inl (why, last, ends, is, inr failed)))
 
-      -- by a fault
+      -- the lines ended with a fault
       pub by_fault : (fault : ScriptFault) → status ≡ fault_status fault → AppendsFront errors_before errors_after (fault_line fault)
           → Broken facts unread before after old last fault ⊎ Unsent facts unread old last fault → EndsBegun facts contents old all status new
       by_fault fault ends said (inl so) = (so.0, so.1, last, so.3, inr (inr (fault, so.2, so.4, so.5, is, breaks_off fault (plan_texts so.1) so.6 ends said)))

@@ -1,4 +1,4 @@
--- What a stop leaves of an update, from the opening of its disk to its end.
+-- What a stop leaves during an update, from the opening of its disk to its end.
 use Rattle.std.proofs.Common.{◌≡◌, ℕ, List, [], ◌∷◌, ◌++◌, Option, Ok, Err, inl, inr, ⊎_elim, refl, sym, subst, ◌∙◌, ap}
 use Rattle.std.specs.Prelude.{All, ◌⊎◌, IsTrue, OnOk, Result}
 use Rattle.std.specs.List.{list_any}
@@ -36,7 +36,7 @@ use Rattle.registry.proofs.Running.{steps_ran}
 use Rattle.registry.proofs.Updating.{begun_at, each_next}
 use Rattle.updates.proofs.Drafts.{is_changed, is_update, planned_moment, plans}
 
--- where each file is a library, the same of a registry
+-- if each file is a library, the sectors also hold the state as a registry
 listed : (m : List Sector) (s : State) → All IsLibrary s.libraries → Stands m s → registry.Stands m s
 listed m s libraries stands = record { stored = stands; libraries = libraries }
 
@@ -91,14 +91,14 @@ module _ {D : Type 0} (facts : D → DiskFacts) (disk : D) (old : Opened D) (ope
       goes_on (Standing s) (drafting honest s stands)
       (weaken _ (Standing s) (λ m k. inr k) (h.2.2.applied s (drafted_by s (requests_of lines)) (update_of honest s stands).at).1.any_moment))
 
-  -- over a disk that holds a registry, it was that of a registry
+  -- over a disk that holds a registry, the opened store is a registry at its state
   starts_at : IsTrue (facts disk).honest → (s : State) → registry.Stands (facts disk).now s → at.IsAt facts old s
   starts_at honest s stands = record { stored = opened.opened.stands honest s stands.stored; libraries = stands.libraries }
 
   asked : Plans facts (begun old) u (requests_of lines) answers
   asked = plans facts (begun old) u lines answers planned
 
-  -- what was asked, also a line more
+  -- the requests that were made, also with the line that was refused
   asked_until : (unread : Option (List ℕ)) (last : Drafted D) (refusal : UpdateRefusal) → IsRefusedAt facts unread lines u last refusal
       → (requests : List Request) × (replies : List Reply) × Run (DraftAnswers facts) (begun old) requests replies last
   asked_until unread last BadLine h = (requests_of lines, answers, subst (λ (v : Drafted D). Run (DraftAnswers facts) (begun old) (requests_of lines) answers v) (sym h.0) asked.run)
@@ -137,7 +137,7 @@ module _ {D : Type 0} (facts : D → DiskFacts) (disk : D) (old : Opened D) (ope
   widen s t m (inl h) = inl h
   widen s t m (inr h) = inr (inl h)
 
-  -- and so is one that is committed
+  -- an update that is committed is one exchange too
   pub updates_once : (answer : Result (Unit {0}) Refusal) (new : Opened D) → Commits facts u answer new → IsExchange facts disk old (answered (update (requests_of lines)) (answer_of answer)) new
   updates_once answer new commit honest s stands =
       let here = starts_at honest s stands in
@@ -161,11 +161,11 @@ module _ {D : Type 0} (facts : D → DiskFacts) (disk : D) (old : Opened D) (ope
         (weaken _ (MayBeLeft s (updated s (requests_of lines))) (λ m h. inr h)
         (subst (λ (t : State). LeavesOnly (facts u.store.disk) (facts new.disk) (λ m. Stands m s ⊎ Stands m t)) made_so.made (commit.any_moment s (drafted_by s (requests_of lines)) made_so.at)))
 
-    -- and once it is acknowledged
+    -- and what is on the disk once the commit is acknowledged
     pub once_committed : OnOk answer (IsAt facts new (updated s (requests_of lines)))
     once_committed = subst (λ (t : State). OnOk answer (IsAt facts new t)) made_so.made (commit.ok s (drafted_by s (requests_of lines)) made_so.at)
 
-    -- where each file was a library, each is one
+    -- if each file was a library, each file is one after the update
     module _ (all : All IsLibrary s.libraries) where
       abbrev to : State
       to = updated s (requests_of lines)

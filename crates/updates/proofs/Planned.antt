@@ -1,4 +1,4 @@
--- Lines are answered one more.
+-- One more line is answered.
 use Rattle.std.proofs.Common.{◌≡◌, ℕ, List, [], ◌∷◌, ◌++◌, append-nil, append_assoc, Option, Some, None, false, sym, ap, subst, ◌∙◌, refl}
 use Rattle.std.specs.List.{flat_map}
 use Rattle.std.specs.Io.KnownBytes.{Consumes}
@@ -34,22 +34,22 @@ module _ (known mid : Option (List ℕ)) (lines : List (List ℕ)) (read : Consu
   pub read_more : (now : Option (List ℕ)) (line : List ℕ) → Consumes mid now (ended line) → Consumes known now (flat_map ended (lines ++ line ∷ []))
   read_more now line more = subst (Consumes known now) (sym (flat_more ended lines line)) (Consumes-trans known mid now (flat_map ended lines) (ended line) read more)
 
-  -- this was read behind the lines
+  -- these bytes were read after the lines
   pub begins : (now : Option (List ℕ)) (part : List ℕ) → Consumes mid now part → BeginsWith known lines part
   begins now part more = front_known known now (flat_map ended lines) part (Consumes-trans known mid now (flat_map ended lines) part read more)
 
-  -- this is all behind the lines
+  -- these are all bytes after the lines
   pub just : (rest : List ℕ) → IsAll mid rest → AreJust known lines rest
   just rest all = rest_known known mid (flat_map ended lines) rest read all
 
--- what begins with lines and a part behind them begins with the lines
+-- bytes that begin with lines and then a part begin with the lines
 pub begins_shorter : (known : Option (List ℕ)) (lines : List (List ℕ)) (part : List ℕ) → BeginsWith known lines part → BeginsWith known lines []
 begins_shorter None lines part h = tt
 begins_shorter (Some text) lines part h =
     let lines_read = flat_map ended lines in
     (part ++ h.0, h.1 ∙ append_assoc lines_read part h.0 ∙ ap (λ (l : List ℕ). l ++ (part ++ h.0)) (sym (append-nil lines_read)))
 
--- all bytes begin with no line
+-- any bytes begin with no lines
 pub begins_none : (known : Option (List ℕ)) → BeginsWith known [] []
 begins_none None = tt
 begins_none (Some text) = (text, refl)

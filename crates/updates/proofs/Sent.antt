@@ -1,4 +1,4 @@
--- The answers to lines once those that waited were sent.
+-- The answers to lines after the buffered ones were sent.
 use Rattle.std.proofs.Common.{◌≡◌, ℕ, List, Option, inl, inr, subst}
 use Rattle.std.specs.Prelude.{◌⊎◌, IfErr, IfOk, Result, Ok, Err}
 use Rattle.std.specs.Io.KnownBytes.{Appends, append_known}

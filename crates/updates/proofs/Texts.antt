@@ -1,4 +1,4 @@
--- What is written for the lines of an update, one behind the other.
+-- The text that is written for the lines of an update, one line after the other.
 use Rattle.std.proofs.Common.{◌≡◌, ℕ, List, [], ◌∷◌, ◌++◌, append-nil, Option, sym, ap, subst, ◌∙◌}
 use Rattle.std.specs.List.{flat_map}
 use Rattle.std.specs.Io.KnownBytes.{Appends}

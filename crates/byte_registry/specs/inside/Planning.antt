@@ -1,4 +1,4 @@
--- What an update on a disk of bytes does to its draft, and its commit to the registry (own).
+-- What an update on a disk of bytes does to its draft, and what its commit does to the registry (own).
 use Rattle.std.specs.Prelude.{◌≡◌, ◌⊎◌, ◌<◌, ℕ, List, Result, Ok, Err, IfErr, OnOk}
 use Rattle.sector_disk.specs.Disk.{LeavesOnly}
 use Rattle.byte_disk.specs.declared.disk.ByteDisk.{ByteDisk}
@@ -19,7 +19,7 @@ abbrev pub PlansAll : Drafted ByteDisk → Drafted ByteDisk → List Request →
 PlansAll old new requests (Ok done) = (answers : List Reply) × Plans byte_facts old new requests answers
 PlansAll old new requests (Err refused) = StopsAt old new requests refused.0 refused.1
 
--- An update of an opened registry at this state was answered so; once that is Ok it is made.
+-- An update of an opened registry at state s was answered with `answer`. If that is Ok, the update was made.
 pub record MakesUpdate (old new : Opened ByteDisk) (s : State) (requests : List Request) (answer : Result (Unit {0}) (ℕ × Refusal)) : Type 0 where
   pub table : AnswersUpdate (begun old) s requests answer new.disk
   pub any_moment : OnOk answer (LeavesOnly (byte_facts old.disk) (byte_facts new.disk) (λ m. Stands m s ⊎ Stands m (updated s requests)))

@@ -13,7 +13,7 @@ use Rattle.commands.specs.Script.{Counts}
 use Rattle.commands.specs.declared.answer.Answer.{Answer}
 use Rattle.commands.specs.declared.summary.Summary.{Summary}
 
--- the streams at a place of a script: what is left to read, and what the writer holds
+-- the streams at some point of a script: what is left to read, and what the writer holds
 pub record Place : Type 0 where
   pub unread : Option (List ℕ)
   pub written : Option (List ℕ)
@@ -31,13 +31,13 @@ module _ {S : Type 0} (step : S → Happening → EventReply → S → Type 0) w
   abbrev pub Stepped : S → List ℕ → S → Type 0
   Stepped s line s' = (answer : Answer) × LineStep step s line answer s'
 
-  -- Of a whole line, with what the writer holds and what waits behind it, before and now:
-  -- for want of memory nothing was done; or the line was applied, and then the writer failed.
+  -- How a whole line can fail. `waits` and `now` are what the writer holds, followed by what waits, before
+  -- and after. If memory is refused, nothing was done. If the writer failed, the line was applied first.
   abbrev pub Misses : S → S → Option (List ℕ) → Option (List ℕ) → List ℕ → ScriptFault → Type 0
   Misses s s' waits now line Write = Stepped s line s'
   Misses s s' waits now line fault = (s' ≡ s) × (now ≡ waits)
 
--- A writer held exactly the answers to the first lines; each of the others may wait.
+-- A writer held exactly the answers to the first lines. Each of the other answers may wait.
 pub record Told (before held : Option (List ℕ)) (whole : List (List ℕ)) (answers : List Answer) : Type 0 where
   pub told : List (List ℕ)
   pub untold : List (List ℕ)

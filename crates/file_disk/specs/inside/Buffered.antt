@@ -1,4 +1,4 @@
--- What the calls of a file with its buffers do, where the file is honest.
+-- The effects of the calls of a file with its buffers, if the file is honest.
 use Rattle.std.specs.Prelude.{◌≡◌, ◌≢◌, ◌<◌, ◌⊎◌, ℕ, None, true, false}
 use Rattle.sector_disk.specs.Disk.{Sector, sector}
 use Rattle.file_disk.specs.declared.buffered.Buffered.{Buffered}
@@ -9,7 +9,7 @@ use Rattle.file_disk.specs.SectorFile.{MayHave}
 use Rattle.file_disk.specs.inside.Transfer.{StaysWithin}
 
 module _ {F : Type 0} {g : Ghosts F} where
-  -- the file has what it had
+  -- reads of the file return what they returned, and its medium had only what a stop may leave
   pub record IsStill (old new : Buffered F g) : Type 0 where
     pub within : StaysWithin (Leaves old) (g.facts old.file) (g.facts new.file)
     pub now : old.failed ≡ false → (g.facts new.file).now ≡ (g.facts old.file).now
@@ -24,23 +24,23 @@ module _ {F : Type 0} {g : Ghosts F} where
     pub within : StaysWithin (Leaves old) (g.facts old.file) (g.facts new.file)
     pub cause : (old.failed ≡ true) ⊎ ((g.facts old.file).failures < (g.facts new.file).failures)
 
-  -- the file has what reads gave
+  -- reads of the file return what reads through the buffers returned
   pub record IsGiven (old new : Buffered F g) : Type 0 where
     pub within : StaysWithin (Leaves old) (g.facts old.file) (g.facts new.file)
     pub shown : (k : ℕ) → sector (g.facts new.file).now k ≡ shown_at old k
 
-  -- reads give what they gave, and nothing more waits
+  -- reads return what they returned, and nothing was added to the write buffer
   pub record IsRoomy (old new : Buffered F g) : Type 0 where
     pub within : StaysWithin (Leaves old) (g.facts old.file) (g.facts new.file)
     pub shown : (k : ℕ) → shown_at new k ≡ shown_at old k
     pub waits : (k : ℕ) → (gathered_at new.gathered k ≡ gathered_at old.gathered k) ⊎ (gathered_at new.gathered k ≡ None)
 
-  -- reads give what they gave in each sector but this one
+  -- reads return what they returned in each sector except this one
   pub record IsPut (at : ℕ) (old new : Buffered F g) : Type 0 where
     pub within : StaysWithin (Leaves old) (g.facts old.file) (g.facts new.file)
     pub shown : (k : ℕ) → k ≢ at → shown_at new k ≡ shown_at old k
 
-  -- reads give what they gave, and the medium has that alone
+  -- reads return what they returned, and the medium has only that
   pub record IsSettled (old new : Buffered F g) : Type 0 where
     pub within : StaysWithin (Leaves old) (g.facts old.file) (g.facts new.file)
     pub shown : (k : ℕ) → sector (g.facts new.file).now k ≡ shown_at old k

@@ -12,7 +12,7 @@ use Rattle.hash_check.specs.declared.lanes.Lanes.{Lanes}
 abbrev pub between : List ℕ → ℕ → ℕ → List ℕ
 between table place end = take (end - place) (drop place table)
 
--- a hash with what is left of an exported symbol's name, or a free lane
+-- the lane is free, or has the hash of the front of an exported symbol's name, with the place of the rest
 pub record IsLane (file : List ℕ) (symbol hash place end : ℕ) : Type 0 where
   pub order : place ≤ end
   pub within : end ≤ length (string_table file)
@@ -22,7 +22,7 @@ pub record IsLane (file : List ℕ) (symbol hash place end : ℕ) : Type 0 where
 pub record AreLanes (file : List ℕ) (l : Lanes) : Type 0 where
   pub each : (k : ℕ) → k < 8 → IsLane file (slice_index l.symbols k) (slice_index l.hashes k) (slice_index l.places k) (slice_index l.ends k)
 
--- no name ends before its place
+-- no end comes before its place
 pub record AreOrdered (places ends : List ℕ) : Type 0 where
   pub order : (k : ℕ) → k < 8 → slice_index places k ≤ slice_index ends k
 
@@ -30,6 +30,6 @@ pub record AreOrdered (places ends : List ℕ) : Type 0 where
 abbrev pub IsMet : List ℕ → ℕ → Type 0
 IsMet file i = Meets (chains file) (bucket_of (buckets file) (elf_hash (name_of file i))) i
 
--- each symbol of a lane is
+-- the symbol of each lane is met on the walk from the bucket of its name's hash
 pub record AllMet (file symbols : List ℕ) : Type 0 where
   pub met : (k : ℕ) → k < 8 → slice_index symbols k ≢ 0 → IsMet file (slice_index symbols k)

@@ -1,4 +1,4 @@
--- What a draft's list leaves of what stood, once it is committed.
+-- The old list after the commit of a draft's list: which of its sectors stay in use.
 use Rattle.std.specs.Prelude.{◌≡◌, ◌↔◌, ℕ, ◌+◌, ◌≤◌, Bool, List, [], ◌++◌, length}
 use Rattle.roots.specs.declared.root.Root.{Root}
 use Rattle.store.specs.declared.placed_entry.PlacedEntry.{PlacedEntry}
@@ -11,20 +11,21 @@ use Rattle.store.specs.inside.Kept.{IsKept}
 use Rattle.store.specs.inside.Moved.{occurs}
 use Rattle.store.specs.inside.Room.{AreClaimedOnce, IsReleased}
 
--- The rows of what is held are the same, but for whether the state lists them.
+-- The rows of held byte strings are the same, except for whether the state lists them.
 pub record KeepsRows (old new : List HeldRow) : Type 0 where
   pub holders : (sector : ℕ) → holders_of new sector ≡ holders_of old sector
   pub holds : (sector : ℕ) (placed : PlacedEntry) → IsHeldBy old sector placed ↔ IsHeldBy new sector placed
   pub none : old ≡ [] → new ≡ []
 
--- What stands is kept, and what it has beside a draft's list is claimed still, with its catalogues.
+-- The current list is kept. Its sectors that the draft's list doesn't use are still claimed, and so are those of its
+-- catalogues.
 pub record CanSettle (root : Root) (standing drafted : List PlacedEntry) (held : List HeldRow) (layout : List Bool) : Type 0 where
   pub before : List Bool
   pub kept : IsKept root standing held before
   pub list : IsDraftList standing drafted
   pub claimed : AreClaimedOnce layout (own_sectors_in drafted standing ++ catalogues_of root)
 
--- That is unused now, but for what somebody holds: it is in use by its holders alone.
+-- The sectors of the old list that the draft's list doesn't use are unused now, except those that somebody holds.
 pub record IsSettledIn (root : Root) (standing drafted : List PlacedEntry) (held left : List HeldRow) (old new : List Bool) : Type 0 where
   pub freed : List ℕ
   pub parts : (k : ℕ) → occurs k (lone_sectors left) + occurs k freed ≡ occurs k (lone_sectors held) + occurs k (own_sectors_in drafted standing)

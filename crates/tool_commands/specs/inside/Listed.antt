@@ -1,4 +1,4 @@
--- What is kept in memory of libraries.
+-- What is kept in memory about libraries.
 use Rattle.std.specs.Prelude.{◌≡◌, ◌<◌, ◌⊎◌, ℕ, List, length, replicate, slice_index_or}
 use Rattle.sector_disk.specs.Disk.{DiskFacts}
 use Rattle.states.specs.State.{Library, State}
@@ -6,13 +6,14 @@ use Rattle.store.specs.Opened.{IsAt, Opened}
 use Rattle.store.specs.Stands.{name_of, no_library}
 use Rattle.store.specs.declared.placed_entry.PlacedEntry.{PlacedEntry}
 
--- Entries have the names of these libraries, and tell how long they are.
+-- The entries have the names and lengths of these libraries.
 pub record AreListed (entries : List PlacedEntry) (libraries : List Library) : Type 0 where
   pub count : length entries ≡ length libraries
   pub name : (i : ℕ) → i < length entries → (d : PlacedEntry) → name_of (slice_index_or entries i d).entry ≡ (slice_index_or libraries i no_library).name
   pub size : (i : ℕ) → i < length entries → (d : PlacedEntry) → (slice_index_or entries i d).entry.file_length ≡ length (slice_index_or libraries i no_library).bytes
 
--- a store is at a state of these libraries; or nothing is known of its disk, and its entries list them
+-- a store is at a state with these libraries; or nothing is known of its disk, and its entries list
+-- them
 abbrev pub Lists : {D : Type 0} → (D → DiskFacts) → Opened D → List Library → Type 0
 Lists facts store libraries =
     ((s : State) × IsAt facts store s × (s.libraries ≡ libraries)) ⊎ AreListed store.entries libraries

@@ -10,7 +10,7 @@ pub(crate) fn write_entry(rt: &impl Abort, disk: &mut Memory, at: u32, entry: &E
     write(rt, disk, at, &encode_entry(entry));
 }
 
-/// Writes a catalogue of these entries.
+/// Writes a catalogue that lists `entries`.
 pub(crate) fn write_catalogue(rt: &impl Abort, disk: &mut Memory, at: u32, entries: &[u32]) {
     assert!(rt; entries.len() <= 64);
     let catalogue = Catalogue::new(entries);

@@ -6,7 +6,7 @@ use Rattle.commands.specs.Opened.{SystemDisk, IsMade}
 use Rattle.commands.proofs.Asking.{format_made}
 use Rattle.commands.proofs.disk.make_registry.Goals as goal
 
--- what holds anyway
+-- a fact that holds in any case
 anyway : {T E : Type 0} (P : Type 0) (r : Result T E) → P → OnOk r P
 anyway P (Ok t) p = p
 anyway P (Err e) p = tt

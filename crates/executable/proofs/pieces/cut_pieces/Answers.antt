@@ -14,16 +14,16 @@ ready-higher : (last : Option Loaded) (a b : ℕ) → a ≤ b → IsReady last a
 ready-higher None a b le h = tt
 ready-higher (Some p) a b le h = (h.0, omega (arith, h.1, le))
 
--- one without bytes has no part in the pieces
+-- a segment without bytes has no part in the pieces
 skipped : (last : Option Loaded) (s : ImageSegment) (rest : List ImageSegment) → (length s.bytes == 0) ≡ true → pieces_after last (s ∷ rest) ≡ pieces_after last rest
 skipped None s rest none = rw none refl
 skipped (Some p) s rest none = rw none refl
 
--- the segment that is looked at, and those behind it
+-- the current segment, and those after it
 front : (segments : List ImageSegment) (i : ℕ) (s : ImageSegment) → i < length segments → s ≡ get_or segments i s → drop i segments ≡ s ∷ drop (i + 1) segments
 front segments i s lt is = drop_more segments i s lt ∙ ap (λ x. x ∷ drop (i + 1) segments) (sym is)
 
--- what is known of it
+-- what is known of the current segment
 here : (segments : List ImageSegment) (i from : ℕ) (s : ImageSegment) → i < length segments → s ≡ get_or segments i s → AreRising from (drop i segments)
     → Rises from s (drop (i + 1) segments)
 here segments i from s lt is rising = rises from s (drop (i + 1) segments) (subst (AreRising from) (front segments i s lt is) rising)

@@ -1,4 +1,4 @@
-// A file in memory, whose calls are counted, are cut short, are interrupted and fail.
+// A file in memory, whose calls are counted, are shortened, are interrupted and fail.
 ghost use Rattle.file_disk.specs.SectorFile.{unknown_file};
 ghost use Rattle.std.specs.Prelude.{false};
 
@@ -8,14 +8,14 @@ use std::alloc::Global;
 use std::io;
 use std::io::ErrorKind;
 
-/// What befalls the calls of a file.
+/// How the calls of a file are disturbed.
 #[derive(Clone, Copy)]
 pub(crate) struct Plan {
-    /// How many sectors a read or a write moves at most.
+    /// The maximum number of sectors that a read or a write moves.
     pub(crate) most: usize,
     /// Whether a signal interrupts every second read and write.
     pub(crate) interrupts: bool,
-    /// The number of the call that fails, counted from 1, which is the opening's; 0 for none.
+    /// The number of the call that fails, counted from 1, which is the opening's; 0 if none fails.
     pub(crate) fails: u64,
 }
 
@@ -31,14 +31,14 @@ pub(crate) struct Fake {
     plan: Plan,
     pub(crate) reads: u64,
     pub(crate) writes: u64,
-    /// How many writes there had been when it was last synced.
+    /// The number of writes that were made before the last sync.
     pub(crate) synced: u64,
     turn: bool,
     calls: u64,
 }
 
 impl Fake {
-    /// A file of so many sectors of zeros.
+    /// Makes a file of `sectors` sectors of zeros.
     pub(crate) fn of(alloc: Global, sectors: u32, plan: Plan) -> Option<Fake> {
         Some(Fake {
             sectors: vec![in alloc; [0; SECTOR_BYTES]; sectors as usize].ok()?,
@@ -60,7 +60,7 @@ impl Fake {
         }
     }
 
-    // A read or a write begins: a signal may interrupt it, and it may be the call that fails.
+    // Begins a read or a write. A signal may interrupt it, and it may be the call that fails.
     fn begin(&mut self) -> io::Result<()> {
         self.turn = !self.turn;
         if self.plan.interrupts && self.turn {
@@ -70,7 +70,7 @@ impl Fake {
     }
 }
 
-/// Nothing is claimed of it.
+/// The contracts say nothing about it.
 impl SectorFile for Fake {
     ghost is_honest = { false };
 
@@ -116,12 +116,12 @@ impl SectorFile for Fake {
     }
 }
 
-/// The disk over a file that is there.
+/// Opens a disk over an existing file.
 pub(crate) fn reopened(alloc: Global, file: Fake) -> Option<FileDisk<Fake>> {
     FileDisk::over(alloc, file).ok()
 }
 
-/// A disk over a new file of zeros.
+/// Makes a disk over a new file of zeros.
 pub(crate) fn disk(alloc: Global, sectors: u32, plan: Plan) -> Option<FileDisk<Fake>> {
     reopened(alloc, Fake::of(alloc, sectors, plan)?)
 }

@@ -5,12 +5,12 @@ use Rattle.std.proofs.lemmas.Option.{none-some}
 use Rattle.sector_disk.specs.Disk.{Sector, sector}
 use Rattle.file_disk.proofs.gathered.Gathered.is_empty.Goals as goal
 
--- where the test holds there is something
+-- if the test holds, there is an element
 where_true : {X : Type 0} (b : Bool) (x : X) → b ≡ true → ◌≡◌ {A = Option X} (if b then Some x else None) (Some x)
 where_true true x is = refl
 where_true false x is = absurd cc
 
--- The first of them waits.
+-- The first buffered sector is in the buffer.
 pub returns-clause-some : goal.returns-clause-some
 returns-clause-some g isnt = λ none.
     let gathered = g.args.self.now in

@@ -12,7 +12,7 @@ use Rattle.file_disk.proofs.Media.{written_of}
 use Rattle.file_disk.proofs.MemoryFiles.{from_to, file_write}
 use Rattle.file_disk.proofs.memory_file.MemoryFileSectorFile.write_at.Goals as goal
 
--- what was written of the first of these sectors
+-- a write of some of the first `most` given sectors is a write of some of all given sectors
 put_written : (old new : Memory) (at : ℕ) (given : List Sector) (most count : ℕ) → count ≤ length (take most given) → HasWritten at (take most given) count (memory_facts old) (memory_facts new)
     → HasWritten at given count (memory_facts old) (memory_facts new)
 put_written old new at given most count few written =

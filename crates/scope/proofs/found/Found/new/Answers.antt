@@ -15,7 +15,7 @@ use Rattle.scope.proofs.found.Found.new.Goals as goal
 abbrev none : NumberedSymbol
 none = record { object = 0; symbol = 0; number = 0 }
 
--- the symbols are those of the files, wherever they lie
+-- the symbols are those of the files, given in another form
 numbered : (objects : List Named) (files : List (List ℕ)) (all there : List NumberedSymbol) → files ≡ files_of objects → AreNumbered files all → there ≡ all
     → AreNumbered (files_of objects) there
 numbered objects files all there are is moved = subst (AreNumbered (files_of objects)) (sym moved) (subst (λ l. AreNumbered l all) are is)

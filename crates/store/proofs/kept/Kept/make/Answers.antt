@@ -22,11 +22,11 @@ use Rattle.store.proofs.kept.Kept.make.Goals as goal
 ready : (g : given.Over) (c : After-list g) → IsReady (g.D.Disk.facts c.args.disk.now).sectors c.args.self.now c.args.prepared.now
 ready g c = c.requires
 
--- the entries once it is made
+-- the entries once the change is made
 abbrev others : (g : given.Over) (c : After-list g) → List PlacedEntry
 others g c = edited c.args.prepared.now.edit c.args.self.now.entries.items
 
--- their sectors are listed
+-- the sectors of these entries are listed
 listed_are : (g : given.Over) (c : After-list g) → c.list.new.sectors.items ≡ entry_sectors (others g c)
 listed_are g c =
     let edit = c.args.prepared.now.edit in
@@ -34,7 +34,7 @@ listed_are g c =
     ∙ ap (edited_by (λ (p : PlacedEntry). p.at) edit) (ready g c).listed
     ∙ edited_map (λ (p : PlacedEntry). p.at) edit c.args.self.now.entries.items
 
--- what is staged follows what stands
+-- the staged sectors, and then the root, turn the current state into the next one
 following : (g : given.Over) (c : After-list g) (listed : List ℕ) → listed ≡ c.list.new.sectors.items → (written : List PlacedEntry) (s s' : State)
     → Makes (g.D.Disk.facts c.args.disk.now).now written c.args.self.now c.args.prepared.now c.args.bytes.now s s'
     → IsFollowed Two c.args.self.now.root c.args.self.now.entries.items s (g.D.Disk.facts c.args.disk.now).now written c.args.prepared.now.change
@@ -112,7 +112,7 @@ settle-requires-clause-held g c =
     subst (λ l. AreClaimedOnce c.args.self.now.layout (gone_sectors c.args.prepared.now.edit c.args.self.now.root l)) (sym c.deref-2.ensures.value)
     (moved_held is.kept is.claimed c.args.prepared.now.change.root (others g before) is.moved)
 
--- what it gave up
+-- what the change gave up is settled
 settled : (g : given.Over) (c : After-settle g)
     → IsSettled c.args.prepared.now.edit c.args.self.now.root c.args.self.now.entries.items c.args.self.now.held c.settle.new.held c.args.self.now.layout c.settle.new.layout
 settled g c =

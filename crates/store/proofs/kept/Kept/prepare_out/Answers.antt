@@ -26,7 +26,7 @@ use Rattle.store.proofs.UsedAlone.{no_entry}
 use Rattle.store.proofs.kept.Kept.prepare_out.Goals.{After-root_without-root}
 use Rattle.store.proofs.kept.Kept.prepare_out.Goals as goal
 
--- the entry of the name goes
+-- the entry with the name is removed
 removing : (c : After-root_without-root)
     → IsRemoval c.args.self.now.root c.args.self.now.entries.items c.args.self.now.held c.args.self.now.layout c.take_catalogues-taken.new.layout
     c.args.name.now c.in-Some.position c.take_catalogues-taken.result c.root_without-root.result

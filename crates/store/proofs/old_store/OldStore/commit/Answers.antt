@@ -40,7 +40,7 @@ use Rattle.store.proofs.old_store.OldStore.commit.Given as given
 use Rattle.store.proofs.old_store.OldStore.commit.Goals.{After-free_count, After-next_root-root, After-carry_out, After-beside}
 use Rattle.store.proofs.old_store.OldStore.commit.Goals as goal
 
--- the next root lists the same entries by the catalogues that were taken
+-- the next root lists the same entries by the catalogues that were claimed
 relisted : (g : given.Over) (c : After-next_root-root g)
     → IsRelist c.self.inside.found.root c.self.inside.found.entries.items [] c.self.inside.found.layout c.take_catalogues-taken.new.layout
     c.take_catalogues-taken.result c.next_root-root.result
@@ -59,7 +59,7 @@ relisted g c =
           ∙ ap (λ l. next_root c.self.inside.found.root (length c.self.inside.found.entries.items) l (listed_preloads c.self.inside.found.root)) c.as_slice.ensures.value;
     }
 
--- and these list the entries' sectors
+-- the catalogues list the entries' sectors
 sectors_are : (g : given.Over) (c : After-next_root-root g) → c.self.inside.found.sectors.items ≡ entry_sectors c.self.inside.found.entries.items
 sectors_are g c = c.self.invariant.0.listed
 
@@ -88,7 +88,7 @@ carry_out-requires-clause-room g c =
           (omega (arith, is.kept.root_fits.sectors)) is.enough next.few next.apart),
     )
 
--- a stop leaves the state from before or the one after
+-- a stop leaves the state before the commit or the state after it
 leaves : (g : given.Over) (c : After-carry_out g) (s : State)
     → IsFollowed One c.self.inside.found.root c.self.inside.found.entries.items s (g.D.Disk.facts c.self.inside.disk).now [] (record { staged = Catalogues c.take_catalogues-taken.result; root = c.next_root-root.result })
     [] c.deref.result.now c.self.inside.found.entries.items (upgraded s)
@@ -152,7 +152,7 @@ returns-in-Ok-clause-ok g c s at_entry =
           (subst (λ l. StandsBy Two m next l (upgraded s)) (sym c.beside.ensures.entries) (done m (subst (λ d. Mixture (facts d) m) c.beside.ensures.disk mixture)));
     }
 
--- a commit is refused by its generation or for want of room, and not otherwise
+-- a commit is refused only because of the generation or for lack of room
 usable_of : (g : given.Over) (c : After-free_count g) (s : State) → IsOldAt g.D.Disk.facts c.args.self s → s.generation ≢ last_generation
 usable_of g c s at_entry is =
     let at = subst (λ store. IsOldAt g.D.Disk.facts store s) (sym c.self.view_is) at_entry in
@@ -209,14 +209,14 @@ returns-in-Ok-clause-placed g c =
       entries = c.beside.ensures.entries ∙ ap (λ store. store.entries) c.self.view_is;
     }
 
--- where it is refused before it writes, a stop leaves what stood
+-- if the commit is refused before it writes, a stop leaves the state before
 stays : {D : Type 0} (facts : D → DiskFacts) {view store : Opened D} (s : State) → view ≡ store → IsOldAt facts store s
     → LeavesOnly (facts store.disk) (facts view.disk) (λ m. StandsOld m s ⊎ Stands m (upgraded s))
 stays facts {store = store} s is at =
     subst (λ view. LeavesOnly (facts store.disk) (facts view.disk) (λ m. StandsOld m s ⊎ Stands m (upgraded s))) (sym is)
     (at_rest (facts store.disk) (λ m. StandsOld m s ⊎ Stands m (upgraded s)) (λ m mixture. inl (store.root, store.entries, at.stands m mixture)))
 
--- there are no more entries than a root lists itself
+-- the number of entries is at most the number that a root of version 1 lists itself
 few_kept : (root : Root) (entries : List PlacedEntry) (layout : List Bool) → IsKept root entries [] layout → version_of root ≡ One → length entries ≤ most_root_entries
 few_kept root entries layout kept one = omega (arith, kept.counted, few_old root.library_count root.sectors root.list one kept.root_fits.list)
 
@@ -286,7 +286,7 @@ returns-in-Err-clause-calls g c =
     subst (λ store. AreCallsAtMost (catalogues_for (length store.entries) + 3) (g.D.Disk.facts store.disk) (g.D.Disk.facts c.carry_out.new.disk)) c.self.view_is
     (in_row_at_most c.in-Err.ensures.calls (omega (arith, is.enough)))
 
--- how many calls it makes where it is done
+-- the number of calls of a commit that is done
 calls_are : (g : given.Over) (c : After-beside g)
     → AreCallsExactly (catalogues_for (length c.args.self.entries) + 3) (g.D.Disk.facts c.args.self.disk) (g.D.Disk.facts c.beside.result.disk)
 calls_are g c =

@@ -19,14 +19,14 @@ use Rattle.store.proofs.update.Update.delete.Given as given
 use Rattle.store.proofs.update.Update.delete.Goals.{After-index, After-close_up}
 use Rattle.store.proofs.update.Update.delete.Goals as goal
 
--- where the entry of the name stands
+-- the position of the entry with the name is in the list
 there : (g : given.Over) (c : After-index g) → c.in-Some.position < length c.self.inside.draft.entries.items
 there g c = omega (arith, c.in-Some.ensures.some.0, ap length c.deref.ensures.value)
 
 named : (g : given.Over) (c : After-index g) (d : PlacedEntry) → name_of (get_or c.self.inside.draft.entries.items c.in-Some.position d).entry ≡ c.args.name.now
 named g c d = subst (λ (l : List PlacedEntry). name_of (get_or l c.in-Some.position d).entry ≡ c.args.name.now) c.deref.ensures.value (c.in-Some.ensures.some.1 d)
 
--- the preloads are others, and close up
+-- no preload is at the removed position, and the preloads after it move up
 others : (g : given.Over) (c : After-index g) → All (λ position. position ≢ c.in-Some.position) c.self.inside.draft.preloads.items
 others g c = others_named c.self.inside.draft.entries.items c.self.inside.draft.preloads.items c.args.name.now c.in-Some.position
     (subst (λ u. IsNoPreloadOfDraft u c.args.name.now) (sym c.self.view_is) c.requires.no_preload) (named g c)

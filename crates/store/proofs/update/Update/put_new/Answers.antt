@@ -22,16 +22,16 @@ use Rattle.store.proofs.update.Update.put_new.Given as given
 use Rattle.store.proofs.update.Update.put_new.Goals.{After-take_new, After-write_draft, After-edit}
 use Rattle.store.proofs.update.Update.put_new.Goals as goal
 
--- the draft has more memory, and is else as it was
+-- the draft has more memory, and is otherwise unchanged
 same_draft : (g : given.Over) (c : After-take_new g)
     → IsSameDraft (drafting c.self.inside.disk c.self.inside.kept c.self.inside.draft) (drafting c.self.inside.disk c.take_new.new.self c.take_new.new.draft)
 same_draft g c = record { entries = c.take_new.ensures.entries; preloads = ap (λ v. v.items) c.take_new.ensures.preloads; touched = c.take_new.ensures.touched }
 
--- what stands is kept
+-- the current list is kept
 keeps : (g : given.Over) (c : After-write_draft g) → KeepsList c.self.inside.kept c.write_draft.new.self
 keeps g c = keeps_both (layout_keeps c.self.inside.kept c.take_new.new.self c.in_ok-put.ensures.takes.kept) c.write_draft.ensures.kept
 
--- the entry stands behind the others
+-- the new entry is the last of the draft's entries
 behind : (g : given.Over) (c : After-edit g) → c.edit.new.self.entries.items ≡ c.self.inside.draft.entries.items ++ c.in_ok-put.put ∷ []
 behind g c = c.edit.ensures.entries ∙ ap (λ l. l ++ c.in_ok-put.put ∷ []) c.take_new.ensures.entries
 

@@ -1,0 +1,19 @@
+/* A library that says its name when it begins and ends, by the program's C library. */
+#include <stdio.h>
+#include <stdlib.h>
+#include <string.h>
+
+static char *name;
+
+static void __attribute__((constructor)) begin(void) {
+    free(malloc(5000));
+    name = strdup(NAME);
+    printf("+%s ", name);
+}
+
+static void __attribute__((destructor)) end(void) {
+    printf("-%s ", name);
+    free(name);
+}
+
+int FUNCTION(void) { return !strcmp(name, NAME); }
