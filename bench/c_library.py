@@ -4,9 +4,10 @@
     python3 bench/c_library.py FOLDER [NUMBER LENGTH]..
 
 FOLDER has librlibreg.so and rlibreg (c/build.sh). For each NUMBER and LENGTH the script makes a disk with NUMBER
-libraries of about LENGTH bytes, and then times the calls that read it: the least of five times each. The program that
-is bound needs all libraries; it is left out if these have more than 64 MiB together. One further installation is timed
-as a plan, and once as the plan is carried out with its syncs. With 2,048 libraries there can be no further one.
+libraries of about LENGTH bytes, and then times the calls that read it: it prints the least of five times for each. The
+program that is bound needs all libraries. The bind is left out if these have more than 64 MiB together. The installation
+of one more library is timed twice: when it is planned, and when the plan is carried out with its syncs. With 2,048
+libraries no further one can be installed.
 """
 
 import ctypes

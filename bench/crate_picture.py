@@ -1,4 +1,4 @@
-"""The picture of the crates, made from crates.txt: programs at the top, and below each crate those that it uses."""
+"""The picture of the crates, made from crates.txt: programs at the top, and below each crate the crates that it uses."""
 
 from pathlib import Path
 

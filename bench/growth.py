@@ -1,11 +1,12 @@
 #!/usr/bin/env python3
-"""Prints how the time of program `rlibreg` grows with the size of its input, as the table of docs/PERFORMANCE.md.
+"""Prints how the time of the program `rlibreg` grows with the size of its input, in the form of the table of
+docs/PERFORMANCE.md.
 
     python3 bench/growth.py PROGRAM
 
 A size is a number of relocations, of exports, of exports in one bucket, or of libraries. The times are the least user +
-system of seven runs of each, in milliseconds. The disk is in the folder for temporary files (which TMPDIR names): take
-one in memory.
+system of seven runs of each, in milliseconds. The disk is in the folder for temporary files (which TMPDIR names). This
+folder should lie in memory.
 """
 
 import random
@@ -20,7 +21,7 @@ from programs import program
 from tables import one_bucket, own_buckets
 
 RUNS, SIZES = 7, (4_000, 16_000, 64_000, 256_000)
-# The number of libraries is the size divided by 128, since a registry has at most 2,048.
+# The number of libraries is the size divided by 128, because a registry has at most 2,048.
 PER_LIBRARY = 128
 
 

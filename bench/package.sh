@@ -4,8 +4,9 @@
 # it, and its bytes are the same each time. Then the script installs it in a bare Debian of each RELEASE,
 # such as bookworm or trixie, runs what it has, and removes it.
 #
-# It wants dpkg-dev, and pandoc for manual pages. Who makes it is DEBFULLNAME with DEBEMAIL, or else the
-# last commit's author. With a RELEASE it is for root, needs debootstrap, and has some 50 MB from a mirror.
+# It needs dpkg-dev, and pandoc for manual pages. The package's maintainer is DEBFULLNAME with DEBEMAIL, or
+# else the last commit's author. With a RELEASE it needs root and debootstrap, and loads some 50 MB from a
+# mirror.
 set -eu
 export LC_ALL=C
 umask 022
@@ -23,7 +24,7 @@ export SOURCE_DATE_EPOCH
 room=$(mktemp -d)
 trap 'rm -rf "$room"' EXIT
 
-# The changelog: what NEWS has of this version.
+# Prints the changelog: the part of docs/NEWS.md about this version.
 changelog() {
     printf 'rlibreg (%s) unstable; urgency=medium\n\n' "$version"
     awk -v version="$version" '/^## / {inside = $2 == version; next}
@@ -32,7 +33,7 @@ changelog() {
     printf '\n -- %s  %s\n' "$who" "$(date -u -R -d "@$SOURCE_DATE_EPOCH")"
 }
 
-# What the shared library needs of the system's packages.
+# Prints the packages of the system that the shared library needs.
 depends() {
     mkdir -p "$room/source/debian"
     printf 'Source: rlibreg\n\nPackage: rlibreg\nArchitecture: amd64\n' > "$room/source/debian/control"
@@ -40,7 +41,7 @@ depends() {
         sed -n 's/^shlibs:Depends=//p'
 }
 
-# tree FOLDER: what the package installs.
+# tree FOLDER: puts the files that the package installs into FOLDER.
 tree() {
     local page doc=$1/usr/share/doc/rlibreg
     DESTDIR=$1 PYTHONDIR=/usr/lib/python3/dist-packages c/install.sh /usr "$built" > "$room/said"
@@ -55,7 +56,7 @@ tree() {
     install -Dm 644 c/debian/overrides "$1/usr/share/lintian/overrides/rlibreg"
 }
 
-# control FOLDER: what dpkg is told.
+# control FOLDER: adds the files that dpkg reads about the package.
 control() {
     local size
     size=$(du -sk --apparent-size "$1" | cut -f1)
@@ -68,7 +69,7 @@ control() {
     (cd "$1" && find usr -type f | sort | xargs md5sum) > "$1/DEBIAN/md5sums"
 }
 
-# make FILE: the package.
+# make FILE: makes the package.
 make() {
     rm -rf "$room/tree"
     mkdir "$room/tree"
@@ -78,7 +79,8 @@ make() {
     dpkg-deb --root-owner-group --build "$room/tree" "$1" > "$room/said"
 }
 
-# whole FILE: whether the package has each file that install.sh has listed. Manual pages are compressed.
+# whole FILE: ends the script unless the package has each file that install.sh has listed. Manual pages are
+# compressed.
 whole() {
     sed '/^#/d; /\/$/d; \|/share/rlibreg/installed$|d; s|/man/man[13]/.*|&.gz|' "$room/installed" |
         sort > "$room/listed"
@@ -90,7 +92,7 @@ whole() {
     exit 1
 }
 
-# What a new user does with it, in a Debian that has python3 and no compiler.
+# The steps of a new user with the package, in a Debian that has python3 and no compiler.
 cat > "$room/day.sh" << 'END'
 set -eEuo pipefail
 trap 'echo "failed: $BASH_COMMAND" >&2' ERR
@@ -125,7 +127,7 @@ greeting() {
     $object -I c/tests/programs "$room/$1.c" "${@:2}"
 }
 
-# try RELEASE: in a bare one.
+# try RELEASE: tries the package in a bare Debian of this release.
 try() {
     local root=$room/$1
     debootstrap --variant=minbase --include=python3 "$1" "$root" > "$room/log" 2>&1 ||

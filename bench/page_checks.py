@@ -1,4 +1,5 @@
-"""What a machine can check of a page beside its names: refusal codes, forms of the programs, and paths in commands."""
+"""Checks of a page, besides the check of its names: refusal codes, forms of the programs' command lines, and paths in
+commands."""
 
 import re
 from pathlib import Path

@@ -1,4 +1,5 @@
-"""The plots of docs/PERFORMANCE.md, made from the tables of that page, whose figures the scripts of this folder print."""
+"""The plots of docs/PERFORMANCE.md, made from the tables of that page. The scripts of this folder print the figures of
+these tables."""
 
 import math
 import re

@@ -148,7 +148,8 @@ soname=librlibreg.so.${version%.*}
     # One object, which is small, since a start takes as long as it touches pages. No stack protector is
     # set up yet.
     for part in begin begin_calls objects; do
-        $cc $flags -g0 -Os -fno-stack-protector -c -o "$folder/begins_$part.o" "c/rlibreg_$part.c"
+        $cc $flags -g0 -Os -fno-stack-protector -fno-asynchronous-unwind-tables -c \
+            -o "$folder/begins_$part.o" "c/rlibreg_$part.c"
     done
     cd "$folder"
     ld -r -o rlibreg_begin.o begins_{begin,begin_calls,objects}.o

@@ -35,9 +35,8 @@ __asm__(".pushsection .note.rlibreg, \"a\", @note\n"
 
 static void set_up(int count, char **words, char **environment) {
     (void)count;
-    if (is_set_up) return;
-    is_set_up = 1;
-    __init_libc(environment, words[0]);
+    /* If the page were read first, it would take a second fault to write it. */
+    if (!__atomic_exchange_n(&is_set_up, 1, __ATOMIC_RELAXED)) __init_libc(environment, words[0]);
 }
 
 /* This file is linked first, so `set_up` is the first function of the array. */

@@ -17,18 +17,26 @@ typedef void finalizer(void);
 extern initializer *const __preinit_array_start[], *const __preinit_array_end[];
 #pragma GCC visibility pop
 
+/* Addresses of functions in an object's memory. */
+struct functions {
+    const uintptr_t *at;
+    size_t count;
+};
+
 /* A walk over the libraries, which are named by their numbers. It is mapped only if it is needed,
  * so that other starts touch fewer pages. */
 struct walk {
     struct rlibreg_objects objects;
-    char was_entered[MOST + 1]; /* by number */
-    uint16_t order[MOST];       /* the order in which the libraries are initialized */
-    size_t ordered;
+    char was_entered[MOST + 1];  /* by number */
+    uint16_t order[MOST];        /* the order in which the libraries are initialized */
+    size_t ordered;              /* at the end of the program: number of libraries that are left */
+    struct functions finalizers; /* those of one library that are left, and its DT_FINI or 0 */
+    uintptr_t last;
 };
 static struct walk *walked;
 
 static _Noreturn void refuse(const struct rlibreg_object *it, const char *tag, const char *why) {
-    const char *parts[] = { "rlibreg: ", it->name, ": ", tag, why, "\n" };
+    const char *parts[] = { "rlibreg: ", it->name, *it->name ? ": " : "", tag, why, "\n" };
     for (size_t i = 0; i < sizeof parts / sizeof *parts; i++)
         if (write(2, parts[i], strlen(parts[i])) < 0) break;
     _exit(REFUSED);
@@ -65,12 +73,7 @@ static uintptr_t function_of(const struct rlibreg_object *it, int64_t tag, const
     return it->base + value;
 }
 
-/* Addresses of functions in an object's memory. */
-struct functions {
-    const uintptr_t *at;
-    size_t count;
-};
-
+/* Returns the functions of an array, or none if the object doesn't have the tag. */
 static struct functions array_of(const struct rlibreg_object *it, int64_t tag, int64_t size_tag,
                                  const char *name) {
     uint64_t value = rlibreg_tag_of(it, tag, UINT64_MAX),
@@ -144,12 +147,21 @@ void rlibreg_initialize(int count, char **words, char **environment) {
             initialize(&objects[walk->order[i]], count, words, environment);
 }
 
-void rlibreg_finalize(void) {
-    while (walked->ordered) {
-        const struct rlibreg_object *it = &walked->objects.at[walked->order[--walked->ordered]];
-        struct functions array = finalizers_of(it);
-        uintptr_t function = function_of(it, DT_FINI, "DT_FINI");
-        for (size_t i = array.count; i-- > 0;) ((finalizer *)array.at[i])();
-        if (function) ((finalizer *)function)();
+/* Returns the next finalizer, or 0 if each of them was called. */
+static uintptr_t next_finalizer(struct walk *walk) {
+    while (!walk->finalizers.count && !walk->last && walk->ordered) {
+        const struct rlibreg_object *it = &walk->objects.at[walk->order[--walk->ordered]];
+        walk->finalizers = finalizers_of(it);
+        walk->last = function_of(it, DT_FINI, "DT_FINI");
     }
+    if (walk->finalizers.count) return walk->finalizers.at[--walk->finalizers.count];
+    uintptr_t last = walk->last;
+    walk->last = 0;
+    return last;
+}
+
+/* Each finalizer is called once, even if one of them ends the program. */
+void rlibreg_finalize(void) {
+    uintptr_t it;
+    while ((it = next_finalizer(walked))) ((finalizer *)it)();
 }

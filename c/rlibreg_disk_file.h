@@ -133,11 +133,11 @@ int rlibreg_sync_folder(const char *path);
  * name it. */
 int rlibreg_is_same_file(const struct stat *one, const struct stat *other);
 
-/* Reads which file `path` names, relative to `folder`; if it is empty, `folder` is the file. Sets the
- * type, the numbers of the file and of its file system, and the number of a device (rlibreg_names.c).
- * Returns 0, or -1 with errno. The file's times aren't read: from Linux 6.13 on, the write
- * after such a call gives the file new times, which the next sync then has to write. On ext4 that
- * takes up to a third of a change. */
+/* Reads which file `path` names, relative to `folder`; if it is empty, `folder` is the file. Sets
+ * the type, the numbers of the file and of its file system, and the number of a device
+ * (rlibreg_names.c). Returns 0, or -1 with errno. The file's times aren't read: from Linux 6.13 on,
+ * the write after such a call changes the file's times, and the next sync has to write these. On
+ * ext4 that takes up to a third of a change. */
 int rlibreg_which_file(int folder, const char *path, struct stat *found);
 
 /* Returns whether `path`, relative to `folder`, names the file `file`. If it doesn't, errno says

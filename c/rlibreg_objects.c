@@ -12,7 +12,6 @@
 #include "rlibreg_objects.h"
 
 #include <link.h>
-#include <stdlib.h>
 #include <string.h>
 #include <sys/auxv.h>
 #include <sys/mman.h>
@@ -30,7 +29,8 @@ extern Elf64_Dyn _DYNAMIC[];
 struct table {
     size_t count;
     struct rlibreg_object at[MOST];
-    const struct rlibreg_object *by_name[MOST]; /* the libraries, sorted by name */
+    const struct rlibreg_object *by_name[MOST]; /* the libraries that have a name, sorted by it */
+    size_t named;
     const Elf64_Phdr *headers; /* the program headers of a file that has all objects, or null */
     size_t header_count;
 };
@@ -141,9 +141,34 @@ static int read_library(const struct table *all, struct rlibreg_object *it, uint
 
 /* ---- All objects */
 
+/* Returns how many libraries have names before `name`. */
+static size_t place_of(const struct table *all, const char *name) {
+    size_t from = 0, to = all->named;
+    while (from < to) {
+        size_t middle = from + (to - from) / 2;
+        if (strcmp(all->by_name[middle]->name, name) < 0)
+            from = middle + 1;
+        else
+            to = middle;
+    }
+    return from;
+}
+
+static const struct rlibreg_object *named(const struct table *all, const char *name) {
+    size_t place = place_of(all, name);
+    if (place == all->named || strcmp(all->by_name[place]->name, name)) return NULL;
+    return all->by_name[place];
+}
+
 static void add(struct table *all, const struct rlibreg_object *it) {
     if (all->count == MOST) fail("too many libraries", "");
-    all->at[all->count++] = *it;
+    all->at[all->count] = *it;
+    if (*it->name && !named(all, it->name)) {
+        const struct rlibreg_object **place = all->by_name + place_of(all, it->name);
+        memmove(place + 1, place, (size_t)(all->by_name + all->named++ - place) * sizeof *place);
+        *place = &all->at[all->count];
+    }
+    all->count++;
 }
 
 static void add_program(struct table *all) {
@@ -185,23 +210,6 @@ static void add_placed(struct table *all) {
     while (read_next(all, &it, all->at[all->count - 1].end)) add(all, &it);
 }
 
-static int compare_names(const void *a, const void *b) {
-    const struct rlibreg_object *const *one = a, *const *other = b;
-    int order = strcmp((*one)->name, (*other)->name);
-    return order ? order : (*one > *other) - (*one < *other);
-}
-
-static int compare_name(const void *name, const void *one) {
-    const struct rlibreg_object *const *it = one;
-    return strcmp(name, (*it)->name);
-}
-
-static const struct rlibreg_object *named(const struct table *all, const char *name) {
-    const struct rlibreg_object *const *it =
-        bsearch(name, all->by_name, all->count - 1, sizeof *it, compare_name);
-    return it ? *it : NULL;
-}
-
 /* Ends the process if a library that an object needs isn't among them. */
 static void test_needed(const struct table *all) {
     for (size_t i = 0; i < all->count; i++)
@@ -220,8 +228,6 @@ static struct table *find_objects(void) {
         add_listed(all, (const struct r_debug *)list);
     else
         add_placed(all);
-    for (size_t i = 1; i < all->count; i++) all->by_name[i - 1] = &all->at[i];
-    qsort(all->by_name, all->count - 1, sizeof *all->by_name, compare_names);
     if (!list) test_needed(all);
     return all;
 }

@@ -1,5 +1,6 @@
 /* Opens, writes and syncs a disk for the programs, in place of their language's open, pwrite and
- * fsync, over which build.sh links it. rlibreg_disk_file.c does the same for the calls over a file. */
+ * fsync, over which build.sh links it. rlibreg_disk_file.c does the same for the calls over a
+ * file. */
 #define _GNU_SOURCE
 #include "rlibreg_disk_file.h"
 #include "rlibreg_turn.h"
@@ -19,7 +20,7 @@ int __wrap_fsync(int fd);
 
 enum { NUMBERS = 64, ROOTS = 1024 };
 
-/* What was written since the last sync. The roots are the first two sectors. */
+/* The sectors that were written since the last sync. The roots are the first two sectors. */
 enum written { NOTHING, NO_ROOT, A_ROOT };
 
 /* The disk that is open for changes, and the path by which it was opened. The program opens nothing

@@ -35,8 +35,8 @@ static void tell_state(struct r_debug *list, int state) {
     if (list->r_brk != (ElfW(Addr))r_debug_state) ((void (*)(void))list->r_brk)();
 }
 
-/* Writes to a page without changing it. A page that is read first, and written later, makes two page
- * faults; this makes one. */
+/* Writes to a page without changing it. A page that is read first, and written later, makes two
+ * page faults; this makes one. */
 static void expect_write(void *at) {
     __asm__ volatile("lock orb $0, %0" : "+m"(*(uint8_t *)at) : : "cc");
 }

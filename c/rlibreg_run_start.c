@@ -139,8 +139,8 @@ static int64_t read_folder(const struct program *it, char *to, size_t room) {
 }
 
 /* Returns a copy of the program's path, made absolute, or null if the system doesn't report the
- * current folder. The copy is in `room` if it is short enough. /proc/self/fd has the path of the open
- * file too, but to read it takes longer than all else that is done here. */
+ * current folder. The copy is in `room` if it is short enough. /proc/self/fd has the path of the
+ * open file too, but reading it takes longer than everything else that is done here. */
 static char *path_of(const struct program *it, char *room, size_t length) {
     size_t own = strlen(it->path) + 1;
     int64_t folder = own < length ? read_folder(it, room, length - own) : -ERANGE;

@@ -46,7 +46,7 @@ const char *rlibreg_status_name(uint32_t status) {
         { RLIBREG_FINALIZERS, "Finalizers" },
         { RLIBREG_TOO_MANY_HEADERS, "TooManyHeaders" },
         { RLIBREG_WRITABLE_CODE, "WritableCode" },
-        { RLIBREG_NO_PAGES, "NoRoom" },
+        { RLIBREG_NO_PAGES, "NoPages" },
     };
     for (size_t i = 0; i < sizeof all / sizeof *all; i++)
         if (all[i].status == status) return all[i].name;

@@ -90,7 +90,7 @@ static uint32_t plan(struct call it, uint8_t *out, size_t room, char *text, size
                                 answer);
 }
 
-/* Makes a plan with room of every size, and then carries it out. */
+/* Makes a plan in buffers of every size, and then carries it out. */
 static void try_plan(struct call it) {
     static uint8_t whole[ROOM], before[sizeof disk];
     char ok[8];
@@ -362,8 +362,8 @@ static uint32_t give(char what, struct file program, uint64_t base, void *bytes,
                               text, text_room, answer);
 }
 
-/* Checks that a call returns the bytes `given` with the status `wanted`, for room of every size. If
- * there is too little room, it writes nothing. */
+/* Checks that a call returns the bytes `given` with the status `wanted`, with buffers of every
+ * size. If the buffer is too small, the call writes nothing. */
 static void try_given(char what, struct file program, uint32_t wanted, const void *given,
                       size_t length, uint64_t count) {
     for (size_t room = 0; room <= length + 1; room++) {
@@ -379,8 +379,8 @@ static void try_given(char what, struct file program, uint32_t wanted, const voi
     }
 }
 
-/* Checks that a call returns nothing: the buffer stays as it is, and the text says why, with room
- * of every size for the text. */
+/* Checks that a call returns nothing: the buffer stays unchanged, and the text reports the reason,
+ * with buffers of every size for the text. */
 static void try_not_given(char what, struct file program, uint64_t base, uint32_t wanted,
                           const char *line) {
     for (size_t room = 0; room <= strlen(line) + 1; room++) {
@@ -402,7 +402,7 @@ static void try_none_given(struct file program, uint64_t base, uint32_t wanted, 
     try_not_given('x', program, base, wanted, line);
 }
 
-/* Without its library a program has no executable file, and its bindings say what is missing. */
+/* Without its library a program has no executable, and its bindings report the missing name. */
 static void try_lacking(struct file program, const char *library) {
     char missing[600], said[2000];
     snprintf(missing, sizeof missing, "refused B3 Missing /program %s\n", library);

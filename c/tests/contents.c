@@ -119,7 +119,7 @@ static int put_byte(long at, int byte) {
     return before;
 }
 
-/* A damaged library is returned as it is, and keeps nothing else from being returned. Its data are
+/* A damaged library is returned as it is, and everything else can still be returned. Its data are
  * in sector 2, its entry in 3, and the catalogue in 4. Those of another library follow. */
 static void try_damaged(void) {
     unsigned char damaged[SECTOR];

@@ -104,7 +104,7 @@ static uint32_t make_preload(rlibreg *it) {
 }
 
 /* An update that replaces the library, sets the preloads, installs and removes. A listing shows all
- * of it or nothing. */
+ * of these changes or none. */
 static struct update {
     rlibreg_change changes[4];
     char bytes[2 << 20];
@@ -236,7 +236,7 @@ static struct outcome attempt(const struct change *change) {
     return it;
 }
 
-/* Makes a change again, which may have been made already. */
+/* Makes a change that may have been made already. */
 static void make_again(const struct change *change, int was_made) {
     uint32_t status = attempt(change).status;
     WANT(!status ||

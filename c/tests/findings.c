@@ -94,7 +94,7 @@ static void want_findings(const uint32_t *wanted) {
     rlibreg_close(it);
 }
 
-/* Returns what an installation says about this file, if a library of this name is installed. */
+/* Returns what an installation reports about this file, if a library of this name is installed. */
 static uint32_t installation_says(const uint8_t *file, char name) {
     static uint8_t alone[sizeof disk], plan[ROOM];
     rlibreg_answer answer;
@@ -250,8 +250,7 @@ static void try_rooms(void) {
 
 /* ---- Without a registry */
 
-/* Checks bytes that hold no registry: the answer says only why, and nothing is written except the
- * line. */
+/* Checks bytes without a registry: the answer has only the reason, and only its line is written. */
 static void want_refused(const uint8_t *bytes, size_t size, uint32_t status, const char *line) {
     for (size_t room = 0; room <= strlen(line) + 1; room++) {
         rlibreg_answer answer, wanted = { .status = status, .text = strlen(line) };

@@ -165,7 +165,8 @@ static void end_late(int number) {
     _exit(1);
 }
 
-/* Each generation can only close what those before it opened, and that releases no lock. */
+/* Each generation can only close the disks that the generations before it opened. This releases no
+ * lock. */
 static void try_generations(struct way way, rlibreg **opened, int generation) {
     char path[16];
     WANT(!way.flags || getpid() == 1);
@@ -209,7 +210,7 @@ static void try_all_generations(void) {
         printf("skipped: children with their parent's process number (%s)\n", strerror(errno));
 }
 
-/* If forks can't be watched for want of memory, no disk is opened. Later, with memory, it is. */
+/* If there is no memory to watch forks, no disk is opened. Later, when there is memory, it is. */
 static void try_unwatched(void) {
     fflush(stdout);
     pid_t child = fork();

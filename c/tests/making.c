@@ -1,7 +1,7 @@
 /* making LIBRARY NAME makes registries in the folder where it is run, with the calls of the system
  * watched. Each call fails, every two of them fail, and the process ends at each. There are file
- * systems without hard links, and files that exist before or are put there meanwhile. What is left
- * has to be no disk or a whole one, and then a registry is made. LIBRARY has the SONAME NAME. */
+ * systems without hard links, and files that exist before or are put there meanwhile. After each of
+ * these there is no disk or a whole one, and one can be made. LIBRARY has the SONAME NAME. */
 #define _GNU_SOURCE
 #include "watched.h"
 
@@ -32,8 +32,8 @@ static const char *text_of(uint32_t status) {
     return "";
 }
 
-/* Makes a registry. Returns a status. If it is made, the struct is open for changes, and has the
- * lock. */
+/* Makes a registry, and returns the status. If the registry is made, the struct is open for changes
+ * and has the lock. */
 static uint32_t format_path(const char *path, unsigned flags) {
     rlibreg *it = rlibreg_create();
     WANT(it);
@@ -88,7 +88,7 @@ static void clear(void) {
     WANT(here(""));
 }
 
-/* Writes a file, in place of what it had. */
+/* Writes a file, and replaces its old content. */
 static void put(const char *path, const char *bytes, size_t length) {
     int fd = open(path, O_WRONLY | O_CREAT | O_TRUNC, 0666);
     WANT(fd >= 0 && write(fd, bytes, length) == (ssize_t)length && !close(fd));

@@ -262,7 +262,7 @@ static void try_devices(void) {
     WANT(!is_held("disk"));
 }
 
-/* Returns how many milliseconds pass until a lock is had, or is given up. Others have it for
+/* Returns how many milliseconds pass until a lock is taken or given up. Others have the lock for
  * `times` tries. */
 static long waits(unsigned flags, int limit, const char *lock, long times, uint32_t wanted) {
     rlibreg *it = rlibreg_create();

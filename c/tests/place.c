@@ -30,7 +30,7 @@ static uint32_t install(rlibreg *it) {
     return rlibreg_install(it, library, library_length);
 }
 
-/* Returns whether a call returned S1 (Device) because the file isn't as it was. */
+/* Returns whether a call returned S1 (Device) because the file has changed. */
 static int has_changed(const rlibreg *it, uint32_t status, int why) {
     return status == RLIBREG_DEVICE && errno == why && rlibreg_errno(it) == why &&
            !strcmp(rlibreg_text(it), "refused S1 Device\n");

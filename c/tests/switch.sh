@@ -52,7 +52,7 @@ leads() {
     want "the other link $1" '' "$(find . -maxdepth 1 -name '.disk*')"
 }
 
-# To and fro.
+# Switches to and fro.
 start
 ln -s nowhere .disk.rlibreg-switch
 want 'a switch' 'planned

@@ -191,7 +191,7 @@ static void *wait_in_thread(void *unused) {
     return unused;
 }
 
-/* Forks while a thread waits. The child lives on. */
+/* Forks while a thread waits. The child goes on running. */
 static void wait_and_fork(void) {
     pthread_t thread;
     WANT(!pthread_create(&thread, NULL, wait_in_thread, NULL));

@@ -110,7 +110,7 @@ static int are_same(const rlibreg_image *one, const rlibreg_image *other_one) {
            !memcmp(one->bytes, other_one->bytes, all);
 }
 
-/* A bind before an update returns what a bind after it returns, also if the disk is open only for
+/* A bind before an update returns what a bind after it returns, even if the disk is open only for
  * reading. Nothing changes the disk before the update. */
 static void want_bound(uint32_t status) {
     rlibreg_image tried, shared, found;

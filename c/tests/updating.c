@@ -124,7 +124,7 @@ static void *update(void *unused) {
     return unused;
 }
 
-/* Each thread succeeds: it waits for the others, also for the one that makes the disk. */
+/* Each thread succeeds: it waits for the others, including the one that makes the disk. */
 static void try_threads(void (*leave)(void)) {
     int status;
     leave();

@@ -1,4 +1,4 @@
--- The text of what the symbols that relocations name are bound to (own).
+-- The text of the symbols that relocations name, and of their bindings (own).
 use Rattle.std.specs.Prelude.{ℕ, List, ◌++◌, length, map, codes, Option, Some, None}
 use Rattle.std.specs.List.{flat_map, range_with_len}
 use Rattle.elf_dynamic.specs.Strings.{name_of, needed}
@@ -11,11 +11,11 @@ use Rattle.image.specs.Placement.{Placed, named}
 use Rattle.image.specs.Relocating.{base_at, file_at, name_at, own_address}
 use Rattle.bindings.specs.Named.{named_symbols}
 
--- a line with the text `says` and a name
+-- a line that begins with `says` and ends with a name
 abbrev pub name_line : List ℕ → List ℕ → List ℕ
 name_line says name = says ++ name_text name ++ codes "\n"
 
--- a line with the text `says` and two names
+-- a line that begins with `says` and ends with two names
 abbrev pub names_line : List ℕ → List ℕ → List ℕ → List ℕ
 names_line says name other = says ++ name_text name ++ name_line (codes " ") other
 
@@ -31,18 +31,18 @@ needs_line name = name_line (codes "needs ") name
 abbrev pub binds_line : (symbol : List ℕ) (value : ℕ) (object : List ℕ) → List ℕ
 binds_line symbol value object = codes "binds " ++ name_text symbol ++ codes " 0x" ++ address_text value ++ name_line (codes " ") object
 
--- the line of a symbol of object number `own` with the name `name`; it depends on the symbol's target, which is a symbol of an object, 0 for a weak
--- symbol that no object defines, or nothing
+-- the line of a symbol of object number `own` with the name `name`, by its target: a symbol of an
+-- object, 0 for a weak symbol that no object defines, or none
 abbrev pub target_line : List Placed → ℕ → List ℕ → Option Target → List ℕ
 target_line objects own name (Some (At object symbol)) = binds_line name (own_address objects object symbol) (name_at objects object)
 target_line objects own name (Some Zero) = name_line (codes "unresolved ") name
 target_line objects own name None = names_line (codes "undefined ") name (name_at objects own)
 
--- the target of symbol `i` of object number `own`
+-- the target of symbol number `i` of object number `own`
 abbrev pub target_at : List Placed → ℕ → ℕ → Option Target
 target_at objects own i = target (map named objects) own i
 
--- the line of symbol `i` of object number `own`
+-- the line of symbol number `i` of object number `own`
 unfoldable pub symbol_line : List Placed → ℕ → ℕ → List ℕ
 symbol_line objects own i = target_line objects own (name_of (file_at objects own) i) (target_at objects own i)
 
@@ -54,6 +54,6 @@ object_text objects own =
     ++ flat_map needs_line (needed (file_at objects own))
     ++ flat_map (symbol_line objects own) (named_symbols (file_at objects own))
 
--- the text of placed objects: object by object in load order, and the line `end`
+-- the text of placed objects: the lines of each object, in load order, and the line `end`
 unfoldable pub bindings_text : List Placed → List ℕ
 bindings_text objects = flat_map (object_text objects) (range_with_len 0 (length objects)) ++ codes "end\n"

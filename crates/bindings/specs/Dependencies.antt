@@ -1,4 +1,4 @@
--- The text of what is found for a program, and of what is missing (own).
+-- The text of the libraries that are found for a program, and of the names that are missing (own).
 use Rattle.std.specs.Prelude.{ℕ, List, [], ◌++◌, codes, if◌then◌else◌}
 use Rattle.std.specs.List.{flat_map}
 use Rattle.scope.specs.LoadOrder.{Need, needed_by, is_missing}
@@ -9,15 +9,17 @@ use Rattle.bindings.specs.Bindings.{name_line, names_line, needs_line}
 abbrev pub missing_line : Need → List ℕ
 missing_line need = names_line (codes "missing ") need.name need.needer
 
--- the line of a needed name, followed by the line that it is missing if no library goes by it; `names` are those of the libraries
+-- the line of a needed name, and after it the line of a missing name if no library has the needed one;
+-- `names` has the libraries' names
 abbrev pub need_text : List (List ℕ) → Need → List ℕ
 need_text names need = needs_line need.name ++ (if is_missing names need then missing_line need else [])
 
--- the lines of an object that is found: the object itself, and the names that it needs
+-- the lines of an object that is found: the line of its name, and the lines of the names that it needs
 unfoldable pub found_text : List (List ℕ) → Named → List ℕ
 found_text names object = name_line (codes "found ") object.name ++ flat_map (need_text names) (needed_by object)
 
--- the text of objects, object by object, and the line `end`; `names` are those of the installed libraries
+-- the text of objects: the lines of each object, in their order, and the line `end`; `names` has the
+-- names of the installed libraries
 unfoldable pub dependencies_text : List (List ℕ) → List Named → List ℕ
 dependencies_text names objects = flat_map (found_text names) objects ++ codes "end\n"
 

@@ -1,3 +1,4 @@
--- Definitions of what the code keeps to be fast. None of them has to be believed.
+-- Definitions of the data that the code keeps to be fast. A reader doesn't have to believe these
+-- definitions.
 pub mod Flags
 pub mod Names

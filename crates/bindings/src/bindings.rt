@@ -1,4 +1,4 @@
-// Placed objects, and the text of what their symbols are bound to.
+// Placed objects, and the text of their symbols' bindings.
 
 ghost use Rattle.std.specs.Prelude.{◌≡◌, ◌<◌, length, is_none, IfOk, IfErr, OnOk, true, false};
 ghost use Rattle.std.specs.Io.KnownBytes.{Appends};
@@ -41,8 +41,9 @@ impl<'a> Model for Bindings<'a> {
     ghost invariant = { λ b. AllFlags b.objects (map (λ f. f.items) b.named.items) };
 }
 
-/// Writes the lines of object number `own`. `named` has a flag for each symbol that its relocations
-/// name. Returns whether all of these symbols are bound to something.
+/// Writes the lines of object number `own`. `named` has a flag for each symbol of the object, which
+/// is true if a relocation names the symbol. Returns whether all symbols with a true flag are
+/// bound.
 #[tactic(auto, unfolding(crate::specs::Bindings::object_text))]
 fn put_object<W: Write>(
     out: &mut W,
@@ -69,7 +70,7 @@ impl<'a> Bindings<'a> {
         requires { is_good_base (ordered.file_at order.now 0) base ≡ true }
         ensures ok { IfOk result (λ bindings. bindings ≡ place base order.now) }
 
-        // If the memory of an object would end above 2^47 - 4,096, the refusal is NoRoom. It may be
+        // If the memory of an object would end above 2^47 - 4,096, returns NoRoom. Returns
         // OutOfMemory only if the program's own memory doesn't end above that address.
         ensures room { OnOk result (lacks_room (place base order.now) ≡ false) }
         ensures refused { IfErr result (IsPlaceAnswer (place base order.now)) }

@@ -7,10 +7,10 @@ ghost use Rattle.bindings.specs.Bindings.{binds_line, name_line, names_line, obj
 use std::io::Write;
 use text_output::{OutputBuffer, WriteFault};
 
-/// The buffered text. The writer receives it in pieces of 64 KiB.
+/// The buffer for the text. The writer receives it in pieces of 64 KiB.
 pub(crate) type TextBuffer = OutputBuffer<65536>;
 
-/// Writes a line with the text `says` and a name.
+/// Writes a line that begins with `says` and ends with a name.
 pub(crate) fn put_name_line<W: Write>(
     out: &mut W,
     buffer: &mut TextBuffer,
@@ -25,7 +25,7 @@ pub(crate) fn put_name_line<W: Write>(
     buffer.put(out, b"\n")
 }
 
-/// Writes a line with the text `says` and two names.
+/// Writes a line that begins with `says` and ends with two names.
 pub(crate) fn put_names_line<W: Write>(
     out: &mut W,
     buffer: &mut TextBuffer,

@@ -9,7 +9,7 @@ use elf_dynamic::{Object, Relocation, uses_symbol};
 use image::PlacedOrder;
 use std::alloc::{AllocError, Global};
 
-/// Sets the flag of the symbol whose value a relocation uses, if it uses one.
+/// Sets the flag of the symbol whose value `relocation` uses, if it uses one.
 fn note(flags: &mut [bool], relocation: Relocation)
     requires { uses_symbol relocation.kind ≡ true → relocation.symbol < length flags.old }
     ensures { (count : ℕ) → (rs : List Rela) → AreFlags count rs flags.old
@@ -20,7 +20,7 @@ fn note(flags: &mut [bool], relocation: Relocation)
     }
 }
 
-/// Returns a flag for each symbol of an object, which says whether a relocation of the object names
+/// Returns a flag for each symbol of an object, which is true if a relocation of the object names
 /// the symbol. Allocates one byte a symbol, and makes one pass over the relocations.
 fn named_flags(alloc: Global, object: &Object<'_>) -> Result<Vec<bool>, AllocError>
     ensures { IfOk result (λ flags. FileFlags object.now flags.items) }

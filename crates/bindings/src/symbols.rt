@@ -17,8 +17,8 @@ use scope::{Target, Undefined};
 use std::io::Write;
 use text_output::WriteFault;
 
-/// Writes the line of a symbol of object number `own`. Returns whether the symbol is bound to
-/// something.
+/// Writes the line of symbol number `i` of object number `own`. Returns whether the symbol is
+/// bound.
 #[tactic(auto, unfolding(crate::specs::Bindings::symbol_line))]
 fn put_symbol<W: Write>(
     out: &mut W,
@@ -56,8 +56,8 @@ fn put_symbol<W: Write>(
     }
 }
 
-/// Writes the line of a symbol if a relocation names it, and returns whether the symbol is bound to
-/// something. Otherwise writes nothing, and returns true.
+/// Writes the line of a symbol if a relocation names it, and returns whether the symbol is bound.
+/// Otherwise writes nothing, and returns true.
 fn put_if_named<W: Write>(
     out: &mut W,
     buffer: &mut TextBuffer,
@@ -81,8 +81,8 @@ fn put_if_named<W: Write>(
     }
 }
 
-/// Writes the lines of the symbols of object number `own` that have a flag. Returns whether all of
-/// them are bound to something, so that a bind finds no undefined symbol.
+/// Writes the lines of the symbols of object number `own` whose flags are true. Returns whether all
+/// of them are bound, so that a bind finds no undefined symbol.
 pub(crate) fn put_symbols<W: Write>(
     out: &mut W,
     buffer: &mut TextBuffer,

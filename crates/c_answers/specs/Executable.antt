@@ -32,7 +32,7 @@ executable_number (refusal.Initializers name) = 404
 executable_number (refusal.Finalizers name) = 405
 executable_number refusal.TooManyHeaders = 407
 executable_number (refusal.WritableCode name) = 408
-executable_number refusal.NoRoom = 409
+executable_number refusal.NoPages = 409
 executable_number refusal.OutOfMemory = out_of_memory
 
 -- The call reports why there is no executable file, with the refusal's number and line.

@@ -32,7 +32,7 @@ fn executable_status(refusal: &ExecutableRefusal) -> u32
         ExecutableRefusal::Finalizers { name: _ } => 405,
         ExecutableRefusal::TooManyHeaders => 407,
         ExecutableRefusal::WritableCode { name: _ } => 408,
-        ExecutableRefusal::NoRoom => 409,
+        ExecutableRefusal::NoPages => 409,
         ExecutableRefusal::OutOfMemory => OUT_OF_MEMORY,
     }
 }

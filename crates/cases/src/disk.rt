@@ -1,14 +1,14 @@
-// Command lines over a disk: how they end, and the disk afterwards.
+// Command lines over a disk: their output and status, and the disk afterwards.
 
 use crate::file::changed_file;
 use crate::words::{Program, ends_so};
 use anyhow::{Context, Result};
 use std::fs;
 
-/// The file that is the disk.
+/// The name of the file that is the disk.
 const DISK: &str = "disk";
 
-/// Returns the disk that words name: `none` for no disk, or a file with its changes.
+/// Returns the disk that `words` describe: none for `none`, or else a file with its changes.
 fn disk_of(rt: &HostRuntime, words: &str) -> Result<Option<Vec<u8>>> {
     if words == "none" {
         return Ok(None);
@@ -26,7 +26,7 @@ fn take_disk(rt: &HostRuntime) -> Result<Option<Vec<u8>>> {
     Ok(Some(bytes))
 }
 
-/// Replaces the disk with the one that words name.
+/// Replaces the disk with the one that `words` describe.
 fn put_disk(rt: &HostRuntime, words: &str) -> Result<()> {
     take_disk(rt)?;
     if let Some(bytes) = disk_of(rt, words)? {
@@ -35,7 +35,8 @@ fn put_disk(rt: &HostRuntime, words: &str) -> Result<()> {
     Ok(())
 }
 
-/// Returns whether `WORD .. [< INPUT]` ends as `wanted` says. Without INPUT the input is empty.
+/// Returns whether the command line `WORD .. [< INPUT]` ends with the status and the output that
+/// `wanted` describes. Without INPUT the input is empty.
 fn runs_to(rt: &HostRuntime, program: Program, words: &str, wanted: &str) -> Result<bool> {
     match words.split_once(" < ") {
         Some((words, file)) => ends_so(rt, program, words, &changed_file(rt, file)?, wanted),
@@ -43,8 +44,8 @@ fn runs_to(rt: &HostRuntime, program: Program, words: &str, wanted: &str) -> Res
     }
 }
 
-/// Splits words at `run` or `tool`: returns the words before it, the program that it names, and the
-/// program's words.
+/// Splits words at `run` or `tool`. Returns the words before it, the program that it means, and the
+/// words of the program.
 fn split_words(words: &str) -> Option<(&str, Program, &str)> {
     if let Some((before, words)) = words.split_once(" run") {
         return Some((before, Program::Registry, words));
@@ -53,8 +54,8 @@ fn split_words(words: &str) -> Option<(&str, Program, &str)> {
     Some((before, Program::Tool, words))
 }
 
-/// Returns the expected disk. `same` is the disk before the command, with the changes that follow
-/// the word.
+/// Returns the disk that has to be left. The word `same` means the disk before the command, with
+/// the changes that follow the word.
 fn wanted_disk(rt: &HostRuntime, before: &str, after: &str) -> Result<Option<Vec<u8>>> {
     match after.strip_prefix("same") {
         Some(changes) => disk_of(rt, &format!(in rt.alloc(); "{before}{changes}")?),
@@ -69,9 +70,10 @@ fn is_left(rt: &HostRuntime, before: &str, after: &str) -> Result<bool> {
     Ok(left == wanted)
 }
 
-/// Returns whether a command line ends, and leaves the disk, as `wanted` says. `words` is `BEFORE
-/// run WORD .. [< INPUT]`, or with `tool` for `run` a command line of `rlibreg-tool`; `wanted` is
-/// `STATUS ANSWER then AFTER`. The file `disk` is the disk.
+/// Returns whether a command line ends as `wanted` says, and leaves the disk that `wanted`
+/// describes. `words` is `BEFORE run WORD .. [< INPUT]`; with `tool` in place of `run` it is a
+/// command line of `rlibreg-tool`. `wanted` is `STATUS ANSWER then AFTER`. The file `disk` is the
+/// disk.
 pub(crate) fn leaves_so(rt: &HostRuntime, words: &str, wanted: &str) -> Result<bool> {
     let (before, program, words) = split_words(words).context("a disk without words")?;
     let (ending, after) = wanted.rsplit_once(" then ").context("no disk after it")?;

@@ -14,7 +14,7 @@ fn number_of(libraries: &[Library<'_>], name: &str) -> Option<usize> {
     None
 }
 
-/// Returns the numbers of the libraries with these names, which are separated by spaces.
+/// Returns the numbers of the libraries with these names, which are separated by spaces in `names`.
 pub(crate) fn preloads_of(
     alloc: Global,
     libraries: &[Library<'_>],

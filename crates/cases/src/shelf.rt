@@ -7,14 +7,14 @@ use hash_check::{Admitted, ReadRefusal};
 use scope::Library;
 use std::alloc::Global;
 
-/// The file of a library, and the name that the case gives it.
+/// The file of a library, and its name in the case.
 #[derive(Drop)]
 pub(crate) struct LibraryFile {
     name: Option<Vec<u8>>,
     bytes: Vec<u8>,
 }
 
-/// Reads `FILE`, whose name is its SONAME, or `FILE as NAME`.
+/// Reads a library from `FILE`, with its SONAME as its name, or from `FILE as NAME`.
 fn read_library(rt: &HostRuntime, words: &str) -> Result<LibraryFile> {
     let (file, name) = match words.rsplit_once(" as ") {
         Some((file, name)) => (file, Some(name_bytes(rt.alloc(), name)?)),

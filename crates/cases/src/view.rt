@@ -1,4 +1,4 @@
-// The names and the symbols of an admitted file, as a reader sees them.
+// The names and the symbols of an admitted file, as calls of the library report them.
 
 use anyhow::Result;
 use elf_dynamic::{Object, Symbol};
@@ -6,7 +6,7 @@ use hash_check::Admitted;
 use std::io::Write;
 use text_output::write_name;
 
-/// Puts a line of `front` and a name.
+/// Puts a line that begins with `front` and ends with a name.
 pub(crate) fn put_named(text: &mut Vec<u8>, front: &[u8], name: &[u8]) -> Result<()> {
     text.extend_from_slice(front)?;
     write_name(text, name)?;
@@ -42,7 +42,7 @@ fn put_fields(text: &mut Vec<u8>, i: u32, symbol: Symbol) -> Result<()> {
     Ok(())
 }
 
-/// Puts the line of a symbol, with the number of the symbol that is exported under its name.
+/// Puts the line of symbol `i`, with the number of the symbol that is exported under its name.
 fn put_symbol(
     text: &mut Vec<u8>,
     i: u32,

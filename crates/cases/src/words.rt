@@ -5,7 +5,7 @@ use crate::number::first_number;
 use anyhow::Result;
 use std::alloc::Global;
 
-/// The program that a command line is for.
+/// The program that a command line runs.
 #[derive(Clone, Copy)]
 pub(crate) enum Program {
     /// `rlibreg`.
@@ -29,7 +29,7 @@ fn run_words(
     }
 }
 
-/// Returns the words of a command line. Each follows a space.
+/// Returns the words of a command line. In `words` a space comes before each of them.
 fn listed(alloc: Global, words: &str) -> Result<Vec<String>> {
     let mut list = Vec::new(alloc);
     for word in words.split(' ').skip(1) {
@@ -38,7 +38,7 @@ fn listed(alloc: Global, words: &str) -> Result<Vec<String>> {
     Ok(list)
 }
 
-/// Returns whether a status and the output are the expected ones.
+/// Returns whether the status and the output are the ones that `wanted` describes.
 fn is_ended(
     rt: &HostRuntime,
     status: u8,
@@ -56,9 +56,9 @@ fn is_ended(
     }
 }
 
-/// Returns whether a command line with this input ends as `wanted` says. `STATUS ANSWER` means that
-/// ANSWER is written to the output and nothing to standard error; `STATUS error ANSWER` means that
-/// it is written to standard error only.
+/// Returns whether a command line with this input ends as `wanted` says. With `STATUS ANSWER` it
+/// has to write ANSWER to the output, and nothing to standard error. With `STATUS error ANSWER` it
+/// has to write ANSWER to standard error only.
 pub(crate) fn ends_so(
     rt: &HostRuntime,
     program: Program,

@@ -1,5 +1,5 @@
 // Each call of a registry, of its binders, of an update and of the program, made once by its public
-// path and with ample memory. No program here makes some of these calls: they are for programs that
+// path, with ample memory. No program here makes some of these calls: they are for programs that
 // use a registry without a script.
 
 use crate::runs::words_of;
@@ -42,8 +42,8 @@ fn lists_a(reply: &Reply) -> bool {
     }
 }
 
-// Returns whether these are the replies to a listing and a bind, if the registry has version
-// `version` of the library a.
+// Returns whether these are the replies to a listing and a bind on a registry that has only the
+// library a, in version `version`.
 fn are_of(replies: &[Reply], version: u8) -> bool {
     match replies {
         [listing, bound] => lists_a(listing) && version_in(bound) == Some(version),
@@ -51,7 +51,7 @@ fn are_of(replies: &[Reply], version: u8) -> bool {
     }
 }
 
-// Returns the commands whose replies `are_of` tests.
+// Returns the two commands: a listing, and a bind of `program`.
 fn asks(program: &[u8]) -> [Command<'_>; 2] {
     [
         Command::List,
@@ -62,7 +62,7 @@ fn asks(program: &[u8]) -> [Command<'_>; 2] {
     ]
 }
 
-// Returns whether a registry has the library a in version `version`, and no other library.
+// Returns whether a registry has only the library a, in version `version`.
 fn has(registry: &mut Registry<Memory>, version: u8) -> bool {
     match Registry::run(registry, &asks(&program(b'a'))) {
         Ok(replies) => are_of(&replies, version),
@@ -83,7 +83,7 @@ fn made(alloc: Global) -> Option<Registry<Memory>> {
     None
 }
 
-// Makes the same registry, and opens it with each call that opens a registry.
+// Makes such a registry, and opens its disk with each call that opens a registry.
 fn opened(alloc: Global) -> Option<Registry<Memory>> {
     let disk = Registry::into_disk(made(alloc)?);
     let Ok(registry) = Registry::upgrade(alloc, disk) else {
@@ -95,7 +95,7 @@ fn opened(alloc: Global) -> Option<Registry<Memory>> {
     Registry::open(alloc, Registry::into_disk(registry)).ok()
 }
 
-// Returns whether the only library found is a, and none is missing.
+// Returns whether a is the only library that was found, and none is missing.
 fn are_found(alloc: Global, found: &FoundLibraries) -> bool {
     let Ok(libraries) = FoundLibraries::libraries(found, alloc) else {
         return false;
@@ -133,7 +133,7 @@ fn a_registry_is_made_opened_and_asked(rt: HostRuntime) {
     assert!(rt; is_whole && !has_failed);
 }
 
-// Returns whether a step of a binder is its last, and returns the image with version 1 of the
+// Returns whether a step of a binder is its last one, and returns an image with version 1 of the
 // library a.
 fn is_bound(step: &Result<Step, Refusal>) -> bool {
     match step {
@@ -170,7 +170,7 @@ fn a_binder_of_a_registry_binds(rt: HostRuntime) {
 }
 
 // Returns whether the binder in slot 0 binds a program that needs the library a, after another
-// binder in this slot was cancelled.
+// binder in slot 0 was cancelled.
 fn advances(binders: &mut Binders<Memory>) -> bool {
     let needing = program(b'a');
     let begun = Binders::begin(binders, &needing, BASE);
@@ -201,7 +201,7 @@ fn are_replies(replies: &[EventReply]) -> bool {
     }
 }
 
-// Returns whether the same program is bound by events.
+// Returns whether events bind the same program.
 fn runs_events(binders: &mut Binders<Memory>) -> bool {
     let program = program(b'a');
     let events = [
@@ -233,8 +233,8 @@ fn binders_bind_in_steps_and_by_events(rt: HostRuntime) {
     assert!(rt; is_bound && lists_a(&listing) && !has_failed);
 }
 
-// Replaces the library a in an update that is committed or given up. Returns whether each answer
-// was right, and the registry after it.
+// Replaces the library a in an update, and commits it if `commits` is true. Returns whether each
+// answer was right, and the registry after the update.
 fn updated(registry: Registry<Memory>, version: u8, commits: bool) -> (bool, Registry<Memory>) {
     let mut update = match Registry::update(registry) {
         Ok(update) => update,

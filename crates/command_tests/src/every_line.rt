@@ -1,5 +1,5 @@
 // A script with every form of line. It is for a registry of eight sectors that is empty or has the
-// library a, on a disk from which no library b can be read.
+// library a. On the disk of a liar, no library b can be read.
 use samples::{library, program};
 use std::alloc::{AllocError, Global};
 
@@ -9,8 +9,8 @@ pub(crate) fn script(alloc: Global) -> Result<String, AllocError> {
     let a = hex::encode(alloc, library(b'a', 0).as_slice())?;
     let b = hex::encode(alloc, library(b'b', 0).as_slice())?;
     let needing = hex::encode(alloc, program(b'a').as_slice())?;
-    // After `replace` the disk is full. Then the preloads are read, and they aren't the files that
-    // were installed.
+    // After `replace` the disk is full. Then the preloads are read, and their bytes aren't the
+    // files that were installed.
     format!(in alloc;
         "list\nbind 0x10000 {needing}\ninstall {a}\n\
         replace {a}\ninstall {b}\npreload b a\n\
@@ -41,8 +41,8 @@ const ANSWERS: &[u8] = b"ok\nok\nok\nrefused S5 Damaged\nrefused C4 InPreloads\n
     0000000000000000\nend\n\
     library b 344\nend\nrefused L1 BadLine\nrefused L2 CutLine\n";
 
-/// Returns whether these are the answers to all lines of the script. `first` has those to the first
-/// three.
+/// Returns whether these are the answers to all lines of the script. `first` has the answers to its
+/// first three lines.
 pub(crate) fn are_answers(output: &[u8], first: &str) -> bool {
     output.strip_prefix(first.as_bytes()) == Some(ANSWERS)
 }

@@ -1,11 +1,11 @@
-// The changes that are made to a disk of eight sectors with the library a, and the results of a
-// liar whose answers are the changed sectors.
+// Changes to a disk of eight sectors with the library a, and the results of a liar that returns the
+// changed sectors.
 use crate::sectors::Harm;
 use crate::sectors::Harm::{Byte, Zeros};
 use store::StoreRefusal;
 
-/// How a liar is refused, or the answers to the script over its registry: those to the first three
-/// lines, and how many of all lines are refused.
+/// The refusal of a liar, or the result of the script over its registry: the answers to the first
+/// three lines, and how many of all lines are refused.
 pub(crate) type Wanted = Result<(&'static str, u64), StoreRefusal>;
 
 const S3: Wanted = Err(StoreRefusal::NotFormatted);
@@ -14,7 +14,7 @@ const S4: Wanted = Err(StoreRefusal::AlreadyFormatted);
 
 const S5: Wanted = Err(StoreRefusal::Damaged);
 
-// The library a is installed, and its bytes are zeros when they are read again.
+// The library a is listed, and its bytes are zeros when they are read again.
 const HELD: Wanted = Ok((
     "library a 344\nend\nrefused S5 Damaged\nrefused C2 AlreadyInstalled\n",
     9,
@@ -28,21 +28,21 @@ const EMPTY: Wanted = Ok(("end\nrefused B3 Missing /program a\nok\n", 8));
 /// formatted.
 pub(crate) type Row = (&'static [Harm], &'static [Wanted; 3]);
 
-// The results of a disk that is damaged in whichever order a liar returns its sectors.
+// The results of a disk that is found damaged, in whichever order a liar returns its sectors.
 const DAMAGED: &[Wanted; 3] = &[S5, S5, S4];
 
-/// Rows for disks of version 1 and 2. In the order of the disk, the first sector of the file is
-/// read as the entry or as the catalogue.
+/// Rows for disks of version 1 and of version 2. In the order of the disk, the first sector of the
+/// file is read as the entry or as the catalogue.
 pub(crate) static ROWS: [Row; 9] = [
     (&[], &[S5, HELD, S4]),
-    // The disk has one root, or none.
+    // The disk has only one root, or none.
     (&[Zeros(1)], &[EMPTY, EMPTY, S4]),
     (&[Zeros(0)], DAMAGED),
     (&[Zeros(0), Zeros(1)], &[S3, S3, EMPTY]),
     // The root has nine sectors, or lists a sector past the end of the disk.
     (&[Byte(1, 16, 9)], DAMAGED),
     (&[Byte(1, 64, 8)], DAMAGED),
-    // The entry names its own sector as the file's.
+    // The entry lists its own sector as the file's.
     (&[Byte(3, 256, 3)], DAMAGED),
     // The file is listed under another name, or isn't a library.
     (&[Byte(3, 16, b'b')], DAMAGED),
@@ -51,18 +51,18 @@ pub(crate) static ROWS: [Row; 9] = [
 
 /// Rows for disks of version 2 only.
 pub(crate) static NEW_ROWS: [Row; 9] = [
-    // The root has no catalogue, or two, or names the entry as its catalogue, or is a root of
+    // The root has no catalogue, has two, or lists the entry as its catalogue; or it is a root of
     // version 1.
     (&[Byte(1, 56, 0)], DAMAGED),
     (&[Byte(1, 56, 2)], DAMAGED),
     (&[Byte(1, 64, 3)], DAMAGED),
     (&[Byte(1, 7, b'1')], DAMAGED),
-    // The catalogue isn't a catalogue, or lists two entries, or one past the end of the disk, or
-    // itself.
+    // The catalogue isn't a catalogue, or lists two entries, or an entry past the end of the disk,
+    // or itself.
     (&[Zeros(4)], DAMAGED),
     (&[Byte(4, 4, 2), Byte(4, 20, 5)], DAMAGED),
     (&[Byte(4, 16, 8)], DAMAGED),
     (&[Byte(4, 16, 4)], DAMAGED),
-    // The entry names the catalogue's sector as the file's.
+    // The entry lists the catalogue's sector as the file's.
     (&[Byte(3, 256, 4)], DAMAGED),
 ];

@@ -1,4 +1,4 @@
-// A registry on a disk that lies: the numbered refusal of each call, or its answer.
+// A registry on a disk that lies, and the results of opening it and of running a script over it.
 ghost use Rattle.std.specs.Prelude.{◌<◌};
 
 use crate::every_line::{LINES, are_answers, script};
@@ -12,8 +12,8 @@ use sector_disk::Liar;
 use std::alloc::Global;
 use store::StoreRefusal;
 
-// Makes a disk of eight sectors that returns these answers in turn, whichever sector is read.
-// Answers number 2 and `other` are exchanged. After an opening the answers are zeros.
+// Makes a disk of eight sectors that returns these sectors in turn, whichever sector is read, with
+// sectors number 2 and `other` exchanged. After the opening it returns zeros.
 fn liar(alloc: Global, sectors: &Sectors, other: usize) -> Option<Liar>
     requires { other < 8 }
 {
@@ -23,7 +23,7 @@ fn liar(alloc: Global, sectors: &Sectors, other: usize) -> Option<Liar>
     Some(Liar::new(8, Vec::from_slice(alloc, &answers).ok()?))
 }
 
-// A registry on such a disk, or its refusal.
+// The registry on a disk that lies, or the refusal.
 type Made = Result<Registry<Liar>, (StoreRefusal, Liar)>;
 
 // Opens the registry of version 2 on a disk, or upgrades the registry of version 1.
@@ -35,7 +35,7 @@ fn found(alloc: Global, version: u8, disk: Liar) -> Made {
     }
 }
 
-// Runs a script over a registry.
+// Runs a script over a registry, and returns its summary and its output.
 fn run(
     alloc: Global,
     registry: Registry<Liar>,
@@ -49,8 +49,7 @@ fn run(
     ended
 }
 
-// Returns whether the complete text of the script's answers over a registry is the one that is
-// expected.
+// Returns whether a script over this registry has exactly the expected answers.
 fn is_answered_so(alloc: Global, registry: Registry<Liar>, script: &[u8], wanted: Wanted) -> bool {
     let mut output = Vec::new(alloc);
     let ended = run(alloc, registry, script, &mut output);
@@ -68,9 +67,9 @@ fn ends(alloc: Global, made: Made, script: &[u8], wanted: Wanted) -> bool {
     }
 }
 
-// Returns whether the three liars with these sectors end as expected. An opening of version 2 reads
-// the catalogue third, which is in sector 4. An upgrade of version 1 reads the entry third, which
-// is in sector 3.
+// Returns whether the three liars with these sectors end as expected. The third read of an opening
+// of version 2 is the catalogue, which is in sector 4. The third read of an upgrade of version 1 is
+// the entry, which is in sector 3.
 fn lies(
     alloc: Global,
     version: u8,

@@ -1,5 +1,5 @@
-// The number of sectors that a bind reads before it is refused because a library is missing: those
-// of each library in its load order, once.
+// The number of sectors that a bind reads before it is refused because a library is missing. It
+// reads each library in its load order once.
 use image::BindRefusal;
 use registry::Registry;
 use requests::{Command, Refusal, Reply};
@@ -7,7 +7,7 @@ use samples::{named, needing_file};
 use sector_disk::{Fuse, Memory};
 use std::alloc::Global;
 
-// The tag of the library's own name.
+// The tag, in `d_tag`, of a library's own name.
 const SONAME: u64 = 14;
 
 // A library: its name, the libraries that it needs, and the number of sectors of its file.
@@ -46,7 +46,7 @@ static CASES: [Case; 2] = [
     },
 ];
 
-// Returns whether a library of a case is installed.
+// Installs a library of a case. Returns whether that succeeds.
 fn install(alloc: Global, kept: &mut Registry<Memory>, made: &Made) -> bool {
     let (name, needs, sectors) = made;
     match needing_file(
@@ -77,7 +77,7 @@ fn on_disk(alloc: Global, case: &Case) -> Option<Memory> {
     if done { Some(disk) } else { None }
 }
 
-// Returns the replies to two binds of a case's program, over a disk whose call number `call` fails.
+// Returns the replies to two binds of a case's program, on a disk whose call number `call` fails.
 fn told(alloc: Global, case: &Case, call: u64) -> Option<(Reply, Reply)> {
     let program = needing_file(alloc, case.needs, b"", 0).ok()?;
     let disk = Fuse::new(on_disk(alloc, case)?, call, false, false);
@@ -93,7 +93,7 @@ fn told(alloc: Global, case: &Case, call: u64) -> Option<(Reply, Reply)> {
     Some(replies)
 }
 
-// Returns whether a bind was refused because the program needs this library.
+// Returns whether a bind was refused because the program needs `library`, which isn't installed.
 fn lacks(reply: &Reply, library: u8) -> bool {
     match reply {
         Reply::Refused(Refusal::Bind(BindRefusal::Missing { needer, name })) => {
@@ -103,8 +103,8 @@ fn lacks(reply: &Reply, library: u8) -> bool {
     }
 }
 
-// Returns whether the first of two binds returns S1 (Device). In that case the second has to return
-// B3 (Missing). A first bind that doesn't return S1 has to return B3.
+// Returns whether the first of two binds returns S1 (Device). If it does, the second has to return
+// B3 (Missing); otherwise the first has to return B3.
 fn is_failed(first: &Reply, again: &Reply, missing: u8) -> Option<bool> {
     if lacks(first, missing) {
         return Some(false);
@@ -113,13 +113,13 @@ fn is_failed(first: &Reply, again: &Reply, missing: u8) -> Option<bool> {
     (is_told && lacks(again, missing)).then_some(true)
 }
 
-// Returns whether a bind returns S1 over a disk whose call number `call` after the opening fails.
+// Returns whether a bind returns S1 on a disk whose call number `call` after the opening fails.
 fn fails(alloc: Global, case: &Case, call: u64) -> Option<bool> {
     let (first, again) = told(alloc, case, case.opening.wrapping_add(call))?;
     is_failed(&first, &again, case.missing)
 }
 
-// Returns whether a bind reads as many sectors as a case says, and none of them twice.
+// Returns whether a bind reads exactly as many sectors as a case says.
 fn reads(alloc: Global, case: &Case) -> bool {
     let mut same = true;
     for call in 1..10 {

@@ -19,7 +19,7 @@ pub(crate) fn words_of(rt: &HostRuntime, words: &[&str]) -> io::Result<Vec<Strin
 type Wanted = (u8, &'static str, &'static str);
 
 /// Returns whether a command line ends as expected. `words` are its words, or the error of reading
-/// them. Only a script would read the input.
+/// them. The input is for scripts only.
 pub(crate) fn ends(rt: &HostRuntime, words: io::Result<Vec<String>>, wanted: Wanted) -> bool {
     let mut input = b"list\n".as_slice();
     let mut output = Vec::new(rt.alloc());
@@ -33,15 +33,15 @@ pub(crate) fn ends(rt: &HostRuntime, words: io::Result<Vec<String>>, wanted: Wan
 /// A command line and its results.
 type Row = (&'static [&'static str], Wanted);
 
-/// Nothing is reported if the text would be written into the disk.
+/// The result if nothing is reported, because the text would be written into the disk.
 const UNTOLD: Wanted = (3, "", "");
 
 const NO_DISK: Wanted = (1, "refused S6 BadGeometry\n", "");
 
 const BAD_BASE: Wanted = (2, "", "rlibreg: bad base\n");
 
-/// Bases with blanks; a DISK that is the file behind standard error; a file that is one sector too
-/// long for a disk; and a device.
+/// Command lines with blanks in a base, with a DISK that is also standard error, with a file that
+/// is one sector too long, and with a device.
 static ROWS: [Row; 19] = [
     (&["image", "no such file", " 0x10"], BAD_BASE),
     (&["image", "no such file", "0x10 "], BAD_BASE),

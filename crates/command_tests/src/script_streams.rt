@@ -1,4 +1,4 @@
-// Scripts over streams that fail, and each form of line once.
+// Scripts over streams that fail, and a script with each form of line.
 
 ghost use Rattle.std.specs.Prelude.{⊤};
 
@@ -14,10 +14,10 @@ use std::alloc::Global;
 use std::io::ErrorKind;
 use std::test::Fail;
 
-/// Replies Done to every event, and notes the events.
+/// Replies Done to every event, and notes a letter for each.
 #[derive(Drop)]
 struct Asked {
-    /// One letter for each event.
+    /// The letters of the events.
     letters: Vec<u8>,
 }
 
@@ -49,7 +49,7 @@ pub(crate) fn summary(lines: u64, refused: u64) -> Summary {
     Summary { lines, refused }
 }
 
-/// Returns an `Asked` before the first event.
+/// Returns an `Asked` without events.
 fn nothing_asked(alloc: Global) -> Asked {
     Asked {
         letters: Vec::new(alloc),
@@ -65,7 +65,7 @@ fn run_turns(alloc: Global, turns: &[Turn]) -> (Ended, Vec<u8>, Vec<u8>) {
     (ended, asked.letters, output)
 }
 
-/// Each form of line, split at arbitrary places.
+/// A script with each form of line, split at arbitrary places.
 static FORMS: [Turn; 6] = [
     Says("install 0aF"),
     Says("F\nrepl"),
@@ -91,10 +91,10 @@ const READ: ScriptFault = ScriptFault::Read;
 
 const MEMORY: ScriptFault = ScriptFault::OutOfMemory;
 
-/// The turns of a reader; the letters of the events, each of which is answered `ok`; and the
-/// script's result.
+/// The turns of a reader, the letters of the events, and the script's result. Each event is
+/// answered `ok`.
 static CUT: [(&[Turn], &str, ScriptFault); 6] = [
-    // The reader fails at once, in the middle of a line, and between lines.
+    // The reader fails at once, in the middle of a line, and between two lines.
     (&[FAILS], "", READ),
     (&[Says("li"), FAILS], "", READ),
     (&[Says("list\npreload"), FAILS], "l", READ),
@@ -107,7 +107,7 @@ static CUT: [(&[Turn], &str, ScriptFault); 6] = [
     ),
 ];
 
-/// Returns whether a script is cut off in this way.
+/// Returns whether a script ends with the fault after the events `asked`.
 fn is_cut(alloc: Global, turns: &[Turn], asked: &str, fault: ScriptFault) -> bool {
     let (ended, letters, output) = run_turns(alloc, turns);
     ended == Err(fault)
@@ -122,7 +122,7 @@ fn a_reader_fails_after_these_lines(rt: HostRuntime) {
     }
 }
 
-/// Returns the result of a script whose writer accepts `room` bytes, and the number of events.
+/// Runs a script whose writer accepts `room` bytes. Returns its result, and the number of events.
 fn run_full(alloc: Global, text: &str, room: usize) -> (Ended, usize) {
     let mut asked = nothing_asked(alloc);
     let mut out = Full::with_room(room);
@@ -136,15 +136,15 @@ const UNWRITTEN: Ended = Err(ScriptFault::Write);
 fn a_writer_fails_at_each_write(rt: HostRuntime) {
     let done = summary(7, 2);
     for (room, events, wanted) in [
-        // The first change was made, and its answer comes after the three before it.
+        // The first change was made. Its answer comes after the answers to three other lines.
         (0, 3, UNWRITTEN),
         (24, 3, UNWRITTEN),
         (25, 3, UNWRITTEN),
         (27, 3, UNWRITTEN),
-        // The same for the second change.
+        // The second change was made. Its answer comes after the answer to one other line.
         (28, 5, UNWRITTEN),
         (33, 5, UNWRITTEN),
-        // The last answer.
+        // The last answer doesn't fit, and then it does.
         (34, 5, UNWRITTEN),
         (52, 5, UNWRITTEN),
         (53, 5, Ok(done)),
@@ -177,14 +177,15 @@ fn run_stopped(
     Ok((ended, out.taken))
 }
 
-/// Returns whether a script ends with the fault, and only the beginning of its text is written.
+/// Returns whether a script ends with the fault of its writer, and only the beginning of its text
+/// is written. `room` has the numbers of `run_stopped`.
 fn is_front(alloc: Global, script: &[u8], text: &[u8], room: (usize, usize)) -> Result<bool, Fail> {
     let (ended, taken) = run_stopped(alloc, script, room)?;
     Ok(ended == UNWRITTEN && text.starts_with(&taken) && taken.len() < text.len())
 }
 
-/// Returns whether the text is written completely with `writes` writes, and only its beginning with
-/// each smaller number.
+/// Returns whether the text is written completely if the writer accepts `writes` writes, and only
+/// its beginning if it accepts fewer.
 fn takes_writes(
     alloc: Global,
     script: &[u8],
@@ -199,7 +200,7 @@ fn takes_writes(
     Ok(holds && last == *ended && taken == *text)
 }
 
-/// The offset in a file of the memory size of its segment.
+/// The offset in a file of `p_memsz` of its segment.
 const MEMORY_SIZE_AT: usize = 104;
 
 #[test]
@@ -210,8 +211,8 @@ fn a_writer_fails_within_an_image(rt: HostRuntime) -> Result<(), Fail> {
     let program = hex::encode(alloc, program.as_slice())?;
     let script = format!(in alloc; "list\nbind 0x0 {program}\nlist\n")?;
     let whole = run_stopped(alloc, script.as_bytes(), (usize::MAX, usize::MAX))?;
-    // A line, two pieces of the image, and a line; and the same if no write accepts more than 8
-    // KiB.
+    // The writes are a line, two pieces of the image, and a line. The test is repeated with a
+    // writer that accepts at most 8 KiB at a time.
     let at_once = takes_writes(alloc, script.as_bytes(), &whole, (4, usize::MAX))?;
     let in_pieces = takes_writes(alloc, script.as_bytes(), &whole, (11, 8192))?;
     let is_long = whole.1.len() > 68_000;

@@ -1,4 +1,4 @@
-// The status if a stream accepts or returns fewer bytes than there are.
+// The status of a command line whose streams accept or return fewer bytes than there are.
 
 use crate::runs::{ends, words_of};
 use crate::streams::{Full, Turn, Turns};
@@ -8,7 +8,7 @@ use std::io::ErrorKind;
 use std::test::Fail;
 use std::{fs, io};
 
-/// Returns the words of a command line. Without words, returns the error of refused memory.
+/// Returns the words of a command line. If there are none, returns the error of refused memory.
 fn words_or(rt: &HostRuntime, words: &[&str]) -> io::Result<Vec<String>> {
     if words.is_empty() {
         return Err(io::Error::from(ErrorKind::OutOfMemory));
@@ -28,7 +28,7 @@ fn told(rt: &HostRuntime, words: &[&str], rooms: (usize, usize)) -> (u8, usize, 
     (status, output.room, errors.calls, errors.room)
 }
 
-/// A file that doesn't exist, words that are no command, and a bad base.
+/// Three command lines: with a file that doesn't exist, with no command, and with a bad base.
 const UNREAD: &[&str] = &["image", "no such file", "0x0"];
 
 const NO_COMMAND: &[&str] = &["help"];
@@ -44,7 +44,7 @@ static MESSAGES: [(&[&str], (usize, usize), (u8, usize, u64, usize)); 9] = [
     (NO_COMMAND, (100, 0), (2, 100, 1, 0)),
     (BAD_BASE, (100, 100), (2, 100, 1, 82)),
     (BAD_BASE, (100, 0), (2, 100, 1, 0)),
-    // Memory was refused for the words. That is reported on the output.
+    // Memory was refused for the words. This is reported on the output.
     (&[], (24, 100), (4, 0, 0, 100)),
     (&[], (23, 100), (3, 23, 0, 100)),
 ];
@@ -56,9 +56,9 @@ fn a_message_is_one_write_that_changes_no_status(rt: HostRuntime) {
     }
 }
 
-/// Returns whether the status of these words is 3 for each room below `length`, and `status` for
-/// that length and for one byte more. `length` is the length of their text. Standard error has to
-/// stay empty.
+/// Returns whether the status of these words is 3 if the output has room for fewer than `length`
+/// bytes, and `status` for `length` bytes and one more. `length` is the length of the text.
+/// Standard error has to stay empty.
 fn needs_room(rt: &HostRuntime, words: &[&str], length: usize, status: u8) -> bool {
     let mut holds = true;
     for room in 0..length.saturating_add(2) {
@@ -69,8 +69,8 @@ fn needs_room(rt: &HostRuntime, words: &[&str], length: usize, status: u8) -> bo
     holds
 }
 
-/// Command lines with the lengths of their texts, and their statuses: an image, a refusal of an
-/// image, an empty listing, a refusal of a command, and a script of one listing.
+/// Command lines with the lengths of their texts and their statuses: an image, a refusal of an
+/// image, an empty listing, a refusal of a command, and a script with one listing.
 static TEXTS: [(&[&str], usize, u8); 5] = [
     (&["image", "small.so", "0x0"], 784, 0),
     (&["image", "small.so", "0x1"], 19, 1),
@@ -79,7 +79,7 @@ static TEXTS: [(&[&str], usize, u8); 5] = [
     (&["script", "empty.disk"], 4, 0),
 ];
 
-/// Returns whether a disk of eight sectors is formatted.
+/// Formats a disk of eight sectors. Returns whether that succeeds.
 fn formats(rt: &HostRuntime, disk: &str) -> bool {
     ends(rt, words_of(rt, &["format", disk, "8"]), (0, "ok\n", ""))
 }
@@ -108,7 +108,7 @@ fn script_status(rt: &HostRuntime, disk: &str, turns: &[Turn]) -> u8 {
 /// The turns of a script's input, and the status.
 static INPUTS: [(&[Turn], u8); 4] = [
     (&[], 0),
-    // A line without its end.
+    // The last line has no newline.
     (&[Turn::Gives(9)], 1),
     (&[Turn::Fails(ErrorKind::Other)], 3),
     (&[Turn::Fails(ErrorKind::OutOfMemory)], 4),

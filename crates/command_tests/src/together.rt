@@ -1,4 +1,5 @@
-// When the answers of a script are written, seen by a reader and a writer that watch each other.
+// The times at which the answers of a script are written, observed by a reader and a writer that
+// share a counter.
 
 ghost use Rattle.std.specs.Prelude.{⊤};
 
@@ -11,12 +12,13 @@ use std::cell::Cell;
 use std::io;
 use std::io::{ErrorKind, Read, Write};
 
-/// A reader that returns these texts. It fails if a line that it has returned isn't answered yet.
+/// A reader that returns these texts. It fails if a line that it has returned hasn't been answered
+/// when it is called again.
 #[derive(Drop)]
 struct Asking<'a> {
     /// The texts, each with the number of lines that end in the texts before it.
     texts: &'a [(&'a str, usize)],
-    /// The number of texts that were returned.
+    /// The number of texts that have been returned.
     given: usize,
     answered: &'a Cell<usize>,
 }
@@ -62,12 +64,12 @@ impl Write for Answers<'_> {
 }
 
 /// Refuses to remove `a`, fails to remove `b`, and answers everything else with Done. Notes whether
-/// an event happens before the answer to an earlier change that was made, or that failed, is
-/// written.
+/// an event happens before the answer to an earlier change is written, if that change was made or
+/// failed.
 #[derive(Drop)]
 struct Watching<'a> {
     asked: usize,
-    /// The number of answers that have to be written.
+    /// The number of answers that have to be written by now.
     due: usize,
     is_early: bool,
     answered: &'a Cell<usize>,
@@ -104,7 +106,7 @@ static TEXTS: [(&str, usize); 4] = [
 ];
 
 /// Runs a script over these texts. Returns its result, the number of calls of its writer, and
-/// whether an answer came too late.
+/// whether an answer was written too late.
 fn watched(alloc: Global, answered: &Cell<usize>) -> (Result<Summary, ScriptFault>, usize, bool) {
     let mut reader = Asking {
         texts: &TEXTS,
@@ -127,7 +129,7 @@ fn no_answer_is_missing_when_more_is_read_or_a_change_was_made(rt: HostRuntime) 
     let answered = Cell::new(0usize);
     let found = watched(rt.alloc(), &answered);
     let wanted = summary(14, 5);
-    // The line without a newline is answered by itself, because the reader had to report its end
-    // first.
+    // The line without a newline is answered by itself, because the reader first has to report the
+    // end of its input.
     assert!(rt; (found, answered.get()) == ((Ok(wanted), 6, false), 14));
 }

@@ -1,4 +1,4 @@
-// Updates through their calls: on a disk whose calls fail, and on a disk with just enough room.
+// Updates, made by their calls: on a disk whose calls fail, and on a disk with just enough room.
 
 use crate::update_streams::{held, one};
 use registry::Registry;
@@ -12,12 +12,12 @@ use std::test::Fail;
 // catalogue, an entry and a file.
 const OPENING: u64 = 6;
 
-// The results of an update: why its line is refused, why its commit is refused, and the number of
+// The results of an update: the refusal of its line, the refusal of its commit, and the number of
 // libraries on the disk afterwards.
 type Told = (Option<Refusal>, Option<Refusal>, usize);
 
-// Installs the library b in an update of which call number `call` fails. Returns the update's
-// results.
+// Installs the library b in an update whose call number `call` fails. Returns the results of the
+// update.
 fn cut(alloc: Global, call: u64, forever: bool, late: bool) -> Option<Told> {
     let fuse = Fuse::new(one(alloc)?, OPENING.saturating_add(call), forever, late);
     let Ok(registry) = Registry::open(alloc, fuse) else {
@@ -39,8 +39,8 @@ fn cut(alloc: Global, call: u64, forever: bool, late: bool) -> Option<Told> {
     }
 }
 
-// Returns the expected results. The calls are writes of the file, the entry and the catalogue, a
-// sync, the write of the root, and a sync.
+// Returns the expected results. The calls are the writes of the file, the entry and the catalogue,
+// a sync, the write of the root, and a sync.
 fn wanted(call: u64, late: bool) -> Told {
     match call {
         1 | 2 => (Some(Refusal::Device), Some(Refusal::Reopen), 1),
@@ -62,7 +62,7 @@ fn each_call_of_an_update_fails(rt: HostRuntime) {
 }
 
 // Replaces the library a in an update, which is committed or given up. Returns whether that
-// succeeds, and the registry after it.
+// succeeds, and the registry after the update.
 fn replaced(
     registry: Registry<Memory>,
     version: u8,
@@ -84,7 +84,7 @@ fn replaced(
 
 #[test]
 fn what_an_update_replaced_is_free_behind_it(rt: HostRuntime) -> Result<(), Fail> {
-    // Besides the library, two sectors are free: as many as another version of it takes.
+    // Besides the library a, two sectors are free: as many as another version of it needs.
     let Ok(mut registry) = Registry::format(rt.alloc(), Memory::new(rt.alloc(), 8)?) else {
         panic!(rt; "no registry")
     };

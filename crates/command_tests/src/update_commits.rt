@@ -1,4 +1,4 @@
-// Updates over a disk whose calls fail within the commit: the status, and the output.
+// Updates on a disk whose calls fail during the commit: the status, and the output.
 
 use crate::update_streams::one;
 use samples::library;
@@ -42,7 +42,7 @@ fn updates(alloc: Global) -> Result<[Lines; 3], AllocError> {
 type Failure = (u64, bool, bool);
 
 // Returns whether an update whose commit fails in this way ends with this status and this output,
-// and reports nothing on standard error.
+// and writes nothing to standard error.
 fn ends(alloc: Global, lines: &Lines, failure: Failure, wanted: (u8, &[u8])) -> Option<bool> {
     let (call, forever, late) = failure;
     let call = OPENING.saturating_add(lines.planning).saturating_add(call);
@@ -66,7 +66,7 @@ fn no_ok_is_written_if_a_call_of_the_commit_fails(rt: HostRuntime) -> Result<(),
                 assert!(rt; ends(rt.alloc(), lines, failure, refused) == Some(true));
             }
         }
-        // There is no call after these.
+        // The failing call would be the one after the last call of the commit.
         let failure = (lines.commit.saturating_add(1), true, false);
         assert!(rt; ends(rt.alloc(), lines, failure, done) == Some(true));
     }

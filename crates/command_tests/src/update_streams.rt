@@ -10,7 +10,7 @@ use std::alloc::Global;
 use std::io::ErrorKind;
 use updates::run_update;
 
-/// Makes a disk that has the library a.
+/// Makes a disk whose registry has the library a.
 pub(crate) fn one(alloc: Global) -> Option<Memory> {
     let Ok(mut registry) = Registry::format(alloc, Memory::new(alloc, 16).ok()?) else {
         return None;
@@ -20,7 +20,7 @@ pub(crate) fn one(alloc: Global) -> Option<Memory> {
     matches!(made, Reply::Done).then_some(disk)
 }
 
-/// Returns the number of libraries on a disk.
+/// Returns the number of libraries of the registry on a disk.
 pub(crate) fn held(alloc: Global, disk: Memory) -> Option<usize> {
     let Ok(mut registry) = Registry::open(alloc, disk) else {
         return None;
@@ -39,10 +39,10 @@ const NO_MEMORY: &str = "rlibreg-tool: refused S11 OutOfMemory\n";
 
 const CANNOT_WRITE: &[u8] = b"rlibreg-tool: cannot write\n";
 
-// The status of an update, its output, its standard error, and the number of libraries afterwards.
+// The status of an update, its output, its standard error, and the number of libraries after it.
 type Wanted = (u8, &'static str, &'static str, usize);
 
-// The lines that a reader returns before it fails, and the results.
+// The lines that a reader returns before it fails or ends, and the results.
 static CUT: [(&[Turn], Wanted); 6] = [
     (&[Fails(ErrorKind::Other)], (3, "", CANNOT_READ, 1)),
     (
@@ -57,19 +57,19 @@ static CUT: [(&[Turn], Wanted); 6] = [
         &[Says("remove a\n"), Fails(ErrorKind::OutOfMemory)],
         (4, "planned\n", NO_MEMORY, 1),
     ),
-    // The input ends.
+    // The input ends without a newline.
     (
         &[Says("remove a\ncommit")],
         (1, "planned\nrefused L2 CutLine\n", "", 1),
     ),
-    // The reader isn't called after the commit.
+    // The reader fails after the commit, but isn't called there.
     (
         &[Says("remove a\ncommit\n"), Fails(ErrorKind::Other)],
         (0, "planned\nok\n", "", 0),
     ),
 ];
 
-// Returns whether an update with the lines of a reader ends as expected.
+// Returns whether an update whose reader has these turns ends as expected.
 fn ends(alloc: Global, turns: &[Turn], wanted: Wanted) -> Option<bool> {
     let mut output = Vec::new(alloc);
     let mut errors = Vec::new(alloc);
@@ -87,8 +87,8 @@ fn a_reader_fails_in_an_update(rt: HostRuntime) {
     }
 }
 
-// Returns the status of an update whose output has room for `room` bytes, whether its failure is
-// reported, and the number of libraries afterwards.
+// Runs an update whose output has room for `room` bytes. Returns the status, whether the failure is
+// reported, and the number of libraries after it.
 fn full(alloc: Global, room: usize) -> Option<(u8, bool, usize)> {
     let mut output = Full::with_room(room);
     let mut errors = Vec::new(alloc);
@@ -100,7 +100,7 @@ fn full(alloc: Global, room: usize) -> Option<(u8, bool, usize)> {
 
 #[test]
 fn a_writer_fails_before_a_commit_and_behind_it(rt: HostRuntime) {
-    // All answers except the last, which take 30 bytes, are sent before the commit.
+    // The answers have 30 bytes without the last one, and are sent before the commit.
     for (room, wanted) in [
         (0, (3, true, 1)),
         (29, (3, true, 1)),

@@ -10,7 +10,7 @@ ghost use Rattle.commands.specs.inside.Ends.{IsNoRegistry, IsTurnedAway, IsSaid}
 use crate::disk_answer::write_disk_answer;
 use crate::making::run_format;
 use crate::message::cannot_read;
-use file_disk::{FileDisk, Made, NameFault, NewName, OpenFault};
+use file_disk::{FileDisk, Made, NameFault, OpenFault, UnnamedFile};
 use program_parts::Status;
 use std::alloc::Global;
 use std::fs::File;
@@ -36,16 +36,16 @@ pub(crate) fn no_disk(fault: OpenFault) -> NoRegistry
 {
     match fault {
         OpenFault::CannotOpen => NoRegistry::CannotOpen,
-        OpenFault::BadLength => NoRegistry::Refused(StoreRefusal::BadGeometry),
+        OpenFault::BadLength(_) => NoRegistry::Refused(StoreRefusal::BadGeometry),
         OpenFault::OutOfMemory => NoRegistry::Refused(StoreRefusal::OutOfMemory),
     }
 }
 
 /// Gives a registry's file its final name, if the file was newly made.
-fn name_file<R: Files<File = File>>(rt: &R, name: Option<NewName<'_>>) -> Result<(), NoRegistry>
+fn name_file<R: Files<File = File>>(rt: &R, name: Option<UnnamedFile<'_>>) -> Result<(), NoRegistry>
     ensures refused { IfErr result (IsNoRegistry IsFormatRefusal) }
 {
-    match name.map_or(Ok(()), |name| name.give(rt)) {
+    match name.map_or(Ok(()), |name| name.publish(rt)) {
         Ok(()) => Ok(()),
         Err(NameFault::NotGiven) => Err(NoRegistry::CannotOpen),
         Err(NameFault::NotSynced) => Err(NoRegistry::Refused(StoreRefusal::Device)),
@@ -53,7 +53,7 @@ fn name_file<R: Files<File = File>>(rt: &R, name: Option<NewName<'_>>) -> Result
 }
 
 /// Deletes a registry's file, if the file was newly made.
-fn take_away<R: Files<File = File>>(rt: &R, name: Option<NewName<'_>>) {
+fn take_away<R: Files<File = File>>(rt: &R, name: Option<UnnamedFile<'_>>) {
     if let Some(name) = name {
         name.take_away(rt);
     }

@@ -1,4 +1,4 @@
--- What is true of a file that no test refuses.
+-- Facts about a file that no test refuses.
 use Rattle.std.proofs.Common.{◌≡◌, ℕ, ◌<◌, ◌≤◌, ◌+◌, Bool, true, false, cond, List, [], ◌∷◌, ◌++◌, length, arith, refl, get_or, suc, zero, Some, None, take, drop, filter, nat_lt, length-drop}
 use Rattle.std.specs.Prelude.{slice_get, not, ◌||◌, ◌&&◌}
 use Rattle.std.specs.List.{list_any, All, AllPairs}
@@ -50,7 +50,7 @@ none-step q bad x xs false false e f none more k d lt = more k d lt
 none-step q bad x xs true false e f none more zero d lt = (e, f)
 none-step q bad x xs true false e f none more (suc k) d lt = more k d (omega (arith, lt))
 
--- an element of a filtered list passes the filter, and fails each test that all elements of the list fail
+-- an element of a filtered list passes the filter, and fails any test that all elements of the list fail
 none_in : {X : Type 0} (q bad : X → Bool) (xs : List X) → list_any bad xs ≡ false
     → (k : ℕ) (d : X) → k < length (filter q xs) → (q (get_or (filter q xs) k d) ≡ true) × (bad (get_or (filter q xs) k d) ≡ false)
 none_in q bad [] none k d lt = absurd (omega (arith, lt))
@@ -82,7 +82,7 @@ fits_by : (size : ℕ) (h : ProgramHeader) → is_load h ≡ true → is_bad_loa
     → (h.file_size ≤ h.memory_size) × (0 < h.file_size → h.offset + h.file_size ≤ size) × (h.address + h.memory_size ≤ HIGHEST_END)
 fits_by size h load fine low = (grind (arith, nat_tests), (λ some. grind (arith, nat_tests)), grind (arith, nat_tests))
 
--- each PT_LOAD of an accepted file is as `LoadFits` says
+-- `LoadFits` is true of each PT_LOAD of an accepted file
 pub loads_fit : (file : List ℕ) → first_refusal file ≡ None → All (LoadFits file) (loads file)
 unfolding loads has_bad_load has_high_segment
 loads_fit file h k d lt =
@@ -130,13 +130,13 @@ contents_length file h k d lt =
     let fits = loads_fit file h k d lt in
     length-part (get_or (loads file) k d).offset (get_or (loads file) k d).file_size file fits.within
 
--- a PT_LOAD given by its number is as `LoadFits` says
+-- `LoadFits` is true of PT_LOAD number `i` of an accepted file
 pub load_fits : (file : List ℕ) (i : ℕ) (h : ProgramHeader) → first_refusal file ≡ None → slice_get (loads file) i ≡ Some h → LoadFits file h
 load_fits file i h accepted at =
     let fits = loads_fit file accepted i h (slice_get_within (loads file) i h at) in
     rw (get_or_from_slice_get (loads file) i h h at) at fits
 
--- the contents of a PT_LOAD given by its number have p_filesz bytes
+-- the contents of PT_LOAD number `i` of an accepted file have p_filesz bytes
 pub contents_whole : (file : List ℕ) (i : ℕ) (h : ProgramHeader) → first_refusal file ≡ None → slice_get (loads file) i ≡ Some h → length (contents file h) ≡ h.file_size
 contents_whole file i h accepted at =
     let all = contents_length file accepted i h (slice_get_within (loads file) i h at) in
@@ -146,11 +146,11 @@ ranges_fine : (file : List ℕ) → first_refusal file ≡ None → has_bad_rang
 unfolding first_refusal
 ranges_fine file h = when_none BadRange (has_bad_range file) (none_at (object_tests file) 21 h)
 
--- the tables of an accepted file are found
+-- no table of an accepted file is unreadable
 pub tables_found : (file : List ℕ) → first_refusal file ≡ None → has_bad_range file ≡ true → ⊥
 tables_found file h e =
     let fine = ranges_fine file h in
     cc
 
--- for `of_accepted`, which finds the tables again
+-- the rules for `of_accepted`, which finds the tables again
 pub ruleset accepted_parts = (file_refuses_none, tables_found)

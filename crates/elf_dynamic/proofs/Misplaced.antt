@@ -30,7 +30,7 @@ fine_by_place file r is = grind (arith, nat_tests)
 pub misplaced_by : (file : List ℕ) (r : Relocation) → is_writing r.kind ≡ true → is_in_memory file r.offset 8 ≡ false → is_misplaced file r ≡ true
 misplaced_by file r writing none = grind (arith, nat_tests)
 
--- a table with a misplaced relocation has some misplaced relocation
+-- if relocation number `i` of a table is misplaced, the table has a misplaced relocation
 pub some_misplaced : (file table : List ℕ) (i : ℕ) → i < length (relocations_in table) → is_misplaced file (nth_relocation table i) ≡ true
     → list_any (is_misplaced file) (relocations_in table) ≡ true
 some_misplaced file table i lt is =
@@ -38,15 +38,15 @@ some_misplaced file table i lt is =
     list_any_at (is_misplaced file) (relocations_in table) i d lt
     (ap (is_misplaced file) (get_or_relocations_in table i d (omega (arith, length_relocations_in table, lt))) ∙ is)
 
--- if no relocation of a table by its number is misplaced, the table has no misplaced relocation
+-- if no relocation of a table is misplaced, by its number, the table has no misplaced relocation
 pub none_misplaced : (file table : List ℕ) → ((k : ℕ) → k < length (relocations_in table) → is_misplaced file (nth_relocation table k) ≡ false)
     → list_any (is_misplaced file) (relocations_in table) ≡ false
 none_misplaced file table none =
     list_any_none (is_misplaced file) (relocations_in table) (λ k d lt.
     ap (is_misplaced file) (get_or_relocations_in table k d (omega (arith, length_relocations_in table, lt))) ∙ none k lt)
 
--- for `is_misplaced`
+-- the rules for `is_misplaced`
 pub ruleset of_one = (fine_by_type, misplaced_by)
 
--- for `has_misplaced_in`
+-- the rules for `has_misplaced_in`
 pub ruleset of_a_table = (length_relocations_in, some_misplaced, none_misplaced)

@@ -1,4 +1,4 @@
--- Adding an addend modulo 2^64 is adding the signed number that it is.
+-- Adding an addend modulo 2^64 has the same result as adding it as a signed number.
 use Rattle.std.proofs.Common.{◌≡◌, ℕ, ◌+◌, ◌%◌, ◌^◌, Bool, true, false, cond, pos, ◌+ℤ◌, ◌-ℤ◌, arith, refl, nat_lt}
 use Rattle.std.specs.Int.{int_rem_euclid}
 use Rattle.std.proofs.lemmas.Int.{ints, int_rem_euclid_is}

@@ -6,7 +6,7 @@ use Rattle.elf_dynamic.specs.Refusal.{table_tests, table_refusal, symbol_tests, 
 use Rattle.elf_file.specs.declared.refusal.ObjectRefusal.{ObjectRefusal}
 use Rattle.elf_file.proofs.FirstOf.{of_first, of_others}
 
--- if the stage of headers, segments and tags refuses, the file is refused with its refusal
+-- if the stage of the headers, segments and tags refuses the file, this is the file's refusal
 pub file_refuses : (file : List ℕ) (refusal : ObjectRefusal) → file_refusal file ≡ Some refusal → first_refusal file ≡ Some refusal
 unfolding file_refusal first_refusal
 file_refuses file refusal h =
@@ -16,7 +16,7 @@ behind_file : (file : List ℕ) → file_refusal file ≡ None → first_refusal
 unfolding file_refusal first_refusal
 behind_file file h = of_others (header_tests file ++ segment_tests file ++ tag_tests file) (table_tests file ++ symbol_tests file ++ relocation_tests file) h
 
--- if the first stage passes and the tables are refused, the file is refused as they are
+-- if the first stage passes and the stage of the tables refuses the file, this is the file's refusal
 pub table_refuses : (file dynamic : List ℕ) (refusal : ObjectRefusal) → dynamic ≡ file → file_refusal file ≡ None → table_refusal dynamic ≡ Some refusal
     → first_refusal file ≡ Some refusal
 unfolding table_refusal
@@ -29,7 +29,7 @@ unfolding table_refusal
 behind_tables file dynamic same fine h =
     behind_file file fine ∙ of_others (table_tests file) (symbol_tests file ++ relocation_tests file) (subst (λ f. table_refusal f ≡ None) same h)
 
--- if the first two stages pass and the symbols are refused, the file is refused as they are
+-- if the first two stages pass and the stage of the symbols refuses the file, this is the file's refusal
 pub symbol_refuses : (file dynamic tables : List ℕ) (refusal : ObjectRefusal) → dynamic ≡ file → tables ≡ dynamic → file_refusal file ≡ None
     → table_refusal dynamic ≡ None → symbol_refusal tables ≡ Some refusal → first_refusal file ≡ Some refusal
 unfolding symbol_refusal

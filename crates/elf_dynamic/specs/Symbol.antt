@@ -35,7 +35,7 @@ symbols_in table = map (nth_symbol table) (range_with_len 0 (length table / SYMB
 unfoldable pub symbol_bytes : List ℕ → Option (List ℕ)
 symbol_bytes file = bytes_at file (tag_value file DT_SYMTAB) (SYMBOL_SIZE * chain_count file)
 
--- the symbol table; no bytes if it can't be read, which BadRange refuses
+-- the symbol table, or no bytes if it can't be read, which BadRange refuses
 unfoldable pub symbol_table : List ℕ → List ℕ
 symbol_table file = unwrap_or (symbol_bytes file) []
 
@@ -67,7 +67,7 @@ is_local s = binding_of s == STB_LOCAL
 abbrev pub is_global : Symbol → Bool
 is_global s = binding_of s == STB_GLOBAL
 
--- the symbol is shared by all objects, and has the value 0 if no definition is found
+-- the symbol is shared by all objects, and its value is 0 if no definition is found
 abbrev pub is_weak : Symbol → Bool
 is_weak s = binding_of s == STB_WEAK
 
@@ -83,15 +83,15 @@ is_absolute s = s.section == SHN_ABS
 abbrev pub is_function_or_object : Symbol → Bool
 is_function_or_object s = (type_of s == STT_NOTYPE) || (type_of s == STT_OBJECT) || (type_of s == STT_FUNC)
 
--- the visibility lets other objects see the symbol and replace it
+-- other objects can see the symbol and replace it, by its visibility
 abbrev pub has_default_visibility : Symbol → Bool
 has_default_visibility s = visibility_of s == STV_DEFAULT
 
--- the visibility lets other objects see the symbol
+-- other objects can see the symbol, by its visibility
 abbrev pub is_visible : Symbol → Bool
 is_visible s = has_default_visibility s || (visibility_of s == STV_PROTECTED)
 
--- the visibility hides the symbol from other objects
+-- other objects can't see the symbol, by its visibility
 abbrev pub is_hidden : Symbol → Bool
 is_hidden s = (visibility_of s == STV_HIDDEN) || (visibility_of s == STV_INTERNAL)
 

@@ -39,7 +39,7 @@ impl<'a> Model for Object<'a> {
 impl<'a> Object<'a> {
     /// Reads a file, or returns the refusal of the first test that applies. Makes a few passes over
     /// the program headers and the relocations, and two over the dynamic section and the symbols.
-    /// It allocates nothing and copies nothing.
+    /// Allocates nothing and copies nothing.
     #[tactic(auto, using(crate::proofs::Stages::stages))]
     pub fn read(file: &'a [u8]) -> Result<Object<'a>, ObjectRefusal>
         ensures { MatchResult result
@@ -53,7 +53,7 @@ impl<'a> Object<'a> {
         Ok(Object { tables })
     }
 
-    /// Makes the view of a file that no test refuses. It makes only one of the tests again, that of
+    /// Makes the view of a file that no test refuses. Makes only one of the tests again, that of
     /// the ranges of the tables (E22), because this test finds the tables. Makes a few passes over
     /// the program headers, and one over the dynamic section.
     #[tactic(auto, using(crate::proofs::Accepted::accepted_parts))]
@@ -81,8 +81,8 @@ impl<'a> Object<'a> {
     }
 
     /// Returns PT_LOAD number `i`, in the order of the program headers, which is also the order of
-    /// their addresses. Makes a pass over the program headers up to it. A caller that needs all
-    /// PT_LOADs gets them in one pass from `segments`.
+    /// their addresses. Makes one pass over the program headers up to this PT_LOAD. For a caller
+    /// that needs all PT_LOADs, `segments` makes only one pass.
     pub fn segment(&self, i: usize) -> ProgramHeader
         requires { i < length (loads self.now) }
         ensures segment { slice_get (loads self.now) i ≡ Some result }
@@ -100,9 +100,10 @@ impl<'a> Object<'a> {
         self.tables.segments().iter()
     }
 
-    /// Returns the bytes of the file that are loaded to the front of PT_LOAD number `i`: `p_filesz`
-    /// bytes from `p_offset`. Makes a pass over the program headers up to it. A caller that needs
-    /// the bytes of all PT_LOADs passes each PT_LOAD of `segments` to `contents_of`.
+    /// Returns the bytes of the file that are loaded to the beginning of PT_LOAD number `i`:
+    /// `p_filesz` bytes from `p_offset`. Makes one pass over the program headers up to this
+    /// PT_LOAD. A caller that needs the bytes of all PT_LOADs passes each PT_LOAD of `segments` to
+    /// `contents_of`.
     pub fn contents(&self, i: usize) -> &'a [u8]
         requires { i < length (loads self.now) }
         ensures contents { IfSome (slice_get (loads self.now) i)
@@ -116,8 +117,8 @@ impl<'a> Object<'a> {
         self.contents_of(self.segment(i))
     }
 
-    /// Returns the bytes of the file that are loaded to the front of a PT_LOAD. For another
-    /// segment, returns those of its bytes that the file has. Takes constant time.
+    /// Returns the bytes of the file that are loaded to the beginning of a PT_LOAD. For any other
+    /// header, returns those of its bytes that the file has. Takes constant time.
     pub fn contents_of(&self, segment: ProgramHeader) -> &'a [u8]
         ensures contents { result.now ≡ contents self.now segment }
         ensures accepted { first_refusal self.now ≡ None }
@@ -163,9 +164,9 @@ impl<'a> Object<'a> {
         self.tables.needed_count()
     }
 
-    /// Returns the name of needed library number `i`, in the order of the dynamic section. Makes a
-    /// pass over that section up to the library's entry. A caller that needs all names gets them in
-    /// one pass from `needed_names`.
+    /// Returns the name of needed library number `i`, in the order of the dynamic section. Makes
+    /// one pass over this section up to the library's entry. For a caller that needs all names,
+    /// `needed_names` makes only one pass.
     pub fn needed(&self, i: usize) -> &'a [u8]
         requires { i < length (needed self.now) }
         ensures name { slice_get (needed self.now) i ≡ Some result.now }
@@ -192,8 +193,9 @@ impl<'a> Object<'a> {
         self.tables.soname()
     }
 
-    /// Returns whether the object's own references are looked up in the object first: `DT_SYMBOLIC`
-    /// is present, or `DT_FLAGS` with `DF_SYMBOLIC` (gABI chapter 5). Takes constant time.
+    /// Returns whether the symbols to which the object itself refers are looked up in the object
+    /// first: `DT_SYMBOLIC` is present, or `DT_FLAGS` with `DF_SYMBOLIC` (gABI chapter 5). Takes
+    /// constant time.
     pub fn symbolic(&self) -> bool
         ensures symbolic { result ≡ is_symbolic self.now }
         ensures accepted { first_refusal self.now ≡ None }
@@ -227,8 +229,8 @@ impl<'a> Object<'a> {
         self.tables.symbol(i)
     }
 
-    /// Returns the name of the symbol with index `i`. The name is empty for index 0. Takes time in
-    /// proportion to the name's length, because the name's end is searched for.
+    /// Returns the name of the symbol with index `i`. The name is empty for index 0. Searches for
+    /// the name's end, so the time is proportional to the name's length.
     pub fn name_of(&self, i: u32) -> &'a [u8]
         requires { i < length (symbols self.now) }
         ensures name { result.now ≡ name_of self.now i }

@@ -1,4 +1,4 @@
-// Whether relocations write into memory (gABI chapter 5, `p_vaddr` and `p_memsz`).
+// Whether the bytes that relocations write lie in memory (gABI chapter 5, `p_vaddr` and `p_memsz`).
 
 ghost use Rattle.std.specs.Prelude.{◌≡◌, IfSome};
 ghost use Rattle.std.specs.List.{list_any};
@@ -12,8 +12,8 @@ use elf_file::{IndexedSegments, ProgramHeader, is_in_memory_part};
 const WRITTEN: u64 = 8;
 
 /// Returns whether a relocation writes bytes that don't lie in the memory of one PT_LOAD. `last` is
-/// the PT_LOAD into which the last writing relocation before it writes, if there is one. This
-/// PT_LOAD is tried first, and then the index of all PT_LOADs.
+/// the PT_LOAD into which the last relocation before it that writes does so, if there is one. Tries
+/// this PT_LOAD first, and then the index of all PT_LOADs.
 #[tactic(auto, using(crate::proofs::Misplaced::of_one))]
 fn is_misplaced(
     segments: &IndexedSegments<'_>,

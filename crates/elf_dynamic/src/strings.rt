@@ -16,7 +16,7 @@ fn string_length(bytes: &[u8]) -> usize
     memchr(0, bytes).unwrap_or(bytes.len())
 }
 
-/// Returns the string at an offset of a table, up to its zero byte. Takes time in proportion to the
+/// Returns the string at an offset of a table, up to its zero byte. The time is proportional to the
 /// string's length.
 #[tactic(auto, using(crate::proofs::StringEnds::ends), unfolding(crate::specs::Strings::string_at))]
 pub(crate) fn string_at(table: &[u8], offset: usize) -> &[u8]
@@ -26,8 +26,8 @@ pub(crate) fn string_at(table: &[u8], offset: usize) -> &[u8]
     &rest[..string_length(rest)]
 }
 
-/// The names of the needed libraries that are left, in the order of their entries. Contracts see
-/// the list of them.
+/// The names of the needed libraries that haven't been read yet, in the order of their entries.
+/// Contracts see the list of them.
 #[derive(Drop)]
 pub struct NeededNames<'a> {
     strings: &'a [u8],
@@ -44,7 +44,7 @@ impl<'a> Model for NeededNames<'a> {
 }
 
 impl<'a> NeededNames<'a> {
-    /// Returns the names at these offsets of a table.
+    /// Returns the names at the offsets `offsets` of a string table.
     pub(crate) fn new(strings: &'a [u8], offsets: NeededOffsets<'a>) -> NeededNames<'a>
         ensures { result ≡ map (string_at strings.now) offsets.entry }
     {

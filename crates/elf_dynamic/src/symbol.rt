@@ -97,7 +97,7 @@ impl Symbol {
         kind == STT_NOTYPE || kind == STT_OBJECT || kind == STT_FUNC
     }
 
-    /// Returns whether the visibility lets other objects see the symbol and replace it
+    /// Returns whether other objects can see the symbol and replace it, by its visibility
     /// (`STV_DEFAULT`).
     pub fn has_default_visibility(self) -> bool
         ensures { result ≡ has_default_visibility self }
@@ -105,7 +105,7 @@ impl Symbol {
         self.visibility() == STV_DEFAULT
     }
 
-    /// Returns whether the visibility lets other objects see the symbol (`STV_DEFAULT`,
+    /// Returns whether other objects can see the symbol, by its visibility (`STV_DEFAULT`,
     /// `STV_PROTECTED`).
     pub fn is_visible(self) -> bool
         ensures { result ≡ is_visible self }
@@ -113,7 +113,7 @@ impl Symbol {
         self.has_default_visibility() || self.visibility() == STV_PROTECTED
     }
 
-    /// Returns whether the visibility hides the symbol from other objects (`STV_HIDDEN`,
+    /// Returns whether other objects can't see the symbol, by its visibility (`STV_HIDDEN`,
     /// `STV_INTERNAL`).
     pub fn is_hidden(self) -> bool
         ensures { result ≡ is_hidden self }
@@ -141,14 +141,14 @@ const STT_COMMON: u8 = 5;
 const STT_TLS: u8 = 6;
 /// The type of an indirect function.
 const STT_GNU_IFUNC: u8 = 10;
-/// The visibility of a symbol that other objects see and may replace.
+/// The visibility of a symbol that other objects can see and replace.
 const STV_DEFAULT: u8 = 0;
-/// The visibility of a symbol that other objects don't see, and whose address they don't get
+/// The visibility of a symbol that other objects can't see, and whose address they don't get
 /// either.
 const STV_INTERNAL: u8 = 1;
-/// The visibility of a symbol that other objects don't see.
+/// The visibility of a symbol that other objects can't see.
 const STV_HIDDEN: u8 = 2;
-/// The visibility of a symbol that other objects see, but don't replace within its own object.
+/// The visibility of a symbol that other objects can see, but can't replace within its own object.
 const STV_PROTECTED: u8 = 3;
 /// The section index of a symbol that isn't defined in the object.
 const SHN_UNDEF: u16 = 0;
@@ -207,7 +207,7 @@ fn is_refused(symbol: Symbol) -> bool
 }
 
 /// Returns whether one of the tests E24 to E27 refuses a symbol of a table, except the first
-/// symbol. Makes one pass, while the single tests make four.
+/// symbol. Makes one pass over the symbols instead of four.
 pub(crate) fn has_refused_in(table: &[u8]) -> bool
     ensures { result ≡ list_any is_refused (drop 1 (symbols_in table.now)) }
 {

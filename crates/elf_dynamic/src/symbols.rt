@@ -16,7 +16,7 @@ use crate::tables::Tables;
 use elf_file::ObjectRefusal;
 
 impl<'a> Tables<'a> {
-    /// Tests the symbols: E24 to E27. Makes the tests one by one only if some symbol fails one of
+    /// Tests the symbols: E24 to E27. Makes the four tests separately only if a symbol fails one of
     /// them.
     #[tactic(auto, using(crate::proofs::NoneRefused::none_refused))]
     pub(crate) fn test_symbols(&self) -> Result<(), ObjectRefusal>

@@ -20,8 +20,8 @@ fn has_offset_from(mut offsets: NeededOffsets<'_>, limit: u64) -> bool
     offsets.any(|offset| offset >= limit)
 }
 
-/// A file that none of the tests E1 to E22 refuses: its tables can be read. A view from `read` has
-/// passed E23 as well. Contracts see the file's bytes.
+/// A file that none of the tests E1 to E22 refuses: its tables can be read. If `read` made the
+/// view, E23 doesn't refuse the file either. Contracts see the file's bytes.
 #[derive(Drop)]
 pub(crate) struct Tables<'a> {
     segments: Segments<'a>,
@@ -41,7 +41,7 @@ impl<'a> Model for Tables<'a> {
 }
 
 impl<'a> Tables<'a> {
-    /// Makes the view of a file from its tables, which have been found.
+    /// Makes the view of a file from its tables, which have already been found.
     pub(crate) fn new(dynamic: &Dynamic<'a>, parts: Parts<'a>) -> Tables<'a>
         requires { HasParts dynamic.now parts }
         ensures { result ≡ dynamic.now }

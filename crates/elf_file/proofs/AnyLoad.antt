@@ -24,7 +24,8 @@ loaded : (file : List ℕ) (b : Bool) → list_any is_load (loads_from file 0) �
 unfolding has_load loads
 loaded file b is = sym is ∙ ap (list_any is_load) (loads_from_start file) ∙ any_load is_load (λ h no. no) (program_headers file)
 
--- a PT_LOAD is present if the first one comes before the end of the program headers
+-- a search that stops at the first PT_LOAD, or at the end of the program headers, finds whether there is
+-- a PT_LOAD
 pub has_load_by : (file : List ℕ) (k : ℕ) → k ≤ header_count file → ((j : ℕ) → 0 ≤ j → j < k → is_load (program_header file j) ≡ false)
     → (k < header_count file → is_load (program_header file k) ≡ true) → nat_lt k (header_count file) ≡ has_load file
 has_load_by file k within none here =

@@ -30,7 +30,8 @@ none_made p q f (suc n) a none =
     none-step p q (f a) (filter q (map f (range_with_len (a + 1) n))) (q (f a)) refl (none a (omega arith) (omega arith))
     (none_made p q f n (a + 1) (λ j ge lt. none j (omega (arith, ge)) (omega (arith, lt))))
 
--- bytes that no PT_LOAD's memory part has, for PT_LOADs given by their header numbers
+-- if no PT_LOAD has the bytes in its memory part, by the numbers of the program headers, they don't lie
+-- in memory
 not_in_memory : (file : List ℕ) (address size : ℕ)
     → ((j : ℕ) → j < header_count file → is_load (program_header file j) ≡ true → is_in_memory_part address size (program_header file j) ≡ false)
     → is_in_memory file address size ≡ false
@@ -38,7 +39,7 @@ unfolding is_in_memory loads
 not_in_memory file address size none =
     none_made (is_in_memory_part address size) is_load (program_header file) (header_count file) 0 (λ j ge lt is. none j (omega (arith, lt)) is)
 
--- no memory part has bytes at an address below all PT_LOADs
+-- if all PT_LOADs begin above an address, no bytes at this address lie in memory
 pub none_above : (file : List ℕ) (address size : ℕ) → AllAbove file address 0 → is_in_memory file address size ≡ false
 none_above file address size above =
     not_in_memory file address size (λ j lt is. outside-above address size (program_header file j) (above j (omega arith) lt is))

@@ -1,4 +1,4 @@
--- The needed libraries' entries that are left from an entry on.
+-- The offsets of needed libraries' names that are left from an entry on.
 use Rattle.std.proofs.Common.{◌≡◌, ℕ, ◌<◌, ◌≤◌, ◌+◌, ◌-◌, Bool, true, false, cond, List, [], ◌∷◌, length, arith, ◌∙◌, sym, ap, filter, map, suc, zero, add-zero, refl, subst}
 use Rattle.std.specs.List.{range_with_len}
 use Rattle.std.proofs.lemmas.List.Sums.{length-filter}
@@ -24,7 +24,7 @@ from-one section count k b lt is =
     ∙ ap (λ c. map (λ (x : Entry). x.value) (cond c (entry section k ∷ rest section count (k + 1)) (rest section count (k + 1)))) is
     ∙ pick b (entry section k) (rest section count (k + 1))
 
--- the list of values from an entry with DT_NEEDED begins with that entry's value
+-- if entry k has the tag DT_NEEDED, the values that are left begin with its value
 pub values_from_needed : (section : List ℕ) (count k : ℕ) → k < count → is_needed section k ≡ true
     → values_from section count k ≡ (entry section k).value ∷ values_from section count (k + 1)
 values_from_needed section count k lt is = from-one section count k true lt is
@@ -36,19 +36,19 @@ skipped section count (suc d) from to e le none =
     from-one section count from false (omega (arith, e, le)) (none from (omega arith) (omega (arith, e)))
     ∙ skipped section count d (from + 1) to (omega (arith, e)) le (λ j ge lt. none j (omega (arith, ge)) lt)
 
--- the list of values doesn't change if it begins after entries with other tags
+-- if no entry between two entries has the tag DT_NEEDED, the same values are left from both
 pub values_from_skip : (section : List ℕ) (count from to : ℕ) → from ≤ to → to ≤ count
     → ((j : ℕ) → from ≤ j → j < to → is_needed section j ≡ false) → values_from section count from ≡ values_from section count to
 values_from_skip section count from to ge le none = skipped section count (to - from) from to (omega arith) le none
 
--- no values are left at the end
+-- at the end of the entries, no values are left
 pub values_from_end : (section : List ℕ) (count k : ℕ) → k ≡ count → values_from section count k ≡ []
 unfolding values_from
 values_from_end section count k e =
     let z : count - k ≡ 0 = omega arith in
     ap (λ n. map (λ (x : Entry). x.value) (filter (has_tag DT_NEEDED) (map (entry section) (range_with_len k n)))) z
 
--- all values are left at the start
+-- at the first entry, all values are left
 pub values_from_start : (file section : List ℕ) (count : ℕ) → section ≡ dynamic_section file
     → entries file ≡ map (entry (dynamic_section file)) (range_with_len 0 count) → values_from section count 0 ≡ needed_offsets file
 unfolding values_from needed_offsets

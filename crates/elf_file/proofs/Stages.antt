@@ -5,7 +5,7 @@ use Rattle.elf_file.specs.Refusal.{header_tests, header_refusal, segment_tests, 
 use Rattle.elf_file.specs.declared.refusal.ObjectRefusal.{ObjectRefusal}
 use Rattle.elf_file.proofs.FirstOf.{of_first, of_others}
 
--- if the stage of the headers refuses, the file is refused with its refusal
+-- if the stage of the headers refuses the file, this is the file's refusal
 pub header_refuses : (file : List ℕ) (refusal : ObjectRefusal) → header_refusal file ≡ Some refusal → file_refusal file ≡ Some refusal
 unfolding header_refusal file_refusal
 header_refuses file refusal h = of_first (header_tests file) (segment_tests file ++ tag_tests file) refusal h

@@ -6,7 +6,8 @@ use Rattle.image.specs.Constant.{MEMORY_LIMIT}
 use Rattle.image.specs.Image.{AreRising, ImageSegment, segments_byte}
 use Rattle.executable.proofs.Bytes.{segment-cases}
 
--- what is known of the first of rising segments
+-- the first of rising segments begins at or above `from` and ends at or below the limit, and the others
+-- rise from its end
 pub record Rises (from : ℕ) (s : ImageSegment) (rest : List ImageSegment) : Type 0 where
   pub above : from ≤ s.address
   pub low : s.address + length s.bytes ≤ MEMORY_LIMIT

@@ -13,7 +13,7 @@ PT_PHDR = 6
 abbrev pub PT_GNU_STACK : ℕ
 PT_GNU_STACK = 0x6474e551
 
--- the tags of an initializer, of an array of initializers, and of its size in bytes, by d_tag
+-- the tags, in d_tag, of an initializer, of an array of initializers, and of the array's size in bytes
 abbrev pub DT_INIT : ℕ
 DT_INIT = 12
 
@@ -23,7 +23,7 @@ DT_INIT_ARRAY = 25
 abbrev pub DT_INIT_ARRAYSZ : ℕ
 DT_INIT_ARRAYSZ = 27
 
--- the same tags for functions that are called at the end
+-- the same tags for finalizers: functions that are called at the end
 abbrev pub DT_FINI : ℕ
 DT_FINI = 13
 
@@ -33,15 +33,15 @@ DT_FINI_ARRAY = 26
 abbrev pub DT_FINI_ARRAYSZ : ℕ
 DT_FINI_ARRAYSZ = 28
 
--- the tags of an array of functions that are called before all others, which only a program has, and of its size in
--- bytes
+-- the tags of an array of pre-initializers, which are called before all other functions and which only a
+-- program has, and of the array's size in bytes
 abbrev pub DT_PREINIT_ARRAY : ℕ
 DT_PREINIT_ARRAY = 32
 
 abbrev pub DT_PREINIT_ARRAYSZ : ℕ
 DT_PREINIT_ARRAYSZ = 33
 
--- the tag of an object's flags, by d_tag; the flag of a position-independent executable
+-- the tag of an object's flags, in d_tag, and the flag of a position-independent executable
 abbrev pub DT_FLAGS_1 : ℕ
 DT_FLAGS_1 = 0x6ffffffb
 
@@ -52,11 +52,12 @@ DF_1_PIE = 0x08000000
 abbrev pub PT_INTERP : ℕ
 PT_INTERP = 3
 
--- the p_type of notes
+-- the segment of notes, by p_type
 abbrev pub PT_NOTE : ℕ
 PT_NOTE = 4
 
--- the p_align of the notes that are read; each name and each descriptor is padded to a multiple of it
+-- the p_align of notes that are read; the name and the descriptor of a note are padded to multiples of
+-- it
 abbrev pub NOTE_ALIGNMENT : ℕ
 NOTE_ALIGNMENT = 4
 
@@ -64,25 +65,27 @@ NOTE_ALIGNMENT = 4
 abbrev pub NOTE_HEADER_SIZE : ℕ
 NOTE_HEADER_SIZE = 12
 
--- the name of the note of a program that calls its libraries' functions itself (own): `rlibreg` and a zero, as a number of eight bytes; the size of this name
+-- the name of the calls note, by which a program calls its libraries' functions itself (own): `rlibreg`
+-- and a zero, as a number of eight bytes; and the size of this name
 abbrev pub CALLS_NAME : ℕ
 CALLS_NAME = 0x67657262696c72
 
 abbrev pub CALLS_NAME_SIZE : ℕ
 CALLS_NAME_SIZE = 8
 
--- the type of this note, which has no descriptor
+-- the type of the calls note, which has no descriptor
 abbrev pub CALLS_TYPE : ℕ
 CALLS_TYPE = 1
 
--- the size in bytes of an entry of such an array
+-- the size in bytes of an entry of an array of functions
 abbrev pub ARRAY_ENTRY_SIZE : ℕ
 ARRAY_ENTRY_SIZE = 8
 
--- the lowest address that the kernel lets a process map unless the process runs as root (vm.mmap_min_addr)
+-- the lowest address that the kernel allows a process to map unless the process runs as root
+-- (vm.mmap_min_addr)
 abbrev pub LOWEST : ℕ
 LOWEST = 0x10000
 
--- the maximum number of program headers that the kernel accepts: 65,536 bytes of them
+-- the maximum number of program headers that the kernel accepts: as many as have 65,536 bytes
 abbrev pub MOST_HEADERS : ℕ
 MOST_HEADERS = 1170

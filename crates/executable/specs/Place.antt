@@ -16,7 +16,7 @@ header_count_of pieces = length pieces + 3
 abbrev pub headers_size : ℕ → ℕ
 headers_size n = FILE_HEADER_SIZE + PROGRAM_HEADER_SIZE * n
 
--- the same size rounded up to whole pages
+-- the number of bytes of the pages that the headers need
 abbrev pub headers_room : ℕ → ℕ
 headers_room n = next_multiple_of (headers_size n) PAGE
 
@@ -24,19 +24,20 @@ headers_room n = next_multiple_of (headers_size n) PAGE
 abbrev pub highest_end : List Loaded → ℕ
 highest_end pieces = fold max 0 (map end_of pieces)
 
--- the first page at or above `end`, if `room` bytes have room there
+-- the first page at or above `end`, and not below LOWEST, if `room` bytes from there end below the limit
 abbrev pub place_above : ℕ → ℕ → Option ℕ
 place_above end room =
     let place = max LOWEST (next_multiple_of end PAGE) in
     if nat_le (place + room) MEMORY_LIMIT then Some place else None
 
--- `room` bytes right below the first piece, if their pages are not too low, otherwise above the last piece
+-- the address for `room` bytes of headers: right below the first piece if that isn't below LOWEST, and
+-- otherwise above all pieces
 abbrev pub place_for : ℕ → List Loaded → Option ℕ
 place_for room [] = Some LOWEST
 place_for room (p ∷ rest) =
     if nat_le (LOWEST + room) (page_of p.heading.address) then Some (page_of p.heading.address - room)
     else place_above (highest_end (p ∷ rest)) room
 
--- where the headers of a file with these pieces are mapped, if anywhere
+-- the address at which the headers of a file with these pieces are mapped, if there is room
 abbrev pub place_of : List Loaded → Option ℕ
 place_of pieces = place_for (headers_room (header_count_of pieces)) pieces

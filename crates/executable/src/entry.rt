@@ -16,15 +16,15 @@ fn is_code(segment: &Segment, address: u64) -> bool
     segment.permissions().contains(Permissions::EXECUTE) && holds(segment, address)
 }
 
-/// Returns whether `address` is in one of the segments that may be executed.
+/// Returns whether one of the segments has `address` and may be executed.
 fn has_code(segments: &[Segment], address: u64) -> bool
     ensures { result ≡ list_any (is_code address) segments.now }
 {
     segments.iter().any(|s| is_code(s, address))
 }
 
-/// Returns the entry of `program`, if it is in the program's own code. The first of `segments` are
-/// the program's own.
+/// Returns the entry of `program`, if it is in the program's own code. The first `segment_count` of
+/// `segments` are the program's.
 fn own_entry(program: &ImageObject, segments: &[Segment]) -> Option<u64>
     ensures { result ≡ own_entry program.now segments.now }
 {

@@ -62,7 +62,7 @@ fn write_zeros<W: Write>(out: &mut W, count: usize) -> io::Result<()>
     out.write_all(&zeros[..count])
 }
 
-/// Writes `before` zeros, then `bytes`, and then zeros to the end of the page.
+/// Writes `before` zeros, then `bytes`, and then zeros up to the end of the page.
 fn write_padded<W: Write>(out: &mut W, before: usize, bytes: &[u8]) -> io::Result<()>
     requires { before < 4096 }
     ensures { OnOk result (Appends (W.contents out.old) (W.contents out.new)
@@ -74,7 +74,7 @@ fn write_padded<W: Write>(out: &mut W, before: usize, bytes: &[u8]) -> io::Resul
     write_zeros(out, padding(last) as usize)
 }
 
-/// Writes the pages of pieces.
+/// Writes the pages of the pieces, one piece after the other.
 fn write_pieces<W: Write>(out: &mut W, pieces: &[Piece]) -> io::Result<()>
     ensures { OnOk result (Appends (W.contents out.old) (W.contents out.new)
         (flat_map piece_bytes pieces.now)) }
@@ -103,7 +103,7 @@ impl Executable {
     }
 }
 
-/// Returns the refusal of a library that has initializers.
+/// Returns the refusal `Initializers` with the library's name, or `OutOfMemory`.
 fn initialized(alloc: Global, name: &Name) -> ExecutableRefusal
     ensures { (result ≡ ExecutableRefusal.Initializers name.now)
         ⊎ (result ≡ ExecutableRefusal.OutOfMemory) }
@@ -114,7 +114,7 @@ fn initialized(alloc: Global, name: &Name) -> ExecutableRefusal
     }
 }
 
-/// Returns the refusal of a library that has finalizers.
+/// Returns the refusal `Finalizers` with the library's name, or `OutOfMemory`.
 fn finalized(alloc: Global, name: &Name) -> ExecutableRefusal
     ensures { (result ≡ ExecutableRefusal.Finalizers name.now)
         ⊎ (result ≡ ExecutableRefusal.OutOfMemory) }
@@ -125,7 +125,7 @@ fn finalized(alloc: Global, name: &Name) -> ExecutableRefusal
     }
 }
 
-/// Returns the refusal of an object with memory that may be written and executed.
+/// Returns the refusal `WritableCode` with the object's name, or `OutOfMemory`.
 fn writable_code(alloc: Global, name: &[u8]) -> ExecutableRefusal
     ensures { (result ≡ ExecutableRefusal.WritableCode name.now)
         ⊎ (result ≡ ExecutableRefusal.OutOfMemory) }
@@ -137,8 +137,8 @@ fn writable_code(alloc: Global, name: &[u8]) -> ExecutableRefusal
 }
 
 /// Returns the image's entry, if the program doesn't relocate itself, and no object has functions
-/// that nobody would call. Otherwise returns the refusal.
-/// The program may say by a note that it calls these functions.
+/// that nobody would call. Otherwise returns the refusal of the first of these tests that applies.
+/// A program may have a note that it calls these functions itself.
 fn entry_to_call(alloc: Global, image: &Image) -> Result<u64, ExecutableRefusal>
     ensures entry { IfOk result (λ entry. entry_of image.now ≡ Some entry) }
     ensures called { OnOk result (HasNoCalls image.now) }
@@ -165,7 +165,7 @@ fn entry_to_call(alloc: Global, image: &Image) -> Result<u64, ExecutableRefusal>
     Ok(entry)
 }
 
-/// Makes the file of `pieces`, with its headers at address `place`.
+/// Makes the file of `pieces`, whose headers are mapped at address `place`.
 fn file_of(
     alloc: Global,
     entry: u64,
@@ -188,7 +188,8 @@ fn file_of(
 /// Otherwise returns the first of these refusals: the program has no entry in code of its own; it
 /// is a static PIE; it has pre-initializers; a library has initializers; a library has finalizers;
 /// there are more program headers than the kernel accepts; memory may be written and executed
-/// although no segment in it requests both; no pages are free for the headers.
+/// although no segment in it requests both; no pages are free for the headers. The three refusals
+/// for functions don't apply if the program has a note that it calls these functions itself.
 ///
 /// Allocates as much memory as the image's bytes, and up to three times as much if segments are
 /// joined. Makes two passes over the bytes.
@@ -208,7 +209,7 @@ pub fn executable_of(alloc: Global, image: &Image) -> Result<Executable, Executa
     // their permissions.
     ensures ok { IfOk result (IsFileOf image.now.segments) }
 
-    // Offsets are congruent to addresses, modulo a page.
+    // The offset of each PT_LOAD is congruent to its address, modulo the size of a page.
     ensures congruent { IfOk result (λ file. All IsCongruent (loads file)) }
 
     // The file loads the image's byte at each address of the image.
@@ -216,7 +217,7 @@ pub fn executable_of(alloc: Global, image: &Image) -> Result<Executable, Executa
         image_byte image.now a ≡ Some b → file_byte file a ≡ Some b) }
 
     // Besides these bytes it loads only its headers, and zeros between segments whose pages are the
-    // same or touch.
+    // same or neighbours.
     ensures only { IfOk result (λ file. (a b : ℕ) →
         file_byte file a ≡ Some b → IsFrom image.now.segments file a b) }
 
@@ -232,7 +233,7 @@ pub fn executable_of(alloc: Global, image: &Image) -> Result<Executable, Executa
         return Err(writable_code(alloc, owner(image, piece)));
     }
     let Some(place) = place_of(&pieces) else {
-        return Err(ExecutableRefusal::NoRoom);
+        return Err(ExecutableRefusal::NoPages);
     };
     Ok(file_of(alloc, entry, place, pieces)?)
 }

@@ -60,7 +60,7 @@ fn put_u64(bytes: &mut Vec<u8>, number: u64) -> Result<(), AllocError>
     bytes.extend_from_slice(&buffer)
 }
 
-/// Appends a file header with this entry and `count` program headers.
+/// Appends a file header with entry `entry` and `count` program headers.
 fn put_file_header(bytes: &mut Vec<u8>, entry: u64, count: u16) -> Result<(), AllocError>
     ensures { OnOk result (bytes.new.items ≡ bytes.old.items ++ file_header entry count) }
 {
@@ -104,7 +104,7 @@ pub(crate) fn front_of(
     Ok(bytes)
 }
 
-/// Returns the number of bytes of the file's pages that hold a piece.
+/// Returns the number of bytes of the file's pages that have the bytes of `piece`.
 fn piece_size(piece: &Piece) -> u64
     requires { length piece.now.contents ≤ MEMORY_LIMIT }
     ensures { result ≡ length (piece_bytes piece.now) }
@@ -112,7 +112,7 @@ fn piece_size(piece: &Piece) -> u64
     whole_pages(piece.address() % PAGE + piece.contents().len() as u64)
 }
 
-/// Returns the PT_LOAD of a piece whose pages begin at `offset`.
+/// Returns the PT_LOAD of `piece`, whose pages in the file begin at `offset`.
 fn load_header(offset: u64, piece: &Piece) -> ProgramHeader
     requires { offset < 2 ^ 63 }
     ensures { result ≡ load_header offset piece.now }
@@ -128,8 +128,8 @@ fn load_header(offset: u64, piece: &Piece) -> ProgramHeader
     }
 }
 
-/// Appends the PT_LOADs of pieces to a table that has room for them. The pages of the pieces follow
-/// one another from `offset` on.
+/// Appends the PT_LOADs of pieces to a table that has room for them. The pages of the first piece
+/// begin at `offset` of the file, and those of the other pieces follow.
 fn put_load_headers(table: &mut Vec<ProgramHeader>, mut offset: u64, pieces: &[Piece])
     requires offset { offset ≤ 2 ^ 20 }
     requires count { length pieces.now ≤ MOST_HEADERS }
@@ -145,7 +145,8 @@ fn put_load_headers(table: &mut Vec<ProgramHeader>, mut offset: u64, pieces: &[P
     }
 }
 
-/// Returns the PT_LOAD of the headers, at address `place`; there are `count` program headers.
+/// Returns the PT_LOAD of the headers, which are mapped at address `place`. There are `count`
+/// program headers.
 fn own_header(place: u64, count: usize) -> ProgramHeader
     requires { count ≤ MOST_HEADERS }
     ensures { result ≡ own_header place count }
@@ -161,7 +162,7 @@ fn own_header(place: u64, count: usize) -> ProgramHeader
     }
 }
 
-/// Returns PT_PHDR, which has the place of the program headers.
+/// Returns PT_PHDR, with the address and the offset of the program headers.
 fn table_header(place: u64, count: usize) -> ProgramHeader
     requires place { place ≤ MEMORY_LIMIT }
     requires count { count ≤ MOST_HEADERS }
@@ -193,7 +194,7 @@ fn stack_header() -> ProgramHeader
     }
 }
 
-/// Returns whether address `place` is below the first piece.
+/// Returns whether address `place` is below the first piece, or there are no pieces.
 fn is_below(place: u64, pieces: &[Piece]) -> bool
     ensures { result ≡ is_below place pieces.now }
 {
@@ -203,7 +204,7 @@ fn is_below(place: u64, pieces: &[Piece]) -> bool
     }
 }
 
-/// Returns all program headers, if the headers are at address `place`.
+/// Returns all program headers of a file whose headers are mapped at address `place`.
 pub(crate) fn table_of(
     alloc: Global,
     place: u64,

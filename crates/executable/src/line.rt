@@ -10,7 +10,7 @@ use names::Name;
 use std::io::Write;
 use text_output::{LINE, OutputBuffer, WriteFault};
 
-/// A line on its way to a writer.
+/// The buffer for a line.
 type Line = OutputBuffer<LINE>;
 
 /// Puts the line of a refusal that names an object.
@@ -51,7 +51,7 @@ pub fn put_executable_refusal<W: Write>(
         ExecutableRefusal::WritableCode { name } => {
             put_object(line, out, b"refused WritableCode ", name)
         }
-        ExecutableRefusal::NoRoom => line.put(out, b"refused NoRoom\n"),
+        ExecutableRefusal::NoPages => line.put(out, b"refused NoPages\n"),
         ExecutableRefusal::OutOfMemory => line.put(out, b"refused S11 OutOfMemory\n"),
     }
 }

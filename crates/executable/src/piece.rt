@@ -39,7 +39,7 @@ pub(crate) fn is_both(flags: u32) -> bool
     flags & PF_WX == PF_WX
 }
 
-/// Returns the number of bytes before the zeros at the end.
+/// Returns the number of bytes without the zeros at the end of `bytes`.
 fn length_without_zeros(bytes: &[u8]) -> usize
     ensures bound { result ≤ length bytes.now }
     ensures kept { take result bytes.now ≡ without_zeros bytes.now }
@@ -73,7 +73,7 @@ impl Model for Piece {
 }
 
 impl Piece {
-    /// Makes a piece of a segment.
+    /// Makes a piece of the whole segment.
     pub(crate) fn of(alloc: Global, segment: &Segment) -> Result<Piece, AllocError>
         ensures { IfOk result (λ piece. piece ≡ piece_of segment.now) }
     {
@@ -133,8 +133,8 @@ impl Piece {
         page_of(other.address) < self.end()
     }
 
-    /// Returns whether this piece continues in `other`, which comes after it: both can have one
-    /// program header together.
+    /// Returns whether this piece continues in `other`, which comes after it. Then one program
+    /// header can load both.
     pub(crate) fn goes_on(&self, other: &Piece) -> bool
         requires short { IsShort self.now }
         requires limit { end_of self.now ≤ MEMORY_LIMIT }
@@ -182,7 +182,7 @@ impl Piece {
         Ok(rest)
     }
 
-    /// Returns the piece as it is in the file: without the zeros at its end, if it may be written.
+    /// Returns the piece as the file has it: without the zeros at its end, if it may be written.
     pub(crate) fn finish(mut self) -> Piece
         ensures { result ≡ finished self }
     {

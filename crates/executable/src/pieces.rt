@@ -14,7 +14,8 @@ use crate::place::PAGE;
 use image::Segment;
 use std::alloc::{AllocError, Global};
 
-/// Appends the part of a piece below `page` to `done`, if there is one, and returns the rest.
+/// Appends the part of `piece` below `page` to `done`, if there is one, and returns the rest of
+/// `piece`.
 fn put_lower(done: &mut Vec<Piece>, mut piece: Piece, page: u64) -> Result<Piece, AllocError>
     requires full { IsFull piece }
     requires within { page < end_of piece }
@@ -32,8 +33,9 @@ fn put_lower(done: &mut Vec<Piece>, mut piece: Piece, page: u64) -> Result<Piece
     Ok(rest)
 }
 
-/// Joins to `piece`, which lies in `page`, as much of `next` as lies in this page. If `next` ends
-/// there, returns the joined piece. Otherwise appends it to `done`, and returns the rest of `next`.
+/// Joins the part of `next` that lies in `page` to `piece`, which lies in `page`. If that is all of
+/// `next`, returns the joined piece. Otherwise appends the joined piece to `done`, and returns the
+/// rest of `next`.
 fn put_page(
     done: &mut Vec<Piece>,
     mut piece: Piece,
@@ -62,8 +64,8 @@ fn put_page(
     Ok(rest)
 }
 
-/// Appends to `done` all finished parts of `piece` and of `next`, which comes after it, and returns
-/// the last part.
+/// Makes the pieces of `piece` and of `next`, which comes after it. Appends all of them except the
+/// last one to `done`, and returns the last one.
 fn put(done: &mut Vec<Piece>, piece: Piece, next: Piece) -> Result<Piece, AllocError>
     requires full { IsFull piece }
     requires next_full { IsFull next }
@@ -84,8 +86,8 @@ fn put(done: &mut Vec<Piece>, piece: Piece, next: Piece) -> Result<Piece, AllocE
     put_page(done, upper, next, page)
 }
 
-/// Returns the piece that may continue after a segment with bytes, and appends the pieces before it
-/// to `done`.
+/// Makes the piece of a segment with bytes, and the pieces of `last` and this piece if there is a
+/// last piece. Appends all of them except the last one to `done`, and returns the last one.
 fn add(
     alloc: Global,
     done: &mut Vec<Piece>,
@@ -109,7 +111,8 @@ fn add(
     }
 }
 
-/// Returns the pieces of segments. Makes one pass over the segments, which copies their bytes.
+/// Returns the finished pieces of segments. Makes one pass over the segments, which copies their
+/// bytes.
 pub(crate) fn cut_pieces(alloc: Global, segments: &[Segment]) -> Result<Vec<Piece>, AllocError>
     requires { AreRising 0 segments.now }
     ensures { IfOk result (λ pieces. pieces.items ≡ map finished (cut_pieces segments.now)) }

@@ -9,11 +9,11 @@ ghost use Rattle.executable.specs.Place.{place_above, place_for, place_of};
 
 use crate::piece::{Piece, page_of};
 
-/// A page, in bytes.
+/// The size of a page in bytes.
 pub(crate) const PAGE: u64 = 4096;
 /// The highest address at which memory may end: a page below 2^47.
 pub(crate) const MEMORY_LIMIT: u64 = 0x7fff_ffff_f000;
-/// The lowest address that the kernel lets a process map unless the process runs as root.
+/// The lowest address that the kernel allows a process to map unless the process runs as root.
 const LOWEST: u64 = 0x10000;
 /// The maximum number of program headers that the kernel accepts.
 pub(crate) const MOST_HEADERS: usize = 1170;
@@ -26,7 +26,7 @@ pub(crate) fn headers_size(count: usize) -> u64
     64 + 56 * count as u64
 }
 
-/// Returns the number of bytes that have to follow `size` bytes to fill whole pages.
+/// Returns the number of bytes from the end of `size` bytes to the end of their last page.
 pub(crate) fn padding(size: u64) -> u64
     ensures { result ≡ (PAGE - size % PAGE) % PAGE }
 {
@@ -41,7 +41,8 @@ pub(crate) fn whole_pages(size: u64) -> u64
     size + padding(size)
 }
 
-/// Returns the first page at or above `end`, if `room` bytes have room there.
+/// Returns the first page at or above `end`, and not below `LOWEST`, if `room` bytes from there end
+/// below the limit.
 fn place_above(end: u64, room: u64) -> Option<u64>
     requires end { end ≤ MEMORY_LIMIT }
     requires room { room ≤ MEMORY_LIMIT }
@@ -55,7 +56,7 @@ fn place_above(end: u64, room: u64) -> Option<u64>
     }
 }
 
-/// Returns the greatest address at which a piece ends.
+/// Returns the greatest address at which a piece ends, or 0 if there are no pieces.
 fn highest_end(pieces: &[Piece]) -> u64
     requires { All (λ p. end_of p ≤ MEMORY_LIMIT) pieces.now }
     ensures end { result ≡ highest_end pieces.now }

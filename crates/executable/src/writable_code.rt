@@ -11,14 +11,14 @@ use crate::piece::{Piece, flags_of, is_both};
 use crate::segments::split;
 use image::{Image, Segment};
 
-/// Returns whether the `size` bytes from `from` on end above `address`.
+/// Returns whether `size` bytes from address `from` end above `address`.
 fn ends_above(from: u64, size: u64, address: u64) -> bool
     ensures { result ≡ nat_lt address (from + size) }
 {
     address < from || address - from < size
 }
 
-/// Returns whether a segment has a byte in a piece.
+/// Returns whether `segment` has a byte within `piece`.
 fn meets(piece: &Piece, segment: &Segment) -> bool
     ensures { result ≡ meets piece.now segment.now }
 {
@@ -28,7 +28,7 @@ fn meets(piece: &Piece, segment: &Segment) -> bool
         && ends_above(segment.address(), size, piece.address())
 }
 
-/// Returns whether some segment in a piece requests both writing and executing.
+/// Returns whether a segment that has a byte in `piece` requests both writing and executing.
 fn is_asked(segments: &[Segment], piece: &Piece) -> bool
     ensures { result ≡ list_any
         (λ s. meets piece.now s && is_both (permission_bits s.permissions)) segments.now }
@@ -38,7 +38,8 @@ fn is_asked(segments: &[Segment], piece: &Piece) -> bool
         .any(|s| meets(piece, s) && is_both(flags_of(s)))
 }
 
-/// Returns whether a piece may be written and executed, although no segment in it requests both.
+/// Returns whether `piece` may be written and executed, although no segment that has a byte in it
+/// requests both.
 fn is_unasked(segments: &[Segment], piece: &Piece) -> bool
     ensures { result ≡ is_unasked segments.now piece.now }
 {
@@ -58,14 +59,14 @@ pub(crate) fn first_unasked<'a>(segments: &[Segment], pieces: &'a [Piece]) -> Op
     None
 }
 
-/// Returns whether some segment has a byte in a piece.
+/// Returns whether one of the segments has a byte in `piece`.
 fn any_meets(segments: &[Segment], piece: &Piece) -> bool
     ensures { result ≡ list_any (meets piece.now) segments.now }
 {
     segments.iter().any(|s| meets(piece, s))
 }
 
-/// Returns the name of the object that has a segment in a piece.
+/// Returns the name of the first object that has a segment with a byte in `piece`.
 pub(crate) fn owner<'a>(image: &'a Image, piece: &Piece) -> &'a [u8]
     ensures { result.now ≡ owner_among piece.now image.now.objects image.now.segments }
 {

@@ -17,13 +17,13 @@ use Rattle.sector_disk.specs.declared.past.Past.{Past}
 use Rattle.file_disk.specs.declared.buffered.Buffered.{Buffered}
 use Rattle.file_disk.specs.declared.disk.FileDisk.{FileDisk}
 use Rattle.file_disk.specs.declared.sector_file.SectorFile.{Ghosts}
-use Rattle.file_disk.specs.Ahead.{ahead_at, KeepsOf}
+use Rattle.file_disk.specs.ReadAhead.{read_ahead_at, KeepsOf}
 use Rattle.file_disk.specs.Buffered.{or_else, shown_at, Leaves}
 use Rattle.file_disk.specs.FileDisk.{file_facts, facts_below}
-use Rattle.file_disk.specs.Gathered.{gathered_at}
+use Rattle.file_disk.specs.WriteBuffer.{write_buffer_at}
 use Rattle.file_disk.specs.Left.{LeftOf, shown_of, time_at}
 use Rattle.file_disk.specs.SectorFile.{MayHave, MediumAt, HoldsWhatIsRead}
-use Rattle.file_disk.specs.inside.Buffered.{IsStill, IsPut, IsSettled}
+use Rattle.file_disk.specs.inside.Buffered.{IsStill, IsPut, IsSynced}
 use Rattle.file_disk.specs.inside.FileDiskLaws.{read_of, left_now, now_left}
 use Rattle.file_disk.specs.inside.Transfer.{StaysWithin}
 use Rattle.file_disk.proofs.Buffers.{cases_option, shown_none, shown_some, leaves_before}
@@ -65,8 +65,8 @@ module _ {F : Type 0} {g : Ghosts F} where
   -- What a disk over an honest file always fulfils about its file, its last moment without a failure, and the moments since its last sync.
   pub record Holds (b : Buffered F g) (latest since : List (Buffered F g)) : Type 0 where
     pub shown : b.failed ≡ false → (k : ℕ) → shown_at b k ≡ shown_of latest k
-    pub waits : (k : ℕ) (c : Sector) → gathered_at b.gathered k ≡ Some c → c ≡ shown_of latest k
-    pub kept : (k : ℕ) (c : Sector) → ahead_at b.ahead k ≡ Some c → c ≡ shown_of latest k
+    pub waits : (k : ℕ) (c : Sector) → write_buffer_at b.write_buffer k ≡ Some c → c ≡ shown_of latest k
+    pub kept : (k : ℕ) (c : Sector) → read_ahead_at b.read_ahead k ≡ Some c → c ≡ shown_of latest k
     pub covered : (k : ℕ) (c : Sector) → Leaves b k c → LeftOf since k c
     pub held : (k : ℕ) → k < b.sectors → LeftOf since k (shown_of latest k)
 
@@ -88,14 +88,14 @@ module _ {F : Type 0} {g : Ghosts F} where
   shown_left b k has = ⊎_elim
       (λ none. subst (Leaves b k) (sym (shown_none b k none)) (inr has))
       (λ some. inl (some.1 ∙ ap Some (sym (shown_some b k some.0 some.1))))
-      (cases_option (gathered_at b.gathered k))
+      (cases_option (write_buffer_at b.write_buffer k))
 
   -- what is in the read-ahead buffer is what reads return
-  kept_shown : (b : Buffered F g) → KeepsOf b.ahead (g.facts b.file).now → (k : ℕ) (c : Sector) → ahead_at b.ahead k ≡ Some c → c ≡ shown_at b k
+  kept_shown : (b : Buffered F g) → KeepsOf b.read_ahead (g.facts b.file).now → (k : ℕ) (c : Sector) → read_ahead_at b.read_ahead k ≡ Some c → c ≡ shown_at b k
   kept_shown b keeps k c is = ⊎_elim
       (λ none. keeps k c is ∙ sym (shown_none b k none))
       (λ some. absurd (none-some c (sym (b.apart k (subst IsSome (sym some.1) refl)) ∙ is)))
-      (cases_option (gathered_at b.gathered k))
+      (cases_option (write_buffer_at b.write_buffer k))
 
   -- `Holds` is true at a moment without a failure that is among those since the last sync
   pub holds_from : (b : Buffered F g) (latest since : List (Buffered F g)) → IsTrue g.is_honest → b.failed ≡ false → HoldsWhatIsRead (g.facts b.file)
@@ -109,7 +109,7 @@ module _ {F : Type 0} {g : Ghosts F} where
   })
 
   -- at a single moment with an empty write buffer, only the medium's contents are left
-  left_below : (b : Buffered F g) → ((k : ℕ) → gathered_at b.gathered k ≡ None) → (k : ℕ) (c : Sector) (P : Sector → Type 0)
+  left_below : (b : Buffered F g) → ((k : ℕ) → write_buffer_at b.write_buffer k ≡ None) → (k : ℕ) (c : Sector) (P : Sector → Type 0)
       → ((d : Sector) → MayHave (g.facts b.file) k d → P d) → (s : Buffered F g) → Contains (b ∷ []) s → Leaves s k c → P c
   left_below b waits k c P below s is_among left = ⊎_elim
       (λ none. absurd (omega (arith, none.1)))
@@ -118,7 +118,7 @@ module _ {F : Type 0} {g : Ghosts F} where
 
   -- A disk at its start: reads return what the file has, and a stop may leave what its medium may have.
   module _ (b : Buffered F g) (files : Past (Buffered F g)) (calls : CallCount) (latest since : Past (Buffered F g)) (past : Past (Past (Buffered F g)))
-      (waits : (k : ℕ) → gathered_at b.gathered k ≡ None) (latest_is : latest.items ≡ b ∷ []) (since_is : since.items ≡ b ∷ []) (none : past.items ≡ []) where
+      (waits : (k : ℕ) → write_buffer_at b.write_buffer k ≡ None) (latest_is : latest.items ≡ b ∷ []) (since_is : since.items ≡ b ∷ []) (none : past.items ≡ []) where
     pub starts_now : HoldsWhatIsRead (g.facts b.file) → b.sectors ≡ (g.facts b.file).sectors → (k : ℕ)
         → sector (facts_of b files calls latest since past).now k ≡ sector (g.facts b.file).now k
     starts_now reads size k =
@@ -141,22 +141,22 @@ module _ {F : Type 0} {g : Ghosts F} where
         (λ found. left_below b waits k c (λ d. ∥ MayHave (g.facts b.file) k d ∥₁) (λ d has. ∣ has ∣₁) found.0 found.1 found.2)
 
   module _ (old new : Buffered F g) (latest since : List (Buffered F g)) (holds : Holds old latest since)
-      (sectors : new.sectors ≡ old.sectors) (gathered : new.gathered ≡ old.gathered) (within : StaysWithin (Leaves old) (g.facts old.file) (g.facts new.file)) where
-    waits_on : (k : ℕ) (c : Sector) → gathered_at new.gathered k ≡ Some c → c ≡ shown_of latest k
-    waits_on k c is = holds.waits k c (ap (λ waits. gathered_at waits k) (sym gathered) ∙ is)
+      (sectors : new.sectors ≡ old.sectors) (write_buffer : new.write_buffer ≡ old.write_buffer) (within : StaysWithin (Leaves old) (g.facts old.file) (g.facts new.file)) where
+    waits_on : (k : ℕ) (c : Sector) → write_buffer_at new.write_buffer k ≡ Some c → c ≡ shown_of latest k
+    waits_on k c is = holds.waits k c (ap (λ waits. write_buffer_at waits k) (sym write_buffer) ∙ is)
 
     covered_on : (k : ℕ) (c : Sector) → Leaves new k c → LeftOf since k c
-    covered_on k c left = holds.covered k c (leaves_before old new within gathered k c left)
+    covered_on k c left = holds.covered k c (leaves_before old new within write_buffer k c left)
 
     held_on : (k : ℕ) → k < new.sectors → LeftOf since k (shown_of latest k)
     held_on k lt = holds.held k (omega (arith, lt, sectors))
 
     -- `Holds` stays true if a write or a sync failed
-    pub holds_failed : new.failed ≡ true → new.ahead ≡ old.ahead → Holds new latest since
-    holds_failed failed ahead = record {
+    pub holds_failed : new.failed ≡ true → new.read_ahead ≡ old.read_ahead → Holds new latest since
+    holds_failed failed read_ahead = record {
       shown = λ well. absurd (let both : false ≡ true = sym well ∙ failed in cc);
       waits = waits_on;
-      kept = λ k c is. holds.kept k c (ap (λ kept. ahead_at kept k) (sym ahead) ∙ is);
+      kept = λ k c is. holds.kept k c (ap (λ kept. read_ahead_at kept k) (sym read_ahead) ∙ is);
       covered = covered_on;
       held = held_on;
     }
@@ -165,8 +165,8 @@ module _ {F : Type 0} {g : Ghosts F} where
     pub holds_read : IsTrue g.is_honest → old.failed ≡ false → new.failed ≡ false → (g.facts new.file).now ≡ (g.facts old.file).now → Holds new latest since
     holds_read honest fine well now =
         let shown : (k : ℕ) → shown_at new k ≡ shown_of latest k =
-        λ k. ap (λ waits. or_else (gathered_at waits k) (sector (g.facts new.file).now k)) gathered
-        ∙ ap (λ reads. or_else (gathered_at old.gathered k) (sector reads k)) now
+        λ k. ap (λ waits. or_else (write_buffer_at waits k) (sector (g.facts new.file).now k)) write_buffer
+        ∙ ap (λ reads. or_else (write_buffer_at old.write_buffer k) (sector reads k)) now
         ∙ holds.shown fine k in
         record {
           shown = λ still. shown;
@@ -177,11 +177,11 @@ module _ {F : Type 0} {g : Ghosts F} where
         }
 
   -- `Holds` stays true after a read, which asks the file for nothing after a failure
-  pub read_on : (old new : Buffered F g) (latest since : List (Buffered F g)) → Holds old latest since → IsTrue g.is_honest → new.sectors ≡ old.sectors → new.gathered ≡ old.gathered
+  pub read_on : (old new : Buffered F g) (latest since : List (Buffered F g)) → Holds old latest since → IsTrue g.is_honest → new.sectors ≡ old.sectors → new.write_buffer ≡ old.write_buffer
       → new.failed ≡ old.failed → (old.failed ≡ true → new ≡ old) → IsStill old new → Holds new latest since
-  read_on old new latest since holds honest sectors gathered failed over still = ⊎_elim
+  read_on old new latest since holds honest sectors write_buffer failed over still = ⊎_elim
       (λ is. subst (λ b. Holds b latest since) (sym (over is)) holds)
-      (λ fine. holds_read old new latest since holds sectors gathered still.within honest fine (failed ∙ fine) (still.now fine))
+      (λ fine. holds_read old new latest since holds sectors write_buffer still.within honest fine (failed ∙ fine) (still.now fine))
       (cases_Bool old.failed)
 
   -- one more call of a disk
@@ -249,14 +249,14 @@ module _ {F : Type 0} {g : Ghosts F} where
 
     -- The disk was written: b is its file after the call.
     module _ (honest : IsTrue g.is_honest) (fine : old.buffered.failed ≡ false) (at : ℕ) (content : Sector) (in_old : at < old.buffered.sectors)
-        (put : IsPut at old.buffered b) (here : gathered_at b.gathered at ≡ Some content)
-        (others : (k : ℕ) → k ≢ at → (gathered_at b.gathered k ≡ gathered_at old.buffered.gathered k) ⊎ (gathered_at b.gathered k ≡ None))
+        (put : IsPut at old.buffered b) (here : write_buffer_at b.write_buffer at ≡ Some content)
+        (others : (k : ℕ) → k ≢ at → (write_buffer_at b.write_buffer k ≡ write_buffer_at old.buffered.write_buffer k) ⊎ (write_buffer_at b.write_buffer k ≡ None))
         (latest_is : latest.items ≡ b ∷ []) (since_is : since.items ≡ old.since.items ++ b ∷ []) where
       -- what a stop after the write may leave, of the file and of the write buffer
       left_of_put : (k : ℕ) (c : Sector) → ((k ≡ at) × (c ≡ content) → ⊥) → Leaves b k c → LeftOf old.since.items k c
       left_of_put k c other left = ⊎_elim
           (λ waits. ⊎_elim
-          (λ is. absurd (other (is, same_some (gathered_at b.gathered at) c content (subst (λ j. gathered_at b.gathered j ≡ Some c) is waits) here)))
+          (λ is. absurd (other (is, same_some (write_buffer_at b.write_buffer at) c content (subst (λ j. write_buffer_at b.write_buffer j ≡ Some c) is waits) here)))
           (λ apart. ⊎_elim
           (λ before. old.covered honest k c (inl (sym before ∙ waits)))
           (λ none. absurd (none-some c (sym none ∙ waits)))
@@ -285,7 +285,7 @@ module _ {F : Type 0} {g : Ghosts F} where
               (λ before. ∥∥₁_elim (now_left old k c before) ∥∥₁_prop
               (λ found. left_at (old.since.items ++ b ∷ []) found.0 k c (Contains-append_left old.since.items (b ∷ []) found.0 found.1) found.2))
               (λ is. left_at (old.since.items ++ b ∷ []) b k c (Contains-push old.since.items b)
-              (inl (ap (gathered_at b.gathered) is.0 ∙ here ∙ ap Some (sym is.1))))
+              (inl (ap (write_buffer_at b.write_buffer) is.0 ∙ here ∙ ap Some (sym is.1))))
               left)),
         );
       }
@@ -303,7 +303,7 @@ module _ {F : Type 0} {g : Ghosts F} where
           (cases_eq k at)))
 
     -- The disk was synced: b is its file after the call.
-    module _ (honest : IsTrue g.is_honest) (fine : old.buffered.failed ≡ false) (settled : IsSettled old.buffered b) (waits : (k : ℕ) → gathered_at b.gathered k ≡ None)
+    module _ (honest : IsTrue g.is_honest) (fine : old.buffered.failed ≡ false) (settled : IsSynced old.buffered b) (waits : (k : ℕ) → write_buffer_at b.write_buffer k ≡ None)
         (held : HoldsWhatIsRead (g.facts b.file)) (latest_is : latest.items ≡ b ∷ []) (since_is : since.items ≡ b ∷ []) where
       shown_on : (k : ℕ) → shown_at b k ≡ shown_of old.latest.items k
       shown_on k = shown_none b k (waits k) ∙ settled.shown k ∙ old.shown honest fine k

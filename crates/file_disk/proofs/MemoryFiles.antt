@@ -7,7 +7,7 @@ use Rattle.sector_disk.specs.Disk.{Sector, sector, MayLeave, LeavesNoMore, Leave
 use Rattle.sector_disk.specs.Memory.{memory_facts}
 use Rattle.sector_disk.specs.declared.memory.Memory.{Memory}
 use Rattle.file_disk.specs.declared.memory_file.MemoryFile.{MemoryFile}
-use Rattle.file_disk.specs.declared.memory_file.Turn.{Turn}
+use Rattle.file_disk.specs.declared.memory_file.CallOutcome.{CallOutcome}
 use Rattle.file_disk.specs.Medium.{HasWritten, IsSameMedium}
 use Rattle.file_disk.specs.MemoryFile.{facts_over, memory_file_facts, does_work}
 use Rattle.file_disk.specs.SectorFile.{MayHave, moved, IsFileCall, IsCounted, IsFileRead, IsFileWrite, IsFileSync, IsFoundWith}
@@ -50,9 +50,9 @@ pub from_to : (P : Memory → Memory → Type 0) {old mid mid' new : Memory} →
 from_to P {old} {mid} {mid'} {new} begun ended holds = subst (λ m. P old m) (sym ended) (subst (λ m. P m mid') begun holds)
 
 -- a sync that passes does its work if no sync has failed before
-pub works : (file : MemoryFile) (turn : Turn) → file.sync_failed ≡ false → turn.fails ≡ false → does_work file turn ≡ true
-works file turn trusted passes =
-    ap (λ (b : Bool). if b then false else (if turn.fails then nat_lt 0 turn.most else true)) trusted ∙ ap (λ (b : Bool). if b then nat_lt 0 turn.most else true) passes
+pub works : (file : MemoryFile) (outcome : CallOutcome) → file.sync_failed ≡ false → outcome.fails ≡ false → does_work file outcome ≡ true
+works file outcome trusted passes =
+    ap (λ (b : Bool). if b then false else (if outcome.fails then nat_lt 0 outcome.most else true)) trusted ∙ ap (λ (b : Bool). if b then nat_lt 0 outcome.most else true) passes
 
 -- A call that keeps the number of sectors, and adds its moment to the past.
 module _ (old new : MemoryFile) (past : new.past.items ≡ old.past.items ++ old.medium ∷ []) (sectors : (memory_facts new.medium).sectors ≡ (memory_facts old.medium).sectors) where

@@ -7,8 +7,8 @@ use Rattle.file_disk.specs.declared.disk.FileDisk.{FileDisk}
 use Rattle.file_disk.specs.declared.open.OpenFault.{OpenFault}
 use Rattle.file_disk.specs.declared.open.OpenFault.TheVariants.{OutOfMemory}
 use Rattle.file_disk.specs.declared.sector_file.SectorFile.{Ghosts}
-use Rattle.file_disk.specs.Ahead.{ahead_at}
-use Rattle.file_disk.specs.Gathered.{gathered_at}
+use Rattle.file_disk.specs.ReadAhead.{read_ahead_at}
+use Rattle.file_disk.specs.WriteBuffer.{write_buffer_at}
 use Rattle.file_disk.specs.Left.{LeftOf, shown_of, time_at}
 use Rattle.file_disk.specs.SectorFile.{FileFacts, MayHave, MediumAt, IsCounted, IsFoundWith}
 
@@ -55,11 +55,11 @@ module _ {F : Type 0} {g : Ghosts F} where
 
   -- the content of sector k in the write buffer: it was written, and isn't written to the file yet
   abbrev pub waiting : FileDisk F g → ℕ → Option Sector
-  waiting disk k = gathered_at disk.buffered.gathered k
+  waiting disk k = write_buffer_at disk.buffered.write_buffer k
 
   -- the content that the file returned for sector k, if it is kept
   abbrev pub kept : FileDisk F g → ℕ → Option Sector
-  kept disk k = ahead_at disk.buffered.ahead k
+  kept disk k = read_ahead_at disk.buffered.read_ahead k
 
   -- the write buffer is empty
   abbrev pub WaitsNot : FileDisk F g → Type 0
@@ -76,7 +76,7 @@ module _ {F : Type 0} {g : Ghosts F} where
     pub kept : (k : ℕ) → kept new k ≡ kept old k
 
   -- Sector `at` is in the write buffer with this content. Each other sector is there as before, or no longer.
-  pub record IsGathered (old new : FileDisk F g) (at : ℕ) (content : Sector) : Type 0 where
+  pub record IsBuffered (old new : FileDisk F g) (at : ℕ) (content : Sector) : Type 0 where
     pub here : waiting new at ≡ Some content
     pub others : (k : ℕ) → k ≢ at → (waiting new k ≡ waiting old k) ⊎ (waiting new k ≡ None)
 

@@ -2,9 +2,9 @@
 ghost use Rattle.std.specs.Prelude.{◌≡◌, ◌<◌, ℕ, false, Some, IsTrue, length};
 ghost use Rattle.sector_disk.specs.CallCount.{calls_made};
 ghost use Rattle.sector_disk.specs.Disk.{Sector};
-ghost use Rattle.file_disk.specs.Ahead.{ahead_at};
+ghost use Rattle.file_disk.specs.ReadAhead.{read_ahead_at};
 ghost use Rattle.file_disk.specs.Buffered.{shown_at, Leaves};
-ghost use Rattle.file_disk.specs.Gathered.{gathered_at};
+ghost use Rattle.file_disk.specs.WriteBuffer.{write_buffer_at};
 ghost use Rattle.file_disk.specs.Left.{LeftOf, shown_of, IsTimed, IsFollowed};
 
 use crate::buffered::Buffered;
@@ -37,9 +37,10 @@ pub struct FileDisk<F: SectorFile> {
     ghost shown: { IsTrue F.SectorFile.is_honest → buffered.failed ≡ false → (k : ℕ)
         → shown_at buffered k ≡ shown_of latest.items k },
     ghost waits: { IsTrue F.SectorFile.is_honest → (k : ℕ) (content : Sector)
-        → gathered_at buffered.gathered k ≡ Some content → content ≡ shown_of latest.items k },
+        → write_buffer_at buffered.write_buffer k ≡ Some content
+        → content ≡ shown_of latest.items k },
     ghost kept: { IsTrue F.SectorFile.is_honest → (k : ℕ) (content : Sector)
-        → ahead_at buffered.ahead k ≡ Some content → content ≡ shown_of latest.items k },
+        → read_ahead_at buffered.read_ahead k ≡ Some content → content ≡ shown_of latest.items k },
     ghost covered: { IsTrue F.SectorFile.is_honest → (k : ℕ) (content : Sector)
         → Leaves buffered k content → LeftOf since.items k content },
     ghost held: { IsTrue F.SectorFile.is_honest → (k : ℕ) → k < buffered.sectors
@@ -109,7 +110,7 @@ impl<F: SectorFile> Disk for FileDisk<F> {
     ghost use Rattle.sector_disk.specs.Disk.{IsCall, IsRead, IsWrite, IsSync};
     ghost use Rattle.file_disk.specs.FileDisk.{file_facts, facts_below, has_failed};
     ghost use Rattle.file_disk.specs.FileDisk.{waiting, kept, IsSame, WaitsNot, WaitsSame};
-    ghost use Rattle.file_disk.specs.FileDisk.{IsGathered, IsCovered};
+    ghost use Rattle.file_disk.specs.FileDisk.{IsBuffered, IsCovered};
     ghost use Rattle.file_disk.specs.inside.FileDiskLaws.{disk_holds, disk_whole};
 
     ghost facts = { file_facts };
@@ -151,7 +152,7 @@ impl<F: SectorFile> Disk for FileDisk<F> {
         ensures failed { has_failed self.new ≡ has_failed self.old }
     {
         self.files = self.files.and(&self.buffered);
-        let reply = self.buffered.fetch(at, into);
+        let reply = self.buffered.read(at, into);
         self.past = self.past.and(&self.since);
         self.calls.end_call(&reply);
         reply
@@ -167,7 +168,7 @@ impl<F: SectorFile> Disk for FileDisk<F> {
         ensures any_moment { IsTrue F.is_honest → IsCovered self.old self.new }
         ensures cause { IsTrue F.is_honest → OnErr result ((has_failed self.old ≡ true)
             ⊎ ((facts_below self.old).failures < (facts_below self.new).failures)) }
-        ensures ok { OnOk result (IsGathered self.old self.new at from.now) }
+        ensures ok { OnOk result (IsBuffered self.old self.new at from.now) }
 
         // No earlier content of the sector is kept.
         ensures forgotten { OnOk result (kept self.new at ≡ None) }
@@ -179,7 +180,7 @@ impl<F: SectorFile> Disk for FileDisk<F> {
         ensures stays { has_failed self.old ≡ true → is_err result ≡ true }
     {
         self.files = self.files.and(&self.buffered);
-        let reply = self.buffered.gather(at, from);
+        let reply = self.buffered.write(at, from);
         self.past = self.past.and(&self.since);
         if reply.is_ok() {
             self.latest = Past::new().and(&self.buffered);
@@ -207,7 +208,7 @@ impl<F: SectorFile> Disk for FileDisk<F> {
         ensures stays { has_failed self.old ≡ true → is_err result ≡ true }
     {
         self.files = self.files.and(&self.buffered);
-        let reply = self.buffered.settle();
+        let reply = self.buffered.sync();
         self.past = self.past.and(&self.since);
         if reply.is_ok() {
             self.latest = Past::new().and(&self.buffered);

@@ -1,6 +1,7 @@
 // A file of the system, over which a disk is made.
 
-ghost use Rattle.std.specs.Prelude.{◌≡◌, ◌/◌, false};
+ghost use Rattle.std.specs.Prelude.{◌≡◌, ◌/◌, IfErr, false};
+ghost use Rattle.file_disk.specs.Length.{IsLengthFault};
 ghost use Rattle.file_disk.specs.SectorFile.{unknown_file};
 
 use crate::open::{OpenFault, sectors_in};
@@ -34,7 +35,9 @@ pub struct DiskFile {
 impl DiskFile {
     /// Makes a `DiskFile` of a file that is open and locked. Refuses every file that is neither a
     /// regular file nor a block device.
-    pub(crate) fn new(file: File, is_read_only: bool) -> Result<DiskFile, OpenFault> {
+    pub(crate) fn new(file: File, is_read_only: bool) -> Result<DiskFile, OpenFault>
+        ensures { IfErr result IsLengthFault }
+    {
         match file.metadata() {
             Ok(found) if found.is_file() || found.file_type().is_block_device() => {
                 Ok(DiskFile { file, is_read_only })
@@ -84,7 +87,10 @@ impl SectorFile for DiskFile {
         let Ok(length) = self.length() else {
             return Err(OpenFault::CannotOpen);
         };
-        sectors_in(length).ok_or(OpenFault::BadLength)
+        match sectors_in(length) {
+            Some(sectors) => Ok(sectors),
+            None => Err(OpenFault::BadLength(length)),
+        }
     }
 
     fn read_at(&mut self, at: u32, into: &mut [[u8; SECTOR_BYTES]]) -> io::Result<usize> {

@@ -5,24 +5,24 @@
 //! the file. After a failed write or sync, all later ones fail until the file is opened again.
 #![tactic(auto)]
 
-mod ahead;
 mod buffered;
 mod disk;
 mod disk_file;
-mod gathered;
 mod locked;
 mod medium;
 mod memory_file;
-mod new_name;
 mod open;
 mod property;
+mod read_ahead;
 mod sector_file;
 mod transfer;
+mod unnamed_file;
+mod write_buffer;
 
 pub use disk::FileDisk;
 pub use disk_file::{Access, DiskFile};
-pub use memory_file::{FilePlan, MemoryFile, Turn};
-pub use new_name::{NameFault, NewName};
+pub use memory_file::{CallOutcome, FilePlan, MemoryFile};
 pub use open::{Made, OpenFault};
 pub use property::Property;
 pub use sector_file::SectorFile;
+pub use unnamed_file::{NameFault, UnnamedFile};

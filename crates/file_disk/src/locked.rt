@@ -1,7 +1,8 @@
 // Opens a file under its lock.
 
-ghost use Rattle.std.specs.Prelude.{◌≡◌, true};
+ghost use Rattle.std.specs.Prelude.{◌≡◌, IfErr, true};
 ghost use Rattle.std.specs.Fs.{new_options, with_read, with_write};
+ghost use Rattle.file_disk.specs.Length.{IsLengthFault};
 
 use crate::disk_file::{Access, DiskFile};
 use crate::open::OpenFault;
@@ -84,7 +85,9 @@ fn try_lock(file: &File, access: Access) -> Result<(), TryLockError> {
 
 /// Locks a file. A device is locked for changes if that succeeds within two seconds; anything else
 /// is locked at once or not at all.
-fn lock<R: Clock>(rt: &R, file: &File, access: Access, is_device: bool) -> Result<(), OpenFault> {
+fn lock<R: Clock>(rt: &R, file: &File, access: Access, is_device: bool) -> Result<(), OpenFault>
+    ensures { IfErr result IsLengthFault }
+{
     let tries = match access {
         Access::Changes if is_device => DEVICE_TRIES,
         _ => 0,
@@ -96,12 +99,17 @@ fn lock<R: Clock>(rt: &R, file: &File, access: Access, is_device: bool) -> Resul
             Err(TryLockError::Error(_)) => return Err(OpenFault::CannotOpen),
         }
     }
-    try_lock(file, access).map_err(|_| OpenFault::CannotOpen)
+    match try_lock(file, access) {
+        Ok(()) => Ok(()),
+        Err(_) => Err(OpenFault::CannotOpen),
+    }
 }
 
 /// Refuses a path that leads to neither a regular file nor a block device, before it is opened.
 /// Opening a pipe would wait for its other end.
-fn look<R: Files>(rt: &R, path: &str) -> Result<(), OpenFault> {
+fn check_kind<R: Files>(rt: &R, path: &str) -> Result<(), OpenFault>
+    ensures { IfErr result IsLengthFault }
+{
     match fs::metadata(rt, path) {
         Ok(found) if found.is_file() || found.file_type().is_block_device() => Ok(()),
         _ => Err(OpenFault::CannotOpen),
@@ -123,9 +131,11 @@ pub(crate) fn open_locked<R: Files<File = File> + Clock>(
     alloc: Global,
     path: &str,
     access: Access,
-) -> Result<DiskFile, OpenFault> {
+) -> Result<DiskFile, OpenFault>
+    ensures { IfErr result IsLengthFault }
+{
     for _ in 0..TRIES {
-        look(rt, path)?;
+        check_kind(rt, path)?;
         let Ok((file, is_read_only)) = open_file(rt, path, access) else {
             return Err(OpenFault::CannotOpen);
         };
@@ -146,7 +156,9 @@ pub(crate) fn open_locked<R: Files<File = File> + Clock>(
 }
 
 /// Refuses a device that is in use.
-fn refuse_in_use<R: Files<File = File>>(rt: &R, alloc: Global, rdev: u64) -> Result<(), OpenFault> {
+fn refuse_in_use<R: Files<File = File>>(rt: &R, alloc: Global, rdev: u64) -> Result<(), OpenFault>
+    ensures { IfErr result IsLengthFault }
+{
     match is_in_use(rt, alloc, rdev) {
         Ok(false) => Ok(()),
         Err(fault) if fault.kind() == ErrorKind::OutOfMemory => Err(OpenFault::OutOfMemory),

@@ -40,7 +40,7 @@ pub(crate) fn get(medium: &mut Memory, at: u32, into: &mut [[u8; SECTOR_BYTES]])
 
 /// If `works` is true, syncs the medium, so that it has everything that was written. Otherwise does
 /// nothing.
-pub(crate) fn settle(medium: &mut Memory, works: bool)
+pub(crate) fn sync_if(medium: &mut Memory, works: bool)
     ensures sectors { (memory_facts medium.new).sectors ≡ (memory_facts medium.old).sectors }
     ensures now { (memory_facts medium.new).now ≡ (memory_facts medium.old).now }
     ensures stop { LeavesNoMore (memory_facts medium.old) (memory_facts medium.new) }

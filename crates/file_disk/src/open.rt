@@ -1,15 +1,16 @@
 // Opens and makes the file of a disk.
-ghost use Rattle.std.specs.Prelude.{◌≡◌, ◌≢◌, ◌*◌, ◌<◌, ◌^◌, ℕ, IfOk, IfErr, IfSome, IfNone};
-ghost use Rattle.std.specs.Prelude.{false, IsTrue};
+ghost use Rattle.std.specs.Prelude.{◌≡◌, ◌*◌, IfOk, IfErr, IfSome, IfNone};
+ghost use Rattle.std.specs.Prelude.{false, IsTrue, MatchResult};
 ghost use Rattle.file_disk.specs.FileDisk.{file_facts, IsNew, IsAsTheFile, IsOver, HasCause};
 ghost use Rattle.file_disk.specs.FileDisk.{StartsAsFound};
+ghost use Rattle.file_disk.specs.Length.{IsDiskLength, IsLengthFault};
 ghost use Rattle.file_disk.specs.declared.open.OpenFault.TheVariants.{OutOfMemory};
 
 use crate::disk::FileDisk;
 use crate::disk_file::{Access, DiskFile};
 use crate::locked::open_locked;
-use crate::new_name::NewName;
 use crate::sector_file::SectorFile;
+use crate::unnamed_file::UnnamedFile;
 use sector_disk::{Disk, SECTOR_BYTES};
 use std::alloc::{AllocError, Global};
 use std::fs::File;
@@ -26,10 +27,10 @@ pub enum OpenFault {
     /// block device, or it is a device in use.
     #[error("the file can't be opened")]
     CannotOpen,
-    /// The file's length isn't a whole number of sectors, isn't the number of sectors that was
-    /// asked for, or is 2^32 sectors or more.
+    /// The file's length, in bytes. It isn't that of a whole number of sectors, or not that of the
+    /// number of sectors that was asked for, or it is that of 2^32 sectors or more.
     #[error("the file hasn't the length of a disk")]
-    BadLength,
+    BadLength(u64),
     /// Memory was refused.
     #[error("out of memory")]
     OutOfMemory,
@@ -47,13 +48,19 @@ impl From<AllocError> for OpenFault {
 /// number, or is 2^32 or more.
 pub(crate) fn sectors_in(length: u64) -> Option<u32>
     ensures some { IfSome result (λ sectors. length ≡ 512 * sectors) }
-    ensures none { IfNone result ((n : ℕ) → n < 2 ^ 32 → length ≢ 512 * n) }
+    ensures none { IfNone result (IsDiskLength length → ⊥) }
 {
     if length % SECTOR_BYTES as u64 == 0 {
         u32::try_from(length / SECTOR_BYTES as u64).ok()
     } else {
         None
     }
+}
+
+/// Returns the fault of a file that is a disk, but has another number of sectors than was asked
+/// for.
+fn other_length(disk: &FileDisk<DiskFile>) -> OpenFault {
+    OpenFault::BadLength(u64::from(disk.sectors()) * SECTOR_BYTES as u64)
 }
 
 /// Opens the folder that contains the file of `path`.
@@ -94,6 +101,9 @@ impl<F: SectorFile + Drop> FileDisk<F> {
 
         // The call fails only if memory is refused or the file's sectors can't be counted.
         ensures cause { IsTrue F.is_honest → IfErr result (λ fault. HasCause F.facts file fault) }
+
+        // Any file, honest or not, is refused for its length only if no disk has this length.
+        ensures length { IfErr result IsLengthFault }
     {
         let mut file = file;
         let sectors = file.count_sectors()?;
@@ -108,7 +118,7 @@ pub struct Made<'a> {
     /// The disk.
     pub disk: FileDisk<DiskFile>,
     /// The name, if the file was made.
-    pub name: Option<NewName<'a>>,
+    pub name: Option<UnnamedFile<'a>>,
 }
 
 impl FileDisk<DiskFile> {
@@ -120,14 +130,14 @@ impl FileDisk<DiskFile> {
         path: &str,
         access: Access,
     ) -> Result<FileDisk<DiskFile>, OpenFault>
-        ensures { IfOk result (λ disk. IsNew disk) }
+        ensures { MatchResult result (λ disk. IsNew disk) IsLengthFault }
     {
         FileDisk::over(alloc, open_locked(rt, alloc, path, access)?)
     }
 
     /// Opens the file at `path` as a disk of `sectors` sectors, for changes. If no file exists
     /// there, makes a disk of zeros. An existing file is then on the medium under its name, because
-    /// its folder is synced. A file that was made gets its name by `NewName::give`, once its
+    /// its folder is synced. A file that was made gets its name by `UnnamedFile::publish`, once its
     /// contents are synced.
     pub fn make<'a, R: Files<File = File> + Clock>(
         rt: &R,
@@ -143,7 +153,7 @@ impl FileDisk<DiskFile> {
         }
         let disk = FileDisk::open(rt, alloc, path, Access::Changes)?;
         if disk.sectors() != sectors {
-            return Err(OpenFault::BadLength);
+            return Err(other_length(&disk));
         }
         sync_folder(rt, path)?;
         Ok(Made { disk, name: None })
@@ -161,7 +171,7 @@ fn make_new<'a, R: Files<File = File>>(
     ensures sectors { IfOk result (λ made. (file_facts made.disk).sectors ≡ sectors) }
 {
     let length = u64::from(sectors) * SECTOR_BYTES as u64;
-    let (file, name) = NewName::make(rt, alloc, path, length)?;
+    let (file, name) = UnnamedFile::make(rt, alloc, path, length)?;
     match over_made(alloc, file, sectors) {
         Ok(disk) => Ok(Made {
             disk,
@@ -181,7 +191,7 @@ fn over_made(alloc: Global, file: File, sectors: u32) -> Result<FileDisk<DiskFil
 {
     let disk = FileDisk::over(alloc, DiskFile::new(file, false)?)?;
     if disk.sectors() != sectors {
-        return Err(OpenFault::BadLength);
+        return Err(other_length(&disk));
     }
     Ok(disk)
 }

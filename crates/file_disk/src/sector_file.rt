@@ -1,5 +1,6 @@
 // A file of sectors.
-ghost use Rattle.std.specs.Prelude.{◌≤◌, ◌+◌, Bool, IsTrue, length};
+ghost use Rattle.std.specs.Prelude.{◌≤◌, ◌+◌, Bool, IfErr, IsTrue, length};
+ghost use Rattle.file_disk.specs.Length.{IsLengthFault};
 ghost use Rattle.file_disk.specs.SectorFile.{FileFacts, moved, IsCounted, IsFileRead};
 ghost use Rattle.file_disk.specs.SectorFile.{IsFileWrite, IsFileSync};
 ghost use Rattle.file_disk.specs.SectorFile.{HoldsWhatIsRead, HasWholeContents};
@@ -23,7 +24,8 @@ pub trait SectorFile {
 
     /// Returns the number of sectors.
     fn count_sectors(&mut self) -> Result<u32, OpenFault>
-        ensures honest { IsTrue is_honest → IsCounted (facts self.old) (facts self.new) result };
+        ensures honest { IsTrue is_honest → IsCounted (facts self.old) (facts self.new) result }
+        ensures length { IfErr result IsLengthFault };
 
     /// Reads sectors from sector `at` on. Returns the number of sectors that were read, which are
     /// the first ones of `into`.

@@ -1,5 +1,6 @@
-//! The program `growths`: makes each call of a registry on a disk in memory, and prints the
-//! answers, and the state afterwards, if a growth (a request for memory) is refused.
+//! The program `growths`: makes each call of a registry on a disk in memory while one growth (a
+//! request for memory) is refused. It prints the first unexpected answer, and the state of the
+//! registry after it.
 #![tactic(auto)]
 
 mod asked;

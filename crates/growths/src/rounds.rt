@@ -10,7 +10,7 @@ use samples::{library, program};
 use sector_disk::Memory;
 use std::alloc::{AllocError, Global};
 
-// Makes a round of two commands, whose call number `cut` is cut. At the stop each sector keeps its
+// Makes a round of two commands. Its call number `cut` is cut. At the stop each sector keeps its
 // last content.
 fn round<'a>(alloc: Global, commands: [Command<'a>; 2], cut: u64) -> Result<Round<'a>, AllocError> {
     Ok(Round {
@@ -21,7 +21,7 @@ fn round<'a>(alloc: Global, commands: [Command<'a>; 2], cut: u64) -> Result<Roun
     })
 }
 
-// Returns the three rounds. `file` is the file of a library, and `name` its name.
+// Returns the three rounds. `file` is the file of a library, and `name` is its name.
 fn all_rounds<'a>(
     alloc: Global,
     file: &'a [u8],
@@ -39,7 +39,8 @@ fn all_rounds<'a>(
     Ok(all)
 }
 
-// Adds the words for the rounds' replies: the number of each reply, or why there are none.
+// Adds words for the replies of the rounds: a word for each reply, or the refusal if a round wasn't
+// run.
 fn tell(words: &mut Vec<&'static str>, all: &[RoundReplies]) -> Result<(), AllocError> {
     for told in all {
         match told {
@@ -58,7 +59,7 @@ fn tell(words: &mut Vec<&'static str>, all: &[RoundReplies]) -> Result<(), Alloc
     Ok(())
 }
 
-// The words if no growth is refused.
+// The words for the replies if no growth is refused.
 const TOLD: &str = "ok, list a b c preload b, |, S1, S2, |, list a b preload b, image, |";
 
 // Returns the listing of the registry on a disk, in words.
@@ -79,7 +80,7 @@ fn is_whole(words: &[&'static str]) -> bool {
     same && wanted.next().is_none()
 }
 
-// Returns the report about rounds whose words differ.
+// Returns the report about rounds with other words than expected.
 fn otherwise(
     alloc: Global,
     title: &'static str,
@@ -95,9 +96,9 @@ fn otherwise(
     Ok(said)
 }
 
-/// Runs three rounds. In the first, a library is installed and listed. In the second, it is
-/// removed, and the last sync fails, so the root's new content is found after the stop. In the
-/// third, a listing and a bind show the state.
+/// Runs three rounds. The first installs a library, and lists. The second removes it, and its last
+/// sync fails, but the stop keeps the new content of the root. The third shows the state with a
+/// listing and a bind.
 pub(crate) fn rounds(alloc: Global, disk: Memory) -> Result<Option<Words>, AllocError> {
     let file = library(b'c', 0);
     let needing = program(b'a');

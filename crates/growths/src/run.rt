@@ -1,4 +1,4 @@
-// The whole run: a registry is made, each command is given, and then come the other parts that
+// The whole run: it makes a registry, gives it each command, and then runs the other parts that
 // allocate.
 
 use crate::asked::{Asked, OnMemory, ask};
@@ -15,8 +15,7 @@ use sector_disk::{Fuse, Memory};
 use std::alloc::{AllocError, Global};
 use store::StoreRefusal;
 
-/// The result of a part: the disk after it, or a report about how it differs from a run in which no
-/// growth is refused.
+/// The result of a part: the disk after it, or a report if an answer isn't the expected one.
 #[derive(Drop)]
 pub(crate) enum Went {
     On(Memory),
@@ -31,7 +30,7 @@ pub(crate) fn opened(alloc: Global, disk: Memory) -> Result<OnMemory, AllocError
     }
 }
 
-// Returns the number of the disk's calls that an opening makes before command number `at`.
+// Returns the number of calls of the disk that an opening makes before command number `at`.
 fn opening_calls(alloc: Global, at: usize) -> Result<u64, AllocError> {
     let mut disk = opened(alloc, before(alloc, at)?)?.into_disk();
     Ok(calls(&mut disk))
@@ -49,9 +48,9 @@ fn again(alloc: Global, disk: Memory, at: usize) -> Result<&'static str, AllocEr
     Ok(answer)
 }
 
-// Adds to the report about a refused command or a refused opening: the number of the disk's calls
-// after the first `opened_calls`, whether the registry is as before, and the answer if the command
-// is given again.
+// Adds three facts to the report about a refused command or opening. They are the number of calls
+// of the disk after the first `opened_calls`, whether the registry is as before, and the answer if
+// the command is given again.
 fn tell(
     alloc: Global,
     words: Words,
@@ -70,8 +69,8 @@ fn tell(
     Ok(words)
 }
 
-// Returns the report about an answer that isn't the expected one. After S1 the same command is
-// given again at once.
+// Returns the report about an unexpected answer. After S1 the same command is also given again at
+// once.
 fn otherwise(
     alloc: Global,
     registry: OnMemory,
@@ -105,7 +104,8 @@ fn not_opened(
     tell(alloc, words, at, disk, 0)
 }
 
-// Opens a copy of the disk, so that its next write has to allocate, and gives a command.
+// Opens a copy of the disk, and gives its registry command number `at`. On a copy, the next write
+// has to allocate.
 fn go(alloc: Global, disk: &Memory, step: Step, at: usize) -> Result<Went, AllocError> {
     match Registry::open(alloc, counted(disk.copy()?)) {
         Ok(mut registry) => {
@@ -132,7 +132,7 @@ fn steps(alloc: Global, disk: Memory) -> Result<Went, AllocError> {
     Ok(Went::On(disk))
 }
 
-// Runs the parts after the commands.
+// Runs the parts that come after the commands.
 fn besides(alloc: Global, disk: Memory) -> Result<Option<Words>, AllocError> {
     if let Some(words) = text(alloc, disk.copy()?)? {
         return Ok(Some(words));
@@ -143,8 +143,8 @@ fn besides(alloc: Global, disk: Memory) -> Result<Option<Words>, AllocError> {
     rounds(alloc, disk)
 }
 
-/// Runs everything. Returns a report if anything differs from a run in which no growth is refused.
-/// `Err` means that a growth of this program's own was refused.
+/// Runs everything. Returns a report about the first unexpected answer, if there is one. `Err`
+/// means that a growth of this program itself was refused.
 pub(crate) fn run(alloc: Global) -> Result<Option<Words>, AllocError> {
     let disk = match format(alloc)? {
         Went::On(disk) => disk,

@@ -13,7 +13,7 @@ use samples::{library, program};
 use sector_disk::Memory;
 use std::alloc::{AllocError, Global};
 
-/// Returns the disk before command number `at`, if nothing is refused.
+/// Returns the disk before command number `at`, as it is if no growth is refused.
 pub(crate) fn before(alloc: Global, at: usize) -> Result<Memory, AllocError> {
     let Ok(mut registry) = Registry::format(alloc, counted(zeros(alloc)?)) else {
         return Err(AllocError);
@@ -24,8 +24,8 @@ pub(crate) fn before(alloc: Global, at: usize) -> Result<Memory, AllocError> {
     Ok(registry.into_disk().into_inner())
 }
 
-// Returns the script of a listing and two binds: of a program that needs a, and of a program that
-// needs no library.
+// Returns a script of a listing and two binds: of a program that needs the library a, and of a
+// program that needs no library.
 fn looks(alloc: Global) -> Result<Vec<u8>, AllocError> {
     let mut lines = Vec::new(alloc);
     put_line(alloc, &mut lines, b"list", b"")?;
@@ -34,7 +34,7 @@ fn looks(alloc: Global) -> Result<Vec<u8>, AllocError> {
     Ok(lines)
 }
 
-/// Returns the texts of the listing and of these binds.
+/// Returns the answers to this script, as text.
 pub(crate) fn seen(alloc: Global, disk: Memory) -> Result<Vec<u8>, AllocError> {
     let lines = looks(alloc)?;
     let mut binders = Binders::new(alloc, opened(alloc, disk)?);
@@ -47,8 +47,8 @@ pub(crate) fn seen(alloc: Global, disk: Memory) -> Result<Vec<u8>, AllocError> {
     }
 }
 
-/// Returns whether the registry on a disk lists and binds as the one before command number `at`
-/// does, in words.
+/// Returns words that say whether the registry on a disk lists and binds as the registry before
+/// command number `at` does.
 pub(crate) fn is_as_before(
     alloc: Global,
     disk: Memory,

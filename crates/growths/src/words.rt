@@ -1,9 +1,9 @@
-// Reports, word by word.
+// Reports, as lists of words.
 
-// The maximum number of words in a report: more than any run has.
+// The maximum number of words in a report, which is more than any report needs.
 const MOST: usize = 48;
 
-/// Words, in their order. They allocate nothing, so none of the growths is theirs.
+/// Words, in their order. They allocate nothing, so the refused growth is never theirs.
 #[derive(Clone, Copy)]
 pub(crate) struct Words {
     list: [&'static str; MOST],
@@ -21,7 +21,7 @@ impl Words {
         words
     }
 
-    /// Adds a word. If there is no room for it, the last word says so.
+    /// Adds a word. If there is no room for it, the last word becomes one that says this.
     pub(crate) fn push(&mut self, word: &'static str) {
         let count = self.count;
         match self.list.get_mut(count) {

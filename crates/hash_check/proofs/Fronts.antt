@@ -1,4 +1,4 @@
--- The front of a string of the string table, and that it is enough to recognize the string.
+-- The first bytes of a string of the string table are enough to recognize the string.
 use Rattle.std.proofs.Common.{◌≡◌, ◌≢◌, ℕ, ◌<◌, ◌≤◌, ◌+◌, ◌-◌, Bool, true, false, cond, List, [], ◌∷◌, length, drop, take, min, arith, refl, ◌∙◌, sym, ap, suc, zero, eqb, get_or, inl, inr}
 use Rattle.std.specs.Prelude.{not}
 use Rattle.std.specs.List.{take_while, prefix_len}
@@ -21,7 +21,7 @@ text-other : (b : ℕ) → b ≢ 0 → is_text b ≡ true
 unfolding is_text
 text-other b ne = elim (eqb_tells b 0) [ inl t ↦ absurd (ne t.1) | inr f ↦ ap not f.0 ]
 
--- the place of the first zero byte is the number of bytes before it
+-- if the first zero byte of a list is at index i, i bytes come before it
 stops : (xs : List ℕ) (i : ℕ) → i < length xs → ((k : ℕ) → k < i → get_or xs k 0 ≢ 0) → get_or xs i 0 ≡ 0 → prefix_len is_text xs ≡ i
 stops [] i lt h z = absurd (omega arith)
 stops (x ∷ xs) zero lt h z = let here : is_text x ≡ false = ap is_text z ∙ text-zero in ap (λ b. cond b (1 + prefix_len is_text xs) 0) here
@@ -41,7 +41,7 @@ long-step : (b : Bool) (n m k : ℕ) → suc n ≤ cond b (1 + m) 0 → (n ≤ m
 long-step true n m k le h = let less : n ≤ m = omega arith in omega (arith, h less)
 long-step false n m k le h = absurd (omega arith)
 
--- the number of bytes before the first zero byte of a list that is cut before that byte, or after it
+-- a list that is cut to n bytes has min(n, k) bytes before its first zero byte if the whole list has k
 long : (n : ℕ) (xs : List ℕ) → n ≤ prefix_len is_text xs → prefix_len is_text (take n xs) ≡ n
 long zero xs le = refl
 long (suc n) [] le = let wrong : suc n ≤ 0 = le in absurd (omega arith)
@@ -93,7 +93,8 @@ front-never t at limit front is h =
     let whole : length front ≤ prefix_len is_text front = omega (arith, never front h) in
     sym (take_all (prefix_len is_text front) front whole) ∙ ap texts is ∙ sym (front-of-texts limit (drop at t)) ∙ ap (take limit) (sym (string-texts t at))
 
--- the front that two slices of the table have
+-- the bytes that the code slices from the table at an offset are the first `limit` bytes from this
+-- offset
 pub front-is : (t : List ℕ) (at m limit n : ℕ) → m ≡ min at (length t) → n ≡ min limit (length (take (length t - m) (drop m t)))
     → take n (take (length t - m) (drop m t)) ≡ take limit (drop at t)
 front-is t at m limit n e size =
@@ -125,7 +126,7 @@ ends-step true x n m xs b is lt rest = let at : n ≡ suc m = omega (arith, is) 
 ends-step false x n m xs b is lt rest =
     ap (λ k. get_or (x ∷ xs) k 0) (sym is) ∙ elim (cases_eq x 0) [ inl e ↦ e | inr ne ↦ let wrong : true ≡ false = sym (text-other x ne) ∙ b in absurd (cc) ]
 
--- the byte after those before the first zero byte is 0
+-- if there is a byte after those before the first zero byte, it is 0
 ends-there : (xs : List ℕ) → prefix_len is_text xs < length xs → get_or xs (prefix_len is_text xs) 0 ≡ 0
 ends-there [] lt = absurd (omega (arith, lt))
 ends-there (x ∷ xs) lt = ends-step (is_text x) x (prefix_len is_text (x ∷ xs)) (prefix_len is_text xs) xs refl refl lt (ends-there xs)

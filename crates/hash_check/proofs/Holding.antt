@@ -11,7 +11,7 @@ use Rattle.hash_check.specs.inside.Endings.{back, IsIn, IsEnding, AreEndings, Ar
 use Rattle.hash_check.specs.declared.endings.Ending.{Ending}
 use Rattle.hash_check.proofs.Backs.{front-stays, front-before, order-through}
 
--- endings in another order are endings of the same names
+-- reordered endings are endings of the same names
 pub endings-moved : (names : List (List ℕ)) (xs ys : List Ending) → IsPermutation xs ys → AreEndings names xs → AreEndings names ys
 endings-moved names xs ys moved h = record {
   each = All-permutation (IsEnding names) xs ys moved h.each;
@@ -21,14 +21,14 @@ endings-moved names xs ys moved h = record {
       (c.0, a.1, c.1, c.2, a.4);
 }
 
--- a list that begins with another list is at least as long
+-- a list whose first elements are another list is at least as long as that list
 front-fits : (xs p : List ℕ) → take (length p) xs ≡ p → length p ≤ length xs
 front-fits xs p is = omega (arith, length-take (length p) xs, ap length is)
 
 cut-twice : (m n : ℕ) (xs ys : List ℕ) → m ≤ n → take n xs ≡ take n ys → take m xs ≡ take m ys
 cut-twice m n xs ys le same = sym (take-take m n xs le) ∙ ap (take m) same ∙ take-take m n ys le
 
--- before the first string, no name has a number
+-- if there are no marks and no numbers, `AreHeld` is true of the empty string
 pub held-none : (names : List (List ℕ)) (marks numbers : List ℕ) → length numbers ≡ length names → AreNone marks → AreNone numbers → AreHeld names [] marks numbers
 held-none names marks numbers size no-marks none = record {
   size = size;
@@ -42,7 +42,8 @@ held-none names marks numbers size no-marks none = record {
   one = λ j k some other same. absurd (some (none j));
 }
 
--- the names with numbers stay held from one string to one that doesn't come before it, if the marks beyond their common end are removed
+-- `AreHeld` stays true from one string to one that doesn't come before it, if the marks for more bytes
+-- than both have in common are removed
 pub held-cut : (names : List (List ℕ)) (last next old new numbers : List ℕ) (common : ℕ) → AreHeld names last old numbers → is_lt (slice_cmp nat_cmp next last) ≡ false
     → common ≤ length next → take common last ≡ take common next → ((n : ℕ) → n ≤ length last → n ≤ length next → take n last ≡ take n next → n ≤ common)
     → ((n : ℕ) → n < common + 1 → get_or new n 0 ≡ get_or old n 0) → ((n : ℕ) → common + 1 ≤ n → n < length last + 1 → get_or new n 0 ≡ 0)
@@ -83,7 +84,7 @@ held-cut names last next old new numbers common h ordered fits agree most low cl
       one = h.one;
     }
 
--- the same for strings that are read from their beginnings
+-- the same for strings that are stored from their first byte on
 pub held-next : (names : List (List ℕ)) (last next old new numbers : List ℕ) (common past : ℕ) → past ≡ length last + 1
     → AreHeld names (reverse last) old numbers → is_lt (slice_cmp nat_cmp (reverse next) (reverse last)) ≡ false
     → common ≤ length next → take common (reverse last) ≡ take common (reverse next) → ((n : ℕ) → n ≤ length last → n ≤ length next → take n (reverse last) ≡ take n (reverse next) → n ≤ common)
@@ -105,7 +106,7 @@ pub room-for : (names : List (List ℕ)) (e : Ending) (k room : ℕ) (bytes : Li
 room-for names e k room bytes ending is text fits =
     omega (arith, ap length text, back-length names k, front-fits (reverse e.string.now) (back names k) (ending.tails k is), length-reverse e.string.now, fits)
 
--- the bytes that are read are those of the name
+-- the bytes that the code reads for name number `k` are those of the name
 pub text-read : (names : List (List ℕ)) (e : Ending) (k : ℕ) (bytes read : List ℕ) → IsEnding names e → k < e.past → bytes ≡ read → read ≡ get_or names k read → bytes ≡ nth_text names k
 text-read names e k bytes read ending lt same is = same ∙ is ∙ get_or_default names k read [] (omega (arith, lt, ending.within))
 
@@ -121,7 +122,7 @@ some-told marks k n told own marked = elim (cases_eq (get_or marks n 0) 0) [
   | inr mark ↦ λ zero. mark (sym (marked mark) ∙ zero)
 ]
 
--- the name that is given a number has one, and each name that had one still has one
+-- name number k has a number after it was assigned one, and each name that had a number still has it
 pub told-here : (marks numbers : List ℕ) (k n told j : ℕ) → k < length numbers → (get_or marks n 0 ≡ 0 → told ≡ k + 1) → (get_or marks n 0 ≢ 0 → told ≡ get_or marks n 0) → j ≡ k
     → get_or (set numbers k told) j 0 ≢ 0
 told-here marks numbers k n told j lt own marked same = elim (put-case numbers k told j lt) [

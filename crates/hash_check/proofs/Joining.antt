@@ -1,4 +1,4 @@
--- Walks that join.
+-- Walks that meet in one index.
 use Rattle.std.proofs.Common.{◌≡◌, ◌≢◌, ℕ, ◌<◌, ◌≤◌, ◌+◌, ◌-◌, List, length, arith, ◌∙◌, sym, ap, subst, inl, inr}
 use Rattle.std.specs.Prelude.{Option, slice_index, ◌%◌}
 use Rattle.std.specs.Option.{option_map_or}
@@ -18,7 +18,7 @@ meets-self c i some = record {
   before = λ k le z. let none : k ≡ 0 = omega arith in some (sym (walk-zero c i) ∙ ap (walk c i) (sym none) ∙ z);
 }
 
--- a walk that meets an index doesn't begin at 0
+-- a walk that meets an index before 0 doesn't begin at 0, and meets the next index unless that is 0
 pub meets-some : (c : List ℕ) (from i : ℕ) → Meets c from i → from ≢ 0
 meets-some c from i h z = let least : 0 ≤ h.steps = omega arith in h.before 0 least (walk-zero c from ∙ z)
 
@@ -34,7 +34,7 @@ meets-next c from i h some = record {
   ];
 }
 
--- a walk that meets an index meets every index that is met from there
+-- if a walk meets `via`, and the walk from `via` meets `i`, the walk meets `i`
 pub meets-through : (c : List ℕ) (from via i : ℕ) → Meets c from via → Meets c via i → Meets c from i
 meets-through c from via i first second = record {
   steps = first.steps + second.steps;

@@ -111,7 +111,8 @@ module _ (n : ℕ) (all : List NumberedSymbol) (own : List ℕ) where
         omega (arith, high, (each j below).there)
   ]
 
--- the symbols of one more object
+-- if the symbols and the names of object number `n` are appended, the lists have those of the first n +
+-- 1 objects
 pub gathered-more : (files : List (List ℕ)) (n : ℕ) (all : List NumberedSymbol) (names : List (List ℕ)) (own : List ℕ) → AreGathered files n all names
     → All (IsSymbol (nth_file files n)) own → HasAll (nth_file files n) own
     → AreGathered files (n + 1) (all ++ map (unnumbered n) own) (names ++ map (name_of (nth_file files n)) own)
@@ -127,7 +128,7 @@ gathered-more files n all names own g valid has =
           ∙ sym (map-append (name_in files) all (map (unnumbered n) own) ∙ ap (λ l. map (name_in files) all ++ l) (map-map (name_in files) (unnumbered n) own));
     }
 
--- the same for symbols in any order
+-- the same for the symbols of the object in any order
 pub gathered-on : (files : List (List ℕ)) (n : ℕ) (all more : List NumberedSymbol) (names texts : List (List ℕ)) (file own : List ℕ) → nth_file files n ≡ file → AreGathered files n all names
     → IsPermutation (all_symbols file) own → more ≡ all ++ map (unnumbered n) own → texts ≡ names ++ map (name_of file) own → AreGathered files (n + 1) more texts
 gathered-on files n all more names texts file own e g moved symbols_are names_are =
@@ -136,7 +137,7 @@ gathered-on files n all more names texts file own e g moved symbols_are names_ar
     subst (λ l. AreGathered files (n + 1) l texts) (sym symbols_are)
     (subst (λ l. AreGathered files (n + 1) (all ++ map (unnumbered n) own) l) (sym (names_are ∙ ap (λ f. names ++ map (name_of f) own) (sym e))) whole)
 
--- collected symbols with the numbers of their names
+-- the collected symbols with their numbers make `AreNumbered` true, if the numbers distinguish the names
 pub numbered : (files : List (List ℕ)) (all told : List NumberedSymbol) (names : List (List ℕ)) (numbers : List ℕ) → AreGathered files (length files) all names → AreNumbers names numbers
     → length told ≡ length all → ((k : ℕ) → k < length all → nth_symbol told k ≡ with_number (nth_symbol all k) (get_or numbers k 0)) → AreNumbered files told
 numbered files all told names numbers g are size given =

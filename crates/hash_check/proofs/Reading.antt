@@ -1,4 +1,4 @@
--- The refusal of a file, computed from those of its object and of admission.
+-- The refusal of a file follows from that of its object and that of admission.
 use Rattle.std.proofs.Common.{◌≡◌, ℕ, Bool, true, false, List, [], ◌∷◌, Option, Some, None, refl, ap, ◌∙◌, inr}
 use Rattle.std.specs.Prelude.{◌&&◌, not}
 use Rattle.std.specs.Option.{option_map}
@@ -13,7 +13,7 @@ use Rattle.hash_check.specs.declared.refusal.AdmitRefusal.TheVariants as admit
 use Rattle.hash_check.specs.declared.file_refusal.FileRefusal.{FileRefusal}
 use Rattle.hash_check.specs.declared.file_refusal.FileRefusal.TheVariants.{Object, DuplicateDefinition, BadHashTable}
 
--- the two tests of admission, which come after that of the object, by their answers
+-- the two tests of admission: `d` and `b` are whether they apply
 abbrev later : Bool → Bool → List (Option FileRefusal)
 later d b = (DuplicateDefinition when d) ∷ (BadHashTable when b) ∷ []
 
@@ -34,7 +34,7 @@ table-by true b h = cc
 table-by false true h = refl
 table-by false false h = cc
 
--- if no test of the object applies, the other tests decide
+-- if no test of the object applies, only the tests of admission decide
 behind : (o : Option ObjectRefusal) (rest : List (Option FileRefusal)) → o ≡ None → first_of (option_map Object o ∷ rest) ≡ first_of rest
 behind o rest h = ap (λ o. first_of (option_map Object o ∷ rest)) h
 
@@ -45,19 +45,19 @@ taken file read admitted =
     behind (first_refusal file) (later (has_duplicate_definition file) (has_bad_hash_table file)) read
     ∙ taken-by (has_duplicate_definition file) (has_bad_hash_table file) admitted
 
--- a file is refused with the refusal of its object
+-- if a test of the object applies, the file is refused with the object's refusal
 pub of_object : (file : List ℕ) (refusal : ObjectRefusal) → first_refusal file ≡ Some refusal → first_file_refusal file ≡ Some (Object refusal)
 unfolding first_file_refusal
 of_object file refusal h = ap (λ o. first_of (option_map Object o ∷ later (has_duplicate_definition file) (has_bad_hash_table file))) h
 
--- a file is refused as by admission for two exports of one name
+-- if admission refuses two exports of one name, the file is refused for this
 pub of_names : (file : List ℕ) → first_refusal file ≡ None → admission_refusal file ≡ Some admit.DuplicateDefinition → first_file_refusal file ≡ Some DuplicateDefinition
 unfolding first_file_refusal admission_refusal
 of_names file read refused =
     behind (first_refusal file) (later (has_duplicate_definition file) (has_bad_hash_table file)) read
     ∙ names-by (has_duplicate_definition file) (has_bad_hash_table file) refused
 
--- a file is refused as by admission for its hash table
+-- if admission refuses the hash table, the file is refused for this
 pub of_table : (file : List ℕ) → first_refusal file ≡ None → admission_refusal file ≡ Some admit.BadHashTable → first_file_refusal file ≡ Some BadHashTable
 unfolding first_file_refusal admission_refusal
 of_table file read refused =
@@ -103,5 +103,5 @@ pub ruleset accepted_tests = (object_taken, admission_taken)
 pub taken_with_memory : (file : List ℕ) → first_file_refusal file ≡ None → ReadNeedsMemory file
 taken_with_memory file h = (object_taken file h, inr (good-words file (table-good file h)))
 
--- for each answer of `read`
+-- the rules about the answers of `read`
 pub ruleset first_refusals = (taken, of_object, of_names, of_table)

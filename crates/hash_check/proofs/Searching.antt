@@ -12,7 +12,8 @@ use Rattle.hash_check.specs.Search.{up_to}
 use Rattle.hash_check.specs.inside.Places.{Depth}
 use Rattle.hash_check.proofs.Walks.{depth-small, depth-from-ends}
 
--- the number of elements before the first that fails a test, along the values of a function
+-- if a function's values pass a test before position d, and the value at d fails, d values pass at the
+-- front
 prefix : (p : ℕ → Bool) (f : ℕ → ℕ) (a n d : ℕ) → d < n → ((k : ℕ) → k < d → p (f (a + k)) ≡ true) → p (f (a + d)) ≡ false → prefix_len p (map f (range_with_len a n)) ≡ d
 prefix p f a zero d lt before at = absurd (omega arith)
 prefix p f a (suc n) zero lt before at =
@@ -53,7 +54,7 @@ miss p f a (suc n) before =
 unequal : (a : ℕ) → a ≢ 0 → eqb a 0 ≡ false
 unequal a ne = elim (eqb_tells a 0) [ inl t ↦ absurd (ne t.1) | inr f ↦ f.0 ]
 
--- the indices on a walk that ends
+-- if the walk ends after d steps, `walked` has its first d indices
 pub walked-is : (c : List ℕ) (from d : ℕ) → AreIndices (length c) c → from < length c → Depth c from d → walked c from ≡ map (walk c from) (range_with_len 0 d)
 unfolding walked
 walked-is c from d words lt h =
@@ -102,7 +103,7 @@ compared-miss c from n p words lt h z =
     let bare : (k : ℕ) → 0 + k ≡ k = λ k. omega arith in
     sym (ap (up_to p) (walked-is c from n words lt (depth-here c from n p h z)) ∙ miss p (walk c from) 0 n (λ k lt. ap (λ j. p (walk c from j)) (bare k) ∙ h.missed k lt))
 
--- the same after one more symbol that isn't the one
+-- if the next symbol of the walk isn't the one, the search has compared one more and found none
 pub searching-more : (c : List ℕ) (from n : ℕ) (p : ℕ → Bool) → Searching c from n p → walk c from n ≢ 0 → p (walk c from n) ≡ false → Searching c from (n + 1) p
 searching-more c from n p h some missed = record {
   before = below_more (λ k. walk c from k ≢ 0) n h.before some;

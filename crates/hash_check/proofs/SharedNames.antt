@@ -1,4 +1,4 @@
--- The meaning of the test for names that are exported twice, and how the code decides it.
+-- The meaning of the test for names that are exported twice, and proofs for the code that decides it.
 use Rattle.std.proofs.Common.{◌≡◌, ℕ, ◌<◌, ◌≤◌, ◌+◌, ◌-◌, Bool, true, false, cond, List, ◌∷◌, length, arith, refl, ◌∙◌, sym, ap, inl, inr, suc, zero, get_or}
 use Rattle.std.specs.Prelude.{◌&&◌, not}
 use Rattle.std.specs.List.{filter, list_any, range_with_len, All, AllPairs}
@@ -20,7 +20,7 @@ use Rattle.hash_check.specs.inside.Names.{IsSymbol, AllDiffer}
 use Rattle.hash_check.proofs.Exported.{exported_some, exported_within}
 use Rattle.hash_check.proofs.Moved.{all-differ-moved}
 
--- a symbol is exported under a name exactly if it is exported and has this name
+-- if a symbol is exported under a name, it is exported and has this name, and the other way round
 pub exported-as : (file name : List ℕ) (i : ℕ) → is_exported_as file name i ≡ true → is_exported file i ≡ true
 unfolding is_exported_as
 exported-as file name i is = (and_parts (is_exported file i) (bytes_eq (name_of file i) name) is).0
@@ -172,14 +172,14 @@ shared-doesn't-differ file h s =
       ]
     ]
 
--- the test finds no two symbols if the names of the exported symbols differ
+-- if the names of the exported symbols differ, the test finds no two symbols
 pub test-none : (file : List ℕ) → AllDiffer file (exported_symbols file) → has_duplicate_definition file ≡ false
 test-none file h = elim (has_duplicate_definition file) as (λ b. has_duplicate_definition file ≡ b → b ≡ false) [
   | true ↦ λ e. absurd (shared-doesn't-differ file h (shared-from-test file e))
   | false ↦ λ e. refl
 ] refl
 
--- the test finds two symbols if the names of the exported symbols don't differ
+-- if the names of the exported symbols don't all differ, the test finds two symbols
 pub test-some : (file : List ℕ) → (AllDiffer file (exported_symbols file) → ⊥) → has_duplicate_definition file ≡ true
 test-some file h = elim (has_duplicate_definition file) as (λ b. has_duplicate_definition file ≡ b → b ≡ true) [
   | true ↦ λ e. refl
@@ -193,7 +193,8 @@ few-differ file few = record { differ = λ i j less lt same. absurd (omega arith
 pub symbols-moved : (file xs ys : List ℕ) → IsPermutation xs ys → All (IsSymbol file) xs → All (IsSymbol file) ys
 symbols-moved file xs ys moved h = All-permutation (IsSymbol file) xs ys moved h
 
--- the answer for symbols that were moved is the opposite of the test
+-- if `b` says whether the names of reordered exported symbols differ, the opposite of `b` is the test
+-- for duplicates
 pub not-differ : (file moved_symbols : List ℕ) → IsPermutation (exported_symbols file) moved_symbols → (b : Bool)
     → (b ≡ true → AllDiffer file moved_symbols) → (AllDiffer file moved_symbols → b ≡ true) → not b ≡ has_duplicate_definition file
 not-differ file ys moved true to from = sym (test-none file (all-differ-moved file ys (exported_symbols file) (IsPermutation-sym (exported_symbols file) ys moved) (to refl)))

@@ -12,7 +12,7 @@ use Rattle.hash_check.proofs.NameLengths.{name-is-string, length-in-stretch}
 own-front : (n : ℕ) (xs : List ℕ) → take n xs ≡ take (length (take n xs)) xs
 own-front n xs = sym (take_min n xs) ∙ ap (λ k. take k xs) (sym (length-take n xs))
 
--- a string of the table is as many bytes of the table as the string is long
+-- a string of the table has the bytes of the table from its offset up to its length
 pub string-bytes : (t : List ℕ) (at : ℕ) → string_at t at ≡ take (length (string_at t at)) (drop at t)
 unfolding string_at
 string-bytes t at = own-front _ (drop at t)
@@ -25,7 +25,7 @@ reverse-drop k xs =
     ∙ ap (λ n. take n (reverse (drop k xs) ++ reverse (take k xs))) (length-reverse (drop k xs))
     ∙ ap (take (length (drop k xs))) parts
 
--- the last bytes of a front
+-- the last n - k of n bytes from one offset are the n - k bytes from an offset that is greater by k
 end-of-front : (k n off at : ℕ) (t : List ℕ) → k ≤ n → at + k ≡ off → take (n - k) (drop off t) ≡ drop k (take n (drop at t))
 end-of-front k n off at t le e =
     let size : k + (n - k) ≡ n = omega (arith, le) in

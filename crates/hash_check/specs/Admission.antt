@@ -14,7 +14,8 @@ use Rattle.hash_check.specs.HashTable.{bucket_of, HasGoodTable}
 use Rattle.hash_check.specs.declared.refusal.AdmitRefusal.{AdmitRefusal}
 use Rattle.hash_check.specs.declared.refusal.AdmitRefusal.TheVariants.{DuplicateDefinition, BadHashTable, OutOfMemory}
 
--- the indices on the walk from an index before it reaches 0, but at most as many as there are chain words
+-- the indices on the walk from `from` before it reaches 0, but no more of them than there are chain
+-- words
 unfoldable pub walked : List ℕ → ℕ → List ℕ
 walked words from = take_while (λ i. not (i == 0)) (map (walk words from) (range_with_len 0 (length words)))
 
@@ -52,17 +53,19 @@ unfoldable pub admission_refusal : List ℕ → Option AdmitRefusal
 admission_refusal file =
     first_of ((DuplicateDefinition when has_duplicate_definition file) ∷ (BadHashTable when has_bad_hash_table file) ∷ [])
 
--- memory is needed: to compare the names of exported symbols if there are two or more, and to follow the walks if every word is an index (own)
+-- admission may need memory: to compare the names of exported symbols if there are two or more, and to
+-- follow the walks if every word is an index (own)
 abbrev pub NeedsMemory : List ℕ → Type 0
 NeedsMemory file = (2 ≤ length (exported_symbols file)) ⊎ (has_good_words file ≡ true)
 
--- the refusal may be returned: OutOfMemory if memory is needed, and any other refusal if its test is the first that applies (own)
+-- admission may return this refusal: OutOfMemory if memory may be needed, and any other refusal if its
+-- test is the first that applies (own)
 abbrev pub IsRefusedBy : List ℕ → AdmitRefusal → Type 0
 IsRefusedBy file OutOfMemory = NeedsMemory file
 IsRefusedBy file refusal = admission_refusal file ≡ Some refusal
 
--- the meaning of a refusal in terms of the definitions: two exported symbols share a name; or no two do, and the table can't be trusted; or memory is
--- needed
+-- what a refusal means: two exported symbols share a name; or no two do, and the table can't be trusted;
+-- or memory may be needed
 abbrev pub Says : List ℕ → AdmitRefusal → Type 0
 Says file DuplicateDefinition = HasSharedName file
 Says file BadHashTable = HasUniqueNames file × (¬ HasGoodTable file)

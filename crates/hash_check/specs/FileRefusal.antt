@@ -1,4 +1,5 @@
--- Why a file is refused: the tests of an object by itself, and then those of admission (own: all of them in one order).
+-- Why a file is refused: by the tests of its object, and then by those of admission (own: all of them in
+-- one order).
 use Rattle.std.specs.Prelude.{ℕ, List, [], ◌∷◌, Option, Some, None, ◌≡◌}
 use Rattle.std.specs.Option.{option_map}
 use Rattle.elf_file.specs.FirstOf.{◌when◌, first_of}
@@ -22,11 +23,12 @@ file_tests file =
 unfoldable pub first_file_refusal : List ℕ → Option FileRefusal
 first_file_refusal file = first_of (file_tests file)
 
--- reading a file needs memory: no test of the object by itself applies, and admission needs memory
+-- reading a file may need memory: no test of the object applies, and admission may need memory
 abbrev pub ReadNeedsMemory : List ℕ → Type 0
 ReadNeedsMemory file = (first_refusal file ≡ None) × NeedsMemory file
 
--- the refusal may be returned: OutOfMemory if reading the file needs memory, and that of a test if it is the first that applies
+-- reading may return this refusal: OutOfMemory if reading the file may need memory, and the refusal of a
+-- test if this test is the first that applies
 abbrev pub IsReadRefusal : List ℕ → ReadRefusal → Type 0
 IsReadRefusal file (File refusal) = first_file_refusal file ≡ Some refusal
 IsReadRefusal file OutOfMemory = ReadNeedsMemory file

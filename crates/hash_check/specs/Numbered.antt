@@ -16,20 +16,21 @@ nth_symbol all k = slice_index_or all k (record { object = 0; symbol = 0; number
 abbrev pub name_in : List (List ℕ) → NumberedSymbol → List ℕ
 name_in files s = name_of (nth_file files s.object) s.symbol
 
--- the symbol is one of the first `n` objects, and isn't number 0
+-- the symbol exists in one of the first `n` objects, and its number isn't 0
 pub record IsSymbolOf (files : List (List ℕ)) (n : ℕ) (s : NumberedSymbol) : Type 0 where
   pub there : s.object < n
   pub some : 1 ≤ s.symbol
   pub within : s.symbol < length (symbols (nth_file files s.object))
 
--- the list has symbol number `i` of object number `place`
+-- symbol number `i` of object number `place` is in the list
 pub record HasSymbol (all : List NumberedSymbol) (place i : ℕ) : Type 0 where
   pub at : ℕ
   pub within : at < length all
   pub object : (nth_symbol all at).object ≡ place
   pub symbol : (nth_symbol all at).symbol ≡ i
 
--- the list has all symbols of the first `n` objects, except those with number 0, object by object
+-- the list has all symbols of the first `n` objects, except those with number 0, in the order of the
+-- objects
 pub record AreSymbols (files : List (List ℕ)) (n : ℕ) (all : List NumberedSymbol) : Type 0 where
   pub each : (k : ℕ) → k < length all → IsSymbolOf files n (nth_symbol all k)
   pub every : (place i : ℕ) → place < n → 1 ≤ i → i < length (symbols (nth_file files place)) → HasSymbol all place i

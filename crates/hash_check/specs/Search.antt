@@ -10,6 +10,7 @@ abbrev pub up_to : (ℕ → Bool) → List ℕ → ℕ
 up_to test [] = 0
 up_to test (x ∷ xs) = if test x then 1 else up_to test xs + 1
 
--- the number of symbols that a search for a name compares: those on the walk from the hash's bucket, up to the one that is exported under the name
+-- the number of symbols that a search for a name compares: those on the walk from the hash's bucket, up
+-- to and including the symbol that is exported under the name
 abbrev pub compared : List ℕ → List ℕ → ℕ → ℕ
 compared file name hash = up_to (is_exported_as file name) (walked (chains file) (bucket_of (buckets file) hash))

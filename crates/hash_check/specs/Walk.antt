@@ -6,12 +6,12 @@ use Rattle.std.specs.Fn.{iterate}
 unfoldable pub walk : List ℕ → ℕ → ℕ → ℕ
 walk chains from n = iterate (slice_index chains) n from
 
--- some number of chain steps leads to 0
+-- the walk reaches 0 after some number of chain steps
 pub record Ends (chains : List ℕ) (from : ℕ) : Type 0 where
   pub steps : ℕ
   pub arrives : walk chains from steps ≡ 0
 
--- the walk meets an index before 0: some number of steps leads to it, and no step up to there leads to 0
+-- the walk reaches an index after some number of steps, and doesn't reach 0 before it or at it
 pub record Meets (chains : List ℕ) (from index : ℕ) : Type 0 where
   pub steps : ℕ
   pub arrives : walk chains from steps ≡ index

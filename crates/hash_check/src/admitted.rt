@@ -58,7 +58,7 @@ impl<'a> Admitted<'a> {
         ensures ok { OnOk result (admission_refusal object.entry ≡ None) }
         ensures same { IfOk result (λ admitted. admitted ≡ object.entry) }
 
-        // OutOfMemory is returned only if finding the answer needs memory.
+        // Returns OutOfMemory only if admission may need memory.
         ensures refused { IfErr result (IsRefusedBy object.entry) }
         ensures says { IfErr result (Says object.entry) }
     {
@@ -71,8 +71,8 @@ impl<'a> Admitted<'a> {
         Ok(Admitted { object })
     }
 
-    /// Makes the admitted object of a file that no test refuses. Only E22 is tested again. The call
-    /// costs as much as `Object::of_accepted`.
+    /// Makes the admitted object of a file that no test refuses. Makes only the test E22 again.
+    /// Costs as much as `Object::of_accepted`.
     #[tactic(auto, using(crate::proofs::Reading::accepted_tests))]
     pub fn of_accepted(file: &'a [u8]) -> Admitted<'a>
         requires { first_file_refusal file.now ≡ None }
@@ -134,8 +134,8 @@ impl<'a> Admitted<'a> {
         self.find_hashed(name, elf_hash(name)).symbol
     }
 
-    /// Does the same as `find` for a name whose hash is known. Also returns the number of symbols
-    /// that were compared.
+    /// Makes the search of `find` for a name whose hash is `hash`. Also returns the number of
+    /// symbols that were compared.
     pub fn find_hashed(&self, name: &[u8], hash: u32) -> Found
         requires { hash ≡ elf_hash name.now }
         ensures symbol { result.symbol ≡ definition_of self.now name.now }

@@ -6,7 +6,7 @@ ghost use Rattle.std.specs.Ordering.{nat_cmp};
 
 use std::cmp::Ordering;
 
-/// Returns the number of last bytes that two strings have in common.
+/// Returns how many bytes at their ends two strings have in common.
 pub(crate) fn common_end(a: &[u8], b: &[u8]) -> usize
     ensures first { result ≤ length a.now }
     ensures second { result ≤ length b.now }

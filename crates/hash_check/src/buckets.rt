@@ -45,7 +45,7 @@ impl<'o, 'a> Buckets<'o, 'a> {
         self.object.bucket(i)
     }
 
-    /// Returns the word of the bucket for a hash: the index at which the walk for this hash begins.
+    /// Returns the word of the bucket for `hash`: the index at which the walk for this hash begins.
     pub(crate) fn of_hash(&self, hash: u32) -> u32
         requires { 1 ≤ length self.now }
         ensures { result ≡ bucket_of self.now hash }

@@ -19,7 +19,7 @@ use crate::strings::endings_of;
 use elf_dynamic::Object;
 use std::alloc::{AllocError, Global};
 
-/// Returns whether each name has its own number.
+/// Returns whether the number of each name is its own position, counted from 1.
 fn are_own(numbers: &[u32]) -> bool
     ensures { IsTrue result ↔ AreOwn numbers.now }
 {
@@ -31,8 +31,8 @@ fn are_own(numbers: &[u32]) -> bool
     true
 }
 
-/// Returns the names of symbols, and whether all of them differ, by putting them into a table. The
-/// symbols may be in any order. Returns `None` if the table can't decide it.
+/// Returns the names of `symbols`, and whether all of them differ. Puts the names into a table to
+/// find this out. The symbols may be in any order. Returns `None` if the table can't decide it.
 fn names_in_table<'a>(
     alloc: Global,
     object: &Object<'a>,
@@ -52,8 +52,8 @@ fn names_in_table<'a>(
     }
 }
 
-/// Returns whether each name is shorter than the one before it. This is true of tails of one string
-/// that are sorted by their places.
+/// Returns whether each name is shorter than the one before it, as are tails of one string that are
+/// sorted by their places.
 fn lengths_fall(names: &[Name<'_>]) -> bool
     ensures { IsTrue result → Fall names.now }
 {
@@ -66,8 +66,8 @@ fn lengths_fall(names: &[Name<'_>]) -> bool
     true
 }
 
-/// Returns whether the names of the symbols differ, by comparing the strings that the names are
-/// tails of. The symbols are sorted by the places of their names.
+/// Returns whether the names of the symbols differ. Compares the strings whose tails the names are.
+/// The symbols are sorted by the places of their names.
 fn differ_in_strings(
     alloc: Global,
     object: &Object<'_>,
@@ -87,7 +87,7 @@ fn differ_in_strings(
 }
 
 /// Returns an empty list of exports if fewer than two symbols are exported, because then no two
-/// share a name. Otherwise returns that memory was refused.
+/// share a name. Otherwise returns `AllocError`.
 fn few_exports<'a>(alloc: Global, object: &Object<'a>) -> Result<Option<Exports<'a>>, AllocError>
     ensures ok { IfOk result (λ found. MatchOption found
         (has_duplicate_definition object.now ≡ true)

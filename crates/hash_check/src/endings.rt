@@ -21,8 +21,8 @@ pub(crate) struct Ending<'a> {
     pub(crate) past: usize,
 }
 
-/// Removes the marks for the lengths from `from` up to, but not including, `past`, as far as there
-/// are any.
+/// Removes the marks for lengths from `from` up to, but not including, `past`, if there are marks
+/// for them.
 fn unmark(marks: &mut [u32], from: usize, past: usize)
     ensures cleared { (n : ℕ) → from ≤ n → n < past → slice_index marks.new n ≡ 0 }
     ensures low { (n : ℕ) → n < from → slice_index marks.new n ≡ slice_index marks.old n }
@@ -33,7 +33,8 @@ fn unmark(marks: &mut [u32], from: usize, past: usize)
     }
 }
 
-/// Returns the number of a name: the mark for its length, or its own number if there is no mark.
+/// Returns the number of a name: `mark`, the mark for its length, or `own`, its own number, if the
+/// mark is 0.
 fn picked(own: u32, mark: u32) -> u32
     ensures own { mark ≡ 0 → result ≡ own }
     ensures marked { mark ≢ 0 → result ≡ mark }

@@ -1,4 +1,4 @@
-// The symbols that an object exports.
+// Which symbols an object exports.
 
 ghost use Rattle.std.specs.Prelude.{◌≡◌, ◌<◌, length, IfOk};
 ghost use Rattle.elf_dynamic.specs.Symbol.{symbols};

@@ -17,7 +17,7 @@ impl<'a> Admitted<'a> {
         ensures ok { OnOk result (first_file_refusal file.now ≡ None) }
         ensures same { IfOk result (λ admitted. admitted ≡ file.now) }
 
-        // OutOfMemory is returned only if admission needs memory.
+        // Returns OutOfMemory only if admission may need memory.
         ensures refused { IfErr result (IsReadRefusal file.now) }
     {
         match Admitted::admit(alloc, Object::read(file)?) {

@@ -1,4 +1,4 @@
-// Hashes of several names at a time.
+// Hashing several names at a time.
 
 ghost use Rattle.std.specs.Prelude.{ℕ, ◌≡◌, ◌<◌, ◌≤◌, ◌+◌, ◌*◌, length};
 ghost use Rattle.std.specs.Prelude.{take, drop, slice_index, fold};
@@ -8,7 +8,7 @@ use crate::hash::hash_step;
 use elf_file::u32_at;
 
 /// The number of names that are hashed at a time. Each step of a hash has to wait for the step
-/// before it, but not for the steps of other names.
+/// before it, but not for the steps of other names' hashes.
 pub(crate) const LANES: usize = 8;
 
 /// The number of bytes that are read at once.

@@ -7,9 +7,10 @@ ghost use Rattle.hash_check.specs.inside.Places.{Known, Sound, IsBefore, place_a
 use crate::chains::Chains;
 use crate::place::{Place, known_place};
 
-/// Returns the place of an index on the walk from `head` that is followed by `next`. If the jumps
-/// of `next` and of the index that it jumps to have the same length, the new jump leads over both.
-/// Otherwise it is a single step. So about log n jumps lead along a walk of n steps.
+/// Returns the place of an index on the walk from `head`. The next index on this walk is `next`. If
+/// the jump of `next` and the jump after it have the same length, the new jump leads over both.
+/// Otherwise the new jump is a single step. So a walk of n steps can be followed with about log n
+/// jumps.
 pub(crate) fn place_before(
     places: &[Option<Place>],
     chains: &Chains<'_, '_>,

@@ -1,4 +1,4 @@
-// Names that are hashed together.
+// Names that are hashed together, each in its lane.
 
 ghost use Rattle.std.specs.Prelude.{ℕ, List, true, ◌≡◌, ◌≢◌, ◌<◌, ◌≤◌, ◌-◌};
 ghost use Rattle.std.specs.Prelude.{◌+◌, ◌^◌, slice_index, set};
@@ -13,9 +13,9 @@ use crate::hashes::{LANES, add_bytes};
 use crate::names::offset_of;
 use elf_dynamic::Object;
 
-/// Some exported symbols whose names are hashed together. A lane has the symbol's number, the hash
-/// of the name's bytes so far, and the place and the end of the bytes that are left in the string
-/// table. A lane with symbol number 0 is free.
+/// Up to eight exported symbols whose names are hashed together. A lane has the symbol's number,
+/// the hash of the name's first bytes, and the place and the end of the bytes that are left in the
+/// string table. A lane with symbol number 0 is free.
 #[derive(Clone, Copy)]
 pub(crate) struct Lanes {
     pub(crate) symbols: [u32; LANES],
@@ -51,7 +51,7 @@ fn move_on(places: &mut [usize; LANES], count: usize)
 }
 
 impl Lanes {
-    /// Returns free lanes.
+    /// Makes lanes that are all free.
     pub(crate) fn new() -> Lanes
         ensures { (file : List ℕ) → AreLanes file result }
     {
@@ -63,8 +63,8 @@ impl Lanes {
         }
     }
 
-    /// Hashes as many bytes of each name as the shortest rest has, and returns the number of the
-    /// lane with this rest.
+    /// Hashes the same number of bytes of each name: as many as the lane with the fewest bytes left
+    /// has. Returns the number of this lane.
     pub(crate) fn run(&mut self, object: &Object<'_>) -> usize
         requires { AreLanes object.now self.old }
         ensures within { result < 8 }
@@ -78,7 +78,7 @@ impl Lanes {
         k
     }
 
-    /// Gives lane number `k` to an exported symbol whose name has `length` bytes.
+    /// Assigns lane number `k` to exported symbol number `symbol`, whose name has `length` bytes.
     pub(crate) fn put(&mut self, object: &Object<'_>, k: usize, symbol: u32, length: usize)
         requires within { k < 8 }
         requires lanes { AreLanes object.now self.old }
@@ -94,8 +94,8 @@ impl Lanes {
         self.ends[k] = place + length;
     }
 
-    /// Returns the hash of the name of lane number `k`. The time depends on the number of bytes
-    /// that are left of the name.
+    /// Returns the hash of the name of lane number `k`. The time depends on the number of bytes of
+    /// the name that aren't hashed yet.
     pub(crate) fn hash(&self, object: &Object<'_>, k: usize) -> u32
         requires within { k < 8 }
         requires lanes { AreLanes object.now self.now }

@@ -31,9 +31,9 @@ fn at_depth(places: &[Option<Place>], chains: &Chains<'_, '_>, from: u32, depth:
     at
 }
 
-/// Returns whether the walk from `from` meets `index` before 0. Takes constant time if `index` is
-/// known to be met from `from`. This is always so for an index that is met, if no two walks share
-/// an index.
+/// Returns whether the walk from `from` meets `index` before 0. Takes constant time if `head` of
+/// the place of `index` is `from`. If no two walks share an index, this is so for every index that
+/// the walk meets.
 pub(crate) fn is_met(
     places: &[Option<Place>],
     chains: &Chains<'_, '_>,

@@ -1,5 +1,5 @@
-// Numbers that distinguish names, found with a table in which each name is stored near the cell
-// that its key determines.
+// Numbers that distinguish names. They are found with a table in which each name is stored near the
+// cell that its key determines.
 
 ghost use Rattle.std.specs.Prelude.{ℕ, ◌≡◌, ◌<◌, ◌≤◌, ◌+◌, ◌^◌, length, slice_index, IfOk, IfSome};
 ghost use Rattle.hash_check.specs.Numbers.{AreNumbers};
@@ -8,8 +8,8 @@ ghost use Rattle.hash_check.specs.inside.NameTable.{home, IsPut};
 use crate::name::Name;
 use std::alloc::{AllocError, Global};
 
-/// The number of cells, from its home, in which a name may be stored. More than half of all cells
-/// are empty, so keys that weren't chosen on purpose need only a few of these cells.
+/// The number of cells, counted from its home, in which a name may be stored. More than half of all
+/// cells are empty, so keys that weren't chosen on purpose need only a few of these cells.
 const FARTHEST: usize = 128;
 
 /// Returns the home of a key in a table of `count` cells: the first cell in which a name with this
@@ -26,7 +26,7 @@ fn home(count: usize, key: u64) -> usize
     (spread * cells >> 32) as usize
 }
 
-/// Puts name number `number` into a table of the names before it, unless the table has the same
+/// Puts name number `number` into a table of the names before it, unless the table has an equal
 /// name. Returns the number in the name's cell, or `None` if the name would be stored too far from
 /// its home.
 fn put(names: &[Name<'_>], cells: &mut [u32], number: usize) -> Option<u32>
@@ -53,8 +53,9 @@ fn put(names: &[Name<'_>], cells: &mut [u32], number: usize) -> Option<u32>
     None
 }
 
-/// Returns the numbers of names, or `None` if a name would be stored too far from its home, as in
-/// files that were made for this. Allocates 12 bytes a name while it runs, of which 4 are kept.
+/// Returns the numbers of names, or `None` if a name would be stored too far from its home. This
+/// happens in files that were made for it. Allocates 12 bytes a name while it runs; the result has
+/// 4 of them.
 pub(crate) fn numbers_in_table(
     alloc: Global,
     names: &[Name<'_>],

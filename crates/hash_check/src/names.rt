@@ -6,7 +6,7 @@ ghost use Rattle.elf_dynamic.specs.Strings.{name_of};
 ghost use Rattle.hash_check.specs.inside.Names.{IsSymbol, IsLengthOf, offset_of};
 
 use crate::name::Name;
-use crate::room::Room;
+use crate::name_budget::NameBudget;
 use crate::strings::stretch_of;
 use elf_dynamic::Object;
 use std::alloc::{AllocError, Global};
@@ -70,7 +70,7 @@ pub(crate) fn names_of<'a>(
 }
 
 /// Returns the names of symbols in any order, each read to its end. Returns `None` if the names
-/// have so many bytes that many of them are tails of others.
+/// have so many bytes that many of them have to be tails of others.
 pub(crate) fn short_names<'a>(
     alloc: Global,
     object: &Object<'a>,
@@ -80,11 +80,11 @@ pub(crate) fn short_names<'a>(
     ensures { IfOk result (λ found. IfSome found (λ names.
         names.items ≡ map (name_of object.now) symbols.now)) }
 {
-    let mut room = Room::new(object.string_table().len());
+    let mut budget = NameBudget::new(object.string_table().len());
     let mut names = Vec::with_capacity(alloc, symbols.len())?;
     for symbol in symbols {
         let name = object.name_of(*symbol);
-        if !room.take(name.len()) {
+        if !budget.take(name.len()) {
             return Ok(None);
         }
         names.push_reserved(Name::new(name));

@@ -29,14 +29,14 @@ pub struct NumberedSymbol {
     pub number: u32,
 }
 
-/// Symbols of objects, which have no numbers yet, and the names of these symbols.
+/// Symbols of objects, without the numbers of their names, and the names of these symbols.
 #[derive(Drop)]
 struct Gathered<'a> {
     symbols: Vec<NumberedSymbol>,
     names: Vec<Name<'a>>,
 }
 
-/// Adds symbols of object number `place`, and their names.
+/// Adds the symbols of object number `place`, and their names.
 fn add_symbols<'a>(
     gathered: &mut Gathered<'a>,
     place: usize,
@@ -79,7 +79,7 @@ fn symbols_by_name_place(alloc: Global, object: &Object<'_>) -> Result<Vec<u32>,
 }
 
 /// Returns all symbols of the objects with their names, each read to its end. Returns `None` if the
-/// names of an object have so many bytes that many of them are tails of others.
+/// names of an object have so many bytes that many of them have to be tails of others.
 fn all_short_names<'a>(
     alloc: Global,
     objects: &[&'a Admitted<'a>],
@@ -152,8 +152,8 @@ fn all_names_by_place<'a>(
     Ok((gathered, all))
 }
 
-/// Gives the symbols their numbers.
-fn give_numbers(mut symbols: Vec<NumberedSymbol>, numbers: &[u32]) -> Vec<NumberedSymbol>
+/// Returns the symbols with the numbers of their names.
+fn set_numbers(mut symbols: Vec<NumberedSymbol>, numbers: &[u32]) -> Vec<NumberedSymbol>
     requires { length numbers.now ≡ length symbols.items }
     ensures size { length result.items ≡ length symbols.items }
     ensures given { (k : ℕ) → k < length symbols.items → nth_symbol result.items k
@@ -174,10 +174,10 @@ pub fn numbered_symbols(
 {
     if let Some(gathered) = all_short_names(alloc, objects)? {
         if let Some(numbers) = numbers_in_table(alloc, &gathered.names)? {
-            return Ok(give_numbers(gathered.symbols, &numbers));
+            return Ok(set_numbers(gathered.symbols, &numbers));
         }
     }
     let (gathered, endings) = all_names_by_place(alloc, objects)?;
     let numbers = numbers_of_endings(alloc, &gathered.names, endings)?;
-    Ok(give_numbers(gathered.symbols, &numbers))
+    Ok(set_numbers(gathered.symbols, &numbers))
 }

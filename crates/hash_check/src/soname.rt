@@ -15,14 +15,15 @@ fn is_name_byte(byte: u8) -> bool
     byte >= 0x21 && byte <= 0x7e && byte != b'/'
 }
 
-/// Returns whether a library's name may have each of these bytes.
+/// Returns whether a library's name may have each byte of `name`.
 fn are_name_bytes(name: &[u8]) -> bool
     ensures { result ≡ list_all is_name_byte name.now }
 {
     name.iter().all(|byte| is_name_byte(*byte))
 }
 
-/// Returns whether bytes may be the name of a library: 1 to 240 bytes that a name may have.
+/// Returns whether `name` may be the name of a library: it has 1 to 240 bytes, each of which a
+/// library's name may have.
 #[tactic(auto, unfolding(crate::specs::Soname::is_library_name))]
 pub(crate) fn is_library_name(name: &[u8]) -> bool
     ensures { result ≡ is_library_name name.now }

@@ -66,8 +66,8 @@ fn follow_all(
     Ok(Some(places))
 }
 
-/// Returns whether exported symbol `i` is met from `joint`, and so on the walks from all buckets.
-/// Then its name needn't be hashed to find the walk that has to meet it.
+/// Returns whether exported symbol `i` is met on the walk from `joint`, and therefore on the walks
+/// from all buckets. Then its name doesn't have to be hashed.
 fn is_met_by_all(object: &Object<'_>, places: &[Option<Place>], joint: u32, i: u32) -> bool
     requires some { HasBucket object.now }
     requires words { HasIndexWords object.now }
@@ -108,8 +108,8 @@ fn is_lane_met(object: &Object<'_>, places: &[Option<Place>], lanes: &Lanes, k: 
     symbol == 0 || is_met_by_hash(object, places, lanes.hash(object, k), symbol)
 }
 
-/// Finishes the hash of one lane, and returns whether the lane is free or its symbol is met on the
-/// walk from its bucket. If so, gives the lane to exported symbol `i`, whose name has `length`
+/// Finishes the hash of one lane, and returns whether the lane was free or its symbol is met on the
+/// walk from its bucket. If so, assigns the lane to exported symbol `i`, whose name has `length`
 /// bytes.
 fn take_in(
     object: &Object<'_>,
@@ -138,9 +138,9 @@ fn take_in(
     met
 }
 
-/// Tests exported symbol `i` by its name's hash: at once if the name is short, and otherwise when
-/// its hash is finished. Returns whether each symbol that this call tested is met on the walk from
-/// its bucket.
+/// Tests exported symbol `i` by its name's hash: at once if the name is short, and otherwise in a
+/// lane, when its hash is finished. Returns whether each symbol that this call tested is met on the
+/// walk from its bucket.
 fn test_by_name(
     object: &Object<'_>,
     places: &[Option<Place>],
@@ -183,8 +183,8 @@ fn are_met(object: &Object<'_>, places: &[Option<Place>], lanes: &Lanes) -> bool
     true
 }
 
-/// Returns whether each exported symbol is met on the walk from the bucket of its name's hash. A
-/// name is hashed only if not all walks meet its symbol. Long names are hashed several at a time.
+/// Returns whether each exported symbol is met on the walk from the bucket of its name's hash.
+/// Hashes a name only if its symbol isn't met on all walks. Hashes long names several at a time.
 fn meets_exports(object: &Object<'_>, places: &[Option<Place>], exports: &Exports<'_>) -> bool
     requires some { HasBucket object.now }
     requires words { HasIndexWords object.now }
@@ -230,8 +230,8 @@ fn has_good_table<'a>(
 
 /// Returns whether the hash table can't be trusted. Allocates about 24 bytes a symbol while it
 /// runs, and follows each chain word once. An exported symbol is looked up in one step on the walk
-/// that met it first, and in about log n steps on other walks of n steps. Its name is hashed only
-/// if not all walks meet it.
+/// that met it first, and in about log n steps on other walks of n steps. Hashes its name only if
+/// it isn't met on all walks.
 #[tactic(auto, using(crate::proofs::Deciding::bad_test, crate::proofs::Deciding::words_test))]
 pub(crate) fn has_bad_hash_table<'a>(
     alloc: Global,

@@ -1,4 +1,4 @@
-// The walks of a hash table. Each chain word is followed once.
+// Following the walks of a hash table. Each chain word is followed once.
 
 ghost use Rattle.std.specs.Prelude.{◌≡◌, ◌<◌, ◌^◌, [], length, IsTrue, IfOk};
 ghost use Rattle.std.specs.Prelude.{MatchBool};
@@ -41,9 +41,9 @@ fn climb(
     Ok(true)
 }
 
-/// Gives places to the indices of the path, which begins at `from`. The last index gets its place
-/// first.
-fn settle(places: &mut [Option<Place>], path: &mut Vec<u32>, chains: &Chains<'_, '_>, from: u32)
+/// Stores the places of the indices of the path, which begins at `from`. Begins with the last
+/// index, because each place is computed from the next index's place.
+fn place_path(places: &mut [Option<Place>], path: &mut Vec<u32>, chains: &Chains<'_, '_>, from: u32)
     requires words { AreIndices (length chains.now) chains.now }
     requires size { length places.old ≡ length chains.now }
     requires limit { length chains.now < 2 ^ 32 }
@@ -62,8 +62,8 @@ fn settle(places: &mut [Option<Place>], path: &mut Vec<u32>, chains: &Chains<'_,
     }
 }
 
-/// Gives places to all indices on the walk from `from` if the walk ends, and returns whether it
-/// does.
+/// Stores the places of all indices on the walk from `from` if the walk ends, and returns whether
+/// it ends.
 pub(crate) fn follow(
     places: &mut [Option<Place>],
     path: &mut Vec<u32>,
@@ -87,7 +87,7 @@ pub(crate) fn follow(
 {
     let ends = climb(places, path, chains, from)?;
     if ends {
-        settle(places, path, chains, from);
+        place_path(places, path, chains, from);
     }
     Ok(ends)
 }

@@ -26,7 +26,7 @@ values-unknown objects own n values known is none count =
       are = λ k there. absurd (none-known n k (sym (ap (λ l. slice_get l k) none) ∙ there));
     }
 
--- one more object whose values are known
+-- if the first objects are bound and the next one is, the list with the next one is bound
 pub first-more : (objects : List Placed) (all : List Bound) (b : Bound) → FirstBound objects all → IsBound objects (length all) b → FirstBound objects (all ++ b ∷ [])
 first-more objects all b before is own d h =
     elim (cases_lt own (length all)) [

@@ -71,7 +71,7 @@ lands-by : (hs : List Heading) (place : ℕ) (o : Option ℕ) → (is_none o ≡
 lands-by hs place None h = tt
 lands-by hs place (Some v) h = h refl
 
--- what a relocation writes lies in the memory of its object
+-- a relocation of an accepted file writes within the memory of its object
 pub relocation-lands : (base : ℕ) (file : List ℕ) (values : ℕ → Option ℕ) (i : ℕ) (r : Relocation) → base + reach file ≤ MEMORY_LIMIT → first_refusal file ≡ None
     → slice_get (relocations file) i ≡ Some r → IfSome (write_with base values r) (Lands (map (heading_at base) (loads file)))
 relocation-lands base file values i r low accepted at =

@@ -26,7 +26,7 @@ take-beyond front size n h l =
     ∙ sym (take-append-add front (zeros (size - length front)) (n - length front))
     ∙ ap (λ k. take k (padded front size)) at
 
--- the first n bytes
+-- the first n bytes of padded bytes are the kept ones among them, followed by zeros
 pub padded-take : (front : List ℕ) (size n kept : ℕ) → n ≤ size → kept ≡ min (length front) n → take kept front ++ zeros (n - kept) ≡ take n (padded front size)
 padded-take front size n kept h e =
     elim (cases_lt n (length front)) [

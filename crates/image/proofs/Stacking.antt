@@ -16,7 +16,7 @@ use Rattle.image.specs.Relocating.{base_at, file_at, name_at}
 use Rattle.image.specs.inside.Segments.{Rising}
 use Rattle.image.proofs.Placing.{loads-rising, loads-end}
 
--- where the PT_LOADs of all objects lie
+-- the headings of the PT_LOADs of all objects
 abbrev pub headings_of : List Placed → List Heading
 headings_of objects = map (λ l. l.heading) (all_loaded objects)
 
@@ -31,7 +31,8 @@ pub rising-weaken : (from m : ℕ) (hs : List Heading) → from ≤ m → Rising
 rising-weaken from m [] l r = tt
 rising-weaken from m (h ∷ hs) l r = (omega (arith, r.0, l), r.1)
 
--- segments and others above them rise together
+-- if headings `hs` rise and end at or below m, and headings `ks` rise from m, then `hs` followed by `ks`
+-- rise
 pub rising-append : (from m : ℕ) (hs ks : List Heading) → Rising from hs → from ≤ m → All (λ h. h.address + h.size ≤ m) hs → Rising m ks → Rising from (hs ++ ks)
 rising-append from m [] ks r l e k = rising-weaken from m ks l k
 rising-append from m (h ∷ hs) ks r l e k =
@@ -46,7 +47,7 @@ stack-rising from (p ∷ ps) s a =
     (rising-append from (end_of p) hs (headings_of ps) (rising-weaken from p.base hs s.0 (loads-rising p.base p.file (a 0 p (omega arith))))
     (omega (arith, s.0)) (loads-end p.base p.file) (stack-rising (end_of p) ps s.2 (λ k d l. a (suc k) d (omega (arith, l)))))
 
--- object number i ends below the limit
+-- object number i ends at or below the limit
 pub low-at : (from : ℕ) (objects : List Placed) (i : ℕ) → Stacked from objects → i < length objects → base_at objects i + reach (file_at objects i) ≤ MEMORY_LIMIT
 low-at from [] i s h = absurd (omega (arith, h))
 low-at from (p ∷ ps) zero s h = s.1
@@ -83,7 +84,7 @@ stack-ends from (p ∷ ps) (suc i) s h =
     (All-append ends (map (heading_at p.base) (loads p.file)) (headings_of (take i ps))
     (λ k d l. omega (arith, loads-end p.base p.file k d l, high)) (stack-ends (end_of p) ps i s.2 (omega (arith, h))))
 
--- the PT_LOADs of the first objects, and of the next one
+-- the PT_LOADs of the first i + 1 objects are those of the first i, followed by those of object number i
 pub loaded-more : (objects : List Placed) (i : ℕ) → i < length objects → all_loaded (take (i + 1) objects) ≡ all_loaded (take i objects) ++ loaded_of (placed_of objects i)
 loaded-more objects i h =
     let d = placed_of objects i in

@@ -98,7 +98,7 @@ pub target-there : (objects : List Named) (own i : ℕ) → own < length objects
 unfolding target
 target-there objects own i within = symbol-by objects own i (i == 0) (slice_get (symbols (file_at objects own)) i) within refl
 
--- the same for objects in memory
+-- if a symbol of placed objects is bound to a target, the target's object and its symbol exist
 pub placed-there : (objects : List Placed) (own i object symbol : ℕ) → own < length objects → target (map named objects) own i ≡ Some (At object symbol)
     → (object < length objects) × (symbol < length (symbols (memory.file_at objects object)))
 placed-there objects own i object symbol within is =

@@ -1,4 +1,4 @@
--- Objects at their bases with the values of the symbols that their relocations name (own).
+-- Objects at their bases, each with the values of the symbols that its relocations name (own).
 use Rattle.std.specs.Prelude.{ℕ, ◌≡◌, ◌<◌, List, length, get_or, slice_index, Option, Some, None, true}
 use Rattle.std.specs.List.{All, filter_map}
 use Rattle.elf_dynamic.specs.Refusal.{first_refusal}
@@ -15,7 +15,8 @@ value_in values symbol = Some (slice_index values symbol)
 abbrev pub IsKnown : List Placed → ℕ → List ℕ → ℕ → Type 0
 IsKnown objects own values symbol = symbol_value objects own symbol ≡ value_in values symbol
 
--- `values` has the value of the symbol that relocation r of object number `own` names, if its type uses a symbol
+-- if the type of relocation r of object number `own` uses a symbol, `values` has the value of this
+-- symbol
 abbrev pub IsReady : List Placed → ℕ → List ℕ → Relocation → Type 0
 IsReady objects own values r = uses_symbol r.kind ≡ true → IsKnown objects own values r.symbol
 
@@ -29,7 +30,7 @@ pub record Bound : Type 0 where
 abbrev pub placed_as : Bound → List ℕ → Placed
 placed_as bound file = record { name = bound.name; file = file; base = bound.base }
 
--- what the relocations of a file write with these values
+-- the writes of a file's relocations, with the base and the values of `bound`
 abbrev pub bound_writes : Bound → List ℕ → List Write
 bound_writes bound file = filter_map (write_with bound.base (value_in bound.values)) (relocations file)
 
@@ -39,7 +40,7 @@ pub record IsBound (objects : List Placed) (own : ℕ) (bound : Bound) : Type 0 
   pub base : bound.base ≡ base_at objects own
   pub ready : All (IsReady objects own bound.values) (relocations_of objects own)
 
--- `bound` has the first of the objects, each with the values of its symbols
+-- each element of `bound` is the object with the same number, with the values of its symbols
 abbrev pub FirstBound : List Placed → List Bound → Type 0
 FirstBound objects bound = (own : ℕ) (d : Bound) → own < length bound → IsBound objects own (get_or bound own d)
 

@@ -26,7 +26,7 @@ use std::marker::Model;
 pub struct BoundObject {
     name: Name,
     base: u64,
-    // By symbol number; eight bytes for each symbol.
+    // The values by symbol number, eight bytes for each symbol.
     values: Vec<u64>,
 }
 
@@ -53,7 +53,7 @@ impl BoundObject {
         &self.values
     }
 
-    /// Returns this object as the image lists it. `object` is its file.
+    /// Returns this object as an image lists it. `object` is the object's file.
     pub(crate) fn image_object(
         &self,
         alloc: Global,
@@ -74,7 +74,7 @@ impl BoundObject {
 }
 
 /// Returns the values of the symbols that the relocations of object number `own` name, or the
-/// refusal of its first relocation whose symbol is undefined. Looks up each symbol once.
+/// refusal for its first relocation whose symbol is undefined. Looks up each symbol once.
 fn symbol_values(
     alloc: Global,
     objects: &PlacedOrder<'_>,
@@ -99,7 +99,7 @@ fn symbol_values(
     Ok(values)
 }
 
-/// Returns object number `own` with the values of its symbols, or the refusal of its first
+/// Returns object number `own` with the values of its symbols, or the refusal for its first
 /// relocation whose symbol is undefined.
 fn bound_object(
     alloc: Global,
@@ -117,7 +117,7 @@ fn bound_object(
     Ok(BoundObject { name, base, values })
 }
 
-/// Returns all objects with the values of their symbols, or the refusal of the first relocation
+/// Returns all objects with the values of their symbols, or the refusal for the first relocation
 /// whose symbol is undefined.
 fn all_bound(alloc: Global, objects: &PlacedOrder<'_>) -> Result<Vec<BoundObject>, BindRefusal>
     ensures ok { OnOk result (undefined_refusal objects.now ≡ None) }
@@ -153,7 +153,7 @@ pub fn bound_objects(
     ensures accepted { OnOk result (placed_refusal (place base order.now) ≡ None) }
     ensures refused { IfErr result (IsPlacedAnswer (place base order.now)) }
 
-    // The objects in their order, each at its base and with the values of its symbols.
+    // Returns the objects in load order, each at its base and with the values of its symbols.
     ensures bound { IfOk result (λ all. AreBound (place base order.now) all.items) }
 {
     let objects = PlacedOrder::of(alloc, order, base)?;

@@ -7,7 +7,7 @@ ghost use Rattle.image.specs.inside.Segments.{padded};
 use std::alloc::AllocError;
 use std::marker::Model;
 
-/// The bytes of a segment: the bytes that are kept, and the zeros after them, which take no memory.
+/// The bytes of a segment: a slice of kept bytes, and the zeros after them, which take no memory.
 /// Contracts see all of the bytes.
 #[derive(Drop)]
 pub struct Memory<'a> {

@@ -1,21 +1,21 @@
-// An index of where segments begin, for objects that have many.
+// An index of the segments' first addresses, for objects that have many segments.
 
 ghost use Rattle.std.specs.Prelude.{◌<◌, ◌^◌};
 
 use crate::segment::Segment;
 use std::alloc::{AllocError, Global};
 
-/// The maximum number of segments for which no index is made.
+/// The maximum number of segments of an object for which no index is made.
 const FEW: usize = 16;
 /// The number of bytes of memory in a part.
 const PART: u64 = 1024;
 /// The maximum number of parts: they cover the 64 MiB that the memory of an object may reach.
 const PARTS: u64 = 65536;
 
-/// Guesses which of an object's many segments holds an address. The memory from the first segment
-/// on is cut into parts, and for each part the number of segments that begin before it is kept. So
-/// a binary search is needed only among the segments that begin in one part. The caller tests the
-/// guess, so this type's contracts say nothing about it.
+/// Guesses which of an object's segments has an address. The index divides the memory from the
+/// first segment on into parts, and has for each part the number of segments that begin before it.
+/// A binary search is then needed only among the segments that begin in one part. The caller tests
+/// the guess, so this type's contracts say nothing about it.
 #[derive(Drop)]
 pub(crate) struct MemoryParts {
     first: u64,

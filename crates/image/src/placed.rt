@@ -18,8 +18,8 @@ use scope::{Order, Target, Undefined, resolve};
 use std::alloc::Global;
 use std::marker::Model;
 
-/// The objects of an order, each at its base. Contracts see each with its name, its file's bytes
-/// and its base.
+/// The objects of an order, each at its base. Contracts see the name, the file's bytes and the base
+/// of each object.
 #[derive(Drop)]
 pub struct PlacedOrder<'a> {
     order: &'a Order<'a>,
@@ -39,7 +39,7 @@ impl<'a> Model for PlacedOrder<'a> {
 }
 
 impl<'a> PlacedOrder<'a> {
-    /// Places the objects of `order`, the program at `base`. It costs what `place` costs.
+    /// Places the objects of `order`, the program at `base`. Costs what `place` costs.
     pub fn of(
         alloc: Global,
         order: &'a Order<'a>,
@@ -97,7 +97,7 @@ impl<'a> PlacedOrder<'a> {
         admitted.object()
     }
 
-    /// Returns the symbol to which symbol number `symbol` of object number `own` is bound. It costs
+    /// Returns the symbol to which symbol number `symbol` of object number `own` is bound. Costs
     /// what `resolve` costs.
     pub fn target(&self, own: usize, symbol: u32) -> Result<Target, Undefined>
         requires own { own < length self.now }
@@ -124,7 +124,7 @@ impl<'a> PlacedOrder<'a> {
     }
 
     /// Returns the value of symbol number `symbol` of object number `own`, unless it is undefined.
-    /// It costs a search by the symbol's name.
+    /// Costs a search for the symbol's name.
     #[tactic(auto, unfolding(crate::specs::Relocating::symbol_value))]
     pub(crate) fn symbol_value(&self, own: usize, symbol: u32) -> Result<u64, Undefined>
         requires own { own < length self.now }

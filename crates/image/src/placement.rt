@@ -14,7 +14,7 @@ use hash_check::Admitted;
 use scope::Order;
 use std::alloc::{AllocError, Global};
 
-/// A page, in bytes.
+/// The size of a page in bytes.
 const PAGE: u64 = 4096;
 /// The highest address at which memory may end: a page below 2^47.
 const MEMORY_LIMIT: u64 = 0x7fff_ffff_f000;

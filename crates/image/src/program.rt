@@ -20,7 +20,7 @@ use std::alloc::Global;
 
 /// Reads and admits a program and tests its base, which needs none of the other objects. Returns
 /// the program, or the first of these refusals: its file is refused (B1); the base is no multiple
-/// of its unit (B2). It costs what `Admitted::read` costs.
+/// of its unit (B2). Costs what `Admitted::read` costs.
 #[tactic(auto, unfolding(crate::specs::Refusal::program_refusal))]
 pub fn admit_program(alloc: Global, file: &[u8], base: u64) -> Result<Admitted<'_>, BindRefusal>
 
@@ -43,7 +43,8 @@ pub fn admit_program(alloc: Global, file: &[u8], base: u64) -> Result<Admitted<'
     Ok(program)
 }
 
-/// Binds an admitted program at a base that is good for it, as `bind_program` does from B3 on.
+/// Binds an admitted program at a base that is a multiple of its unit: makes the tests of
+/// `bind_program` from B3 on.
 fn bind_admitted(
     alloc: Global,
     program: &Admitted<'_>,
@@ -98,9 +99,8 @@ pub fn bind_program(
     // Returns an image only if no test applies.
     ensures accepted { OnOk result (bind_refusal file.now base libraries.now preloads.now ≡ None) }
 
-    // Otherwise returns the refusal of the first test that applies. Memory may be refused only if
-    // admission allocates. Admission comes after the tests of the program's object, and before all
-    // others.
+    // Otherwise returns the refusal of the first test that applies, or refused memory if admission
+    // allocates. Admission comes after the tests of the file's bytes, and before all other tests.
     ensures refused { IfErr result (IsAnswer file.now base libraries.now preloads.now) }
 
     // The image has the defined objects and segments, and their defined bytes.

@@ -36,8 +36,8 @@ impl Values {
     }
 }
 
-/// Finds the value of symbol number `symbol` of object number `own`, unless it is undefined. The
-/// value is looked up the first time, and then kept.
+/// Finds the value of symbol number `symbol` of object number `own`, unless it is undefined. Looks
+/// the value up the first time, and keeps it.
 fn find_value(
     objects: &PlacedOrder<'_>,
     own: usize,

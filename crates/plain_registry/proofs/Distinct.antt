@@ -1,4 +1,4 @@
--- Lists whose elements are pairwise different.
+-- Lists whose elements are all distinct.
 use Rattle.std.proofs.Common.{◌≡◌, ◌<◌, ℕ, suc, Bool, false, List, [], ◌∷◌, length, map, arith}
 use Rattle.std.specs.Prelude.{nat_eq, AllPairs, slice_index_or}
 use Rattle.std.specs.List.{AllByRecursion, IsDistinct}

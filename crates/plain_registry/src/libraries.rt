@@ -15,7 +15,8 @@ fn has_name(libraries: &[Library<'_>], name: &[u8]) -> bool
     libraries.iter().any(|library| library.name() == name)
 }
 
-/// Returns whether no two libraries have the same name. Compares each with those before it.
+/// Returns whether no two libraries have the same name. Compares the name of each library with
+/// those before it.
 fn differ(libraries: &[Library<'_>]) -> bool
     ensures { IsTrue result
         → AllPairs (λ a b. bytes_eq a.name b.name ≡ false) libraries.now }

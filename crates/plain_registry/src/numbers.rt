@@ -3,7 +3,7 @@
 ghost use Rattle.std.specs.Prelude.{◌≡◌, ◌↔◌, ◌<◌, IsTrue, AllPairs, true, false, nat_eq};
 ghost use Rattle.std.specs.List.{All, IsDistinct};
 
-/// Returns whether no value occurs twice. Compares each with those before it.
+/// Returns whether no value occurs twice. Compares each value with those before it.
 fn differ<T: PartialEq>(values: &[T]) -> bool
     ensures { IsTrue result ↔ AllPairs (λ a b. T.eq a b ≡ false) values.now }
 {
@@ -22,7 +22,7 @@ fn are_distinct(numbers: &[usize]) -> bool
     differ(numbers)
 }
 
-/// Returns whether the numbers are different numbers of `count` libraries.
+/// Returns whether the numbers are distinct numbers of libraries, if there are `count` libraries.
 pub fn are_preloads(numbers: &[usize], count: usize) -> bool
     ensures below { result ≡ true → All (λ p. p < count) numbers.now }
     ensures distinct { result ≡ true → IsDistinct nat_eq numbers.now }

@@ -19,8 +19,8 @@ struct File {
 /// A registry without a disk: the libraries in the order in which they were installed, and the
 /// names of the preloads in their order.
 ///
-/// It tests two limits, the room of a disk and 2,048 libraries. Its user has to keep the other
-/// limits: at most 16 preloads and 2^64 - 1 changes.
+/// It has only two limits: the room of a disk, and 2,048 libraries. The caller has to observe the
+/// other limits: at most 16 preloads and 2^64 - 1 changes.
 pub struct PlainRegistry {
     alloc: Global,
     // The number of sectors of the disk.
@@ -88,7 +88,7 @@ impl PlainRegistry {
         self.sectors = sectors;
     }
 
-    // Returns the position of the library with this name.
+    // Returns the position of the library with this name, if there is one.
     fn place(&self, name: &[u8]) -> Option<usize> {
         for (place, file) in self.files.iter().enumerate() {
             if file.name.as_slice() == name {
@@ -118,9 +118,9 @@ impl PlainRegistry {
         true
     }
 
-    // Returns whether there is room for a file beside all others, for two sectors of roots, and for
-    // the catalogues of `libraries` libraries twice: the current ones, and those that the next
-    // change writes.
+    // Returns whether the disk has room for one more file. Besides all files it needs two sectors
+    // for the roots, and twice the catalogues of `libraries` libraries: the current ones, and those
+    // that the next change writes.
     fn has_room(&self, file: &[u8], libraries: usize) -> bool {
         let mut taken = sectors_of(file).saturating_add(2);
         for other in &self.files {
@@ -207,7 +207,7 @@ impl PlainRegistry {
         Ok(listing)
     }
 
-    // Returns the libraries, each as it is read.
+    // Admits the files of all libraries, and returns these.
     fn libraries(&self) -> Result<Vec<Library<'_>>, AllocError> {
         let mut libraries = Vec::new(self.alloc);
         for file in &self.files {

@@ -1,4 +1,4 @@
-// Answers as texts, so that they can be compared.
+// Answers as texts, which can be compared.
 
 use anyhow::{Result, bail};
 use binders::EventReply;
@@ -6,10 +6,10 @@ use requests::{Refusal, Reply};
 use std::alloc::Global;
 use std::io::Write;
 
-/// The text of the reply to a change that was made.
+/// The text of the reply to an accepted change.
 pub(crate) const DONE: &[u8] = b"done";
 
-/// The text of the refusal if a call of the disk fails, and if one failed before.
+/// The texts of two refusals: a call of the disk failed now, or a call failed before.
 pub(crate) const DEVICE: &[u8] = b"Device";
 
 pub(crate) const REOPEN: &[u8] = b"Reopen";

@@ -1,5 +1,5 @@
-// Events of a registry with binders: their answers on a disk whose calls are cut, compared with the
-// expected answers.
+// Events of a registry with binders. They happen on a disk whose calls are cut, and their answers
+// are compared with the expected ones.
 
 use crate::cut::Cut;
 use crate::event::Event;
@@ -15,11 +15,12 @@ use sector_disk::Memory;
 use std::alloc::Global;
 use std::rc::Rc;
 
-// The events on a disk that is opened again: first no binder lives there, and then a new one binds.
+// The events on a disk that is opened again: at first there is no binder, and then a new binder
+// binds.
 const AGAIN: &str =
     "advance 0; begin a; advance 0; advance 0; advance 0; advance 0; advance 0; cancel 0";
 
-/// A disk of `sectors` sectors after some changes, and the events on it.
+/// A disk of `sectors` sectors after the changes `start`, and the events on it.
 #[derive(Drop)]
 pub(crate) struct Course {
     sectors: u32,
@@ -37,8 +38,8 @@ fn put_cuts(cuts: &mut Vec<Cut>, event: usize, before: u64, calls: u64) -> Resul
 }
 
 impl Course {
-    /// Makes the course of `events` on a disk that has a registry after the changes `start`. With
-    /// `room` the number of free sectors is compared too.
+    /// Makes the course of `events` on a disk that has a registry after the changes `start`. If
+    /// `room` is true, the number of free sectors is compared too.
     pub(crate) fn on(
         alloc: Global,
         disk: Memory,
@@ -59,7 +60,8 @@ impl Course {
         })
     }
 
-    /// Makes the plain registry with binders for these events.
+    /// Makes the plain registry after the changes `start`. `keeps` says whether its binders keep
+    /// the state in which they begin.
     pub(crate) fn plain(&self, alloc: Global, keeps: bool) -> Result<Plain> {
         Plain::of(alloc, self.sectors, &self.start, keeps)
     }
@@ -117,7 +119,8 @@ impl Course {
         self.open_list(tally, &sides, &disk, plain.wanted)
     }
 
-    // Opens what is left after such a call.
+    // Opens the disk that a cut has left. If the cut call was late and all later ones failed, also
+    // cuts the openings of this disk. If only one call failed, also opens the disk with its fuse.
     fn open_list(&self, tally: &mut Tally, sides: &Sides, disk: &Memory, on: Wanted) -> Result<()> {
         let count = self.run.events.len();
         sides.open(tally, disk, on)?;
@@ -132,8 +135,8 @@ impl Course {
         }
     }
 
-    /// Cuts a list of commands at each of its calls, including those of its opening, and after all
-    /// of them. Then cuts each opening of what is left, before a stop and after it.
+    /// Cuts a list of commands at each of its calls, including those of its opening, and at one
+    /// call after them. Then cuts each opening of what is left, with and without a stop before it.
     pub(crate) fn cut_list(&self, tally: &mut Tally) -> Result<()> {
         let plain = self.plain(tally.rt.alloc(), true)?;
         let sides = plain.sides(&self.probe)?;
@@ -146,8 +149,8 @@ impl Course {
         Ok(())
     }
 
-    // Opens what the first `count` events leave. `before` is the disk before the last of them. An
-    // event that isn't a change has to leave the disk as it was.
+    // Opens what the first `count` events leave. `before` is the disk before the last of these
+    // events. If that event isn't a change, it has to leave the disk unchanged.
     fn follow_one(&self, tally: &mut Tally, count: usize, before: &Memory) -> Result<Memory> {
         let (plain, disk) = self.leave(tally, count, Cut::NONE)?;
         self.open_flight(tally, &plain, &disk)?;
@@ -158,7 +161,7 @@ impl Course {
         Ok(disk)
     }
 
-    /// Opens what is left after each event, if no call is cut.
+    /// Opens what is left after each event, without a cut.
     pub(crate) fn follow(&self, tally: &mut Tally) -> Result<()> {
         let mut before = self.run.disk.copy()?;
         for count in 1..=self.run.events.len() {
@@ -167,7 +170,7 @@ impl Course {
         Ok(())
     }
 
-    // Opens once more the disk that is left, on which no binder lives, and binds there.
+    // Opens the disk that is left once more. There is no binder then, and a new one binds.
     fn go_on(&self, tally: &mut Tally, plain: &Plain, disk: Memory) -> Result<()> {
         let alloc = tally.rt.alloc();
         let events = Event::all(alloc, AGAIN)?;
@@ -177,8 +180,8 @@ impl Course {
         Ok(())
     }
 
-    // Cuts a call, and opens what is left. A change that failed leaves the same, whatever comes
-    // after it, and a read that failed leaves what it found.
+    // Makes the events happen with this cut, and opens what is left. Events after a change that
+    // failed must not change the disk, and neither must a read that failed.
     fn cut_flight_at(&self, tally: &mut Tally, cut: Cut) -> Result<()> {
         let (plain, disk) = self.leave(tally, self.run.events.len(), cut)?;
         self.open_flight(tally, &plain, &disk)?;
@@ -186,7 +189,8 @@ impl Course {
         self.go_on(tally, &plain, disk)
     }
 
-    // Opens what is left. If all calls after one were cut, also cuts each call of that opening.
+    // Opens the disk that a cut has left. If all calls after the first failed one were cut, also
+    // cuts each call of this opening.
     fn open_flight(&self, tally: &mut Tally, plain: &Plain, disk: &Memory) -> Result<()> {
         let sides = plain.sides(&self.probe)?;
         sides.open(tally, disk, plain.wanted)?;
@@ -196,7 +200,8 @@ impl Course {
         Ok(())
     }
 
-    // Compares the disk with what fewer events leave.
+    // Compares the disk with the one that only the events up to the cut leave, without the event
+    // that was cut unless it is a change.
     fn compare_left(&self, tally: &mut Tally, disk: &Memory, cut: Cut) -> Result<()> {
         let is_change = self.is_change(cut.event);
         if cut.forever || is_change {
@@ -208,7 +213,8 @@ impl Course {
         Ok(())
     }
 
-    /// Opens what is left after each event, and cuts each call of each event.
+    /// Opens what is left after each event. Then cuts each call of each event, and opens what is
+    /// left.
     pub(crate) fn cut_flights(&self, tally: &mut Tally) -> Result<()> {
         self.follow(tally)?;
         for &cut in &self.cuts(tally.rt.alloc())? {

@@ -1,4 +1,4 @@
-// Cuts: which call fails, and how.
+// Cuts: the call of the disk that fails, and how it fails.
 
 use sector_disk::{Fuse, Memory};
 
@@ -12,7 +12,7 @@ pub(crate) struct Cut {
     pub(crate) event: usize,
     /// The number of the call among all calls, counted from 1; 0 if none fails.
     pub(crate) number: u64,
-    /// The number of the call among those of the event.
+    /// The number of the call among those of the event, counted from 1.
     pub(crate) call: u64,
     /// Whether the call reaches the disk before it fails.
     pub(crate) late: bool,
@@ -21,7 +21,7 @@ pub(crate) struct Cut {
 }
 
 impl Cut {
-    /// No call fails.
+    /// The cut in which no call fails.
     pub(crate) const NONE: Cut = Cut {
         event: 0,
         number: 0,
@@ -40,7 +40,8 @@ impl Cut {
         self.event == 0 && self.call > 0
     }
 
-    /// Returns how event number `event` is cut, if it makes a call of the disk.
+    /// Returns the cut of event number `event`, if one of its calls fails. After the event of a cut
+    /// for ever, this is its first call.
     pub(crate) fn at(self, event: usize) -> Option<Cut> {
         if event == self.event {
             Some(self)
@@ -55,12 +56,14 @@ impl Cut {
         }
     }
 
-    /// Returns the number of cuts of `calls` calls: each early and late, once and for ever.
+    /// Returns the number of cuts of `calls` calls: each call can fail early or late, once or for
+    /// ever.
     pub(crate) fn count(calls: u64) -> u64 {
         calls.saturating_mul(4)
     }
 
-    /// Returns cut number `at`, counted from 0, of an event that comes after `before` calls.
+    /// Returns cut number `at`, counted from 0, of the calls of event number `event`, which come
+    /// after `before` other calls.
     pub(crate) fn nth(event: usize, before: u64, at: u64) -> Cut {
         let call = (at / 4).saturating_add(1);
         Cut {

@@ -1,4 +1,4 @@
-// Events, and how a row writes them.
+// Events, and their form in a row.
 
 use anyhow::{Context, Result, bail};
 use requests::Command;
@@ -27,7 +27,7 @@ pub(crate) enum What {
 // The names of preloads.
 const LETTERS: &[u8] = b"abcdefghijklmnopqrstuvwxyz";
 
-// The words for them in rows.
+// The words for these kinds in rows.
 const WORDS: [(&str, What); 9] = [
     ("install", What::Install),
     ("replace", What::Replace),
@@ -44,11 +44,11 @@ const WORDS: [(&str, What); 9] = [
 #[derive(Drop)]
 pub(crate) struct Event {
     pub(crate) what: What,
-    /// The name of the library that is installed, replaced, removed or needed.
+    /// The letter of the library that is installed, replaced, removed or needed.
     pub(crate) name: u8,
     /// The number of the binder's slot.
     pub(crate) slot: usize,
-    /// The library's file, the program's, or the name.
+    /// The file of the library or of the program, or the library's name.
     pub(crate) bytes: Vec<u8>,
     // The names of the preloads.
     names: Vec<&'static [u8]>,
@@ -62,7 +62,7 @@ pub(crate) fn bind(program: &[u8]) -> Command<'_> {
     }
 }
 
-// Returns the kind of event that a word names.
+// Returns the kind of event for a word.
 fn named(word: &str) -> Result<What> {
     for (spelt, what) in WORDS {
         if spelt == word {
@@ -72,7 +72,7 @@ fn named(word: &str) -> Result<What> {
     bail!("the event {word}")
 }
 
-// Returns the letter that a word is: `-` is 0, which no library has as its name.
+// Returns the letter in a word. For `-` returns 0, which is the name of no library.
 fn letter(word: &str) -> u8 {
     match word.bytes().next() {
         Some(b'-') | None => 0,
@@ -80,13 +80,13 @@ fn letter(word: &str) -> u8 {
     }
 }
 
-// Returns the name that a letter is.
+// Returns the name that consists of a letter.
 fn name_of(letter: u8) -> &'static [u8] {
     let place = LETTERS.iter().take_while(|other| **other != letter).count();
     LETTERS.get(place..place.saturating_add(1)).unwrap_or(b"")
 }
 
-// Returns the file of a library with this name, as `VERSION BYTES` describes it.
+// Returns the file of the library `name`. `words` describe it in the form `VERSION BYTES`.
 fn library(alloc: Global, name: u8, words: &str) -> Result<Vec<u8>> {
     let (version, size) = words.split_once(' ').context("a library without a size")?;
     let (version, size) = (version.parse::<u8>()?, size.parse::<usize>()?);
@@ -94,7 +94,7 @@ fn library(alloc: Global, name: u8, words: &str) -> Result<Vec<u8>> {
 }
 
 impl Event {
-    // Reads an event.
+    // Reads an event from a text.
     fn of(alloc: Global, text: &str) -> Result<Event> {
         let (word, rest) = text.split_once(' ').unwrap_or((text, ""));
         let (first, behind) = rest.split_once(' ').unwrap_or((rest, ""));
@@ -148,7 +148,7 @@ impl Event {
         }
     }
 
-    /// Returns the event in the form in which binders take it.
+    /// Returns the event in the type that the binders of a registry accept.
     pub(crate) fn binder_event(&self) -> binders::Event<'_> {
         match self.what {
             What::Begin => binders::Event::Begin {
@@ -161,9 +161,10 @@ impl Event {
         }
     }
 
-    /// Returns how many calls of the disk a change makes that leaves `libraries` libraries: the
-    /// sectors of the file and its entry, the catalogues, a sync, the root, and a sync. A removal
-    /// writes no file, and a change of the preloads writes only the root.
+    /// Returns how many calls of the disk a change makes that leaves `libraries` libraries. It
+    /// writes the sectors of the file and its entry and the catalogues, makes a sync, writes the
+    /// root, and makes a sync. A removal writes no file, and a change of the preloads writes only
+    /// the root.
     pub(crate) fn calls(&self, libraries: usize) -> u64 {
         let catalogues = libraries.div_ceil(64) as u64;
         let file = self.bytes.len().div_ceil(512) as u64;
@@ -174,7 +175,7 @@ impl Event {
         }
     }
 
-    /// Returns whether the event is a change, if it isn't refused.
+    /// Returns whether the event is a change if it isn't refused.
     pub(crate) fn is_change(&self) -> bool {
         matches!(
             self.what,

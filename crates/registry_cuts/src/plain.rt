@@ -1,5 +1,5 @@
-// A plain registry with binders: the expected answer to each event, whichever call of the disk
-// fails.
+// A plain registry with binders: the expected answer to each event, for each call of the disk that
+// may fail.
 
 use crate::answer::{DONE, answer, event_answer};
 use crate::cut::Cut;
@@ -14,8 +14,9 @@ use requests::{Listing, Refusal, Reply};
 use std::alloc::Global;
 use std::rc::Rc;
 
-// A library as a change left it: its name, the number of sectors that it takes, and the number of
-// changes that were made when it was added and when it was removed, if it was.
+// A library that a change has added: its name, the number of sectors that it takes, and the number
+// of changes that were made before it was added. If it was removed, also the number of changes that
+// were made by then.
 #[derive(Clone, Copy)]
 struct Hold {
     name: u8,
@@ -39,21 +40,21 @@ pub(crate) struct Plain {
     alloc: Global,
     sectors: u32,
     // Whether binders keep the state in which they began. If not, which is wrong on purpose, they
-    // hold nothing, and their answers are about the state at their last step.
+    // keep no libraries, and their answers are about the state at their last step.
     keeps: bool,
     registry: PlainRegistry,
     holds: Vec<Hold>,
     flights: Vec<Option<Flight>>,
-    // The changes that were made.
+    // The changes that were accepted.
     old: Vec<Rc<Event>>,
-    // The same changes, and after them the one that failed, if one did.
+    // The same changes, followed by the change that failed, if one did.
     new: Vec<Rc<Event>>,
-    /// Which of the two states is found if the disk is opened again.
+    /// The state that has to be found if the disk is opened again.
     pub(crate) wanted: Wanted,
 }
 
-// Taken apart in one place: a derived drop would be proved again on each way out of every function
-// that has one.
+// Only this function drops the parts: a derived drop would be proved again on each way out of every
+// function that has a `Plain`.
 impl Drop for Plain {
     fn drop(self) {
         let Plain {
@@ -92,8 +93,8 @@ fn put_sectors(steps: &mut Vec<u64>, listing: &Listing, name: &[u8]) -> Result<(
 }
 
 impl Plain {
-    /// Makes a registry after these commands, without binders. `keeps` says whether binders keep
-    /// the state in which they begin.
+    /// Makes a registry after the changes `start`, without binders. `keeps` says whether binders
+    /// keep the state in which they begin.
     pub(crate) fn of(
         alloc: Global,
         sectors: u32,
@@ -124,7 +125,7 @@ impl Plain {
         self.new.len() > self.old.len()
     }
 
-    // Notes a change that was made.
+    // Notes a change that was accepted.
     fn note(&mut self, change: &Rc<Event>) -> Result<()> {
         self.old.push(Rc::clone(change)?)?;
         self.new.push(Rc::clone(change)?)?;
@@ -148,7 +149,7 @@ impl Plain {
         Ok(())
     }
 
-    // Returns whether a binder keeps a hold.
+    // Returns whether a binder keeps the library of a hold.
     fn is_kept(&self, hold: &Hold) -> bool {
         let is_held = self.flights.iter().any(|flight| match flight {
             Some(flight) => hold.since <= flight.begun && flight.begun < hold.until,
@@ -157,7 +158,7 @@ impl Plain {
         self.keeps && is_held
     }
 
-    // Returns the number of sectors, less those that only the holds of binders keep.
+    // Returns the number of the disk's sectors, without those that only binders keep.
     fn room(&self) -> u32 {
         let mut room = self.sectors;
         for hold in &self.holds {
@@ -168,8 +169,8 @@ impl Plain {
         room
     }
 
-    // Returns how many sectors each step of a program's bind reads, with the first step last. The
-    // first step reads none. Each other step except the last reads a library: the preloads, and
+    // Returns how many sectors each step of a program's bind reads, with the first step last in the
+    // list. The first step reads none. Each step after it reads a library: first the preloads, and
     // then the needed library. The last step reads none. Libraries need no libraries.
     fn steps(&self, needed: u8) -> Result<Vec<u64>> {
         let needed = [needed];
@@ -188,8 +189,8 @@ impl Plain {
         Ok(steps)
     }
 
-    // Returns how many calls of the disk a command makes. A bind also reads if a library is
-    // missing; other commands make no call if they aren't carried out.
+    // Returns how many calls of the disk a command makes. If the command isn't carried out, only a
+    // bind makes calls: it reads libraries until one is missing.
     fn calls(&self, event: &Event, is_done: bool) -> Result<u64> {
         if is_done {
             return Ok(event.calls(self.registry.list()?.libraries.len()));
@@ -203,13 +204,13 @@ impl Plain {
         Ok(all)
     }
 
-    // Gives the command of an event, and returns the text of its reply.
+    // Applies the command of an event to the plain registry, and returns the text of its reply.
     fn ask(&mut self, event: &Event) -> Result<Vec<u8>> {
         answer(self.alloc, &self.registry.apply(&event.command()))
     }
 
-    // Returns the answer to a command one of whose calls is cut. If it was carried out, it is a
-    // change.
+    // Returns the answer to a command whose call is cut. If the plain registry has carried out the
+    // command, it is a change.
     fn fail(&mut self, event: &Rc<Event>, is_done: bool, calls: u64, cut: Cut) -> Result<Told> {
         if is_done {
             self.new.push(Rc::clone(event)?)?;
@@ -218,7 +219,8 @@ impl Plain {
         refused(self.alloc, Refusal::Device)
     }
 
-    // Gives a command. One of its calls is cut, if it makes any.
+    // Returns the answer to a command. If there is a cut and the command makes calls, the cut
+    // applies.
     fn give(&mut self, event: &Rc<Event>, cut: Option<Cut>) -> Result<Told> {
         let room = self.room();
         self.registry.set_sectors(room);
@@ -251,7 +253,7 @@ impl Plain {
         told(self.alloc, EventReply::Slot(slot), 0)
     }
 
-    // Makes a step of the binder in a slot. Returns whether another step follows.
+    // Makes a step of the binder in slot `slot`. Returns whether another step follows.
     fn step(&mut self, slot: usize) -> bool {
         if let Some(Some(flight)) = self.flights.get_mut(slot) {
             let _ = flight.steps.pop();
@@ -260,7 +262,7 @@ impl Plain {
         false
     }
 
-    // Ends the binder in a slot, and returns its answer.
+    // Ends the binder in slot `slot`, and returns its answer.
     fn end(&mut self, slot: usize) -> Result<Vec<u8>> {
         match self.take(slot) {
             Some(flight) if self.keeps => Ok(flight.answer),
@@ -269,8 +271,8 @@ impl Plain {
         }
     }
 
-    // Returns the answer to a step of the binder in a slot. One of its calls is cut, if it makes
-    // any.
+    // Returns the answer to a step of the binder in slot `slot`. If there is a cut and the step
+    // makes calls, the cut applies.
     fn advance(&mut self, slot: usize, cut: Option<Cut>) -> Result<Told> {
         let calls = match self.flights.get(slot) {
             Some(Some(flight)) => flight.steps.last().copied().unwrap_or(0),
@@ -288,12 +290,13 @@ impl Plain {
         Ok((self.end(slot)?, calls))
     }
 
-    // Removes the binder from a slot, if one lives there.
+    // Removes the binder from slot `slot`, if there is one.
     fn take(&mut self, slot: usize) -> Option<Flight> {
         self.flights.get_mut(slot)?.take()
     }
 
-    /// Makes an event happen. One of its calls of the disk is cut, if it makes any.
+    /// Makes an event happen. If there is a cut and the event makes calls of the disk, the cut
+    /// applies.
     pub(crate) fn happen(&mut self, event: &Rc<Event>, cut: Option<Cut>) -> Result<Told> {
         match event.what {
             What::Advance => self.advance(event.slot, cut),
@@ -317,12 +320,12 @@ impl Plain {
         Ok(answers)
     }
 
-    /// Returns the changes that lead to the new state or to the old one.
+    /// Returns the changes of the new state, or those of the old one.
     pub(crate) fn changes(&self, is_new: bool) -> &[Rc<Event>] {
         if is_new { &self.new } else { &self.old }
     }
 
-    /// Returns what is seen of the two states, if no binder lives.
+    /// Returns the listing and the binds of the old and of the new state, without binders.
     pub(crate) fn sides<'b>(&self, probe: &'b Probe) -> Result<Sides<'b>> {
         Ok(Sides {
             old: Seen::of(self.alloc, self.sectors, &self.old, probe)?,

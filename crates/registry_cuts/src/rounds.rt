@@ -1,6 +1,6 @@
-// Rounds: whole lives of a disk with a stop after each run, as `run_rounds` plays them. Each round
-// is also played call by call, to see which contents its sectors may keep: it is cut at each of its
-// calls, with every pick.
+// Rounds: a disk is opened, commands run on it, and a stop follows, as in `run_rounds`. Each round
+// is also played call by call, to find the contents that each sector may keep: it is cut at each of
+// its calls, with every pick.
 
 use crate::answer::answers;
 use crate::course::Course;
@@ -21,8 +21,7 @@ use store::StoreRefusal;
 // Lists of picks that are shorter than the disk. They are repeated.
 const SHORT: [&[usize]; 5] = [&[], &[0], &[1], &[1, 0], &[0, 1, 1]];
 
-// A round: where it is cut, its expected answers, and the content that each sector keeps at the
-// stop.
+// A round: its cut, its expected answers, and the content that each sector keeps at the stop.
 #[derive(Drop)]
 struct Turn {
     cut: Cut,
@@ -38,8 +37,8 @@ struct Past {
     disk: Memory,
 }
 
-// A round with a cut, after other rounds: its expected answers, its disk, and the states that may
-// be left.
+// A round with a cut, after other rounds: its expected answers, its disk, and the states that the
+// disk may have.
 #[derive(Drop)]
 struct Ended<'a> {
     past: &'a Past,
@@ -50,8 +49,8 @@ struct Ended<'a> {
     sides: Sides<'a>,
 }
 
-// Rounds of commands on a disk of `sectors` sectors with a registry, and the rounds that were
-// played, each with all before it.
+// Rounds of commands on a disk of `sectors` sectors with a registry. Each element of `played` has
+// rounds that were played one after the other.
 #[derive(Drop)]
 struct Game {
     sectors: u32,
@@ -62,7 +61,7 @@ struct Game {
     goes_on: bool,
 }
 
-// Returns the answers of a round.
+// Returns the answers of a round as texts.
 fn told_of(alloc: Global, replies: RoundReplies) -> Result<Told> {
     match replies {
         RoundReplies::Ran(replies) => Ok(Ok(answers(alloc, &replies)?)),
@@ -70,7 +69,7 @@ fn told_of(alloc: Global, replies: RoundReplies) -> Result<Told> {
     }
 }
 
-// Returns a round in the form in which `run_rounds` takes it.
+// Returns a round in the type that `run_rounds` accepts.
 fn round<'b>(alloc: Global, turn: &Turn, events: &'b [Rc<Event>]) -> Result<Round<'b>> {
     let mut commands = Vec::new(alloc);
     for event in events {
@@ -84,8 +83,9 @@ fn round<'b>(alloc: Global, turn: &Turn, events: &'b [Rc<Event>]) -> Result<Roun
     })
 }
 
-// Returns the expected answers of a round of these events with this cut. If its opening is cut,
-// nothing is done, as if its first call were cut.
+// Returns the expected answers of a round of these events with this cut. If the cut is in the
+// round's opening, no command runs, and the disk is left as if the first command's first call were
+// cut.
 fn wanted(plain: &mut Plain, events: &[Rc<Event>], cut: Cut) -> Result<Told> {
     if cut.is_in_opening() {
         let _ = plain.run(events.get(..1).unwrap_or(events), cut)?;
@@ -114,7 +114,7 @@ impl<'a> Ended<'a> {
         })
     }
 
-    // Returns all rounds up to this one, which is stopped with these picks.
+    // Returns the rounds of the past, followed by this one, which is stopped with these picks.
     fn turns(&self, alloc: Global, picks: &[usize]) -> Result<Vec<Rc<Turn>>> {
         let turn = Turn {
             cut: self.cut,
@@ -128,7 +128,7 @@ impl<'a> Ended<'a> {
 }
 
 impl Game {
-    // Begins on a disk of `sectors` sectors after these changes.
+    // Makes the game on a disk of `sectors` sectors after the changes `start`.
     fn on(alloc: Global, sectors: u32, start: &[Rc<Event>]) -> Result<Game> {
         let disk = disk_after(alloc, sectors, start)?;
         let past = Past {
@@ -147,7 +147,8 @@ impl Game {
         })
     }
 
-    // Runs rounds from the first disk, and compares their answers, and what is left.
+    // Runs the rounds `turns` with `run_rounds`, from the first disk, and compares the answers with
+    // the expected ones, and the disk with `left`.
     fn compare(&self, tally: &mut Tally, turns: &[Rc<Turn>], left: &Memory) -> Result<()> {
         let alloc = tally.rt.alloc();
         let mut rounds = Vec::new(alloc);
@@ -169,7 +170,7 @@ impl Game {
         Ok(())
     }
 
-    // Stops a round with fewer picks than sectors.
+    // Stops a round with each list of picks in `SHORT`.
     fn stop_short(&self, tally: &mut Tally, ended: &Ended) -> Result<()> {
         for picks in SHORT {
             let turns = ended.turns(tally.rt.alloc(), picks)?;
@@ -178,7 +179,7 @@ impl Game {
         Ok(())
     }
 
-    // Stops a round with these picks. Returns the rounds that were played then.
+    // Stops a round with these picks. Returns all rounds up to it, as a new past.
     fn stop(&self, tally: &mut Tally, ended: &Ended, picks: &[usize]) -> Result<Past> {
         let turns = ended.turns(tally.rt.alloc(), picks)?;
         let disk = stopped(&ended.disk, picks)?;
@@ -188,8 +189,8 @@ impl Game {
         Ok(Past { turns, done, disk })
     }
 
-    // Stops the disk of a round with every pick. A first round is also stopped with fewer picks
-    // than sectors.
+    // Stops the disk of a round with every pick. If it is a first round, also stops it with lists
+    // of picks that are shorter than the disk.
     fn stop_each(&mut self, tally: &mut Tally, ended: &Ended) -> Result<()> {
         if ended.past.turns.is_empty() {
             self.stop_short(tally, ended)?;
@@ -203,7 +204,7 @@ impl Game {
         Ok(())
     }
 
-    // Plays this round after others, cut at each of its calls, and without a cut.
+    // Plays one more round after the rounds of `past`: cut at each of its calls, and without a cut.
     fn play_behind(&mut self, tally: &mut Tally, past: &Past, course: &Course) -> Result<()> {
         for &cut in &course.cuts(tally.rt.alloc())? {
             if cut.forever {
@@ -215,7 +216,7 @@ impl Game {
         self.stop_each(tally, &ended)
     }
 
-    // Plays one more round after everything that was played.
+    // Plays one more round after all rounds that were played.
     fn play(&mut self, tally: &mut Tally, events: &[Rc<Event>]) -> Result<()> {
         let alloc = tally.rt.alloc();
         self.rounds.push(events.to_vec(alloc)?)?;
@@ -229,8 +230,8 @@ impl Game {
     }
 }
 
-/// Plays rounds of commands, which are separated by ` / `, on a disk of `sectors` sectors after
-/// these changes.
+/// Plays rounds of commands on a disk of `sectors` sectors after the changes `start`. In `text` the
+/// rounds are separated by ` / `.
 pub(crate) fn play_rounds(
     tally: &mut Tally,
     sectors: u32,

@@ -1,4 +1,4 @@
-// Rows: each is a line of a file.
+// Rows: the lines of a file.
 
 use crate::course::Course;
 use crate::event::Event;
@@ -12,7 +12,7 @@ use anyhow::{Context, Result, bail};
 use std::fs;
 use std::rc::Rc;
 
-// Returns the lines of a file that aren't empty and aren't comments.
+// Returns the lines of a file, without empty lines and comments.
 fn lines(tally: &Tally, file: &str) -> Result<Vec<String>> {
     let text = fs::read_to_string(tally.rt, file).context(format_args!("the file {file}"))?;
     let mut lines = Vec::new(tally.rt.alloc());
@@ -24,7 +24,7 @@ fn lines(tally: &Tally, file: &str) -> Result<Vec<String>> {
     Ok(lines)
 }
 
-// Runs events on a disk of `sectors` sectors after these changes.
+// Runs events on a disk of `sectors` sectors after the changes `start`.
 fn run_course(
     tally: &mut Tally,
     word: &str,
@@ -54,7 +54,7 @@ fn run_course(
     }
 }
 
-// Runs events on disks of these sizes after these changes.
+// Runs events on disks of several sizes after the changes `start`.
 fn run_events(
     tally: &mut Tally,
     word: &str,
@@ -77,7 +77,7 @@ fn run_lists(tally: &mut Tally, sizes: &str, start: &[Rc<Event>], file: &str) ->
     Ok(())
 }
 
-// Runs what a row's word asks for, after these changes.
+// Runs the events of a row as its word says, after the changes `start`.
 fn run_word(
     tally: &mut Tally,
     word: &str,
@@ -99,7 +99,7 @@ fn run_word(
     }
 }
 
-// Runs a row: its word, its disk, the changes before, and the events.
+// Runs a row, which has its word, its disk, the changes made before, and the events.
 fn run_row(tally: &mut Tally, row: &str) -> Result<()> {
     let (front, rest) = row.split_once(" | ").unwrap_or((row, "nothing"));
     let (word, disk) = front.split_once(' ').context("a row without a disk")?;
@@ -108,7 +108,7 @@ fn run_row(tally: &mut Tally, row: &str) -> Result<()> {
     run_word(tally, word, disk, &start, rest)
 }
 
-/// Runs the rows of a file. A row after `wrong` is wrong on purpose.
+/// Runs the rows of a file. A row that begins with `wrong` is wrong on purpose.
 pub(crate) fn run_file(tally: &mut Tally, file: &str) -> Result<()> {
     for line in &lines(tally, file)? {
         let line = line.as_str();

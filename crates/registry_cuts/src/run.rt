@@ -11,24 +11,24 @@ use std::alloc::Global;
 use std::rc::Rc;
 use store::StoreRefusal;
 
-/// How a registry begins on a disk.
+/// How a registry is made on a disk.
 #[derive(Clone, Copy)]
 pub(crate) enum Beginning {
     Open,
-    /// On a disk of zeros.
+    /// A disk of zeros is formatted.
     Format,
-    /// Upgraded from version 1.
+    /// A disk of version 1 is upgraded.
     Upgrade,
-    /// Upgraded from version 1, but there is no room.
+    /// A disk of version 1 is upgraded, but has no room for it.
     Full,
-    /// Upgraded, although the disk is of version 2.
+    /// A disk of version 2 is upgraded.
     Newer,
 }
 
-/// The answers to events, or why there is no registry.
+/// The answers to events, or the refusal if there is no registry.
 pub(crate) type Told = std::result::Result<Vec<Vec<u8>>, StoreRefusal>;
 
-/// A disk, how a registry begins on it, and the events that happen then.
+/// A disk, how a registry is made on it, and the events that happen then.
 #[derive(Drop)]
 pub(crate) struct Run {
     pub(crate) disk: Memory,

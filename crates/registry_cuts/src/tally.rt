@@ -1,15 +1,14 @@
-// The number of openings that the rows of a file made, and the number of wrong ones.
+// The number of openings that the rows of a file make, and the number of wrong ones.
 
 use std::fmt::Debug;
 
-/// The number of openings that were made, and the number of those with another result than
-/// expected.
+/// The number of openings that were made, and the number of openings with an unexpected result.
 #[derive(Drop)]
 pub(crate) struct Tally<'a> {
     pub(crate) rt: &'a HostRuntime,
     pub(crate) openings: u64,
     pub(crate) wrong: u64,
-    /// Whether the rows are wrong on purpose. Then nothing is printed about wrong openings.
+    /// Whether the rows are wrong on purpose. If so, wrong openings aren't printed.
     pub(crate) on_purpose: bool,
 }
 
@@ -23,7 +22,7 @@ impl<'a> Tally<'a> {
         }
     }
 
-    /// Counts an opening, and prints where it was wrong.
+    /// Counts an opening, and prints its place if it was wrong.
     pub(crate) fn count(&mut self, right: bool, place: &impl Debug, what: &str) {
         self.openings = self.openings.saturating_add(1);
         if right {
@@ -31,7 +30,7 @@ impl<'a> Tally<'a> {
         }
         self.wrong = self.wrong.saturating_add(1);
         if !self.on_purpose {
-            // If this fails, printing the line of the file fails too.
+            // If this call fails, printing the line of the file fails too.
             let _ = println!(self.rt; "wrong: {what} at {place:?}");
         }
     }

@@ -13,7 +13,7 @@ const FRONT: &[u8] =
       \0\0\0\0\0\0\0\0\0\0\0\0\0\0\0\0\0\0\0\0\0\0\0\x0d\0\0\0\x12\0\x01\0\0\0\0\0\0\0\0\0\x08\
       \0\0\0\0\0\0\0\0a\0b\0c\0d\0e\0p\0f\0z\0\0\0\0\0\0\0\0";
 
-/// The last entries of the dynamic section, after the entries that are given.
+/// The last entries of the dynamic section. They follow the entries that a caller chooses.
 const TAIL: &[u8] =
     b"\x04\0\0\0\0\0\0\0\xb0\0\0\0\0\0\0\0\x05\0\0\0\0\0\0\0\xf8\0\0\0\0\0\0\0\x06\0\0\0\0\0\0\
       \0\xc8\0\0\0\0\0\0\0\x0a\0\0\0\0\0\0\0\x11\0\0\0\0\0\0\0\x0b\0\0\0\0\0\0\0\x18\0\0\0\0\0\
@@ -22,8 +22,8 @@ const TAIL: &[u8] =
 /// The names in `FRONT`, in their order.
 const LETTERS: &[u8] = b"abcdepfz";
 
-/// Returns an entry of the dynamic section with a name of one letter: for tag 1 a needed library,
-/// and for tag 14 the library's own name.
+/// Returns an entry of the dynamic section whose value is a name of one letter. With tag 1 it is a
+/// needed library, and with tag 14 the library's own name.
 pub fn named(tag: u64, letter: u8) -> [u8; 16] {
     let mut place = 1u64;
     for one in LETTERS {
@@ -38,8 +38,8 @@ pub fn named(tag: u64, letter: u8) -> [u8; 16] {
     entry
 }
 
-/// Writes the sizes of the whole file and of its dynamic section, each as the size in the file and
-/// the size in memory.
+/// Writes the size of the whole file and the size of its dynamic section into the program headers,
+/// both as the size in the file and as the size in memory.
 fn put_sizes(file: &mut [u8]) {
     let whole = file.len() as u64;
     let section = whole.saturating_sub(FRONT.len() as u64);
@@ -49,8 +49,9 @@ fn put_sizes(file: &mut [u8]) {
     put(file, 160, &section.to_le_bytes());
 }
 
-/// Makes a file that needs libraries with names of one letter, `needs`. Their entries are followed
-/// by `entry`, which may be empty. A file that is shorter than `size` bytes is padded to this size.
+/// Makes a file that needs the libraries `needs`, whose names have one letter. The entry `entry`,
+/// which may be empty, follows theirs. A file that is shorter than `size` bytes is padded with
+/// zeros to this size.
 pub fn needing_file(
     alloc: Global,
     needs: &[u8],

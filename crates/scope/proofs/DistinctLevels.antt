@@ -21,7 +21,7 @@ grown-distinct ps [] distinct = distinct
 grown-distinct ps (q ∷ qs) distinct = grown-distinct (grown_by ps q) qs (grown_by-distinct ps q distinct)
 
 module _ (needs : ℕ → List ℕ) where
-  -- the levels up to the next one have no object twice, if the levels before have none twice
+  -- if the levels so far have no object twice, they and the next level have none twice
   pub next-distinct : (earlier level : List ℕ) → IsDistinct nat_eq earlier → IsDistinct nat_eq (earlier ++ next_level needs earlier level)
   unfolding next_level
   next-distinct earlier level distinct = subst (IsDistinct nat_eq) (grown_is earlier (flat_map needs level)) (grown-distinct earlier (flat_map needs level) distinct)
@@ -35,7 +35,7 @@ module _ (needs : ℕ → List ℕ) where
       subst (IsDistinct nat_eq) (append_assoc earlier next rest)
       (more-distinct n (earlier ++ next) next (next-distinct earlier level distinct))
 
-  -- the joined levels have no object twice, if level 0 has none twice
+  -- if level 0 has no object twice, the joined levels have none twice
   pub joined_levels-distinct : (n : ℕ) (first : List ℕ) → IsDistinct nat_eq first → IsDistinct nat_eq (joined_levels needs n first)
   unfolding joined_levels levels
   joined_levels-distinct n first distinct = more-distinct n first first distinct

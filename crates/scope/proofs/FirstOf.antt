@@ -1,4 +1,4 @@
--- The first value that is present, of a function at consecutive places.
+-- The first value that a function returns at consecutive places.
 use Rattle.std.proofs.Common.{◌≡◌, ℕ, zero, suc, ◌+◌, ◌<◌, ◌≤◌, ◌∷◌, map, Option, None, Some, sym, ap, ◌∙◌, refl, arith, add-zero}
 use Rattle.std.specs.List.{range_with_len}
 use Rattle.elf_file.specs.FirstOf.{first_of}

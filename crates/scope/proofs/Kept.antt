@@ -1,4 +1,4 @@
--- The kept definitions of numbers are those that a search finds.
+-- The definitions that are kept for numbers are those that lookup finds.
 use Rattle.std.proofs.Common.{◌≡◌, ◌≢◌, ℕ, ◌<◌, ◌≤◌, ◌+◌, true, false, cond, List, [], ◌∷◌, ◌++◌, length, map, replicate, arith, refl, sym, ap, ◌∙◌, subst}
 use Rattle.std.proofs.Common.{get_or, set, Option, Some, None, inl, inr, ⊎_elim}
 use Rattle.std.specs.Prelude.{is_none, is_some}
@@ -84,7 +84,7 @@ found-later objects object name symbolic none =
     sym (ap (λ b. first_of (map (definition_at objects name) (cond b (object ∷ all_places objects) (all_places objects)))) symbolic
     ∙ ap (λ (o : Option Target). first_of (o ∷ map (definition_at objects name) (all_places objects))) none)
 
--- the file of the object at a place
+-- the file of object number p is that of the element at p
 pub file-is : (objects : List Named) (p : ℕ) (o : Named) → p < length objects → o ≡ get_or objects p o → file_at objects p ≡ o.file
 file-is objects p o lt is = get_or-map (λ (x : Named). x.file) objects p o [] lt ∙ ap (λ (x : Named). x.file) (sym is)
 
@@ -109,7 +109,8 @@ module _ (objects : List Named) (all : List NumberedSymbol) where
   one-more : (kept : List (Option Target)) (count n : ℕ) → IsOneOf objects all count kept n → IsOneOf objects all (count + 1) kept n
   one-more kept count n one = elim one [ inl none ↦ inl none | inr is ↦ inr (is.0, omega (arith, is.1), is.2) ]
 
-  -- the definitions after one more symbol was kept for its number
+  -- after one more symbol was kept, the definition of each number is absent or among the first k + 1
+  -- symbols
   one-new : (kept : List (Option Target)) (k : ℕ) → k < length all → IsExported objects (nth_symbol all k) → (nth_symbol all k).number < length kept → ((n : ℕ) → IsOneOf objects all k kept n)
       → (n : ℕ) → IsOneOf objects all (k + 1) (set kept (nth_symbol all k).number (Some (At (nth_symbol all k).object (nth_symbol all k).symbol))) n
   one-new kept k lt exported room each n =
@@ -136,7 +137,8 @@ module _ (objects : List Named) (all : List NumberedSymbol) where
     pub last-none : AreLast objects all 0 kept
     last-none = record { size = size-none; each = each-none; known = λ k lt. absurd (omega (arith, lt)) }
 
-  -- the first definitions after a symbol was kept whose number had none
+  -- if symbol number k was kept because its number had no definition, the kept definitions are the first
+  -- ones
   pub first-new : (kept : List (Option Target)) (k : ℕ) → k < length all → AreFirst objects all k kept → IsExported objects (nth_symbol all k) → (nth_symbol all k).number < length kept
       → nth_target kept (nth_symbol all k).number ≡ None
       → AreFirst objects all (k + 1) (set kept (nth_symbol all k).number (Some (At (nth_symbol all k).object (nth_symbol all k).symbol)))
@@ -158,7 +160,7 @@ module _ (objects : List Named) (all : List NumberedSymbol) where
         ];
       }
 
-  -- the last definitions after a symbol was kept
+  -- if symbol number k was kept in place of any before, the kept definitions are the last ones
   pub last-new : (kept : List (Option Target)) (k : ℕ) → k < length all → AreLast objects all k kept → IsExported objects (nth_symbol all k) → (nth_symbol all k).number < length kept
       → AreLast objects all (k + 1) (set kept (nth_symbol all k).number (Some (At (nth_symbol all k).object (nth_symbol all k).symbol)))
   last-new kept k lt last exported room =
@@ -181,7 +183,7 @@ module _ (objects : List Named) (all : List NumberedSymbol) where
       }
 
   module _ (numbered : AreNumbered (files_of objects) all) where
-    -- if no symbol of the list is exported by an object under a name, no symbol of the object is
+    -- if the list has no exported symbol of an object with this name, the object doesn't define the name
     absent : (place : ℕ) (name : List ℕ) → place < length objects
         → ((m : ℕ) → m < length all → (nth_symbol all m).object ≡ place → IsExported objects (nth_symbol all m) → name_in (files_of objects) (nth_symbol all m) ≡ name → ⊥)
         → definition_of (file_at objects place) name ≡ None
@@ -201,7 +203,7 @@ module _ (objects : List Named) (all : List NumberedSymbol) where
     inside at lt = omega (arith, (numbered.are.each at lt).there, length-map objects (λ (o : Named). o.file))
 
     module _ (taken : All (λ (o : Named). IsTaken o.file) objects) where
-      -- an exported symbol is its object's definition of its name
+      -- an exported symbol is its object's definition of its own name
       defines : (at : ℕ) (name : List ℕ) → at < length all → IsExported objects (nth_symbol all at) → name_in (files_of objects) (nth_symbol all at) ≡ name
           → definition_of (file_at objects (nth_symbol all at).object) name ≡ Some (nth_symbol all at).symbol
       defines at name lt exported named =
@@ -246,8 +248,8 @@ module _ (objects : List Named) (all : List NumberedSymbol) where
                 ∙ ap (option_map (At place)) (defines at name is.1 here.exported (numbered.same at k is.1 lt here.told))))
           ]
 
-      -- if the definition kept for a symbol's number belongs to the symbol's object, it is that object's definition of the name, and otherwise the
-      -- object has none
+      -- if the definition kept for a symbol's number belongs to the symbol's object, it is this object's
+      -- definition of the name; otherwise the object doesn't define the name
       pub own-found : (kept : List (Option Target)) (count k : ℕ) → k < length all → AreLast objects all count kept → AreUpTo all count (nth_symbol all k).object
           → own_of (nth_symbol all k).object (nth_target kept (nth_symbol all k).number) ≡ own_definition objects (nth_symbol all k)
       own-found kept count k lt last up_to =
@@ -289,7 +291,8 @@ module _ (objects : List Named) (all : List NumberedSymbol) where
                 ])
           ]
 
--- the list of own definitions after one more symbol
+-- if the list is right for the first `at` symbols, and the right definition is appended, it is right for
+-- one symbol more
 pub own-more : (objects : List Named) (all : List NumberedSymbol) (own : List (Option Target)) (at : ℕ) (x : Option Target) → length own ≡ at
     → ((k : ℕ) → k < at → nth_target own k ≡ own_definition objects (nth_symbol all k)) → x ≡ own_definition objects (nth_symbol all at)
     → (k : ℕ) → k < at + 1 → nth_target (own ++ x ∷ []) k ≡ own_definition objects (nth_symbol all k)

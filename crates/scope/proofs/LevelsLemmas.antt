@@ -1,6 +1,6 @@
--- What the levels are, seen from outside, for readers and callers. First occurrences are the same objects, each only once and in their order. Each
--- object of a level is needed by an object of the level just before. The joined levels are closed: they have every object that one of their objects
--- needs.
+-- The meaning of the levels, for readers and callers. First occurrences are the same objects, each only
+-- once and in their order. Each object of a level is needed by an object of the level just before. The
+-- joined levels are closed: they have every object that one of their objects needs.
 use Rattle.std.proofs.Common.{◌≡◌, ◌⊎◌, ◌↔◌, ℕ, zero, suc, ◌+◌, ◌<◌, ◌≤◌, eqb, nat_eq, Bool, true, false, not, cond, ◌&&◌, ◌||◌, List, [], ◌∷◌}
 use Rattle.std.proofs.Common.{◌++◌, length, get_or, take, filter, refl, sym, ap, subst, ◌∙◌, ⊎_elim, inl, inr, arith, append_assoc, append-nil}
 use Rattle.std.proofs.Common.{length-append}
@@ -20,7 +20,7 @@ use Rattle.scope.proofs.Apart.{few}
 use Rattle.scope.proofs.DistinctLevels.{grown-distinct, next-distinct}
 use Rattle.scope.specs.Levels.{is_among, first_occurrences, without, next_level, levels_after, levels, joined_levels}
 
--- an object is in a list, as the definitions test it
+-- the object is in the list, by the test that the definitions use
 abbrev In : List ℕ → ℕ → Type 0
 In xs x = is_among xs x ≡ true
 
@@ -76,7 +76,7 @@ among-filter f (y ∷ ys) x = by (f y) refl (among-filter f ys x)
     by true fy more = ap (λ b. eqb x y || b) more ∙ kept (eqb x y) (f x) (is_among ys x) (λ e. ap f (eqb-true x y e) ∙ fy)
     by false fy more = more ∙ dropped (eqb x y) (f x) (is_among ys x) (λ e. ap f (eqb-true x y e) ∙ fy)
 
--- the first occurrences are the same objects as the list
+-- an object is among the first occurrences exactly if it is in the list
 among-first_occurrences : (ps : List ℕ) (x : ℕ) → is_among (first_occurrences ps) x ≡ is_among ps x
 among-first_occurrences [] x = refl
 among-first_occurrences (p ∷ ps) x =
@@ -152,14 +152,15 @@ module _ (needs : ℕ → List ℕ) where
   none_after (suc n) earlier level none =
       ap (λ l. l ++ concat (levels_after needs n (earlier ++ l) l)) none ∙ none_after n (earlier ++ []) [] refl
 
-  -- the list has every object that one of its objects needs, except perhaps those that an object of `level` needs
+  -- the list has every object that an object of it needs, except perhaps objects that only those of
+  -- `level` need
   abbrev IsClosedBut : List ℕ → List ℕ → Type 0
   IsClosedBut level xs = (y x : ℕ) → In xs y → In (needs y) x → In level y ⊎ In xs x
 
   abbrev IsClosed : List ℕ → Type 0
   IsClosed xs = (y x : ℕ) → In xs y → In (needs y) x → In xs x
 
-  -- as many different numbers below a limit as the limit says are all numbers below it
+  -- if a list has `limit` distinct numbers below `limit`, it has every number below it
   full : (limit : ℕ) (xs : List ℕ) (x : ℕ) → AreApart limit xs → limit ≤ length xs → x < limit → In xs x
   full limit xs x apart many lt = by (is_among xs x) refl
     where
@@ -172,7 +173,7 @@ module _ (needs : ℕ → List ℕ) where
           } in
           absurd (omega (arith, few limit (xs ++ x ∷ []) more, length-append xs (x ∷ []), many))
 
-  -- a fact that is true of each object in a list is true of all
+  -- if a fact is true of each object that is in the list, `All` has it
   all-in : (P : ℕ → Type 0) (xs : List ℕ) → ((x : ℕ) → In xs x → P x) → All P xs
   all-in P xs h = All-from_get_or P xs 0 (λ i lt. h (get_or xs i 0) (contains-among xs (get_or xs i 0) (Contains-get_or xs i 0 lt)))
 
@@ -216,7 +217,7 @@ module _ (needs : ℕ → List ℕ) where
             (λ there. in-left earlier [] x there)
             (closed y x (subst (λ l. In l y) (append-nil earlier) h) g))
 
-    -- if the levels up to one have all objects, the next level is empty
+    -- if the levels so far have all objects, the next level is empty
     next-none : (earlier level : List ℕ) → AreApart limit earlier → limit ≤ length earlier → next_level needs earlier level ≡ []
     next-none earlier level apart many = empty (next_level needs earlier level) (λ x h.
         let r = next-in earlier level x h in
@@ -245,7 +246,7 @@ module _ (needs : ℕ → List ℕ) where
             ap (λ l. next ++ l)
             (same (omega (arith, room, length-append earlier next, ap length e)) (omega (arith, more, length-append earlier next, ap length e)))
 
-    -- If there are as many levels as objects, more levels make no difference.
+    -- If there are already as many levels as objects, further levels change nothing.
     pub joined_levels-enough : (n m : ℕ) (first : List ℕ) → All (λ p. p < limit) first → IsDistinct nat_eq first → limit ≤ length first + n → limit ≤ length first + m
         → joined_levels needs n first ≡ joined_levels needs m first
     unfolding joined_levels levels

@@ -1,5 +1,5 @@
--- What lookup finds, for readers and callers: a symbolic object's own definition, or else the first one in load order. It finds none only if there is
--- none.
+-- The result of lookup, for readers and callers. It is a symbolic object's own definition, or else the
+-- first definition in load order. Lookup finds none only if there is none.
 use Rattle.std.proofs.Common.{◌≡◌, ℕ, zero, suc, ◌+◌, ◌<◌, ◌≤◌, Bool, true, false, cond, List, ◌∷◌, length, map, Option, None, Some, refl, sym, ap, ◌∙◌, ◌⊎◌, ⊎_elim, arith}
 use Rattle.std.specs.Prelude.{is_none, unwrap_or}
 use Rattle.std.specs.List.{range_with_len}
@@ -13,7 +13,8 @@ use Rattle.scope.specs.Lookup.{all_places, definition_at, lookup}
 use Rattle.scope.specs.declared.target.Target.{Target}
 use Rattle.scope.specs.declared.target.Target.TheVariants.{Zero, At}
 
--- the place at which the first present value of a function at consecutive places is found
+-- of the places from `a` up to, but not including, a + n, `at` is the first at which `f` has a value,
+-- and this value is `x`
 record IsFirst {R : Type 0} (f : ℕ → Option R) (a n : ℕ) (x : R) : Type 0 where
   at : ℕ
   from : a ≤ at
@@ -68,7 +69,8 @@ lookup-own objects object name symbol symbolic defines = by (is_symbolic (file_a
     by true e = ap (λ o. first_of (option_map (At object) o ∷ map (definition_at objects name) (all_places objects))) defines
     by false e = absurd (false≢true e)
 
--- if an object isn't symbolic, or doesn't define the name, searching its scope is searching in load order
+-- if an object isn't symbolic, or doesn't define the name, searching its scope finds the same as
+-- searching in load order
 in_order : (objects : List Named) (object : ℕ) (name : List ℕ) (s : Bool) → (s ≡ false) ⊎ (definition_of (file_at objects object) name ≡ None)
     → first_of (map (definition_at objects name) (cond s (object ∷ all_places objects) (all_places objects)))
     ≡ first_of (map (definition_at objects name) (all_places objects))
@@ -78,7 +80,7 @@ in_order objects object name true h = ⊎_elim
     (λ none. ap (λ o. first_of (option_map (At object) o ∷ map (definition_at objects name) (all_places objects))) none)
     h
 
--- In all other cases, what lookup finds is a symbol of the first object that defines the name.
+-- In all other cases, lookup finds a symbol of the first object that defines the name.
 pub lookup-first : (objects : List Named) (object : ℕ) (name : List ℕ) (found : Target)
     → (is_symbolic (file_at objects object) ≡ false) ⊎ (definition_of (file_at objects object) name ≡ None) → lookup objects object name ≡ Some found
     → (place : ℕ) × (symbol : ℕ) × (found ≡ At place symbol) × IsFirstDefinition objects name place symbol

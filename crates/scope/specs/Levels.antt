@@ -12,12 +12,12 @@ abbrev pub first_occurrences : List ℕ → List ℕ
 first_occurrences [] = []
 first_occurrences (p ∷ ps) = p ∷ filter (λ q. not (q == p)) (first_occurrences ps)
 
--- the objects of a list that aren't in another list
+-- the objects of `ps` that aren't in `others`
 abbrev pub without : List ℕ → List ℕ → List ℕ
 without others ps = filter (λ p. not (is_among others p)) ps
 
--- The next level: the objects that those of `level` need, object by object, each in its order, and each only once. Objects of the levels up to this
--- one, which `earlier` has, are left out.
+-- The next level: the objects that the objects of `level` need, object by object, each in its order, and
+-- each only once. Objects of the levels up to this one, which are in `earlier`, are left out.
 unfoldable pub next_level : (ℕ → List ℕ) → List ℕ → List ℕ → List ℕ
 next_level needs earlier level = without earlier (first_occurrences (flat_map needs level))
 

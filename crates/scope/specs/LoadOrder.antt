@@ -8,16 +8,17 @@ use Rattle.elf_dynamic.specs.Strings.{needed}
 use Rattle.scope.specs.Objects.{Named, program_name, name_at, file_at}
 use Rattle.scope.specs.Levels.{joined_levels}
 
--- A program and the installed libraries in one list. An object is identified by its place in the list: 0 is the program, and p + 1 is library number
--- p (own).
+-- A program and the installed libraries in one list. An object is identified by its place in the list: 0
+-- is the program, and p + 1 is library number p (own).
 abbrev pub available : List ℕ → List Named → List Named
 available program libraries = record { name = program_name; file = program } ∷ libraries
 
--- the names that objects go by (own)
+-- the names of the objects
 abbrev pub names_of : List Named → List (List ℕ)
 names_of objects = map (λ o. o.name) objects
 
--- the place of the library with a name, if one is installed; `names` are the names of the libraries
+-- the place of the first library with this name, if one is installed; `names` has the names of the
+-- libraries
 abbrev pub place_of : List (List ℕ) → List ℕ → Option ℕ
 place_of names name = option_map (λ p. p + 1) (position (bytes_eq name) names)
 
@@ -30,7 +31,8 @@ needs_of program libraries place =
 abbrev pub level_0 : List ℕ → List ℕ
 level_0 preloads = 0 ∷ map (λ p. p + 1) preloads
 
--- The places of the objects in load order, level by level. There can't be more levels with objects than there are objects.
+-- The places of the objects in load order, level by level. There can't be more levels with objects than
+-- there are objects.
 unfoldable pub load_places : List ℕ → List Named → List ℕ → List ℕ
 load_places program libraries preloads =
     joined_levels (needs_of program libraries) (length (available program libraries)) (level_0 preloads)
@@ -56,6 +58,7 @@ needed_by object = map (λ name. record { needer = object.name; name = name }) (
 abbrev pub is_missing : List (List ℕ) → Need → Bool
 is_missing names need = is_none (place_of names need.name)
 
--- the first needed name that isn't installed: object by object in load order, and entry by entry
+-- the first needed name that isn't installed, by the load order of the objects and the order of the
+-- entries of each
 unfoldable pub missing : List ℕ → List Named → List ℕ → Option Need
 missing program libraries preloads = find (is_missing (names_of libraries)) (flat_map needed_by (load_order program libraries preloads))

@@ -7,12 +7,12 @@ use Rattle.hash_check.specs.Definition.{HasUniqueNames}
 use Rattle.hash_check.specs.HashTable.{HasGoodTable}
 use Rattle.hash_check.specs.Admission.{admission_refusal}
 
--- an object: the name that it goes by, and the bytes of its file
+-- an object: its name, and the bytes of its file
 pub record Named : Type 0 where
   pub name : List ℕ
   pub file : List ℕ
 
--- the name that a program goes by
+-- the name of a program
 abbrev pub program_name : List ℕ
 program_name = codes "/program"
 

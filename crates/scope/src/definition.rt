@@ -1,4 +1,4 @@
-// A definition that is kept for a name.
+// The definition that is kept for a name.
 
 ghost use Rattle.std.specs.Prelude.{◌≡◌, ◌≤◌, None, Some};
 ghost use Rattle.scope.specs.declared.target.Target.TheVariants.{At};
@@ -6,7 +6,7 @@ ghost use Rattle.scope.specs.declared.target.Target.TheVariants.{At};
 use crate::target::Target;
 use std::marker::Model;
 
-/// A definition in load order, or none, in eight bytes. One is kept for each symbol. Symbol number
+/// A definition in load order, or none, in eight bytes. There is one for each symbol. Symbol number
 /// 0 means that there is no definition. Contracts see the definition as a target, or none.
 #[derive(Clone, Drop)]
 pub(crate) struct Definition {
@@ -25,7 +25,7 @@ impl Model for Definition {
 }
 
 impl Definition {
-    /// Returns no definition.
+    /// Makes the value that means no definition.
     #[tactic(auto, unfolding(crate::specs::inside::Definitions::kept_target))]
     pub(crate) fn none() -> Definition
         ensures { result ≡ None }
@@ -55,7 +55,7 @@ impl Definition {
         }
     }
 
-    /// Returns the target that the definition is, if it is one.
+    /// Returns the definition as a target, or `None` if there is none.
     #[tactic(auto, unfolding(crate::specs::inside::Definitions::kept_target))]
     pub(crate) fn target(&self) -> Option<Target>
         ensures { result ≡ self.now }

@@ -1,4 +1,4 @@
-// The definitions of names, which are identified by numbers.
+// The definitions of names that are identified by numbers.
 
 ghost use Rattle.std.specs.Prelude.{◌≡◌, ◌<◌, ◌≤◌, ◌+◌, ◌^◌, ℕ, length, map, None, IfOk};
 ghost use Rattle.std.specs.Prelude.{replicate};
@@ -15,7 +15,7 @@ use crate::target::Target;
 use hash_check::NumberedSymbol;
 use std::alloc::{AllocError, Global};
 
-/// Returns `count` definitions that are all absent.
+/// Returns `count` values that all mean no definition.
 pub(crate) fn no_definitions(alloc: Global, count: usize) -> Result<Vec<Definition>, AllocError>
     ensures { IfOk result (λ v. v.items ≡ replicate count None) }
 {
@@ -94,7 +94,7 @@ fn keep_last(
 }
 
 /// Keeps the definitions of the objects up to the one at `place`. Those of the first `kept` symbols
-/// are kept already. Returns the number of symbols whose definitions are kept then.
+/// are kept already. Returns the number of symbols whose definitions have been kept after the call.
 fn keep_up_to(
     objects: &[LoadedObject<'_>],
     symbols: &[NumberedSymbol],
@@ -118,7 +118,7 @@ fn keep_up_to(
     at
 }
 
-/// Returns a definition if it belongs to the object at `place`.
+/// Returns `found` if it belongs to the object at `place`, and otherwise no definition.
 #[tactic(auto, unfolding(crate::specs::inside::Definitions::own_of))]
 fn own_one(found: &Definition, place: usize) -> Definition
     ensures { result ≡ own_of place found.now }
@@ -129,7 +129,7 @@ fn own_one(found: &Definition, place: usize) -> Definition
     }
 }
 
-/// Returns, for each symbol, the symbol that its own object exports under its name.
+/// Returns, for each symbol of `symbols`, the symbol that its own object exports under its name.
 pub(crate) fn own_definitions(
     alloc: Global,
     objects: &[LoadedObject<'_>],

@@ -10,8 +10,8 @@ use indexmap::IndexSet;
 use std::alloc::{AllocError, Global};
 use std::marker::Model;
 
-/// The names of installed libraries, in a form in which they are found fast. Contracts see them in
-/// their order.
+/// The names of installed libraries, in a form that is fast to search. Contracts see them in their
+/// order.
 #[derive(Drop)]
 pub(crate) struct Installed<'a> {
     names: IndexSet<&'a [u8]>,
@@ -28,7 +28,7 @@ impl<'a> Model for Installed<'a> {
 }
 
 impl<'a> Installed<'a> {
-    /// Returns the names of the libraries.
+    /// Makes the searchable form of the libraries' names.
     pub(crate) fn new(
         alloc: Global,
         libraries: &'a [Library<'a>],

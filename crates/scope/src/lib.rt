@@ -7,8 +7,8 @@
 #![tactic(auto)]
 
 mod definition;
+mod definition_table;
 mod definitions;
-mod found;
 mod installed;
 mod level;
 mod library;

@@ -7,8 +7,8 @@ ghost use Rattle.scope.specs.Objects.{IsTaken};
 use hash_check::Admitted;
 use std::marker::Model;
 
-/// An object in load order, with the name that it goes by. Whether it is symbolic is read only
-/// once, here, and not once for each symbol. Contracts see the name and the file's bytes.
+/// An object in load order, with its name. The flag that says whether it is symbolic is read once
+/// here, and not once for each symbol. Contracts see the name and the file's bytes.
 #[derive(Drop)]
 pub(crate) struct LoadedObject<'a> {
     name: &'a [u8],
@@ -53,7 +53,8 @@ impl<'a> LoadedObject<'a> {
         self.object
     }
 
-    /// Returns whether the object's own references are looked up in the object first.
+    /// Returns whether the symbols to which the object itself refers are looked up in the object
+    /// first.
     pub(crate) fn is_symbolic(&self) -> bool
         ensures { result ≡ is_symbolic self.now.file }
     {

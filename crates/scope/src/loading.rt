@@ -36,7 +36,7 @@ fn object_at<'a>(
     }
 }
 
-/// Returns the objects at these places.
+/// Returns the objects at these places, in the order of the places.
 fn objects_at<'a>(
     alloc: Global,
     program: &'a Admitted<'a>,
@@ -55,8 +55,8 @@ fn objects_at<'a>(
     Ok(objects)
 }
 
-/// Returns the places of the objects in load order. The libraries that an object of the queue needs
-/// are added to the queue's end.
+/// Returns the places of the objects in load order. Goes through a queue, and adds the libraries
+/// that each object needs to its end.
 fn load_places<'a>(
     alloc: Global,
     program: &'a Admitted<'a>,
@@ -86,8 +86,8 @@ fn load_places<'a>(
 /// Puts a program, the preloads, and all libraries that these need into load order, or returns the
 /// first needed name that isn't installed. `preloads` are numbers of libraries. Makes one pass over
 /// the dynamic section of each object, with one search for each needed name. Allocates about 40
-/// bytes a library, and more for each symbol if walks may cost more than finding all symbols at
-/// once.
+/// bytes a library. Allocates more for each symbol if lookups by walks may cost more than finding
+/// all definitions at once.
 pub fn load_order<'a>(
     alloc: Global,
     program: &'a Admitted<'a>,
@@ -99,10 +99,10 @@ pub fn load_order<'a>(
     requires distinct { IsDistinct nat_eq preloads.now }
     ensures ok { IfOk result (λ order. order ≡ load_order program.now libraries.now preloads.now) }
 
-    // Every needed name is installed.
+    // Returns an order only if every needed name is installed.
     ensures found { OnOk result (missing program.now libraries.now preloads.now ≡ None) }
 
-    // The refusal is the first needed name that isn't installed, or that memory was refused.
+    // Otherwise returns the first needed name that isn't installed, or that memory was refused.
     ensures refused { IfErr result (IsRefusal (missing program.now libraries.now preloads.now)) }
 {
     let places = load_places(alloc, program, libraries, preloads)?;

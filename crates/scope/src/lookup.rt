@@ -12,7 +12,8 @@ use crate::order::Order;
 use crate::target::Target;
 use hash_check::elf_hash;
 
-/// Returns the symbol that the object at `place` exports under a name, whose hash is `hash`.
+/// Returns the symbol that the object at `place` exports under `name`. `hash` is the hash of
+/// `name`.
 fn definition_at(order: &Order<'_>, place: usize, name: &[u8], hash: u32) -> Option<Target>
     requires place { place < length order.now }
     requires hash { hash ≡ elf_hash name.now }
@@ -27,7 +28,7 @@ fn definition_at(order: &Order<'_>, place: usize, name: &[u8], hash: u32) -> Opt
     }
 }
 
-/// Returns the first definition of a name in load order, weak or not. `hash` is the name's hash.
+/// Returns the first definition of `name` in load order, weak or not. `hash` is the hash of `name`.
 /// Follows one walk in each object, up to the object that defines the name.
 fn first_by_walks(order: &Order<'_>, name: &[u8], hash: u32) -> Option<Target>
     requires { hash ≡ elf_hash name.now }
@@ -42,9 +43,9 @@ fn first_by_walks(order: &Order<'_>, name: &[u8], hash: u32) -> Option<Target>
     None
 }
 
-/// Returns the first definition of a symbol's name, weak or not, for the object at place `object`,
-/// which refers to it. A symbolic object is searched first. Then all objects are searched in load
-/// order.
+/// Returns the first definition, weak or not, of the name of symbol number `symbol` of the object
+/// at place `object`. If this object is symbolic, it is searched first. Then all objects are
+/// searched in load order.
 #[tactic(auto, unfolding(crate::specs::Lookup::lookup))]
 pub(crate) fn lookup(order: &Order<'_>, object: usize, symbol: u32) -> Option<Target>
     requires object { object < length order.now }

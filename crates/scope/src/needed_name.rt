@@ -6,10 +6,10 @@ use names::Name;
 use std::alloc::{AllocError, Global};
 use std::marker::Model;
 
-/// A name that an object needs, with the name of that object.
+/// A name that an object needs, with the name of this object.
 #[derive(Drop)]
 pub struct NeededName {
-    /// The name of the object that needs the other name.
+    /// The name of the object that needs `name`.
     pub needer: Name,
     /// The needed name.
     pub name: Name,

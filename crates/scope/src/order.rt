@@ -7,7 +7,7 @@ ghost use Rattle.scope.specs.LoadOrder.{available};
 ghost use Rattle.scope.specs.Objects.{IsOrder, IsTaken, name_at, file_at, program_name};
 ghost use Rattle.scope.specs.inside.Definitions.{IsFound};
 
-use crate::found::Found;
+use crate::definition_table::DefinitionTable;
 use crate::library::Library;
 use crate::loaded::LoadedObject;
 use crate::worth::worthy_table;
@@ -15,11 +15,10 @@ use hash_check::Admitted;
 use std::alloc::{AllocError, Global};
 use std::marker::Model;
 
-/// The name that a program goes by. It has a slash, so it isn't the name of any library of a
-/// registry.
+/// The name of a program. It has a slash, so no library of a registry has it.
 const PROGRAM_NAME: &[u8] = b"/program";
 
-/// Returns the name that a program goes by: `/program`.
+/// Returns the name of a program, `/program`.
 pub fn program_name<'a>() -> &'a [u8]
     ensures { result.now ≡ program_name }
 {
@@ -27,12 +26,12 @@ pub fn program_name<'a>() -> &'a [u8]
 }
 
 /// A program and the libraries that are bound with it, in load order. The program is the first
-/// object, and goes by the name `/program`. Contracts see the names and the files' bytes. If walks
-/// may cost more, the order keeps the definitions found for all symbols.
+/// object, and its name is `/program`. Contracts see the names and the files' bytes. If lookups by
+/// walks may cost more, the order keeps the definitions found for all symbols.
 #[derive(Drop)]
 pub struct Order<'a> {
     objects: Vec<LoadedObject<'a>>,
-    table: Option<Found>,
+    table: Option<DefinitionTable>,
 }
 
 impl<'a> Model for Order<'a> {
@@ -49,8 +48,8 @@ impl<'a> Model for Order<'a> {
 }
 
 impl<'a> Order<'a> {
-    /// Makes an order of these objects. If walks may cost more, it allocates memory for the
-    /// definitions found for all symbols. If that memory is refused, the order does without them.
+    /// Makes an order of these objects. If lookups by walks may cost more, finds the definitions
+    /// for all symbols and keeps them. If memory for them is refused, the order does without them.
     pub(crate) fn new(alloc: Global, objects: Vec<LoadedObject<'a>>) -> Order<'a>
         requires { IsOrder objects.items }
         ensures { result ≡ objects.entry.items }
@@ -60,8 +59,8 @@ impl<'a> Order<'a> {
     }
 
     /// Makes the order of a program and of libraries that are in load order already, for callers
-    /// that have found this order themselves. Allocates about 30 bytes a library, and more for each
-    /// symbol if walks may cost more than finding all symbols at once.
+    /// that have found this order themselves. Allocates about 30 bytes a library. Allocates more
+    /// for each symbol if lookups by walks may cost more than finding all definitions at once.
     pub fn of(
         alloc: Global,
         program: &'a Admitted<'a>,
@@ -88,7 +87,7 @@ impl<'a> Order<'a> {
         self.objects.len()
     }
 
-    /// Returns the name that object number `i` goes by.
+    /// Returns the name of object number `i`.
     pub fn name(&self, i: usize) -> &'a [u8]
         requires { i < length self.now }
         ensures name { result.now ≡ name_at self.now i }
@@ -114,8 +113,8 @@ impl<'a> Order<'a> {
         &self.objects
     }
 
-    /// The definitions found for all symbols, if the order keeps them.
-    pub(crate) fn table(&self) -> Option<&Found>
+    /// The definitions found for all symbols, if the order has them.
+    pub(crate) fn table(&self) -> Option<&DefinitionTable>
         ensures { IfSome result (λ t. IsFound self.now (map (λ r. r.items) t.now.rows.items)) }
     {
         match &self.table {
@@ -124,7 +123,8 @@ impl<'a> Order<'a> {
         }
     }
 
-    /// Returns whether the own references of object number `i` are looked up in it first.
+    /// Returns whether the symbols to which object number `i` itself refers are looked up in this
+    /// object first.
     pub(crate) fn is_symbolic(&self, i: usize) -> bool
         requires { i < length self.now }
         ensures { result ≡ is_symbolic (file_at self.now i) }

@@ -8,7 +8,7 @@ ghost use Rattle.scope.specs.Queue.{grown_by, AreApart};
 use std::alloc::{AllocError, Global};
 use std::marker::Model;
 
-/// A queue of places below a limit, in the order in which they were added, each only once. Load
+/// A queue of places below a limit. Each place is in it at most once, in the order of adding. Load
 /// order is computed with it, also by callers that find the needed libraries one after the other.
 /// Contracts see the limit and the places.
 #[derive(Drop)]
@@ -57,13 +57,13 @@ impl Places {
         self.places[i]
     }
 
-    /// Adds a place, unless the queue has it. Adding a place that the queue has allocates nothing.
+    /// Adds a place, unless the queue has it. Allocates nothing if the queue has the place.
     pub fn add(&mut self, place: usize) -> Result<(), AllocError>
         requires { place < self.old.limit }
         ensures ok { OnOk result (self.new
             ≡ record { limit = self.old.limit; places = grown_by self.old.places place }) }
 
-        // Only a new place needs memory. If the memory is refused, nothing has changed.
+        // Memory is refused only for a new place, and then nothing has changed.
         ensures err { OnErr result (is_among self.old.places place ≡ false) }
         ensures same { OnErr result (self.new ≡ self.old) }
     {
@@ -74,8 +74,8 @@ impl Places {
         Ok(())
     }
 
-    /// Removes the last places, until `count` are left. Does nothing if there are no more than
-    /// that. Allocates nothing. The time depends on the number of removed places.
+    /// Removes the last places, until `count` are left. Does nothing if the queue has no more than
+    /// `count` places. Allocates nothing. The time depends on the number of removed places.
     pub fn shorten(&mut self, count: usize)
         ensures { self.new
             ≡ record { limit = self.old.limit; places = take count self.old.places } }

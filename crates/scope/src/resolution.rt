@@ -10,14 +10,14 @@ use crate::order::Order;
 use crate::target::{Target, Undefined};
 use elf_dynamic::Symbol;
 
-/// Returns whether no other object can replace a symbol.
+/// Returns whether a symbol is bound to itself, because no other object can replace it.
 pub(crate) fn is_own(symbol: Symbol) -> bool
     ensures { result ≡ is_own symbol }
 {
     symbol.is_local() || (symbol.is_defined() && !symbol.has_default_visibility())
 }
 
-/// Returns whether no other object can define a symbol for this object.
+/// Returns whether a symbol isn't defined in its object, and no other object can define it.
 pub(crate) fn is_withheld(symbol: Symbol) -> bool
     ensures { result ≡ is_withheld symbol }
 {
@@ -25,8 +25,8 @@ pub(crate) fn is_withheld(symbol: Symbol) -> bool
 }
 
 /// Returns the target of symbol number `symbol` of the object at place `object`. Allocates nothing.
-/// If the symbol has to be looked up, its name is hashed once, and one walk is followed in each
-/// object up to the one that defines it. A symbolic object costs one more walk.
+/// If the symbol has to be looked up, hashes its name once, and follows one walk in each object up
+/// to the one that defines it. A symbolic object costs one more walk.
 #[tactic(auto, unfolding(crate::specs::Target::target))]
 pub fn resolve(order: &Order<'_>, object: usize, symbol: u32) -> Result<Target, Undefined>
     requires object { object < length order.now }

@@ -1,17 +1,17 @@
-// Whether it is worth finding the definitions of all symbols at once.
+// Whether finding the definitions of all symbols at once may be cheaper than walks.
 
 ghost use Rattle.std.specs.Prelude.{◌≤◌, map, IfSome};
 ghost use Rattle.std.specs.List.{All};
 ghost use Rattle.scope.specs.Objects.{IsTaken};
 ghost use Rattle.scope.specs.inside.Definitions.{IsFound};
 
-use crate::found::Found;
+use crate::definition_table::DefinitionTable;
 use crate::loaded::LoadedObject;
 use elf_dynamic::{Object, R_X86_64_64, R_X86_64_GLOB_DAT, R_X86_64_JUMP_SLOT, Relocation};
-use hash_check::Room;
+use hash_check::NameBudget;
 use std::alloc::Global;
 
-/// A number of walk steps that takes no longer than putting one name into a table.
+/// The number of walk steps that take as long as putting one name into a table, or less.
 const STEPS_OF_A_NAME: u64 = 2;
 
 /// Returns whether a relocation uses the value of its symbol.
@@ -22,8 +22,8 @@ fn is_lookup(relocation: Relocation) -> bool {
     )
 }
 
-/// Returns the maximum number of symbols of an object that are looked up: as many as its
-/// relocations name, but no more than it has.
+/// Returns the maximum number of lookups for an object: the number of its relocations that use a
+/// symbol's value, or the number of its symbols if that is smaller.
 fn lookups_of(object: &Object<'_>) -> u64 {
     let mut naming = 0;
     for i in 0..object.rela_count() {
@@ -48,9 +48,9 @@ fn walk_length(object: &Object<'_>, from: u32, most: u32) -> u32
     most
 }
 
-/// Returns the number of symbols on the longest walk of an object. If the walks together have as
-/// many steps as the object has symbols, some of them share symbols. In that case it makes no more
-/// steps, and returns the number of all symbols.
+/// Returns the number of symbols on the longest walk of an object. If all walks together have as
+/// many steps as the object has symbols, some walks share symbols. Then it stops, and returns the
+/// number of all symbols.
 fn longest_walk(object: &Object<'_>) -> u32 {
     let mut left = object.symbol_count();
     let mut longest = 0;
@@ -85,12 +85,12 @@ fn may_be_long(objects: &[LoadedObject<'_>]) -> bool {
 /// that many of them are tails of others. Hashing such names one by one would cost the sum of their
 /// lengths.
 fn share_bytes(object: &Object<'_>) -> bool {
-    let mut room = Room::new(object.string_table().len());
+    let mut budget = NameBudget::new(object.string_table().len());
     for i in 0..object.rela_count() {
         let relocation = object.rela(i);
         if is_lookup(relocation)
             && relocation.symbol < object.symbol_count()
-            && !room.take(object.name_of(relocation.symbol).len())
+            && !budget.take(object.name_of(relocation.symbol).len())
         {
             return true;
         }
@@ -107,14 +107,14 @@ fn any_share_bytes(objects: &[LoadedObject<'_>]) -> bool {
     false
 }
 
-/// Finds the definitions of all symbols, if walks may cost more and there is memory for the
-/// definitions.
-pub(crate) fn worthy_table(alloc: Global, objects: &[LoadedObject<'_>]) -> Option<Found>
+/// Finds the definitions of all symbols, if lookups by walks may cost more. Returns `None` if they
+/// don't, or if memory is refused.
+pub(crate) fn worthy_table(alloc: Global, objects: &[LoadedObject<'_>]) -> Option<DefinitionTable>
     requires { All (λ o. IsTaken o.file) objects.now }
     ensures { IfSome result (λ t. IsFound objects.now (map (λ r. r.items) t.rows.items)) }
 {
     if !may_be_long(objects) && !any_share_bytes(objects) {
         return None;
     }
-    Found::new(alloc, objects).ok()
+    DefinitionTable::new(alloc, objects).ok()
 }

@@ -6,13 +6,13 @@ use Rattle.sector_disk.specs.declared.disk.DiskFault.TheVariants.{Failed}
 use Rattle.sector_disk.specs.declared.fuse.Fuse.{Fuse}
 use Rattle.sector_disk.specs.declared.fuse.Plan.{Plan}
 use Rattle.sector_disk.specs.declared.fuse.Step.{Step}
-use Rattle.sector_disk.specs.declared.fuse.Turn.{Turn}
-use Rattle.sector_disk.specs.declared.fuse.Turn.TheVariants.{Pass, Early, Late}
+use Rattle.sector_disk.specs.declared.fuse.CallOutcome.{CallOutcome}
+use Rattle.sector_disk.specs.declared.fuse.CallOutcome.TheVariants.{Pass, Early, Late}
 use Rattle.sector_disk.specs.Disk.{Sector, DiskFacts, IsCall, IsRead, IsWrite, IsSync}
 
 -- the outcome of call n: the planned call fails early or late; with `forever` later calls fail early; all others pass
-abbrev pub turn : Plan → ℕ → Turn
-turn plan n =
+abbrev pub outcome_of : Plan → ℕ → CallOutcome
+outcome_of plan n =
     if n == plan.call
     then (if plan.late then Late else Early)
     else (if plan.forever && nat_lt 0 plan.call && nat_lt plan.call n then Early else Pass)
@@ -53,8 +53,8 @@ abbrev pub plan_of : {D : Type 0} → Fuse D → Plan
 plan_of fuse = fuse.plan
 
 -- the outcome of the next call
-abbrev pub next_turn : {D : Type 0} → Fuse D → Turn
-next_turn fuse = turn fuse.plan (length fuse.past.items + 1)
+abbrev pub next_outcome : {D : Type 0} → Fuse D → CallOutcome
+next_outcome fuse = outcome_of fuse.plan (length fuse.past.items + 1)
 
 -- the inner disk was read once, and returned this reply and this content
 abbrev pub WasRead : {D : Type 0} → (D → DiskFacts) → Fuse D → Fuse D → ℕ → Sector → Result (Unit {0}) DiskFault → Type 0
@@ -75,7 +75,7 @@ WasSynced facts old new reply =
     × (IsTrue (facts old.inner).honest → IsSync (facts old.inner) (facts new.inner) reply)
 
 -- a call passes, or fails early, before it reaches the inner disk, or fails late, after it was made there
-abbrev pub TakesTurn : {D : Type 0} → Turn → Fuse D → Fuse D → (Result (Unit {0}) DiskFault → Type 0) → Result (Unit {0}) DiskFault → Type 0
-TakesTurn Pass old new WasAsked result = WasAsked result
-TakesTurn Early old new WasAsked result = (new.inner ≡ old.inner) × (result ≡ Err Failed)
-TakesTurn Late old new WasAsked result = ((reply : Result (Unit {0}) DiskFault) × WasAsked reply) × (result ≡ Err Failed)
+abbrev pub HasOutcome : {D : Type 0} → CallOutcome → Fuse D → Fuse D → (Result (Unit {0}) DiskFault → Type 0) → Result (Unit {0}) DiskFault → Type 0
+HasOutcome Pass old new WasAsked result = WasAsked result
+HasOutcome Early old new WasAsked result = (new.inner ≡ old.inner) × (result ≡ Err Failed)
+HasOutcome Late old new WasAsked result = ((reply : Result (Unit {0}) DiskFault) × WasAsked reply) × (result ≡ Err Failed)

@@ -37,7 +37,7 @@ pub(crate) fn mix<F: Fn(u32, usize) -> usize>(
     let (kept, loose) = writes.split_at(synced);
     apply(sectors, kept);
     choose(counts, pick);
-    settle(sectors, counts, loose);
+    set_contents(sectors, counts, loose);
 }
 
 /// Replaces the count of writes to each sector `at` by `pick(at, n) % n`. Here `n` is the count
@@ -60,7 +60,7 @@ fn choose<F: Fn(u32, usize) -> usize>(counts: &mut [usize], pick: F)
 
 /// Sets each sector `at` to the content of its write number `numbers[at]`, counted from 1. A sector
 /// for which this number is 0 keeps its content. All numbers are 0 afterwards.
-fn settle(sectors: &mut [[u8; SECTOR_BYTES]], numbers: &mut [usize], writes: &[Written])
+fn set_contents(sectors: &mut [[u8; SECTOR_BYTES]], numbers: &mut [usize], writes: &[Written])
     requires in_range { All (λ write. write.at < length sectors.old) writes.now }
     requires numbered { length numbers.old ≡ length sectors.old }
     requires made { (k : ℕ) → k < length numbers.old

@@ -15,7 +15,7 @@ pub(crate) struct Plan {
 
 /// The outcome of a call: it passes, or it fails before or after it has reached the inner disk.
 #[derive(Clone, Copy)]
-pub(crate) enum Turn {
+pub(crate) enum CallOutcome {
     Pass,
     Early,
     Late,
@@ -42,7 +42,7 @@ pub struct Fuse<D> {
 impl<D: Disk> Fuse<D> {
     ghost use Rattle.std.specs.Prelude.{◌++◌, ◌∷◌, [], is_err};
     ghost use Rattle.sector_disk.specs.Disk.{IsSameDisk};
-    ghost use Rattle.sector_disk.specs.Fuse.{fuse_facts, inner_of, plan_of, next_turn};
+    ghost use Rattle.sector_disk.specs.Fuse.{fuse_facts, inner_of, plan_of, next_outcome};
 
     /// Makes a fuse over `inner`. Its `k`-th read, write or sync fails, counted from 1. With
     /// `forever` all later calls fail too, without reaching `inner`. With `late` the `k`-th call
@@ -81,19 +81,19 @@ impl<D: Disk> Fuse<D> {
     }
 
     // Returns the outcome of the next call.
-    fn next_turn(&self) -> Turn
-        ensures { result ≡ next_turn self.now }
+    fn next_outcome(&self) -> CallOutcome
+        ensures { result ≡ next_outcome self.now }
     {
         if self.wait == 1 {
             if self.plan.late {
-                Turn::Late
+                CallOutcome::Late
             } else {
-                Turn::Early
+                CallOutcome::Early
             }
         } else if self.wait == 0 && self.plan.call > 0 && self.plan.forever {
-            Turn::Early
+            CallOutcome::Early
         } else {
-            Turn::Pass
+            CallOutcome::Pass
         }
     }
 
@@ -129,7 +129,7 @@ impl<D: Drop> Drop for Fuse<D> {
 impl<D: Disk> Disk for Fuse<D> {
     ghost use Rattle.std.specs.Prelude.{◌<◌, IsTrue};
     ghost use Rattle.sector_disk.specs.Disk.{IsCall, IsRead, IsWrite, IsSync};
-    ghost use Rattle.sector_disk.specs.Fuse.{fuse_facts, plan_of, next_turn, TakesTurn};
+    ghost use Rattle.sector_disk.specs.Fuse.{fuse_facts, plan_of, next_outcome, HasOutcome};
     ghost use Rattle.sector_disk.specs.Fuse.{WasRead, WasWritten, WasSynced};
     ghost use Rattle.sector_disk.specs.inside.FuseLaws.{fused_holds, fused_whole};
 
@@ -153,17 +153,17 @@ impl<D: Disk> Disk for Fuse<D> {
         ensures honest { IsTrue (fuse_facts D.facts self.old).honest
             → IsRead (fuse_facts D.facts self.old) (fuse_facts D.facts self.new)
             at into.new result }
-        ensures turn { TakesTurn (next_turn self.old) self.old self.new
+        ensures outcome { HasOutcome (next_outcome self.old) self.old self.new
             (WasRead D.facts self.old self.new at into.new) result }
         ensures plan { plan_of self.new ≡ plan_of self.old }
     {
-        match self.next_turn() {
-            Turn::Pass => {
+        match self.next_outcome() {
+            CallOutcome::Pass => {
                 let reply = self.inner.read(at, into);
                 self.end_call(true, reply)
             }
-            Turn::Early => self.end_call(false, Err(DiskFault::Failed)),
-            Turn::Late => {
+            CallOutcome::Early => self.end_call(false, Err(DiskFault::Failed)),
+            CallOutcome::Late => {
                 let _ = self.inner.read(at, into);
                 self.end_call(true, Err(DiskFault::Failed))
             }
@@ -176,17 +176,17 @@ impl<D: Disk> Disk for Fuse<D> {
         ensures honest { IsTrue (fuse_facts D.facts self.old).honest
             → IsWrite (fuse_facts D.facts self.old) (fuse_facts D.facts self.new)
             at from.now result }
-        ensures turn { TakesTurn (next_turn self.old) self.old self.new
+        ensures outcome { HasOutcome (next_outcome self.old) self.old self.new
             (WasWritten D.facts self.old self.new at from.now) result }
         ensures plan { plan_of self.new ≡ plan_of self.old }
     {
-        match self.next_turn() {
-            Turn::Pass => {
+        match self.next_outcome() {
+            CallOutcome::Pass => {
                 let reply = self.inner.write(at, from);
                 self.end_call(true, reply)
             }
-            Turn::Early => self.end_call(false, Err(DiskFault::Failed)),
-            Turn::Late => {
+            CallOutcome::Early => self.end_call(false, Err(DiskFault::Failed)),
+            CallOutcome::Late => {
                 let _ = self.inner.write(at, from);
                 self.end_call(true, Err(DiskFault::Failed))
             }
@@ -197,17 +197,17 @@ impl<D: Disk> Disk for Fuse<D> {
         ensures calls { IsCall (fuse_facts D.facts self.old) (fuse_facts D.facts self.new) result }
         ensures honest { IsTrue (fuse_facts D.facts self.old).honest
             → IsSync (fuse_facts D.facts self.old) (fuse_facts D.facts self.new) result }
-        ensures turn { TakesTurn (next_turn self.old) self.old self.new
+        ensures outcome { HasOutcome (next_outcome self.old) self.old self.new
             (WasSynced D.facts self.old self.new) result }
         ensures plan { plan_of self.new ≡ plan_of self.old }
     {
-        match self.next_turn() {
-            Turn::Pass => {
+        match self.next_outcome() {
+            CallOutcome::Pass => {
                 let reply = self.inner.sync();
                 self.end_call(true, reply)
             }
-            Turn::Early => self.end_call(false, Err(DiskFault::Failed)),
-            Turn::Late => {
+            CallOutcome::Early => self.end_call(false, Err(DiskFault::Failed)),
+            CallOutcome::Late => {
                 let _ = self.inner.sync();
                 self.end_call(true, Err(DiskFault::Failed))
             }

@@ -47,7 +47,7 @@ use Rattle.store.specs.inside.Moved.{IsMoved}
 use Rattle.store.specs.inside.Next.{IsNext, next_root}
 use Rattle.store.specs.inside.Prepared.{IsReady, Makes}
 use Rattle.store.specs.inside.Room.{AreClaimedOnce, IsReleased}
-use Rattle.store.specs.inside.Settled.{CanSettle, IsSettledIn}
+use Rattle.store.specs.inside.Unlisted.{CanReleaseUnlisted, ReleasesUnlisted}
 use Rattle.store.specs.inside.Stored.{IsStored, opened}
 use Rattle.store.proofs.Anew.{released_nothing, back_kept, claimed_as, left_claimed, more_held, more_inside, more_once, moved_apart, moved_held, moved_size}
 use Rattle.store.proofs.Claiming.{all-part}
@@ -231,7 +231,7 @@ module _ {sectors : ℕ} {kept : Kept} {draft : Draft} (is : IsDrafting sectors 
           ))
 
       -- The sectors that the commit gives up can be settled.
-      pub commit_can : CanSettle kept.root standing entries kept.held mid
+      pub commit_can : CanReleaseUnlisted kept.root standing entries kept.held mid
       commit_can = record {
         before = is.staged.standing;
         kept = stands;
@@ -240,7 +240,7 @@ module _ {sectors : ℕ} {kept : Kept} {draft : Draft} (is : IsDrafting sectors 
       }
 
       -- Once they are settled, the store keeps the draft's list.
-      pub commit_kept : {left : List HeldRow} {new : List Bool} → IsSettledIn kept.root standing entries kept.held left mid new → IsKept next entries left new
+      pub commit_kept : {left : List HeldRow} {new : List Bool} → ReleasesUnlisted kept.root standing entries kept.held left mid new → IsKept next entries left new
       commit_kept {left = left} {new = new} settled = following_kept commit_next stands.root_fits left new
           (moved_size stands with_own new settled.released)
           (commit_room (kept.root.sectors - length (lone_sectors left)) (omega (arith, settled.few)))

@@ -20,7 +20,7 @@ use Rattle.store.specs.inside.Claimed.{IsUsable}
 use Rattle.store.specs.inside.Draft.{IsOneOrApart, own_in, own_sectors_in}
 use Rattle.store.specs.inside.HeldRows.{AreHeldRows, IsAtPlace, IsHeldRow, IsLeft, IsUnheld}
 use Rattle.store.specs.inside.Room.{AreClaimedOnce, IsGivenUp, IsReleased}
-use Rattle.store.specs.inside.Settled.{CanSettle, IsSettledIn, KeepsRows}
+use Rattle.store.specs.inside.Unlisted.{CanReleaseUnlisted, ReleasesUnlisted, KeepsRows}
 use Rattle.store.proofs.Anew.{claims_as, distinct_as}
 use Rattle.store.proofs.Claiming.{all-part}
 use Rattle.store.proofs.Counts.{occurs, occurs-append, occurs-flat_map, contains_occurs, occurs_contains, distinct_occurs, occurs_distinct}
@@ -157,7 +157,7 @@ pub record IsSettledTo (standing drafted : List PlacedEntry) (held mid : List He
   pub keeps : KeepsRows held mid
   pub once : AreDistinct (entry_sectors rest)
 
-module _ {root : Root} {standing drafted : List PlacedEntry} {held : List HeldRow} {old : List Bool} (can : CanSettle root standing drafted held old) where
+module _ {root : Root} {standing drafted : List PlacedEntry} {held : List HeldRow} {old : List Bool} (can : CanReleaseUnlisted root standing drafted held old) where
   pub standing_once : AreDistinct (entry_sectors standing)
   standing_once = own_places standing (occurs_distinct (flat_map sectors_of standing)
       (λ k. omega (arith, distinct_occurs k (used root standing) can.kept.apart.once, occurs-append k (catalogues_of root) (flat_map sectors_of standing))))
@@ -317,7 +317,7 @@ module _ {root : Root} {standing drafted : List PlacedEntry} {held : List HeldRo
         (λ k. omega (arith, to.parts k, occurs-append k (own_sectors_in drafted standing) (catalogues_of root))) can.claimed to.released
 
     -- Once the catalogues are given back, everything is settled.
-    pub settled_all : {new : List Bool} → IsReleased now new (catalogues_of root) → IsSettledIn root standing drafted held mid old new
+    pub settled_all : {new : List Bool} → IsReleased now new (catalogues_of root) → ReleasesUnlisted root standing drafted held mid old new
     settled_all {new = new} released = record {
       freed = to.freed;
       parts = λ k. omega (arith, to.parts k, to.lone k);

@@ -11,12 +11,12 @@ use Rattle.roots.specs.declared.root.Root.{Root}
 use Rattle.roots.specs.Choice.{IsCurrent}
 use Rattle.roots.specs.Entry.{SpellsEntry}
 use Rattle.states.specs.Limits.{most_libraries}
-use Rattle.store.specs.declared.found.Found.{Found}
+use Rattle.store.specs.declared.found_state.FoundState.{FoundState}
 use Rattle.store.specs.declared.placed_entry.PlacedEntry.{PlacedEntry}
 use Rattle.store.specs.declared.refusal.StoreRefusal.{StoreRefusal}
 use Rattle.store.specs.declared.refusal.StoreRefusal.TheVariants.{Damaged, Device, OutOfMemory}
 use Rattle.store.specs.Stands.{AreListed, IsListed, IsIntact, UsesApart, HasRoom, HaveOwnNames, catalogues_of, entry_sectors}
-use Rattle.store.specs.inside.Found.{IsFound, IsFoundAfter, Finds}
+use Rattle.store.specs.inside.FoundState.{IsFound, IsFoundAfter, Finds}
 use Rattle.store.specs.inside.Reading.{AreReadsBehindSync, IsRefusalOfList, RefusesEntries}
 use Rattle.store.proofs.Beside.{room_more}
 use Rattle.store.proofs.Broken.{not_spelt, not_apart}
@@ -55,7 +55,7 @@ none_found calls e most device = record { calls = most; all_calls = tt; kept = t
 
 -- The contents that were found on any disk, with this root and these entries.
 module _ (root : Root) (entries : List PlacedEntry) where
-  pub found_after : {old new : DiskFacts} (P : Type 0) (r : Result Found StoreRefusal)
+  pub found_after : {old new : DiskFacts} (P : Type 0) (r : Result FoundState StoreRefusal)
       → IfOk r (λ found. IsFound found.root found.entries.items found.sectors.items found.index found.layout)
       → IfOk r (λ found. (found.root ≡ root) × (found.entries.items ≡ entries)) → IfErr r (λ e. (e ≡ OutOfMemory) ⊎ ((e ≡ Damaged) × P))
       → AreCallsAtMost (0 + most_catalogues + most_libraries) old new → AreCallsExactly (length (catalogues_of root) + length entries) old new
@@ -69,13 +69,13 @@ module _ (root : Root) (entries : List PlacedEntry) where
   found_after P (Err e) kept same refused most all size =
       none_found 0 e most (λ is. absurd (⊎_elim (λ a. cc (a, is)) (λ both. cc (both.0, is)) refused))
 
-  pub found_root : (r : Result Found StoreRefusal) → IfOk r (λ found. (found.root ≡ root) × (found.entries.items ≡ entries)) → IfOk r (λ found. found.root ≡ root)
+  pub found_root : (r : Result FoundState StoreRefusal) → IfOk r (λ found. (found.root ≡ root) × (found.entries.items ≡ entries)) → IfOk r (λ found. found.root ≡ root)
   found_root (Ok found) same = same.0
   found_root (Err e) same = tt
 
   module _ (m : List Sector) (size : root.sectors ≡ length m) (listed : IsListed m root entries) where
     -- if the contents are found, the sectors are intact with the root and these entries
-    pub found_intact : IsCurrent (sector m 0) (sector m 1) root → (r : Result Found StoreRefusal)
+    pub found_intact : IsCurrent (sector m 0) (sector m 1) root → (r : Result FoundState StoreRefusal)
         → IfOk r (λ found. IsFound found.root found.entries.items found.sectors.items found.index found.layout)
         → IfOk r (λ found. (found.root ≡ root) × (found.entries.items ≡ entries)) → IfOk r (λ found. IsIntact m found.root found.entries.items)
     found_intact current (Ok found) kept same = record {
@@ -92,7 +92,7 @@ module _ (root : Root) (entries : List PlacedEntry) where
     found_intact current (Err e) kept same = tt
 
     -- if the contents are refused with Damaged, the sectors are intact with no list of entries
-    pub found_refused : (r : Result Found StoreRefusal)
+    pub found_refused : (r : Result FoundState StoreRefusal)
         → IfErr r (λ e. (e ≡ OutOfMemory) ⊎ ((e ≡ Damaged) × (HaveOwnNames entries → UsesApart root.sectors root entries → HasRoom root.sectors root.list entries → ⊥)))
         → IfErr r (RefusesEntries m root)
     found_refused (Ok found) refused = tt
@@ -102,12 +102,12 @@ module _ (root : Root) (entries : List PlacedEntry) where
         refused
 
 -- only OutOfMemory and Damaged are possible refusals
-pub found_refusals : (P : Type 0) (r : Result Found StoreRefusal) → IfErr r (λ e. (e ≡ OutOfMemory) ⊎ ((e ≡ Damaged) × P)) → IfErr r IsRefusalOfList
+pub found_refusals : (P : Type 0) (r : Result FoundState StoreRefusal) → IfErr r (λ e. (e ≡ OutOfMemory) ⊎ ((e ≡ Damaged) × P)) → IfErr r IsRefusalOfList
 found_refusals P (Ok found) refused = tt
 found_refusals P (Err e) refused = ⊎_elim (λ memory. inr (inr memory)) (λ both. inr (inl both.0)) refused
 
 -- `IsFoundAfter 0` after the 3 calls that read the root implies `IsFoundAfter 3` for all calls together.
-behind_root : {old mid new : DiskFacts} (r : Result Found StoreRefusal) → AreCallsExactly 3 old mid → IsFoundAfter 0 mid new r → IsFoundAfter 3 old new r
+behind_root : {old mid new : DiskFacts} (r : Result FoundState StoreRefusal) → AreCallsExactly 3 old mid → IsFoundAfter 0 mid new r → IsFoundAfter 3 old new r
 behind_root (Ok found) first rest = record {
   calls = at_most_sum {calls = 3} (exactly_at_most first (omega arith)) rest.calls (omega arith);
   all_calls = exactly_sum first rest.all_calls (omega arith);
@@ -134,7 +134,7 @@ module _ (Refuses : List Sector → StoreRefusal → Type 0) {old : DiskFacts} w
   }
 
   -- If a root is found, the result is that of finding its entries.
-  pub finds : {mid new : DiskFacts} (root : Root) (r : Result Found StoreRefusal) → AreCallsExactly 3 old mid → IsFoundAfter 0 mid new r
+  pub finds : {mid new : DiskFacts} (root : Root) (r : Result FoundState StoreRefusal) → AreCallsExactly 3 old mid → IsFoundAfter 0 mid new r
       → (IsTrue old.honest → AreReadsBehindSync old mid) → (IsTrue old.honest → IsSynced mid) → (IsTrue mid.honest → AreReads mid new)
       → (IsTrue old.honest → IsCurrent (sector old.now 0) (sector old.now 1) root)
       → (IsTrue mid.honest → IsCurrent (sector mid.now 0) (sector mid.now 1) root → IfOk r (λ found. IsIntact mid.now found.root found.entries.items))

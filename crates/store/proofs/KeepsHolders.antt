@@ -18,7 +18,7 @@ use Rattle.store.specs.inside.Claimed.{IsUsable}
 use Rattle.store.specs.inside.HeldRows.{IsLeft}
 use Rattle.store.specs.inside.Kept.{IsKept}
 use Rattle.store.specs.inside.Room.{IsRootOr}
-use Rattle.store.specs.inside.Settled.{KeepsRows}
+use Rattle.store.specs.inside.Unlisted.{KeepsRows}
 use Rattle.store.proofs.Anew.{all_usable}
 use Rattle.store.proofs.Counts.{occurs, occurs-flat_map, occurs_contains, contains_occurs}
 use Rattle.store.proofs.KeyedRows.{no_row}

@@ -30,7 +30,7 @@ use Rattle.store.specs.declared.holds.HeldRow.{HeldRow}
 use Rattle.store.specs.Holds.{lone_sectors}
 use Rattle.store.specs.inside.Kept.{IsKept}
 use Rattle.store.specs.declared.change.Staged.TheVariants.{Put}
-use Rattle.store.specs.declared.edit.Edit.TheVariants.{Behind}
+use Rattle.store.specs.declared.edit.Edit.TheVariants.{Append}
 use Rattle.store.specs.inside.Change.{IsFollowed}
 use Rattle.store.specs.inside.Next.{IsNext, next_root}
 use Rattle.store.specs.inside.Prepared.{IsPrepared}
@@ -167,7 +167,7 @@ module _ {root : Root} {entries : List PlacedEntry} {held : List HeldRow} {layou
   }
 
   -- the put is prepared, if the entry has its place
-  pub new_prepared : HasPlace root.sectors put catalogues → IsPrepared root entries held new (record { change = record { staged = Put put catalogues; root = next }; edit = Behind put })
+  pub new_prepared : HasPlace root.sectors put catalogues → IsPrepared root entries held new (record { change = record { staged = Put put catalogues; root = next }; edit = Append put })
   new_prepared place = record {
     before = layout;
     kept = kept;

@@ -29,7 +29,7 @@ use Rattle.store.specs.Stands.{Stands, catalogues_of, entry_sectors, extents_of}
 use Rattle.store.specs.Taken.{HaveBytes, IsTaken}
 use Rattle.store.specs.Step.{IsAnswer, IsExactAnswer, longest_unused}
 use Rattle.store.specs.inside.Change.{CanBeStaged, HasBytes, HasSpelling, IsFollowed, staged_sectors}
-use Rattle.store.specs.inside.Edit.{IsSettled, IsWithin, edited, edited_by}
+use Rattle.store.specs.inside.Edit.{ReleasesReplaced, IsWithin, edited, edited_by}
 use Rattle.store.specs.inside.Kept.{IsKept}
 use Rattle.store.specs.inside.Prepared.{IsMade, IsPrepared, IsReady, IsTestedChange, IsTestedNew, Makes, Prepares, Puts}
 use Rattle.store.specs.inside.Room.{IsRootOr}
@@ -48,9 +48,9 @@ use Rattle.store.proofs.Written.{have_bytes}
 -- an edit of the values of all entries results in the values of the edited entries
 pub edited_map : {A : Type 0} (of : PlacedEntry → A) (its : Edit) (entries : List PlacedEntry) → edited_by of its (map of entries) ≡ map of (edited its entries)
 edited_map of edit.Nothing entries = refl
-edited_map of (edit.Behind put) entries = sym (map_push of entries put)
-edited_map of (edit.Over position put) entries = sym (map-set of entries position put)
-edited_map of (edit.Out position) entries = sym (map_remove of entries position)
+edited_map of (edit.Append put) entries = sym (map_push of entries put)
+edited_map of (edit.Replace position put) entries = sym (map-set of entries position put)
+edited_map of (edit.Remove position) entries = sym (map_remove of entries position)
 
 -- an entry that can be staged can be encoded
 pub staged_spelt : (sectors : ℕ) (staged : Staged) (listed : List ℕ) → CanBeStaged sectors staged listed → HasSpelling staged
@@ -61,42 +61,42 @@ staged_spelt sectors (Put put catalogues) listed room = room.0.spelling
 -- What is kept once a change is made and the sectors that it gave up are free, except those that somebody
 -- holds.
 module _ {root : Root} {entries : List PlacedEntry} {held left : List HeldRow} {layout : List Bool} (change : Change) (new : List Bool) where
-  pub settled_kept : (its : Edit) → IsPrepared root entries held layout (record { change = change; edit = its }) → IsWithin its (length entries) → IsSettled its root entries held left layout new → IsKept change.root (edited its entries) left new
+  pub settled_kept : (its : Edit) → IsPrepared root entries held layout (record { change = change; edit = its }) → IsWithin its (length entries) → ReleasesReplaced its root entries held left layout new → IsKept change.root (edited its entries) left new
   settled_kept edit.Nothing is within settled = subst (λ l. IsKept change.root entries l new) (sym settled.0)
       (following_kept is.next is.kept.root_fits held new
       (moved_size is.kept is.claimed new settled.1)
       (is.room (root.sectors - length (lone_sectors held)) (omega arith))
       is.kept.rows
       (moved_claimed is.kept is.claimed change.root entries is.moved new settled.1))
-  settled_kept (edit.Behind put) is within settled = subst (λ l. IsKept change.root (entries ++ put ∷ []) l new) (sym settled.0)
+  settled_kept (edit.Append put) is within settled = subst (λ l. IsKept change.root (entries ++ put ∷ []) l new) (sym settled.0)
       (following_kept is.next is.kept.root_fits held new
       (moved_size is.kept is.claimed new settled.1)
       (is.room (root.sectors - length (lone_sectors held)) (omega arith))
       (rows_more put is.kept.rows)
       (moved_claimed is.kept is.claimed change.root (entries ++ put ∷ []) is.moved new settled.1))
-  settled_kept (edit.Over position put) is within up =
+  settled_kept (edit.Replace position put) is within up =
       following_kept is.next is.kept.root_fits left new
       (given_size is.kept position within up is.claimed)
       (is.room (root.sectors - length (lone_sectors left)) (omega (arith, given_few is.kept position within up)))
-      (given_rows is.kept position within up (edited (edit.Over position put) entries) (still_set entries position within put))
-      (given_claimed is.kept position within up is.claimed change.root (edited (edit.Over position put) entries) is.moved)
-  settled_kept (edit.Out position) is within up =
+      (given_rows is.kept position within up (edited (edit.Replace position put) entries) (still_set entries position within put))
+      (given_claimed is.kept position within up is.claimed change.root (edited (edit.Replace position put) entries) is.moved)
+  settled_kept (edit.Remove position) is within up =
       following_kept is.next is.kept.root_fits left new
       (given_size is.kept position within up is.claimed)
       (is.room (root.sectors - length (lone_sectors left)) (omega (arith, given_few is.kept position within up)))
-      (given_rows is.kept position within up (edited (edit.Out position) entries) (still_removed entries position within))
-      (given_claimed is.kept position within up is.claimed change.root (edited (edit.Out position) entries) is.moved)
+      (given_rows is.kept position within up (edited (edit.Remove position) entries) (still_removed entries position within))
+      (given_claimed is.kept position within up is.claimed change.root (edited (edit.Remove position) entries) is.moved)
 
   -- Held byte strings keep their holders and their bytes on a disk of which only the staged sectors and the roots were
   -- changed.
-  pub settled_keeps : (its : Edit) → IsPrepared root entries held layout (record { change = change; edit = its }) → IsWithin its (length entries) → IsSettled its root entries held left layout new → {before after : DiskFacts}
+  pub settled_keeps : (its : Edit) → IsPrepared root entries held layout (record { change = change; edit = its }) → IsWithin its (length entries) → ReleasesReplaced its root entries held left layout new → {before after : DiskFacts}
       → (IsTrue before.honest → (m : List Sector) → Mixture after m → IsMixtureBut (IsRootOr (staged_sectors change.staged)) before m) → KeepsHolders before after held left
   settled_keeps edit.Nothing is within settled {before = before} {after = after} others =
       subst (KeepsHolders before after held) (sym settled.0) (keeps_table is.kept (staged_sectors change.staged) (more_free is.kept is.claimed) others)
-  settled_keeps (edit.Behind put) is within settled {before = before} {after = after} others =
+  settled_keeps (edit.Append put) is within settled {before = before} {after = after} others =
       subst (KeepsHolders before after held) (sym settled.0) (keeps_table is.kept (staged_sectors change.staged) (more_free is.kept is.claimed) others)
-  settled_keeps (edit.Over position put) is within up others = given_keeps is.kept position within up is.claimed others
-  settled_keeps (edit.Out position) is within up others = given_keeps is.kept position within up is.claimed others
+  settled_keeps (edit.Replace position put) is within up others = given_keeps is.kept position within up is.claimed others
+  settled_keeps (edit.Remove position) is within up others = given_keeps is.kept position within up is.claimed others
 
 -- data that are consistent beside a disk are consistent beside a disk of the same size
 pub stored_as : {sectors size : ℕ} (kept : Kept) → size ≡ sectors → IsStored sectors kept → IsStored size kept

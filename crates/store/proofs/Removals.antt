@@ -28,7 +28,7 @@ use Rattle.store.specs.Holds.{lone_sectors}
 use Rattle.store.specs.inside.Kept.{IsKept}
 use Rattle.store.specs.inside.NameIndex.{closed_up}
 use Rattle.store.specs.declared.change.Staged.TheVariants.{Catalogues}
-use Rattle.store.specs.declared.edit.Edit.TheVariants.{Out}
+use Rattle.store.specs.declared.edit.Edit.TheVariants.{Remove}
 use Rattle.store.specs.inside.Change.{IsFollowed}
 use Rattle.store.specs.inside.Next.{IsNext, next_root}
 use Rattle.store.specs.inside.Prepared.{IsPrepared}
@@ -166,7 +166,7 @@ module _ {root : Root} {entries : List PlacedEntry} {held : List HeldRow} {layou
   }
 
   -- If the catalogues are claimed, the removal is prepared.
-  pub removal_prepared : IsPrepared root entries held mid (record { change = record { staged = Catalogues catalogues; root = next }; edit = Out gone })
+  pub removal_prepared : IsPrepared root entries held mid (record { change = record { staged = Catalogues catalogues; root = next }; edit = Remove gone })
   removal_prepared = record {
     before = layout;
     kept = kept;

@@ -27,7 +27,7 @@ use Rattle.store.specs.declared.holds.HeldRow.{HeldRow}
 use Rattle.store.specs.Holds.{lone_sectors}
 use Rattle.store.specs.inside.Kept.{IsKept}
 use Rattle.store.specs.declared.change.Staged.TheVariants.{Put}
-use Rattle.store.specs.declared.edit.Edit.TheVariants.{Over}
+use Rattle.store.specs.declared.edit.Edit.TheVariants.{Replace}
 use Rattle.store.specs.inside.Change.{IsFollowed}
 use Rattle.store.specs.inside.Next.{IsNext, next_root}
 use Rattle.store.specs.inside.Prepared.{IsPrepared}
@@ -185,7 +185,7 @@ module _ {root : Root} {entries : List PlacedEntry} {held : List HeldRow} {layou
   }
 
   -- If the entry has its place, the replacement is prepared.
-  pub replacement_prepared : HasPlace root.sectors put catalogues → IsPrepared root entries held mid (record { change = record { staged = Put put catalogues; root = next }; edit = Over place put })
+  pub replacement_prepared : HasPlace root.sectors put catalogues → IsPrepared root entries held mid (record { change = record { staged = Put put catalogues; root = next }; edit = Replace place put })
   replacement_prepared has = record {
     before = layout;
     kept = kept;

@@ -7,7 +7,7 @@ pub mod Committed
 pub mod Draft
 pub mod Edit
 pub mod First
-pub mod Found
+pub mod FoundState
 pub mod HeldRows
 pub mod Kept
 pub mod Moved
@@ -16,5 +16,5 @@ pub mod Next
 pub mod Prepared
 pub mod Reading
 pub mod Room
-pub mod Settled
 pub mod Stored
+pub mod Unlisted

@@ -73,7 +73,7 @@ impl<D: Disk> OldStore<D> {
         match change.carry_out(&mut disk, &mut found.singles, &[], &found.sectors) {
             Ok(()) => {
                 found.root = change.root;
-                Ok(found.beside(alloc, disk))
+                Ok(found.into_store(alloc, disk))
             }
             Err(fault) => Err((StoreRefusal::from(fault), disk)),
         }

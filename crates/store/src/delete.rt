@@ -23,7 +23,7 @@ impl Kept {
     ghost use Rattle.store.specs.inside.Stored.{IsCounted, IsStored};
 
     /// Prepares the removal of a byte string that isn't a preload. Refuses with S2 or S10.
-    pub(crate) fn prepare_out(&mut self, name: &[u8]) -> Result<Prepared, StoreRefusal>
+    pub(crate) fn prepare_delete(&mut self, name: &[u8]) -> Result<Prepared, StoreRefusal>
         requires stored { IsStored self.old.root.sectors self.old }
         requires present { (position : ℕ) × StandsAt self.old.entries.items name.now position }
         requires no_preload { All (λ position. (d : PlacedEntry)
@@ -50,7 +50,7 @@ impl Kept {
         };
         Ok(Prepared {
             change,
-            edit: Edit::Out(position),
+            edit: Edit::Remove(position),
         })
     }
 }
@@ -97,7 +97,7 @@ impl<D: Disk> Store<D> {
             self.old self.new (catalogues_for (length self.old.entries - 1) + 3)
             IsRefusalOfChange result }
     {
-        let prepared = self.kept.prepare_out(name)?;
+        let prepared = self.kept.prepare_delete(name)?;
         self.kept.make(&mut self.disk, &prepared, &[])
     }
 }

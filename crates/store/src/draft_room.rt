@@ -20,7 +20,7 @@ ghost use Rattle.store.specs.inside.Stored.{longest_in};
 ghost use Rattle.store.specs.inside.Kept.{HaveSpellings};
 ghost use Rattle.store.specs.inside.NameIndex.{IsIndex};
 ghost use Rattle.store.specs.inside.Room.{AreClaimedOnce, HasPlace, IsReleased};
-ghost use Rattle.store.specs.inside.Settled.{CanSettle, IsSettledIn};
+ghost use Rattle.store.specs.inside.Unlisted.{CanReleaseUnlisted, ReleasesUnlisted};
 
 use crate::draft::{Draft, has_entry};
 use crate::holds::Holds;
@@ -49,7 +49,7 @@ fn spare_for(root: &Root, libraries: usize) -> usize
 /// Frees the sectors that the store no longer uses once a draft's list is committed. These are the
 /// sectors of the catalogues, and those of the entries that the draft doesn't have, unless somebody
 /// holds them.
-fn settle(
+fn release_unlisted(
     root: &Root,
     entries: &[PlacedEntry],
     draft: &Draft,
@@ -57,8 +57,9 @@ fn settle(
     layout: &mut Layout,
 )
     requires index { IsIndex draft.now.entries.items draft.now.index }
-    requires can { CanSettle root.now entries.now draft.now.entries.items held.old layout.old }
-    ensures { IsSettledIn root.now entries.now draft.now.entries.items
+    requires can { CanReleaseUnlisted root.now entries.now draft.now.entries.items held.old
+        layout.old }
+    ensures { ReleasesUnlisted root.now entries.now draft.now.entries.items
         held.old held.new layout.old layout.new }
 {
     for placed in entries {
@@ -231,17 +232,17 @@ impl Kept {
     /// the store no longer uses.
     pub(crate) fn enter(&mut self, root: Root, draft: Draft)
         requires index { IsIndex draft.entries.items draft.index }
-        requires can { CanSettle self.old.root self.old.entries.items draft.entries.items
+        requires can { CanReleaseUnlisted self.old.root self.old.entries.items draft.entries.items
             self.old.held self.old.layout }
         ensures root { self.new.root ≡ root }
         ensures entries { self.new.entries ≡ draft.entries }
         ensures sectors { self.new.sectors ≡ draft.sectors }
         ensures index { self.new.index ≡ draft.index }
         ensures usable { IsFalse self.new.failed }
-        ensures settled { IsSettledIn self.old.root self.old.entries.items draft.entries.items
+        ensures settled { ReleasesUnlisted self.old.root self.old.entries.items draft.entries.items
             self.old.held self.new.held self.old.layout self.new.layout }
     {
-        settle(
+        release_unlisted(
             &self.root,
             &self.entries,
             &draft,

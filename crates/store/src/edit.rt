@@ -1,7 +1,7 @@
 // A change of the list of entries, and of everything that is kept about the list.
 ghost use Rattle.std.specs.Prelude.{◌≡◌, ◌^◌, ◌<◌, length};
 ghost use Rattle.roots.specs.Root.{RootHasSpelling};
-ghost use Rattle.store.specs.inside.Edit.{CanEdit, CanEditSectors, IsSettled, IsWithin};
+ghost use Rattle.store.specs.inside.Edit.{CanEdit, CanEditSectors, ReleasesReplaced, IsWithin};
 ghost use Rattle.store.specs.inside.Edit.{edited, edited_by, gone_sectors};
 ghost use Rattle.store.specs.inside.Kept.{HaveSpellings};
 ghost use Rattle.store.specs.inside.NameIndex.{IsIndex};
@@ -21,11 +21,11 @@ pub(crate) enum Edit {
     /// Nothing: the same catalogues list the same entries.
     Nothing,
     /// The entry is put after the others.
-    Behind(PlacedEntry),
+    Append(PlacedEntry),
     /// The entry takes the place of the entry at the position, which has the same name.
-    Over(usize, PlacedEntry),
+    Replace(usize, PlacedEntry),
     /// The entry at the position is removed, and those after it move up.
-    Out(usize),
+    Remove(usize),
 }
 
 impl Edit {
@@ -36,9 +36,9 @@ impl Edit {
     {
         match self {
             Edit::Nothing => {}
-            Edit::Behind(put) => sectors.push_reserved(put.at),
-            Edit::Over(position, put) => sectors[*position] = put.at,
-            Edit::Out(position) => {
+            Edit::Append(put) => sectors.push_reserved(put.at),
+            Edit::Replace(position, put) => sectors[*position] = put.at,
+            Edit::Remove(position) => {
                 sectors.remove(*position);
             }
         }
@@ -55,12 +55,12 @@ impl Edit {
     {
         match self {
             Edit::Nothing => {}
-            Edit::Behind(put) => {
+            Edit::Append(put) => {
                 index.insert(entries, put.entry.name_bytes());
                 entries.push_reserved(*put);
             }
-            Edit::Over(position, put) => entries[*position] = *put,
-            Edit::Out(position) => {
+            Edit::Replace(position, put) => entries[*position] = *put,
+            Edit::Remove(position) => {
                 index.remove(entries, *position);
                 entries.remove(*position);
             }
@@ -70,7 +70,7 @@ impl Edit {
     /// Frees the sectors that the state no longer uses once the change is made. These are the
     /// sectors of the old catalogues, and those of the replaced or removed entry, unless somebody
     /// holds its byte string.
-    pub(crate) fn settle(
+    pub(crate) fn release_replaced(
         &self,
         root: &Root,
         entries: &[PlacedEntry],
@@ -81,15 +81,16 @@ impl Edit {
         requires spellings { HaveSpellings entries.now }
         requires within { IsWithin self.now (length entries.now) }
         requires held { AreClaimedOnce layout.old (gone_sectors self.now root.now entries.now) }
-        ensures { IsSettled self.now root.now entries.now held.old held.new layout.old layout.new }
+        ensures { ReleasesReplaced self.now root.now entries.now held.old held.new layout.old
+            layout.new }
     {
         match self {
             Edit::Nothing => {}
-            Edit::Behind(_) => release_sectors(layout, catalogues(root)),
-            Edit::Over(position, _) => {
+            Edit::Append(_) => release_sectors(layout, catalogues(root)),
+            Edit::Replace(position, _) => {
                 give_up(layout, held, &entries[*position], catalogues(root));
             }
-            Edit::Out(position) => {
+            Edit::Remove(position) => {
                 give_up(layout, held, &entries[*position], catalogues(root));
             }
         }

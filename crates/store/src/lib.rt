@@ -18,7 +18,7 @@ mod edit;
 mod entries;
 mod find;
 mod format;
-mod found;
+mod found_state;
 mod held;
 mod holds;
 mod kept;

@@ -32,7 +32,7 @@ impl<D: Disk> Store<D> {
         match find_store(alloc, &mut disk) {
             Ok(found) => match found.root.version() {
                 Version::One => Ok(Look::Old(OldStore { disk, found, alloc })),
-                Version::Two => Ok(Look::Current(found.beside(alloc, disk))),
+                Version::Two => Ok(Look::Current(found.into_store(alloc, disk))),
             },
             Err(refusal) => Err((refusal, disk)),
         }

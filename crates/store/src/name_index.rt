@@ -123,7 +123,7 @@ fn sorted_positions(alloc: Global, entries: &[PlacedEntry]) -> Result<Vec<u16>, 
 }
 
 /// Returns whether each name comes before the next one.
-fn rise(entries: &[PlacedEntry], positions: &[u16]) -> bool
+fn is_sorted(entries: &[PlacedEntry], positions: &[u16]) -> bool
     requires { HaveSpellings entries.now }
     ensures { IsTrue result ↔ Rises (entry_names entries.now) positions.now }
 {
@@ -179,7 +179,7 @@ impl NameIndex {
         ensures twice { IfOk result (λ found. IsNone found → HaveOwnNames entries.now → ⊥) }
     {
         let positions = sorted_positions(alloc, entries)?;
-        if rise(entries, &positions) {
+        if is_sorted(entries, &positions) {
             let guesses = guesses_for(alloc, entries)?;
             Ok(Some(NameIndex { positions, guesses }))
         } else {

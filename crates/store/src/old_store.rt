@@ -1,4 +1,4 @@
-use crate::found::Found;
+use crate::found_state::FoundState;
 use sector_disk::Disk;
 use std::alloc::Global;
 use std::marker::Model;
@@ -7,13 +7,13 @@ use std::marker::Model;
 /// version 2 by `commit`.
 pub struct OldStore<D: Disk> {
     pub(crate) disk: D,
-    pub(crate) found: Found,
+    pub(crate) found: FoundState,
     pub(crate) alloc: Global,
 }
 
 impl<D: Disk> Model for OldStore<D> {
     ghost use Rattle.store.specs.Opened.{Opened};
-    ghost use Rattle.store.specs.inside.Found.{IsFound};
+    ghost use Rattle.store.specs.inside.FoundState.{IsFound};
     ghost use Rattle.roots.specs.Root.{version_of};
     ghost use Rattle.roots.specs.declared.version.Version.TheVariants.{One};
     ghost use Rattle.std.specs.Prelude.{◌≡◌, [], false};

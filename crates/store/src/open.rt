@@ -21,7 +21,7 @@ impl<D: Disk> Store<D> {
         }
         let mut disk = disk;
         match find_current(alloc, &mut disk) {
-            Ok(found) => Ok(found.beside(alloc, disk)),
+            Ok(found) => Ok(found.into_store(alloc, disk)),
             Err(refusal) => Err((refusal, disk)),
         }
     }

@@ -66,7 +66,7 @@ impl Kept {
             change.give_back(&mut self.layout);
             return Err(StoreRefusal::from(fault));
         }
-        edit.settle(&self.root, &self.entries, &mut self.held, &mut self.layout);
+        edit.release_replaced(&self.root, &self.entries, &mut self.held, &mut self.layout);
         edit.enter(&mut self.entries, &mut self.index);
         self.root = change.root;
         self.failed = false;

@@ -16,7 +16,7 @@ impl Kept {
     ghost use Rattle.sector_disk.specs.Disk.{Sector};
     ghost use Rattle.states.specs.Changes.{with_new};
     ghost use Rattle.states.specs.State.{State};
-    ghost use Rattle.store.specs.declared.edit.Edit.TheVariants.{Behind};
+    ghost use Rattle.store.specs.declared.edit.Edit.TheVariants.{Append};
     ghost use Rattle.store.specs.Names.{IsName, IsFileSize};
     ghost use Rattle.store.specs.Stands.{name_of};
     ghost use Rattle.store.specs.Step.{refusal_of_new, IsAnswer, IsRefusalOfPutNew};
@@ -36,7 +36,7 @@ impl Kept {
         ensures prepares { Prepares self.old self.new IsRefusalOfPutNew result }
         ensures makes { (now : List Sector) → (s : State) → IfOk result (λ prepared.
             Makes now [] self.old prepared bytes.now s (with_new name.now bytes.now s)) }
-        ensures puts { IfOk result (λ prepared. Puts self.old prepared Behind
+        ensures puts { IfOk result (λ prepared. Puts self.old prepared Append
             (length self.old.entries.items + 1) bytes.now) }
         ensures refused { IsFalse self.old.failed → (s : State)
             → IsCounted self.old.root self.old.entries.items self.old.held self.old.layout s
@@ -56,7 +56,7 @@ impl Kept {
         };
         Ok(Prepared {
             change,
-            edit: Edit::Behind(room.put),
+            edit: Edit::Append(room.put),
         })
     }
 }

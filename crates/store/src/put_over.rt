@@ -15,7 +15,7 @@ impl Kept {
     ghost use Rattle.sector_disk.specs.Disk.{Sector};
     ghost use Rattle.states.specs.Changes.{with_bytes};
     ghost use Rattle.states.specs.State.{State};
-    ghost use Rattle.store.specs.declared.edit.Edit.TheVariants.{Over};
+    ghost use Rattle.store.specs.declared.edit.Edit.TheVariants.{Replace};
     ghost use Rattle.store.specs.Names.{IsFileSize};
     ghost use Rattle.store.specs.Step.{refusal_of_put, IsExactAnswer, IsRefusalOfPutOver};
     ghost use Rattle.store.specs.inside.Prepared.{StandsAt, Makes, Prepares, Puts, done_of};
@@ -35,7 +35,7 @@ impl Kept {
             Makes now [] self.old prepared bytes.now s (with_bytes name.now bytes.now s)) }
         ensures puts { IfOk result (λ prepared. (position : ℕ)
             × StandsAt self.old.entries.items name.now position
-            × Puts self.old prepared (Over position) (length self.old.entries.items) bytes.now) }
+            × Puts self.old prepared (Replace position) (length self.old.entries.items) bytes.now) }
         ensures refused { IsFalse self.old.failed → (s : State)
             → IsCounted self.old.root self.old.entries.items self.old.held self.old.layout s
             → IsExactAnswer
@@ -56,7 +56,7 @@ impl Kept {
         };
         Ok(Prepared {
             change,
-            edit: Edit::Over(position, room.put),
+            edit: Edit::Replace(position, room.put),
         })
     }
 }

@@ -40,7 +40,7 @@ impl<D: Disk> Update<D> {
     {
         let put = self.kept.take_new(&mut self.draft, name, bytes)?;
         self.kept.write_draft(&mut self.disk, &put, bytes)?;
-        self.draft.edit(&Edit::Behind(put));
+        self.draft.edit(&Edit::Append(put));
         Ok(())
     }
 
@@ -67,7 +67,7 @@ impl<D: Disk> Update<D> {
         let put = self.kept.take_over(libraries, name, bytes)?;
         self.kept.write_draft(&mut self.disk, &put, bytes)?;
         self.kept.leave(&self.draft.entries[position]);
-        self.draft.edit(&Edit::Over(position, put));
+        self.draft.edit(&Edit::Replace(position, put));
         Ok(())
     }
 
@@ -90,7 +90,7 @@ impl<D: Disk> Update<D> {
             unreachable!();
         };
         self.kept.leave(&self.draft.entries[position]);
-        self.draft.edit(&Edit::Out(position));
+        self.draft.edit(&Edit::Remove(position));
         close_up(self.draft.preloads.as_mut_slice(), position as u16);
         Ok(())
     }

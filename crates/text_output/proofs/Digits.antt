@@ -10,7 +10,7 @@ digits_number b =
     let values = b / 16 + b % 16 * 256 in
     values + 12336 + bit_and ((values + 1542) / 16) 257 * 39
 
--- each number below n passes a test
+-- all numbers below n pass the test p
 abbrev all_below : (ℕ → Bool) → ℕ → Bool
 all_below p zero = true
 all_below p (suc n) = p n && all_below p n

@@ -2,12 +2,13 @@
 use Rattle.std.specs.Prelude.{ℕ, ◌+◌, ◌≤◌, Bool, List, ◌++◌, length, Option}
 use Rattle.std.specs.Io.KnownBytes.{Appends, append_known}
 
--- a buffer before a writer: the waiting bytes, and whether the writer failed
+-- a buffer for a writer: the bytes that wait for the writer, and whether the writer has failed
 pub record Buffered : Type 0 where
   pub waiting : List ℕ
   pub failed : Bool
 
--- the writer's contents, if they are known, followed by the waiting bytes of the buffer, grow by a text
+-- the writer's contents, if they are known, followed by the waiting bytes of the buffer, have grown by
+-- `text`
 abbrev pub Sends : Option (List ℕ) → Buffered → Option (List ℕ) → Buffered → List ℕ → Type 0
 Sends held before holds after text =
     Appends (append_known held before.waiting) (append_known holds after.waiting) text
@@ -16,6 +17,6 @@ Sends held before holds after text =
 abbrev pub HasRoom : ℕ → Buffered → List ℕ → Type 0
 HasRoom size buffer text = length buffer.waiting + length text ≤ size
 
--- a buffer in which a text waits after the other bytes
+-- a buffer after a text was added to its waiting bytes
 abbrev pub with_text : Buffered → List ℕ → Buffered
 with_text buffer text = record { waiting = buffer.waiting ++ text; failed = buffer.failed }

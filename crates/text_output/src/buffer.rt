@@ -9,16 +9,16 @@ use crate::fault::WriteFault;
 use std::io::Write;
 use std::marker::Model;
 
-/// The minimum size of a buffer in bytes, and the maximum length of a text that goes into it in one
-/// piece. A longer text goes in several pieces.
+/// The minimum size of a buffer in bytes, and the maximum length of a text that is added in one
+/// step. A longer text is added in several steps.
 pub const PIECE: usize = 64;
 
 /// At most `SIZE` bytes that wait for a writer.
 ///
-/// They lie in the value itself, so writing allocates nothing. A buffer with the size of a line
-/// serves a line, and a larger one a long text. After the writer has failed, the buffer writes
-/// nothing more to it, because the number of bytes that it took is unknown. Contracts see the
-/// waiting bytes, and whether the writer failed.
+/// They are in the value itself, so writing allocates nothing. `OutputBuffer<LINE>` is enough for a
+/// line; a larger buffer is for a long text. After the writer has failed, the buffer writes nothing
+/// more to it, because nobody knows how many bytes it has accepted. Contracts see the waiting
+/// bytes, and whether the writer failed.
 #[derive(Drop)]
 pub struct OutputBuffer<const SIZE: usize> {
     bytes: [u8; SIZE],
@@ -95,7 +95,8 @@ impl<const SIZE: usize> OutputBuffer<SIZE> {
         self.failed = true;
     }
 
-    /// Writes the waiting bytes to the writer with one call of `write_all`, and keeps them waiting.
+    /// Writes the waiting bytes to the writer with one call of `write_all`, and keeps them in the
+    /// buffer.
     pub(crate) fn send_and_keep<W: Write>(&mut self, out: &mut W) -> Result<(), WriteFault>
         ensures ok { OnOk result (Appends (W.contents out.old) (W.contents out.new)
             self.old.waiting) }
@@ -117,7 +118,8 @@ impl<const SIZE: usize> OutputBuffer<SIZE> {
         }
     }
 
-    /// Writes the waiting bytes to the writer with one call of `write_all`.
+    /// Writes the waiting bytes to the writer with one call of `write_all`, and removes them from
+    /// the buffer.
     pub fn send<W: Write>(&mut self, out: &mut W) -> Result<(), WriteFault>
         ensures ok { OnOk result (Appends (W.contents out.old) (W.contents out.new)
             self.old.waiting) }
@@ -133,13 +135,14 @@ impl<const SIZE: usize> OutputBuffer<SIZE> {
         Ok(())
     }
 
-    /// Puts a short text after the waiting bytes. If there is no room for it, sends these first.
+    /// Adds a short text to the waiting bytes. If it has no room there, sends the waiting bytes
+    /// first.
     pub(crate) fn put_piece<W: Write>(&mut self, out: &mut W, text: &[u8]) -> Result<(), WriteFault>
         requires { length text.now ≤ PIECE }
         ensures ok { OnOk result (Sends (W.contents out.old) self.old (W.contents out.new) self.new
             text.now) }
         ensures err { OnErr result (self.new.failed ≡ true) }
-        // If there is room, the writer isn't called.
+        // If the text has room, the writer isn't called.
         ensures fits { HasRoom SIZE self.old text.now
             → (result ≡ Ok tt) × (out.new ≡ out.old)
             × (self.new ≡ with_text self.old text.now) }
@@ -151,7 +154,7 @@ impl<const SIZE: usize> OutputBuffer<SIZE> {
         Ok(())
     }
 
-    /// Puts a text after the waiting bytes, and sends these first when there is no room.
+    /// Adds a text to the waiting bytes, and sends these whenever there is no room for more.
     pub fn put<W: Write>(&mut self, out: &mut W, text: &[u8]) -> Result<(), WriteFault>
         ensures ok { OnOk result (Sends (W.contents out.old) self.old (W.contents out.new) self.new
             text.now) }

@@ -11,10 +11,10 @@ use crate::fault::WriteFault;
 use crate::zeros::{BLOCK, zeros_begin};
 use std::io::Write;
 
-/// The number of bytes in a line.
+/// The number of bytes that one line shows.
 pub(crate) const LINE_BYTES: usize = 16;
 
-/// The length of a line's text in bytes.
+/// The length of a whole line in bytes of text, with its newline.
 pub(crate) const LINE_TEXT: usize = 2 * LINE_BYTES + 1;
 
 /// Returns the two digits of a byte. Both are computed at once, each in one half of a number, so
@@ -25,7 +25,8 @@ fn digits(byte: u8) -> [u8; 2]
 {
     let wide = u16::from(byte);
     let values = wide / 16 + wide % 16 * 256;
-    // A half is 1 if its digit is a letter: `a` is 39 after the byte that follows `9`.
+    // A half is 1 if its digit is a letter: the code of `a` is 39 more than that of the character
+    // after `9`.
     let letters = ((values + 0x0606) / 16) & 0x0101;
     (values + 0x3030 + letters * 39).to_le_bytes()
 }
@@ -44,7 +45,7 @@ pub(crate) fn line(bytes: &[u8; LINE_BYTES]) -> [u8; LINE_TEXT]
 }
 
 impl<const SIZE: usize> OutputBuffer<SIZE> {
-    /// Puts an address in 16 digits after the waiting bytes.
+    /// Adds an address in 16 hexadecimal digits to the waiting bytes.
     pub fn put_address<W: Write>(&mut self, out: &mut W, address: u64) -> Result<(), WriteFault>
         ensures ok { OnOk result (Sends (W.contents out.old) self.old (W.contents out.new) self.new
             (address_text address)) }
@@ -58,7 +59,7 @@ impl<const SIZE: usize> OutputBuffer<SIZE> {
         self.put_piece(out, &digits)
     }
 
-    /// Puts the line of fewer than sixteen bytes after the waiting bytes.
+    /// Adds the line of fewer than sixteen bytes to the waiting bytes.
     fn put_short_line<W: Write>(&mut self, out: &mut W, bytes: &[u8]) -> Result<(), WriteFault>
         requires { length bytes.now < LINE_BYTES }
         ensures ok { OnOk result (Sends (W.contents out.old) self.old (W.contents out.new) self.new
@@ -72,8 +73,8 @@ impl<const SIZE: usize> OutputBuffer<SIZE> {
         self.put_piece(out, b"\n")
     }
 
-    /// Puts bytes in hexadecimal after the waiting bytes, sixteen to a line, formatting each line
-    /// by itself.
+    /// Adds bytes in hexadecimal to the waiting bytes, sixteen bytes a line. Formats each line by
+    /// itself.
     pub(crate) fn put_lines<W: Write>(
         &mut self,
         out: &mut W,
@@ -93,8 +94,8 @@ impl<const SIZE: usize> OutputBuffer<SIZE> {
         self.put_short_line(out, rest)
     }
 
-    /// Puts bytes in hexadecimal after the waiting bytes, sixteen to a line. If more than 2,048
-    /// lines of zeros end the bytes, the text of these lines is made once.
+    /// Adds bytes in hexadecimal to the waiting bytes, sixteen bytes a line. If the bytes end with
+    /// more than 2,048 lines of zeros, makes the text of these lines only once.
     pub fn put_hex_lines<W: Write>(&mut self, out: &mut W, bytes: &[u8]) -> Result<(), WriteFault>
         ensures ok { OnOk result (Sends (W.contents out.old) self.old (W.contents out.new) self.new
             (hex_lines bytes.now)) }

@@ -1,4 +1,4 @@
-// Names.
+// The text of a name.
 
 ghost use Rattle.std.specs.Prelude.{◌≡◌, true, OnOk, OnErr, Ok};
 ghost use Rattle.std.specs.Io.KnownBytes.{Appends};
@@ -29,8 +29,8 @@ impl<const SIZE: usize> OutputBuffer<SIZE> {
         self.put_piece(out, &[b'\\', b'x', digits[0], digits[1]])
     }
 
-    /// Puts a name after the waiting bytes. Bytes 0x21 to 0x7e except `\` are put as they are,
-    /// others as `\x` and two hexadecimal digits. The empty name is put as `\e`.
+    /// Adds a name to the waiting bytes. Bytes 0x21 to 0x7e except `\` are added as they are, all
+    /// others as `\x` and two hexadecimal digits. The text of the empty name is `\e`.
     pub fn put_name<W: Write>(&mut self, out: &mut W, name: &[u8]) -> Result<(), WriteFault>
         ensures ok { OnOk result (Sends (W.contents out.old) self.old (W.contents out.new) self.new
             (name_text name.now)) }

@@ -12,20 +12,19 @@ use crate::fault::WriteFault;
 use std::io::Write;
 use std::marker::Model;
 
-/// The maximum size of a piece in bytes: a pipe takes a piece of this size as a whole or not at
+/// The maximum size of a piece in bytes: a pipe accepts a piece of this size as a whole or not at
 /// all.
 const PIECE_BYTES: usize = 4096;
 
-/// The maximum length of a text that is put at once, in bytes.
+/// The maximum length in bytes of a text that is added with one call.
 pub const LONGEST: usize = 256;
 
-/// The bytes of a piece.
+/// The buffer for a piece.
 type Piece = OutputBuffer<PIECE_BYTES>;
 
-/// Lines on their way to a writer, to which they are written in pieces of at most 4,096 bytes. Each
-/// piece except the last one ends within a line. So if a text is cut between two pieces, a reader
-/// sees that it is cut. Contracts see the waiting bytes, which include the newline of an ended
-/// line.
+/// Lines on their way to a writer. They are written in pieces of at most 4,096 bytes. Each piece
+/// except the last one ends within a line. So if a text is cut between two pieces, a reader sees
+/// that it is cut. Contracts see the waiting bytes, which include the newline of an ended line.
 #[derive(Drop)]
 pub struct PieceBuffer {
     piece: Piece,
@@ -48,7 +47,7 @@ impl Model for PieceBuffer {
         × (length s.piece.waiting < most_piece) };
 }
 
-/// Writes a piece that another one will follow to the writer, with one call of `write_all`.
+/// Writes a piece to the writer with one call of `write_all`. Another piece will follow.
 fn give<W: Write>(piece: &mut Piece, out: &mut W) -> Result<(), WriteFault>
     requires { IsFrontPiece piece.old.waiting }
     ensures ok { OnOk result (Appends (W.contents out.old) (W.contents out.new)
@@ -61,7 +60,7 @@ fn give<W: Write>(piece: &mut Piece, out: &mut W) -> Result<(), WriteFault>
 }
 
 impl PieceBuffer {
-    /// Makes a text of which no bytes wait.
+    /// Makes a buffer without waiting bytes.
     pub fn new() -> Self
         ensures { result.waiting ≡ [] }
     {
@@ -71,8 +70,8 @@ impl PieceBuffer {
         }
     }
 
-    /// Puts a part of a line after the waiting bytes. If there is no room for it and for a newline,
-    /// the waiting bytes are first written to the writer, as one piece.
+    /// Adds a part of a line to the waiting bytes. If there is no room for the part and a newline,
+    /// first writes the waiting bytes to the writer, as one piece.
     pub fn put<W: Write>(&mut self, out: &mut W, text: &[u8]) -> Result<(), WriteFault>
         requires short { length text.now ≤ LONGEST }
         requires line { IsWithinLine text.now }
@@ -81,7 +80,7 @@ impl PieceBuffer {
         ensures within { OnOk result ((EndsWithinLine self.old.waiting ⊎ (0 < length text.now))
             → EndsWithinLine self.new.waiting) }
 
-        // The writer gets nothing, or a piece that ends within a line.
+        // The writer receives nothing, or a piece that ends within a line.
         ensures piece { OnOk result
             (GetsFrontPiece (W.contents out.old) (W.contents out.new)) }
     {
@@ -99,7 +98,8 @@ impl PieceBuffer {
         Ok(())
     }
 
-    /// Ends the line. Its newline waits for the next line, or for the end of the text.
+    /// Adds a newline to the waiting bytes. It waits there for the next line, or for the end of the
+    /// text.
     pub fn end_line(&mut self)
         requires { EndsWithinLine self.old.waiting }
         ensures { self.new.waiting ≡ self.old.waiting ++ codes "\n" }

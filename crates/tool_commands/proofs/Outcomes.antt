@@ -108,7 +108,7 @@ executable_fault other = refused_fault
 
 open_fault : (fault : OpenFault) → IsFault (open_status fault)
 open_fault disk_file.CannotOpen = failed_fault
-open_fault disk_file.BadLength = refused_fault
+open_fault (disk_file.BadLength length) = refused_fault
 open_fault disk_file.OutOfMemory = memory_fault
 
 read_fault : (fault : FileFault) → IsFault (read_status fault)
@@ -250,10 +250,10 @@ module _ (io : Streams) (status : Status) where
   order_kind lacks names order base (inr (lacking, inr h)) = said NoMemory _ memory_fault h
 
   bound_kind : {D : Type 0} (facts : D → DiskFacts) (old new : Opened D) (program : List ℕ) (base : ℕ) → BindingsTell facts old new program base io status → Kind false false
-  bound_kind facts old new program base (inl h) = refused_kind (of_bind h.0) h.2
+  bound_kind facts old new program base (inl (same, h)) = refused_kind (of_bind h.0) h.2
   bound_kind facts old new program base (inr (inl h)) = refused_kind h.0 h.2
   bound_kind facts old new program base (inr (inr h)) =
-      order_kind h.0.missing (names_of (map object_of h.0.libraries)) (available program (map object_of h.0.libraries)) base h.1
+      order_kind h.0.missing (names_of (map object_of h.0.libraries)) (available program (map object_of h.0.libraries)) base h.2
 
   bindings_kind : (program : List ℕ) (base : ℕ) → BindingsAskEnds program base io status → Kind false false
   bindings_kind program base (inl h) = ⊎_elim

@@ -9,14 +9,15 @@ use Rattle.program_parts.specs.Reply.{command_refusal_text}
 use Rattle.program_parts.specs.Status.{disk_status, refusal_status}
 use Rattle.program_parts.specs.declared.status.Status.{Status}
 use Rattle.program_parts.specs.declared.status.Status.TheVariants.{Done, Refused, NoMemory}
-use Rattle.registry.specs.Found.{Found, IsFindRefusal}
+use Rattle.registry.specs.Binding.{bind_sectors}
+use Rattle.registry.specs.Found.{Found, IsFindRefusal, found_sectors}
 use Rattle.registry.specs.Untested.{ReadsLibraries}
 use Rattle.requests.specs.Binding.{object_of, objects, of_bind, preload_numbers}
 use Rattle.requests.specs.declared.refusal.Refusal.{Refusal}
 use Rattle.requests.specs.declared.refusal.Refusal.TheVariants.{Damaged}
 use Rattle.scope.specs.LoadOrder.{Need, available, load_order, missing, names_of}
 use Rattle.scope.specs.Objects.{Named}
-use Rattle.sector_disk.specs.Disk.{DiskFacts}
+use Rattle.sector_disk.specs.Disk.{AreCallsExactly, DiskFacts}
 use Rattle.states.specs.State.{State}
 use Rattle.store.specs.IsRead.{IsRead}
 use Rattle.store.specs.Opened.{IsAt, Opened}
@@ -71,23 +72,35 @@ StateTells s program base io status =
 abbrev pub IsRefusedAlone : List ℕ → ℕ → Streams → Status → Type 0
 IsRefusedAlone program base io status = (refusal : BindRefusal) × IsProgramAnswer program base refusal × SaysRefusal (of_bind refusal) io status
 
+-- The program is refused by itself, and no call of the disk is made.
+abbrev pub IsRefusedUnread : {D : Type 0} → Opened D → Opened D → List ℕ → ℕ → Streams → Status → Type 0
+IsRefusedUnread old new program base io status = (new ≡ old) × IsRefusedAlone program base io status
+
+-- Exactly the calls of a bind were made: one call for each sector of each library that the program needs.
+abbrev pub ReadsAsBind : {D : Type 0} → (D → DiskFacts) → Opened D → Opened D → State → List ℕ → Type 0
+ReadsAsBind facts old new s program = AreCallsExactly (bind_sectors s program) (facts old.disk) (facts new.disk)
+
+-- Each library that was found was read once, and nothing else was read.
+abbrev pub ReadsFound : {D : Type 0} → (D → DiskFacts) → Opened D → Opened D → Found → Type 0
+ReadsFound facts old new found = AreCallsExactly (found_sectors found) (facts old.disk) (facts new.disk)
+
 -- The form ends in a state. Either the program is refused by itself. Or a library can't be read; then S5
 -- (Damaged) means that a file that the bind reads isn't a library. Or the bindings or the missing names
--- are reported.
+-- are reported by the calls of a bind.
 abbrev pub BindingsEnd : {D : Type 0} → (D → DiskFacts) → Opened D → Opened D → State → List ℕ → ℕ → Streams → Status → Type 0
 BindingsEnd facts old new s program base io status =
-    IsRefusedAlone program base io status
+    IsRefusedUnread old new program base io status
     ⊎ ((program_refusal program base ≡ None)
     × (((refusal : Refusal) × IsFindRefusal facts old new refusal × (refusal ≡ Damaged → ReadsLibraries s program → ⊥) × SaysRefusal refusal io status)
-    ⊎ (ReadsLibraries s program × StateTells s program base io status)))
+    ⊎ (ReadsLibraries s program × ReadsAsBind facts old new s program × StateTells s program base io status)))
 
 -- The form ends on any disk, even on one that lies. Either the program is refused by itself, or a
 -- library can't be read, or a report with some libraries is written.
 abbrev pub BindingsTell : {D : Type 0} → (D → DiskFacts) → Opened D → Opened D → List ℕ → ℕ → Streams → Status → Type 0
 BindingsTell facts old new program base io status =
-    IsRefusedAlone program base io status
+    IsRefusedUnread old new program base io status
     ⊎ (((refusal : Refusal) × IsFindRefusal facts old new refusal × SaysRefusal refusal io status)
-    ⊎ ((found : Found) × FoundTells program base found io status))
+    ⊎ ((found : Found) × ReadsFound facts old new found × FoundTells program base found io status))
 
 -- The bindings of a program with the libraries of a registry were reported. The registry was only read.
 pub record ToldBindings {D : Type 0} (facts : D → DiskFacts) (old new : Opened D) (program : List ℕ) (base : ℕ) (io : Streams) (status : Status) : Type 0 where

@@ -1,22 +1,23 @@
 -- How the forms end in a state, and how a form ends on a disk: the output, standard error and the status
 -- (own).
-use Rattle.std.specs.Prelude.{◌≡◌, ◌≢◌, ◌⊎◌, ◌↔◌, ◌≤◌, ◌<◌, ℕ, List, All, Option, None, Ok, Err, length, slice_index_or, codes, count_by, is_none}
+use Rattle.std.specs.Prelude.{◌≡◌, ◌≢◌, ◌⊎◌, ◌↔◌, ◌≤◌, ◌<◌, ℕ, List, All, Option, None, Ok, Err, length, slice_index_or, codes, count_by, is_none, sum_by}
 use Rattle.extents.specs.Layout.{unused_count}
 use Rattle.extents.specs.Runs.{unused_runs}
 use Rattle.requests.specs.Library.{IsLibrary}
-use Rattle.sector_disk.specs.Disk.{DiskFacts}
+use Rattle.sector_disk.specs.Disk.{AreCallsAtMost, AreCallsExactly, DiskFacts}
 use Rattle.states.specs.Cost.{free}
 use Rattle.states.specs.State.{Library, State}
 use Rattle.store.specs.Holds.{layout_in_use}
-use Rattle.store.specs.IsRead.{IsRead}
+use Rattle.store.specs.IsRead.{IsRead, file_sectors}
 use Rattle.store.specs.Names.{IsFileSize}
 use Rattle.store.specs.Opened.{IsAt, Opened}
 use Rattle.store.specs.Opens.{OpensByEntries}
 use Rattle.store.specs.Stands.{no_library}
 use Rattle.store.specs.Step.{longest_unused, refusal_of_new}
+use Rattle.store.specs.declared.placed_entry.PlacedEntry.{PlacedEntry}
 use Rattle.store.specs.declared.refusal.StoreRefusal.{StoreRefusal}
 use Rattle.contents.specs.File.{HasFile}
-use Rattle.contents.specs.Finding.{IsFinding, is_unreadable}
+use Rattle.contents.specs.Finding.{IsFinding, LacksMemory, is_unreadable}
 use Rattle.contents.specs.declared.finding.Finding.{Finding}
 use Rattle.contents.specs.declared.finding.Finding.TheVariants.{Sound, Unreadable}
 use Rattle.program_parts.specs.Status.{disk_status}
@@ -50,12 +51,13 @@ InfoEnds facts store s io status = (largest : ℕ) × IsLargest facts store s la
 -- The forms read byte strings, and their calls changed the disk's facts from `old` to `new`.
 module _ (old new : DiskFacts) where
   -- `check`: the finding for each library is written, and at least one call failed for each library that
-  -- can't be read; or memory was refused
-  abbrev pub CheckEnds : State → Streams → Status → Type 0
-  CheckEnds s io status =
+  -- can't be read; or memory was refused for a library's bytes before the library was read, or for a test
+  -- of a library
+  abbrev pub CheckEnds : List PlacedEntry → State → Streams → Status → Type 0
+  CheckEnds entries s io status =
       ((findings : List Finding) × AreFindings s.libraries findings × HaveFailed old new (count_by is_unreadable findings)
       × TellsOnly (check_status findings) (check_text s.libraries findings) io status)
-      ⊎ SaysOnly NoMemory memory_line io status
+      ⊎ (LacksMemory old new entries s × SaysOnly NoMemory memory_line io status)
 
   -- `digest`: the SHA-256 of each library's bytes is written, and at least one call failed for each
   -- library that can't be read; or memory was refused
@@ -92,10 +94,19 @@ module _ (old new : DiskFacts) where
 -- the question is answered for an opened disk in state s; `left` is the disk after that
 abbrev pub FormEnds : {D : Type 0} → (D → DiskFacts) → Opened D → D → State → Question → Streams → Status → Type 0
 FormEnds facts store left s info io status = InfoEnds facts store s io status
-FormEnds facts store left s check io status = CheckEnds (facts store.disk) (facts left) s io status
+FormEnds facts store left s check io status = CheckEnds (facts store.disk) (facts left) store.entries s io status
 FormEnds facts store left s digest io status = DigestEnds (facts store.disk) (facts left) s io status
 FormEnds facts store left s (file name) io status = FileEnds (facts store.disk) (facts left) s name io status
 FormEnds facts store left s (dump purpose) io status = DumpEnds (facts store.disk) (facts left) purpose s io status
+
+-- The number of calls that the question makes of a disk whose libraries have these entries: none for `info`;
+-- for `check` and `digest`, at most one for each sector of each library.
+abbrev pub FormReads : (old new : DiskFacts) → List PlacedEntry → Question → Type 0
+FormReads old new entries info = AreCallsExactly 0 old new
+FormReads old new entries check = AreCallsAtMost (sum_by file_sectors entries) old new
+FormReads old new entries digest = AreCallsAtMost (sum_by file_sectors entries) old new
+FormReads old new entries (file name) = Unit {0}
+FormReads old new entries (dump purpose) = Unit {0}
 
 -- The disk can't be opened. Nothing is written, except by a dump, which writes the script `cut` unless
 -- the output fails.
@@ -112,6 +123,7 @@ pub record IsAsked {D : Type 0} (facts : D → DiskFacts) (disk : D) (question :
   -- after the opening, the disk was only read
   pub read : Opened D
   pub only_read : IsRead facts store read
+  pub calls : FormReads (facts store.disk) (facts left) store.entries question
   pub back : left ≡ read.disk
   -- an honest disk is at one state, and the answer is for that state
   pub ends : (s : State) → IsAt facts store s → FormEnds facts store left s question io status

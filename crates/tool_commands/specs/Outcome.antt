@@ -5,6 +5,7 @@ use Rattle.std.specs.declared.io.ErrorKind.TheVariants.{OutOfMemory}
 use Rattle.requests.specs.Request.{Request}
 use Rattle.requests.specs.Request as request
 use Rattle.file_disk.specs.FileDisk.{file_facts, IsNew}
+use Rattle.file_disk.specs.Length.{IsLengthFault}
 use Rattle.file_disk.specs.contracts.disk_file.DiskFileSectorFile.TheImpl.{ghosts}
 use Rattle.file_disk.specs.declared.disk.FileDisk.{FileDisk}
 use Rattle.file_disk.specs.declared.disk_file.DiskFile.{DiskFile}
@@ -34,7 +35,7 @@ use Rattle.updates.specs.Streams.{outputs_of}
 -- the status if a file can't be opened as a disk
 abbrev pub open_status : OpenFault → Status
 open_status disk_file.CannotOpen = Failed
-open_status disk_file.BadLength = Refused
+open_status (disk_file.BadLength length) = Refused
 open_status disk_file.OutOfMemory = NoMemory
 
 -- the status if a file can't be read
@@ -46,7 +47,7 @@ read_status read_file.OutOfMemory = NoMemory
 -- the text is unspecified.
 abbrev pub SaysFault : OpenFault → Option (List ℕ) → Option (List ℕ) → Type 0
 SaysFault disk_file.CannotOpen before after = Unit {0}
-SaysFault disk_file.BadLength before after = AppendsFront before after (refusal_line BadGeometry)
+SaysFault (disk_file.BadLength length) before after = AppendsFront before after (refusal_line BadGeometry)
 SaysFault disk_file.OutOfMemory before after = AppendsFront before after memory_line
 
 -- The text on standard error if the bytes of a file aren't available. If the file can't be read, the
@@ -59,19 +60,20 @@ SaysUnread read_file.OutOfMemory before after = AppendsFront before after memory
 abbrev pub SystemDisk : Type 0
 SystemDisk = FileDisk DiskFile ghosts
 
--- either the question is answered for a new disk over a file, or no disk was opened, and standard error
--- reports why
+-- Either the question is answered for a new disk over a file, or no disk was opened, and standard error
+-- reports why. S6 (BadGeometry) is reported only of a length that no disk has.
 abbrev pub TellEnds : Question → Streams → Status → Type 0
 TellEnds question io status =
     ((disk : SystemDisk) × (left : SystemDisk) × IsNew disk × DiskEnds file_facts disk question io status left)
-    ⊎ ((fault : OpenFault) × EndsUnopened question (open_status fault) io.before io.after status × SaysFault fault io.errors_before io.errors_after)
+    ⊎ ((fault : OpenFault) × EndsUnopened question (open_status fault) io.before io.after status × SaysFault fault io.errors_before io.errors_after
+    × IsLengthFault fault)
 
--- either `Ends` holds for a new disk over a file, or no disk was opened, standard error reports why, and
--- nothing was written
+-- Either `Ends` holds for a new disk over a file, or no disk was opened, standard error reports why, and
+-- nothing was written. S6 is reported only of a length that no disk has.
 abbrev pub OpenEnds : (SystemDisk → SystemDisk → Type 0) → Streams → Status → Type 0
 OpenEnds Ends io status =
     ((disk : SystemDisk) × (left : SystemDisk) × IsNew disk × Ends disk left)
-    ⊎ ((fault : OpenFault) × (status ≡ open_status fault) × IsUntold io × SaysFault fault io.errors_before io.errors_after)
+    ⊎ ((fault : OpenFault) × (status ≡ open_status fault) × IsUntold io × SaysFault fault io.errors_before io.errors_after × IsLengthFault fault)
 
 -- a request was made to the registry on the disk
 abbrev pub AskEnds : Request → Telling → Streams → Status → Type 0

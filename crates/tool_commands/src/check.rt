@@ -1,10 +1,11 @@
 // Tests the installed libraries, and writes the findings.
 
-ghost use Rattle.std.specs.Prelude.{◌≡◌, List, OnOk, length};
+ghost use Rattle.std.specs.Prelude.{◌≡◌, List, OnOk, length, sum_by};
 ghost use Rattle.std.specs.List.{list_all};
 ghost use Rattle.std.specs.Io.KnownBytes.{Appends};
+ghost use Rattle.sector_disk.specs.Disk.{AreCallsAtMost};
 ghost use Rattle.states.specs.State.{Library, State};
-ghost use Rattle.store.specs.IsRead.{IsRead};
+ghost use Rattle.store.specs.IsRead.{IsRead, file_sectors};
 ghost use Rattle.store.specs.Opened.{IsAt};
 ghost use Rattle.text_output.specs.Sends.{Sends};
 ghost use Rattle.tool_commands.specs.AnyDisk.{CheckTells};
@@ -132,7 +133,8 @@ pub fn run_check<D: Disk, O: Write, E: Write>(
 ) -> Status
     ensures read { IsRead D.facts contents.old contents.new }
     ensures ends { (s : State) → IsAt D.facts contents.old s
-        → CheckEnds (D.facts contents.old.disk) (D.facts contents.new.disk) s (record {
+        → CheckEnds (D.facts contents.old.disk) (D.facts contents.new.disk) contents.old.entries s
+        (record {
           before = O.contents output.old;
           after = O.contents output.new;
           errors_before = E.contents errors.old;
@@ -146,6 +148,10 @@ pub fn run_check<D: Disk, O: Write, E: Write>(
       errors_before = E.contents errors.old;
       errors_after = E.contents errors.new;
     }) result }
+
+    // It makes at most one call of the disk for each sector of each library.
+    ensures calls { AreCallsAtMost (sum_by file_sectors contents.old.entries)
+        (D.facts contents.old.disk) (D.facts contents.new.disk) }
 {
     match contents.check(alloc) {
         Ok(findings) => tell_findings(contents.store(), &findings, output, errors),

@@ -1,9 +1,10 @@
 // Writes the digests of the libraries.
 
-ghost use Rattle.std.specs.Prelude.{◌≡◌, List, IfSome, OnOk, length, true};
+ghost use Rattle.std.specs.Prelude.{◌≡◌, List, IfSome, OnOk, length, sum_by, true};
 ghost use Rattle.std.specs.Io.KnownBytes.{Appends};
+ghost use Rattle.sector_disk.specs.Disk.{AreCallsAtMost};
 ghost use Rattle.states.specs.State.{Library, State};
-ghost use Rattle.store.specs.IsRead.{IsRead};
+ghost use Rattle.store.specs.IsRead.{IsRead, file_sectors};
 ghost use Rattle.store.specs.Opened.{IsAt};
 ghost use Rattle.program_parts.specs.Said.{AppendsFront};
 ghost use Rattle.text_output.specs.Sends.{Sends};
@@ -175,6 +176,10 @@ pub fn run_digest<D: Disk, O: Write, E: Write>(
       errors_before = E.contents errors.old;
       errors_after = E.contents errors.new;
     }) result }
+
+    // It makes at most one call of the disk for each sector of each library.
+    ensures calls { AreCallsAtMost (sum_by file_sectors contents.old.entries)
+        (D.facts contents.old.disk) (D.facts contents.new.disk) }
 {
     match contents.digests(alloc) {
         Ok(digests) => tell_digests(contents.store(), alloc, &digests, output, errors),

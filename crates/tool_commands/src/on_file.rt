@@ -33,7 +33,7 @@ fn not_opened<E: Write>(alloc: Global, path: &str, fault: OpenFault, errors: &mu
 {
     match fault {
         OpenFault::CannotOpen => cannot_read(errors, path),
-        OpenFault::BadLength => say_refusal(alloc, StoreRefusal::BadGeometry, errors),
+        OpenFault::BadLength(_) => say_refusal(alloc, StoreRefusal::BadGeometry, errors),
         OpenFault::OutOfMemory => say_refusal(alloc, StoreRefusal::OutOfMemory, errors),
     }
 }

@@ -6,7 +6,7 @@ ghost use Rattle.states.specs.State.{State};
 ghost use Rattle.store.specs.IsRead.{IsRead};
 ghost use Rattle.store.specs.Opened.{IsAt};
 ghost use Rattle.tool_commands.specs.AnyDisk.{FormTells};
-ghost use Rattle.tool_commands.specs.Ends.{DiskEnds, EndsUnopened, FormEnds};
+ghost use Rattle.tool_commands.specs.Ends.{DiskEnds, EndsUnopened, FormEnds, FormReads};
 ghost use Rattle.tool_commands.specs.Form.{question_of};
 
 use crate::check::run_check;
@@ -71,6 +71,8 @@ fn run_opened<D: Disk, O: Write, E: Write>(
           errors_before = E.contents errors.old;
           errors_after = E.contents errors.new;
         }) result }
+    ensures calls { FormReads (D.facts contents.old.disk) (D.facts contents.new.disk)
+        contents.old.entries (question_of form.now) }
 {
     match *form {
         Form::Info => run_info(contents, output, errors),

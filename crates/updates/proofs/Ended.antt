@@ -110,7 +110,7 @@ module _ (unread before after errors_before errors_after : Option (List ℕ)) (s
       by_fault fault ends said (inl so) = (so.0, so.1, last, so.3, inr (inr (fault, so.2, so.4, so.5, is, breaks_off fault (plan_texts so.1) so.6 ends said)))
       by_fault fault ends said (inr so) = unsent so.1 so.2 so.3 so.4 so.5 so.6 (cannot_write fault so.0 ends said)
 
--- if memory was refused before any line was read, the update ends with this fault
+-- if memory was refused before any line was read, the update ends with the fault of refused memory
 pub by_memory : {D O : Type 0} (facts : D → DiskFacts) (contents : O → Option (List ℕ)) (old new : Opened D) (unread before errors_before errors_after : Option (List ℕ)) (status : Status) → new ≡ old
     → status ≡ NoMemory → AppendsFront errors_before errors_after memory_line
     → EndsBegun facts contents (begun old) (record { unread = unread; before = before; after = before; errors_before = errors_before; errors_after = errors_after }) status new

@@ -1,4 +1,4 @@
--- The tests of a symbol in one.
+-- The four tests of a symbol as one test.
 use Rattle.std.specs.Prelude.{Bool, ◌||◌}
 use Rattle.elf_dynamic.specs.Symbol.{is_common, is_tls, is_ifunc, is_badly_bound}
 use Rattle.elf_dynamic.specs.declared.symbol.Symbol.{Symbol}

@@ -22,7 +22,7 @@ pub record IsHashTable (file : List ℕ) (table : HashTable) : Type 0 where
 abbrev pub soname_offset : List ℕ → Option ℕ
 soname_offset file = if is_present file DT_SONAME then Some (tag_value file DT_SONAME) else None
 
--- `parts` has the tables of the file, and the right values of its tags
+-- `parts` has the tables of the file, and the right values of the tags that the code keeps
 pub record HasParts (file : List ℕ) (parts : Parts) : Type 0 where
   pub strings : parts.strings.now ≡ string_table file
   pub strings_size : length parts.strings.now ≡ tag_value file DT_STRSZ
@@ -35,7 +35,7 @@ pub record HasParts (file : List ℕ) (parts : Parts) : Type 0 where
   pub soname : parts.soname ≡ soname_offset file
   pub symbolic : parts.symbolic ≡ is_symbolic file
 
--- `offsets` are those of the needed libraries' names, and `parts` has the tables of the file
+-- `offsets` has the offsets of the needed libraries' names, and `parts` has the tables of the file
 pub record HasTables (file offsets : List ℕ) (parts : Parts) : Type 0 where
   pub needed : offsets ≡ needed_offsets file
   pub has : HasParts file parts

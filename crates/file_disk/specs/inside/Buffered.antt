@@ -4,7 +4,7 @@ use Rattle.sector_disk.specs.Disk.{Sector, sector}
 use Rattle.file_disk.specs.declared.buffered.Buffered.{Buffered}
 use Rattle.file_disk.specs.declared.sector_file.SectorFile.{Ghosts}
 use Rattle.file_disk.specs.Buffered.{shown_at, Leaves}
-use Rattle.file_disk.specs.Gathered.{gathered_at}
+use Rattle.file_disk.specs.WriteBuffer.{write_buffer_at}
 use Rattle.file_disk.specs.SectorFile.{MayHave}
 use Rattle.file_disk.specs.inside.Transfer.{StaysWithin}
 
@@ -25,7 +25,7 @@ module _ {F : Type 0} {g : Ghosts F} where
     pub cause : (old.failed ≡ true) ⊎ ((g.facts old.file).failures < (g.facts new.file).failures)
 
   -- reads of the file return what reads through the buffers returned
-  pub record IsGiven (old new : Buffered F g) : Type 0 where
+  pub record IsWrittenBack (old new : Buffered F g) : Type 0 where
     pub within : StaysWithin (Leaves old) (g.facts old.file) (g.facts new.file)
     pub shown : (k : ℕ) → sector (g.facts new.file).now k ≡ shown_at old k
 
@@ -33,7 +33,7 @@ module _ {F : Type 0} {g : Ghosts F} where
   pub record IsRoomy (old new : Buffered F g) : Type 0 where
     pub within : StaysWithin (Leaves old) (g.facts old.file) (g.facts new.file)
     pub shown : (k : ℕ) → shown_at new k ≡ shown_at old k
-    pub waits : (k : ℕ) → (gathered_at new.gathered k ≡ gathered_at old.gathered k) ⊎ (gathered_at new.gathered k ≡ None)
+    pub waits : (k : ℕ) → (write_buffer_at new.write_buffer k ≡ write_buffer_at old.write_buffer k) ⊎ (write_buffer_at new.write_buffer k ≡ None)
 
   -- reads return what they returned in each sector except this one
   pub record IsPut (at : ℕ) (old new : Buffered F g) : Type 0 where
@@ -41,7 +41,7 @@ module _ {F : Type 0} {g : Ghosts F} where
     pub shown : (k : ℕ) → k ≢ at → shown_at new k ≡ shown_at old k
 
   -- reads return what they returned, and the medium has only that
-  pub record IsSettled (old new : Buffered F g) : Type 0 where
+  pub record IsSynced (old new : Buffered F g) : Type 0 where
     pub within : StaysWithin (Leaves old) (g.facts old.file) (g.facts new.file)
     pub shown : (k : ℕ) → sector (g.facts new.file).now k ≡ shown_at old k
     pub alone : (k : ℕ) (c : Sector) → MayHave (g.facts new.file) k c → c ≡ shown_at old k

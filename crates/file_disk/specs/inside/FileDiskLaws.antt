@@ -11,10 +11,10 @@ use Rattle.std.proofs.lemmas.List.FromFn.{length-map-range_with_len, get_or-map-
 use Rattle.sector_disk.specs.Disk.{Sector, sector, IsWhole, MayLeave, HoldsNow, HasWholeSectors}
 use Rattle.file_disk.specs.declared.buffered.Buffered.{Buffered}
 use Rattle.file_disk.specs.declared.disk.FileDisk.{FileDisk}
-use Rattle.file_disk.specs.declared.gathered.Gathered.{Gathered}
+use Rattle.file_disk.specs.declared.write_buffer.WriteBuffer.{WriteBuffer}
 use Rattle.file_disk.specs.declared.sector_file.SectorFile.{Ghosts}
 use Rattle.file_disk.specs.FileDisk.{file_facts}
-use Rattle.file_disk.specs.Gathered.{gathered_at}
+use Rattle.file_disk.specs.WriteBuffer.{write_buffer_at}
 use Rattle.file_disk.specs.Left.{LeftOf, shown_of}
 use Rattle.file_disk.specs.SectorFile.{HasWholeContents}
 
@@ -24,11 +24,11 @@ some_holds true x y P holds is = let same : x ≡ y = cc in subst P same (holds 
 some_holds false x y P holds is = absurd (none-some y is)
 
 -- each content in the write buffer is whole
-waits_whole : (gathered : Gathered) (k : ℕ) (c : Sector) → gathered_at gathered k ≡ Some c → IsWhole c
-waits_whole gathered k c is = some_holds (nat_le gathered.start k && nat_lt (k - gathered.start) (length gathered.contents.items))
-    (sector gathered.contents.items (k - gathered.start)) c IsWhole
-    (λ test. All-get_or IsWhole gathered.contents.items (k - gathered.start) [] (ltb-true (k - gathered.start) (length gathered.contents.items)
-    (and_parts (nat_le gathered.start k) (nat_lt (k - gathered.start) (length gathered.contents.items)) test).1) gathered.whole)
+waits_whole : (write_buffer : WriteBuffer) (k : ℕ) (c : Sector) → write_buffer_at write_buffer k ≡ Some c → IsWhole c
+waits_whole write_buffer k c is = some_holds (nat_le write_buffer.start k && nat_lt (k - write_buffer.start) (length write_buffer.contents.items))
+    (sector write_buffer.contents.items (k - write_buffer.start)) c IsWhole
+    (λ test. All-get_or IsWhole write_buffer.contents.items (k - write_buffer.start) [] (ltb-true (k - write_buffer.start) (length write_buffer.contents.items)
+    (and_parts (nat_le write_buffer.start k) (nat_lt (k - write_buffer.start) (length write_buffer.contents.items)) test).1) write_buffer.whole)
     is
 
 module _ {F : Type 0} {g : Ghosts F} where
@@ -54,7 +54,7 @@ module _ {F : Type 0} {g : Ghosts F} where
     -- each content that a stop might have left is whole
     left_whole : (since : List (Buffered F g)) (k : ℕ) (c : Sector) → LeftOf since k c → IsWhole c
     left_whole since k c left = ∥∥₁_elim left (hlevel props) (λ found. ⊎_elim
-        (λ waits. waits_whole found.0.gathered k c waits)
+        (λ waits. waits_whole found.0.write_buffer k c waits)
         (λ has. (whole found.0.file).each k c has)
         found.2)
 

@@ -2,8 +2,8 @@
 use Rattle.std.specs.Prelude.{◌≡◌, ◌<◌, ◌≤◌, ◌+◌, ◌⊎◌, ℕ, false, List, Result, OnErr}
 use Rattle.sector_disk.specs.Disk.{Sector, sector}
 use Rattle.file_disk.specs.SectorFile.{FileFacts, MayHave, IsGivenTo, IsOldOrGiven}
-use Rattle.file_disk.specs.declared.ahead.Ahead.{Ahead}
-use Rattle.file_disk.specs.Ahead.{KeepsOf}
+use Rattle.file_disk.specs.declared.read_ahead.ReadAhead.{ReadAhead}
+use Rattle.file_disk.specs.ReadAhead.{KeepsOf}
 
 -- At no moment of some calls did the medium have anything except what is allowed.
 pub record StaysWithin (Allowed : ℕ → Sector → Type 0) (old new : FileFacts) : Type 0 where
@@ -28,9 +28,9 @@ pub record IsReadAt (at : ℕ) (into : List Sector) (count : ℕ) (old new : Fil
   pub read : (i : ℕ) → i < count → sector into i ≡ sector old.now (at + i)
 
 -- The read-ahead buffer has what was read, or a call failed.
-pub record IsFilled {T E : Type 0} (old new : FileFacts) (ahead : Ahead) (result : Result T E) : Type 0 where
+pub record IsFilled {T E : Type 0} (old new : FileFacts) (read_ahead : ReadAhead) (result : Result T E) : Type 0 where
   pub within : StaysWithin (MayHave old) old new
   pub trusted : new.sync_failed ≡ false
   pub now : new.now ≡ old.now
-  pub kept : KeepsOf ahead old.now
+  pub kept : KeepsOf read_ahead old.now
   pub err : OnErr result (old.failures < new.failures)

@@ -1,4 +1,5 @@
--- A table in which a name is found by its key. A cell has the number of a name, counted from 1, or 0 if it is empty. None of this has to be believed.
+-- A table in which a name is found by its key. A cell has the number of a name, counted from 1, or 0 if
+-- it is empty. A reader doesn't have to believe these definitions.
 use Rattle.std.specs.Prelude.{ℕ, List, ◌≡◌, ◌≢◌, ◌<◌, ◌≤◌, ◌+◌, ◌-◌, ◌*◌, ◌/◌, ◌%◌, ◌^◌, length, slice_index}
 use Rattle.hash_check.specs.inside.Key.{key_of}
 use Rattle.hash_check.specs.Numbers.{nth_text}
@@ -12,11 +13,11 @@ pub record IsOther (text : ℕ → List ℕ) (name : List ℕ) (cell : ℕ) : Ty
   pub taken : cell ≢ 0
   pub differs : text (cell - 1) ≢ name
 
--- the cells from one up to another have other names than this one
+-- the cells from number `from` up to, but not including, number `at` have other names than this one
 abbrev pub HoldOthers : (ℕ → List ℕ) → List ℕ → List ℕ → ℕ → ℕ → Type 0
 HoldOthers text cells name from at = (k : ℕ) → from ≤ k → k < at → IsOther text name (slice_index cells k)
 
--- a search for a name that begins at its home ends at an empty cell
+-- a search for a name, from cell number `from`, ends at the empty cell number `at`
 pub record IsFree (text : ℕ → List ℕ) (cells name : List ℕ) (from at : ℕ) : Type 0 where
   pub behind : from ≤ at
   pub near : at < from + 128
@@ -24,7 +25,7 @@ pub record IsFree (text : ℕ → List ℕ) (cells name : List ℕ) (from at : �
   pub empty : slice_index cells at ≡ 0
   pub others : HoldOthers text cells name from at
 
--- a search for a name that begins at its home ends at the cell that has the name
+-- a search for a name, from cell number `from`, ends at cell number `at`, which has the name
 pub record Reaches (text : ℕ → List ℕ) (cells name : List ℕ) (from at : ℕ) : Type 0 where
   pub behind : from ≤ at
   pub near : at < from + 128
@@ -36,13 +37,14 @@ pub record Reaches (text : ℕ → List ℕ) (cells name : List ℕ) (from at : 
 abbrev pub home_of : List (List ℕ) → List ℕ → ℕ → ℕ
 home_of names cells k = home (length cells) (key_of (nth_text names k))
 
--- name number `k` is found by a search from its home, at a cell that has the number `told`
+-- the search for name number `k` ends at a cell that has the number `told`
 pub record Stands (names : List (List ℕ)) (cells : List ℕ) (k told : ℕ) : Type 0 where
   pub place : ℕ
   pub is : Reaches (nth_text names) cells (nth_text names k) (home_of names cells k) place
   pub cell : slice_index cells place ≡ told
 
--- the table has name number `number`, at a cell with the number `told`, and it still has all names that it had before
+-- in the new table, the search for name number `number` ends at a cell with the number `told`, and all
+-- names of the old table are found as before
 pub record IsPut (names : List (List ℕ)) (old new : List ℕ) (number told : ℕ) : Type 0 where
   pub few : (k : ℕ) → slice_index new k ≤ number + 1
   pub stands : Stands names new number told

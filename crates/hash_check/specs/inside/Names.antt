@@ -8,7 +8,7 @@ use Rattle.elf_dynamic.specs.Strings.{string_table, string_at}
 use Rattle.hash_check.specs.Export.{is_exported}
 use Rattle.hash_check.specs.declared.strings.Stretch.{Stretch}
 
--- `i` is the number of a symbol, and isn't 0
+-- there is a symbol with number `i`, and `i` isn't 0
 pub record IsSymbol (file : List ℕ) (i : ℕ) : Type 0 where
   pub some : 1 ≤ i
   pub within : i < length (symbols file)
@@ -21,7 +21,7 @@ all_symbols file = range_with_len 1 (length (symbols file) - 1)
 abbrev pub offset_of : List ℕ → ℕ → ℕ
 offset_of file i = option_map_or (λ s. s.name) (slice_get (symbols file) i) 0
 
--- the stretch is a string of the table, with its length
+-- the stretch is a string of the string table: its length is the string's length
 abbrev pub IsStretch : List ℕ → Stretch → Type 0
 IsStretch file s = length (string_at (string_table file) s.from) ≡ s.length
 
@@ -45,7 +45,7 @@ IsLengthOf file i n = n ≡ length (name_of file i)
 pub record AllDiffer (file numbers : List ℕ) : Type 0 where
   pub differ : (i j : ℕ) → i < j → j < length numbers → name_of file (slice_index numbers i) ≢ name_of file (slice_index numbers j)
 
--- the symbols are exported, and the names are theirs
+-- the symbols are exported, and `names` has their names, in the same order
 pub record AreExports (file symbols : List ℕ) (names : List (List ℕ)) : Type 0 where
   pub exported : All (λ i. is_exported file i ≡ true) symbols
   pub named : names ≡ map (name_of file) symbols

@@ -1,4 +1,5 @@
--- The walks that the code has followed. For each index it keeps the distance from 0, and an index further along.
+-- The walks that the code has followed. For each index it keeps the number of steps to 0, and an index
+-- further along the walk.
 use Rattle.std.specs.Prelude.{ℕ, List, Option, Some, None, ◌≡◌, ◌≢◌, ◌<◌, ◌≤◌}
 use Rattle.std.specs.Prelude.{◌-◌, ◌+◌, length, slice_index, slice_index_or, set}
 use Rattle.std.proofs.Math.ListN.{replicate}
@@ -35,19 +36,19 @@ pub record Sound (chains : List ℕ) (places : List (Option Place)) : Type 0 whe
 pub record Keeps (old new : List (Option Place)) : Type 0 where
   pub known : (i : ℕ) → Known old i → Known new i
 
--- `new` is a place of an index on the walk from `head` that is followed by `next`, whose place is `p`
+-- `new` is a right place for an index whose next index on the walk is `next`; the place of `next` is `p`
 pub record IsBefore (chains : List ℕ) (head next : ℕ) (p new : Place) : Type 0 where
   pub begins : new.head ≡ head
   pub depth : new.depth ≡ p.depth + 1
   pub landing : new.landing ≤ p.depth
   pub jump : walk chains next (p.depth - new.landing) ≡ new.jump
 
--- the indices of a path are those of a walk that hasn't reached 0 yet
+-- the path has the first indices of a walk, and the walk hasn't reached 0 at any of them
 pub record IsPath (chains : List ℕ) (from : ℕ) (path : List ℕ) : Type 0 where
   pub walked : (k : ℕ) → k < length path → slice_index path k ≡ walk chains from k
   pub before : (k : ℕ) → k < length path → walk chains from k ≢ 0
 
--- the places of `n` indices before any walk is followed
+-- the places of `n` indices before any walk is followed: only index 0 has one
 unfoldable pub none_but_zero : ℕ → List (Option Place)
 none_but_zero n = set (replicate n None) 0 (Some (record { depth = 0; jump = 0; landing = 0; head = 0 }))
 

@@ -9,7 +9,8 @@ use Rattle.image.specs.Loading.{all_loaded}
 use Rattle.image.specs.Placement.{Placed}
 use Rattle.image.specs.Relocating.{file_at, writes_of}
 
--- `values` has the known values of the symbols of object number `own`, by number, and `known` marks them
+-- `known` marks the symbols of object number `own` for which `values` has the value; both lists are by
+-- symbol number
 pub record AreValues (objects : List Placed) (own : ℕ) (values : List ℕ) (known : List Bool) : Type 0 where
   pub counted : length values ≡ length (symbols (file_at objects own))
   pub flags : length known ≡ length values

@@ -27,16 +27,16 @@ fresh s =
       bytes = padded s.contents s.heading.size;
     }
 
--- each segment lies above those before it, the first at or above `from`
+-- each segment begins at or above the end of the one before it, the first one at or above `from`
 abbrev pub Rising : ℕ → List Heading → Type 0
 Rising from [] = Unit {0}
 Rising from (s ∷ rest) = (from ≤ s.address) × Rising (s.address + s.size) rest
 
--- a segment holds the eight bytes from `place` on
+-- a segment has the eight bytes that begin at `place`
 abbrev pub room_in : ℕ → Heading → Bool
 room_in place s = nat_le s.address place && nat_le (place + 8) (s.address + s.size)
 
--- a list of bytes with the eight bytes of a value at an offset
+-- a list of bytes after the eight bytes of `value` were written at offset `at`
 abbrev pub with_value : List ℕ → ℕ → ℕ → List ℕ
 with_value bytes at value = take at bytes ++ little_bytes 8 value ++ drop (at + 8) bytes
 
@@ -45,32 +45,34 @@ abbrev pub patched_at : ImageSegment → ℕ → ℕ → ImageSegment
 patched_at s place value =
     record { address = s.address; permissions = s.permissions; bytes = with_value s.bytes (place - s.address) value }
 
--- the byte at an address after the eight bytes of a value were written from `place` on
+-- the byte at an address after the eight bytes of a value were written at `place`
 abbrev pub over : ℕ → ℕ → Option ℕ → ℕ → Option ℕ
 over place value old address = if within place 8 address then Some (byte_at (address - place) value) else old
 
--- the byte at an address after a relocation's write, if there is one
+-- the byte at an address after a relocation's write, if the relocation writes
 abbrev pub after : Option Write → Option ℕ → ℕ → Option ℕ
 after (Some w) old address = over w.place w.value old address
 after None old address = old
 
--- a write lies in the memory of some segment, below 2^64
+-- a write lies within one segment, below 2^64
 abbrev pub Lands : List Heading → Write → Type 0
 Lands headings w = (w.place < 2 ^ 64) × (list_any (room_in w.place) headings ≡ true)
 
--- the segments rise, none of them ends above the limit, and each of them belongs to one of the objects
+-- the segments rise, none of them ends above the limit, and the objects' numbers of segments add up to
+-- all of them
 pub record IsWhole (objects : List ImageObject) (segments : List ImageSegment) : Type 0 where
   pub rising : Rising 0 (map heading segments)
   pub low : All (λ s. s.address + length s.bytes ≤ MEMORY_LIMIT) segments
   pub counted : sum_by (λ o. o.segment_count) objects ≡ length segments
 
--- objects at the bases of a list
+-- each object at the base with the same number in the list
 abbrev pub with_bases : List Named → List ℕ → List Placed
 with_bases [] bases = []
 with_bases (o ∷ os) [] = []
 with_bases (o ∷ os) (b ∷ bs) = placed_at b o ∷ with_bases os bs
 
--- each object of the order has its base, and the objects lie one above the other in memory
+-- there is a base for each object of the order, and the objects at these bases lie one above the other
+-- in memory
 pub record IsPlaced (order : List Named) (bases : List ℕ) : Type 0 where
   pub counted : length bases ≡ length order
   pub stacked : Stacked 0 (with_bases order bases)

@@ -1,4 +1,4 @@
--- A queue that grows by several places. None of this has to be believed.
+-- A queue to which several places are added. A reader doesn't have to believe this definition.
 use Rattle.std.specs.Prelude.{ℕ, List, fold}
 use Rattle.scope.specs.Queue.{grown_by}
 

@@ -1,9 +1,9 @@
--- The flags of the queue of places. None of this has to be believed.
+-- The flags of the queue of places. A reader doesn't have to believe this definition.
 use Rattle.std.specs.Prelude.{ℕ, ◌≡◌, ◌<◌, List, Bool, false, length, get_or}
 use Rattle.scope.specs.Levels.{is_among}
 use Rattle.scope.specs.Queue.{AreApart}
 
--- each place below the limit has a flag, which says whether the place is in the queue
+-- flag number p says whether place p is in the queue, for each place below the limit
 pub record AreTold (flags : List Bool) (places : List ℕ) : Type 0 where
   pub told : (p : ℕ) → p < length flags → get_or flags p false ≡ is_among places p
   pub apart : AreApart (length flags) places

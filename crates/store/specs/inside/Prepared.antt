@@ -12,7 +12,7 @@ use Rattle.states.specs.Limits.{most_libraries, last_generation}
 use Rattle.states.specs.State.{State}
 use Rattle.store.specs.declared.change.Staged.TheVariants.{Catalogues, Put}
 use Rattle.store.specs.declared.edit.Edit.{Edit}
-use Rattle.store.specs.declared.edit.Edit.TheVariants.{Out}
+use Rattle.store.specs.declared.edit.Edit.TheVariants.{Remove}
 use Rattle.store.specs.declared.kept.Kept.{Kept}
 use Rattle.store.specs.declared.prepared.Prepared.{Prepared}
 use Rattle.store.specs.declared.placed_entry.PlacedEntry.{PlacedEntry}
@@ -106,7 +106,7 @@ pub record StandsAt (entries : List PlacedEntry) (name : List ℕ) (position : �
 pub record TakesOut (kept : Kept) (prepared : Prepared) (name : List ℕ) : Type 0 where
   pub position : ℕ
   pub at : StandsAt kept.entries.items name position
-  pub edits : prepared.edit ≡ Out position
+  pub edits : prepared.edit ≡ Remove position
   pub staged : prepared.change.staged ≡ Catalogues (catalogues_of prepared.change.root)
   pub taken : AreTaken (layout_of kept.root.sectors (in_use kept.root kept.entries.items kept.held)) (catalogues_of prepared.change.root)
   pub count : length (catalogues_of prepared.change.root) ≡ catalogues_for (length kept.entries.items - 1)

@@ -1,4 +1,4 @@
-// The same random calls of a disk and of one in memory.
+// The same random calls of a disk and of a disk in memory.
 use crate::disks::random::next;
 use crate::disks::stops::{read, write};
 use sector_disk::{Disk, Memory};
@@ -11,8 +11,8 @@ enum Call {
     Sync,
 }
 
-// Makes one call of both disks. Returns whether both return the same, and no write and no sync
-// fails.
+// Makes one call of both disks. Returns whether both answer it in the same way, and neither a write
+// nor a sync fails.
 fn is_alike<D: Disk>(disk: &mut D, memory: &mut Memory, at: u32, call: Call) -> bool {
     match call {
         Call::Read => read(disk, at) == read(memory, at),
@@ -21,7 +21,7 @@ fn is_alike<D: Disk>(disk: &mut D, memory: &mut Memory, at: u32, call: Call) -> 
     }
 }
 
-// Returns the next call: a third are reads, and one in fifteen is a sync.
+// Returns the next random call: one in three is a read, and one in fifteen is a sync.
 fn next_call(state: &mut u64) -> Call {
     let content = (next(state) % 251) as u8;
     match next(state) % 30 {
@@ -31,7 +31,7 @@ fn next_call(state: &mut u64) -> Call {
     }
 }
 
-/// Makes `calls` calls of both disks. About three in four go to the sector after the last one.
+/// Makes `calls` calls of both disks. About three in four use the sector after the last one used.
 /// Returns whether both disks answer all calls in the same way.
 pub(crate) fn call_both<D: Disk>(disk: &mut D, memory: &mut Memory, calls: u32) -> bool {
     let mut state = 88_172_645_463_325_252;
@@ -49,7 +49,7 @@ pub(crate) fn call_both<D: Disk>(disk: &mut D, memory: &mut Memory, calls: u32) 
     true
 }
 
-/// Returns whether both disks have the same number of sectors with the same contents.
+/// Returns whether both disks have the same number of sectors, with the same contents.
 pub(crate) fn are_same<D: Disk>(disk: &mut D, memory: &mut Memory) -> bool {
     for at in 0..memory.sectors() {
         if read(disk, at) != read(memory, at) {

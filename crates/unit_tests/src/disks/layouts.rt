@@ -3,8 +3,8 @@
 use extents::{Extent, Layout, MOST_EXTENTS, MOST_SECTORS, TakeRefusal};
 use std::alloc::AllocError;
 
-// Returns whether the layout hands out `need` sectors as these extents, each with its first sector
-// and its number of sectors.
+// Returns whether the layout hands out `need` sectors as the extents `wanted`, each of which has
+// its first sector and its number of sectors.
 fn gives(layout: &mut Layout, need: u32, wanted: &[(u32, u32)]) -> bool {
     let Ok(given) = Layout::take(layout, need) else {
         return false;
@@ -21,7 +21,7 @@ fn gives(layout: &mut Layout, need: u32, wanted: &[(u32, u32)]) -> bool {
     given.len() == wanted.len() && given.is_empty() == wanted.is_empty()
 }
 
-// Claims every second sector, which are those with odd numbers, up to the last.
+// Claims the sectors with odd numbers, up to the last sector.
 fn claim_odd(layout: &mut Layout, sectors: u32) {
     for half in 1..sectors / 2 {
         let start = half.saturating_mul(2).saturating_add(1);
@@ -38,7 +38,7 @@ fn even_sectors() -> [(u32, u32); MOST_EXTENTS] {
     even
 }
 
-// The largest layout, with every second sector claimed.
+// Tests the largest layout, with every second sector claimed.
 #[test]
 fn lays_out_the_largest_scattered_disk(rt: HostRuntime) -> Result<(), AllocError> {
     let mut layout = Layout::new(rt.alloc(), 4_194_304)?;

@@ -4,12 +4,13 @@ use sector_disk::{CallCount, Disk, DiskFault, Fuse, Liar, Memory, SECTOR_BYTES};
 use std::alloc::Global;
 use std::test::Fail;
 
-/// Fills a sector with a byte. Returns whether the sector exists and was written.
+/// Fills sector `at` with bytes of value `content`. Returns whether the sector exists and was
+/// written.
 pub(crate) fn write<D: Disk>(disk: &mut D, at: u32, content: u8) -> bool {
     at < Disk::sectors(disk) && Disk::write(disk, at, &[content; SECTOR_BYTES]).is_ok()
 }
 
-/// Returns the value that all bytes have, if there is one.
+/// Returns the value that all bytes have, if they have the same one.
 pub(crate) fn value_of(bytes: &[u8]) -> Option<u8> {
     let first = bytes.first().copied();
     for byte in bytes {
@@ -20,8 +21,8 @@ pub(crate) fn value_of(bytes: &[u8]) -> Option<u8> {
     first
 }
 
-/// Returns the content of a sector. Returns `None` if there is no such sector, if the disk fails,
-/// or if the sector's bytes differ.
+/// Returns the content of sector `at`. Returns `None` if there is no such sector, if the disk
+/// fails, or if the sector's bytes have different values.
 pub(crate) fn read<D: Disk>(disk: &mut D, at: u32) -> Option<u8> {
     let mut sector = [99; SECTOR_BYTES];
     if at >= Disk::sectors(disk) || Disk::read(disk, at, &mut sector).is_err() {
@@ -30,7 +31,7 @@ pub(crate) fn read<D: Disk>(disk: &mut D, at: u32) -> Option<u8> {
     value_of(&sector)
 }
 
-/// Fills each sector with its number modulo 251. Returns whether all were written.
+/// Fills each sector with its number modulo 251. Returns whether all writes succeeded.
 pub(crate) fn fill<D: Disk>(disk: &mut D) -> bool {
     for at in 0..disk.sectors() {
         if !write(disk, at, (at % 251) as u8) {
@@ -50,7 +51,8 @@ pub(crate) fn is_filled<D: Disk>(disk: &mut D) -> bool {
     true
 }
 
-// Returns how many contents a stop may leave in a sector, or 0 if there is no such sector.
+// Returns the number of contents that a stop may leave in a sector, or 0 if there is no such
+// sector.
 fn choices(disk: &Memory, at: u32) -> usize {
     if at < disk.sectors() {
         Memory::choices(disk, at)
@@ -59,12 +61,12 @@ fn choices(disk: &Memory, at: u32) -> usize {
     }
 }
 
-// Returns the disk that a stop leaves, if it picks the same number for each sector.
+// Returns the disk after a stop that picks number `pick` for each sector.
 fn stopped(disk: Memory, pick: usize) -> Memory {
     Memory::stop(disk, |_, _| pick)
 }
 
-// Returns the content of a sector after a stop that picks the same number for each sector. After
+// Returns the content of sector `at` after a stop that picks number `pick` for each sector. After
 // the stop everything is synced.
 fn left(disk: &Memory, at: u32, pick: usize) -> Option<u8> {
     let mut stopped = stopped(Memory::copy(disk).ok()?, pick);
@@ -76,7 +78,7 @@ fn left(disk: &Memory, at: u32, pick: usize) -> Option<u8> {
 }
 
 // Returns whether a stop may leave exactly `contents` in a sector, in this order. Picks each
-// content by its number, and by this number plus the number of contents.
+// content by its number, and by the sum of its number and the number of contents.
 fn leaves(disk: &Memory, at: u32, contents: &[u8]) -> bool {
     for (pick, content) in contents.iter().enumerate() {
         let higher = pick.saturating_add(contents.len());
@@ -117,8 +119,8 @@ fn four_calls<D: Disk>(disk: &mut D) -> ([bool; 4], Option<u8>) {
     ([first, synced, second, content.is_some()], content)
 }
 
-/// The failing call; whether it fails forever; whether it fails late; which calls succeed; the
-/// content that was read; and the contents that a stop may leave in sector 0 of the inner disk.
+/// The failing call; whether all later calls fail too; whether it fails late; which calls succeed;
+/// the content that was read; and the contents that a stop may leave in sector 0 of the inner disk.
 type Row = (u64, bool, bool, [bool; 4], Option<u8>, &'static [u8]);
 
 const FUSES: [Row; 18] = [
@@ -149,7 +151,7 @@ const FUSES: [Row; 18] = [
     (5, true, true, [true, true, true, true], Some(2), &[1, 2]),
 ];
 
-// Returns whether a fuse over a disk of two sectors behaves as its row says.
+// Returns whether a fuse over a disk of two sectors has the results of its row.
 fn is_row(alloc: Global, row: Row) -> bool {
     let (call, forever, late, succeed, content, left_inside) = row;
     let Ok(disk) = Memory::new(alloc, 2) else {
@@ -161,7 +163,7 @@ fn is_row(alloc: Global, row: Row) -> bool {
     two && done == (succeed, content) && leaves(&Fuse::into_inner(fuse), 0, left_inside)
 }
 
-// Returns the first fuse that behaves differently from its row.
+// Returns the first fuse that doesn't have the results of its row.
 fn fused_otherwise(alloc: Global) -> Option<(u64, bool, bool)> {
     for row in &FUSES {
         if !is_row(alloc, *row) {

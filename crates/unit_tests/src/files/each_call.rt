@@ -1,6 +1,6 @@
-// Each call that reads a file or binds a program, made once by its public path and with ample
-// memory. No crate here makes some of these calls: they are for programs that read files or place
-// objects without the rest.
+// Each call that reads a file or binds a program, made once by its public path, with ample memory.
+// No crate here makes some of these calls: they are for programs that only read files or only place
+// objects.
 
 use crate::files::images::sample;
 use crate::files::searches::library;
@@ -14,14 +14,15 @@ use std::test::Fail;
 
 const BASE: u64 = 0x10000;
 
-/// Returns whether the first segment of the library is the whole file.
+/// Returns whether the first segment of the library has the whole file.
 fn has_segment(object: &Object<'_>) -> bool {
     Object::segment_count(object) == 1
         && Object::segment(object, 0).file_size == 432
         && Object::contents(object, 0) == library()
 }
 
-/// Returns whether symbol 1 of the library is f, and is the only one in the first of two buckets.
+/// Returns whether symbol 1 of the library is f, and is the only symbol in the first of two
+/// buckets.
 fn has_symbol(object: &Object<'_>) -> bool {
     Object::symbol_count(object) == 4
         && Object::symbol(object, 1).value == 0x1a8
@@ -45,7 +46,7 @@ fn admitted(alloc: Global, file: &[u8]) -> Option<Admitted<'_>> {
     Admitted::admit(alloc, object).ok()
 }
 
-/// Returns whether f is found in the library, with one comparison.
+/// Returns whether f is found in the library, and whether the search compares one symbol.
 fn finds(admitted: &Admitted<'_>) -> bool {
     let hashed = Admitted::find_hashed(admitted, b"f", elf_hash(b"f"));
     let wanted = Found {
@@ -78,7 +79,7 @@ fn has_file_at(alloc: Global, image: &Image, address: u64, front: &[u8]) -> bool
 
 const TEXT: &[u8] = b"object 0x0000000000010000 /program\n";
 
-/// Returns whether a program with one relocation is bound by itself.
+/// Returns whether a program with one relocation is bound without libraries.
 fn is_bound_alone(alloc: Global, file: &[u8]) -> bool {
     let Ok(object) = Object::read(file) else {
         return false;

@@ -1,6 +1,6 @@
-// Facts that no clause and no stored case shows: calls to which memory may be refused succeed at
-// their limits, and a writer's failure is reported. The program `cases` tests rows, bases, values,
-// refusals and texts.
+// Tests of images for facts that no clause and no stored case shows: calls that allocate succeed at
+// their limits, and a writer's failure is reported. The program `cases` tests lines of text, bases,
+// values, refusals and texts.
 
 use image::{Image, bind_alone};
 use samples::put;
@@ -22,8 +22,8 @@ const SAMPLE: &str =
     1800000000000000090000000000000018000000000000000000000000000000000000000000000000000000\
     00000000";
 
-/// Offsets in the sample: the offset of its program headers, and their number; the sizes of its
-/// PT_LOAD in the file and in memory; the address of its relocations, and their size.
+/// Offsets in the sample: of the offset of its program headers and of their number; of the sizes of
+/// its PT_LOAD in the file and in memory; of the address and the size of its relocations.
 const HEADERS_AT: usize = 0x20;
 
 const HEADER_COUNT_AT: usize = 0x38;
@@ -65,8 +65,8 @@ fn put_headers(file: &mut Vec<u8>) -> Result<(), AllocError> {
     Ok(())
 }
 
-/// Returns the sample with a memory size of `size`. Its program headers are moved to its end, and
-/// those of 60,000 PT_LOADs with the file's first 17 bytes follow them.
+/// Returns the sample with a segment of `size` bytes of memory. Its program headers are moved to
+/// its end, and those of 60,000 PT_LOADs with the file's first 17 bytes follow them.
 fn many_segments(alloc: Global, size: u64) -> Result<Vec<u8>, Fail> {
     let mut file = sample(alloc)?;
     put(&mut file, MEMORY_SIZE_AT, &size.to_le_bytes());
@@ -102,7 +102,7 @@ fn put_relocations(file: &mut Vec<u8>) -> Result<(), AllocError> {
     Ok(())
 }
 
-/// Returns the sample with these relocations.
+/// Returns the sample with these 20,000 relocations.
 fn many_relocations(alloc: Global) -> Result<Vec<u8>, Fail> {
     let mut file = sample(alloc)?;
     put_relocations(&mut file)?;
@@ -122,7 +122,8 @@ fn bound(alloc: Global, file: &[u8]) -> Result<Image, Fail> {
     }
 }
 
-/// Returns the image of the sample with a memory size of `size`.
+/// Returns the image of the sample with 60,000 more segments, whose first segment has `size` bytes
+/// of memory.
 fn image_of_size(alloc: Global, size: u64) -> Result<Image, Fail> {
     let mut file = sample(alloc)?;
     put(&mut file, MEMORY_SIZE_AT, &size.to_le_bytes());
@@ -136,8 +137,8 @@ fn text_of(alloc: Global, image: &Image) -> Result<Vec<u8>, Fail> {
     Ok(text)
 }
 
-/// Returns the first byte of the first of an image's many segments, the last byte of the last one,
-/// and the byte after it.
+/// Returns three bytes of an image with many segments: the first byte of the first of them, the
+/// last byte of the last one, and the byte after it.
 fn bytes_of_many(image: &Image) -> [Option<u8>; 3] {
     let last = 0x11000 + 32 * 59_999;
     [
@@ -147,8 +148,8 @@ fn bytes_of_many(image: &Image) -> [Option<u8>; 3] {
     ]
 }
 
-/// Returns those bytes for a memory size of `size`, the length of the text, and whether the text
-/// ends with `end`.
+/// Returns these three bytes for a first segment of `size` bytes of memory, the length of the text,
+/// and whether the text ends with the line `end`.
 fn seen_of_many(
     alloc: Global,
     size: u64,
@@ -161,8 +162,8 @@ fn seen_of_many(
 }
 
 // A segment's lines have 70 bytes, and the writer gets pieces of 65,536 bytes. So the pieces of
-// 60,000 segments end at every second offset within these lines. One more byte of memory at the
-// front adds three bytes of text, and gives the other offsets.
+// 60,000 segments end at every second offset within these lines. One more byte of memory in the
+// first segment adds three bytes of text, and gives the other offsets.
 #[test]
 fn binds_sixty_thousand_segments(rt: HostRuntime) -> Result<(), Fail> {
     let alloc = rt.alloc();
@@ -177,7 +178,7 @@ fn binds_sixty_thousand_segments(rt: HostRuntime) -> Result<(), Fail> {
     Ok(())
 }
 
-/// Returns the bytes that the last relocation writes.
+/// Returns the bytes that the last relocation has written.
 fn bytes_of_relocations(alloc: Global) -> Result<[Option<u8>; 4], Fail> {
     let file = many_relocations(alloc)?;
     let image = bound(alloc, &file)?;
@@ -200,17 +201,17 @@ fn binds_twenty_thousand_relocations(rt: HostRuntime) -> Result<(), Fail> {
 /// The length of the text of 65,936 bytes of memory, which has 4,121 lines.
 const LENGTH: usize = 35 + 37 + 2 * 65936 + 4121 + 4;
 
-/// Numbers of bytes in which that text doesn't fit.
+/// Numbers of bytes that are too few for this text.
 const ROOMS: [usize; 5] = [0, 100, 65536, 65537, LENGTH - 1];
 
-/// Returns whether a text fits in `room` bytes.
+/// Returns whether the text of an image fits in `room` bytes.
 fn fits(alloc: Global, image: &Image, room: usize) -> Result<bool, AllocError> {
     let mut held = vec![in alloc; 0u8; room]?;
     let mut out = held.as_mut_slice();
     Ok(image.write_text(&mut out).is_ok())
 }
 
-/// Returns the first number of bytes in which a text fits.
+/// Returns the first of these numbers of bytes in which the text of an image fits.
 fn first_fitting(alloc: Global, image: &Image) -> Result<Option<usize>, AllocError> {
     for &room in &ROOMS {
         if fits(alloc, image, room)? {
@@ -220,7 +221,7 @@ fn first_fitting(alloc: Global, image: &Image) -> Result<Option<usize>, AllocErr
     Ok(None)
 }
 
-/// Returns the length of that text, and the first number of bytes in which it fits.
+/// Returns the length of the text, and the first number of bytes in which it fits.
 fn length_and_fitting(alloc: Global) -> Result<(usize, Option<usize>), Fail> {
     let image = image_of_size(alloc, 0x10190)?;
     let length = text_of(alloc, &image)?.len();

@@ -34,7 +34,7 @@ fn put_words(file: &mut [u8], n: u32) {
     }
 }
 
-/// Returns whether a symbol is exported, by the numbers of the standard.
+/// Returns whether symbol `i` is exported, computed from the numbers of the standard.
 fn is_exported(object: &Object<'_>, i: u32) -> bool {
     if i == 0 || i >= object.symbol_count() {
         return false;
@@ -46,7 +46,7 @@ fn is_exported(object: &Object<'_>, i: u32) -> bool {
         && (symbol.visibility() == 0 || symbol.visibility() == 3)
 }
 
-/// Returns whether the walk from word `from` reaches `index`, in as many steps as there are
+/// Returns whether the walk from word `from` reaches `index` within as many steps as there are
 /// symbols.
 fn meets(object: &Object<'_>, from: u32, index: u32) -> bool {
     let count = object.symbol_count();
@@ -63,7 +63,7 @@ fn meets(object: &Object<'_>, from: u32, index: u32) -> bool {
     false
 }
 
-/// Returns whether the hash table is good, by following each walk separately.
+/// Returns whether the hash table is good. Follows each walk separately.
 fn is_plainly_good(object: &Object<'_>) -> bool {
     let count = object.symbol_count();
     let buckets = object.bucket_count();
@@ -86,7 +86,7 @@ fn is_plainly_good(object: &Object<'_>) -> bool {
     buckets > 0
 }
 
-/// Returns the symbol that is exported under a name, by looking at every symbol.
+/// Returns the symbol that is exported under `name`. Looks at every symbol.
 fn find_plainly(object: &Object<'_>, name: &[u8]) -> Option<u32> {
     for i in 1..object.symbol_count() {
         if is_exported(object, i) && object.name_of(i) == name {
@@ -96,11 +96,11 @@ fn find_plainly(object: &Object<'_>, name: &[u8]) -> Option<u32> {
     None
 }
 
-/// Names that are exported, and names that aren't.
+/// Names that the library exports, and names that it doesn't.
 static NAMES: [&[u8]; 6] = [b"f", b"g", b"u", b"", b"fg", b"f\0g"];
 
-/// Returns whether each name is found as a plain search finds it, and whether symbols and the
-/// library have their names.
+/// Returns whether the search finds the same for each name as a plain search, and whether the
+/// symbols and the library have their names.
 fn finds_plainly(admitted: &Admitted<'_>) -> bool {
     for &name in &NAMES {
         if admitted.find(name) != find_plainly(admitted.object(), name) {
@@ -112,7 +112,7 @@ fn finds_plainly(admitted: &Admitted<'_>) -> bool {
         && admitted.library_name() == Ok(b"q".as_slice())
 }
 
-/// Returns whether a table is admitted, and whether that and each search agree with the plain
+/// Returns whether a table is admitted, and whether admission and each search agree with the plain
 /// programs.
 fn compare(alloc: Global, file: &[u8]) -> (bool, bool) {
     let Ok(object) = Object::read(file) else {

@@ -1,4 +1,4 @@
-// Stores, and byte strings in them.
+// Stores and their byte strings.
 use crate::stores::sectors::memory;
 use sector_disk::{Disk, Memory};
 use std::process::Abort;
@@ -20,8 +20,8 @@ pub(crate) fn opened<D: Disk + Drop>(rt: &(impl Abort + AllocGlobal), disk: D) -
     }
 }
 
-/// Puts bytes under a name of one letter. They replace the bytes of that name, or are added after
-/// the others.
+/// Puts bytes under a name of one letter. They replace the byte string with this name, or are added
+/// after all others.
 pub(crate) fn put(rt: &impl Abort, store: &mut Store<Memory>, letter: u8, bytes: &[u8]) {
     assert!(rt; letter > b'/' && letter < 127);
     assert!(rt; bytes.len() >= 64 && bytes.len() <= 16_777_216);

@@ -1,6 +1,6 @@
-// Each call of a store of either version, and of the sectors that have a format, made once by its
-// public path and with ample memory. No crate here makes some of these calls: they are for programs
-// that keep byte strings without the rest.
+// Each call of a store of either version and of the sectors with a format, made once by its public
+// path, with ample memory. No crate here makes some of these calls: they are for programs that only
+// keep byte strings.
 use crate::stores::disks::{write_entry, write_root};
 use crate::stores::sectors::memory;
 use crate::stores::seen::given;
@@ -33,12 +33,12 @@ fn tells_old(store: &OldStore<Memory>) -> bool {
         && OldStore::preloads(store) == [0].as_slice()
 }
 
-// Returns whether a store of version 1 reads it.
+// Returns whether a store of version 1 reads that byte string.
 fn reads_old(alloc: Global, store: &mut OldStore<Memory>) -> bool {
     OldStore::count(store) == 1 && given(OldStore::read_blob(store, alloc, 0)) == Ok((344, Some(0)))
 }
 
-// Returns whether a store of version 2 reports it.
+// Returns whether a store of version 2 reports that byte string.
 fn tells(store: &Store<Memory>) -> bool {
     Store::count(store) == 1
         && Store::name(store, 0) == b"a".as_slice()
@@ -47,7 +47,7 @@ fn tells(store: &Store<Memory>) -> bool {
         && Store::preloads(store) == [0].as_slice()
 }
 
-// Returns whether a store of version 2 reads it, both directly and through a hold.
+// Returns whether a store of version 2 reads that byte string, both directly and through a hold.
 fn reads(alloc: Global, store: &mut Store<Memory>) -> bool {
     if Store::count(store) != 1 {
         return false;
@@ -72,7 +72,7 @@ fn committed(alloc: Global, old: OldStore<Memory>) -> Option<Store<Memory>> {
     }
 }
 
-// Returns the store of version 2 that `look` and a commit make of the disk.
+// Returns the store of version 2 that `look` and a commit make of a disk of version 1.
 fn looked_and_committed(rt: &(impl Abort + AllocGlobal)) -> Option<Store<Memory>> {
     match Store::look(rt.alloc(), old_disk(rt)) {
         Ok(Look::Old(store)) => committed(rt.alloc(), store),
@@ -81,7 +81,8 @@ fn looked_and_committed(rt: &(impl Abort + AllocGlobal)) -> Option<Store<Memory>
     }
 }
 
-// Returns whether a store has that byte string, can be changed, and its disk can be opened.
+// Returns whether a store has that byte string and can be changed, and its disk can be opened
+// again.
 fn is_whole(rt: &(impl Abort + AllocGlobal), store: Store<Memory>) -> bool {
     let mut store = store;
     let has = tells(&store) && reads(rt.alloc(), &mut store);

@@ -1,4 +1,4 @@
-// The sectors of a disk, one by one.
+// The sectors of a disk.
 use sector_disk::{Disk, Memory, SECTOR_BYTES};
 use std::process::Abort;
 

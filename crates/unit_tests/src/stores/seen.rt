@@ -11,7 +11,7 @@ pub(crate) enum Seen {
     Refused(StoreRefusal),
 }
 
-/// Calls `look` on a disk, and returns its answer.
+/// Returns the answer of `look` for a disk.
 pub(crate) fn look<D: Disk + Drop>(rt: &impl AllocGlobal, disk: D) -> Seen {
     match Store::look(rt.alloc(), disk) {
         Ok(Look::Current(store)) => {

@@ -12,7 +12,7 @@ text c =
     text-read c.args.names.now c.args.ending c.loop-number.number c.bytes-length.result.now c.index-names-number.result c.requires.ending
     c.loop-number-test.true c.bytes-length.ensures c.index-names-number.is
 
--- there is a mark for the length of the name
+-- the list of marks has an element for the length of the name
 room : (c : After-bytes-length) → length c.bytes-length.result.now < length c.loop-number.marks
 room c =
     room-for c.args.names.now c.args.ending c.loop-number.number (length c.loop-number.marks) c.bytes-length.result.now

@@ -12,12 +12,12 @@ fn sectors(rt: &HostRuntime, path: &str) -> Result<u32, OpenFault> {
     Ok(disk.sectors())
 }
 
-// Makes a disk of eight sectors over a new file, which gets its name at once, or over an existing
-// file of the same size.
+// Makes a disk of eight sectors over a new file, which has its name from the beginning, or over an
+// existing file of the same size.
 fn make(rt: &HostRuntime, path: &str) -> Result<FileDisk<DiskFile>, OpenFault> {
     let Made { disk, name } = FileDisk::make(rt, rt.alloc(), path, 8)?;
     let is_named = match name {
-        Some(name) => name.give(rt).is_ok(),
+        Some(name) => name.publish(rt).is_ok(),
         None => true,
     };
     if is_named {
@@ -41,8 +41,8 @@ fn set_length(rt: &HostRuntime, path: &str, length: u64) -> bool {
     file.set_len(length).is_ok()
 }
 
-// Returns whether a file has `length` bytes, those of sector 1 with the value `content` and all
-// others zero.
+// Returns whether a file has `length` bytes, of which those of sector 1 have the value `content`
+// and all others are zeros.
 fn is_file(rt: &HostRuntime, path: &str, length: usize, content: u8) -> bool {
     let Ok(bytes) = fs::read(rt, path) else {
         return false;
@@ -56,15 +56,15 @@ fn is_file(rt: &HostRuntime, path: &str, length: usize, content: u8) -> bool {
     bytes.len() == length
 }
 
-// Makes a disk of eight sectors, whose sector 1 has bytes of value 5. Returns whether that
+// Makes a disk of eight sectors, and fills sector 1 with the value 5. Returns whether that
 // succeeds.
 fn make_of_five(rt: &HostRuntime, path: &str) -> Result<bool, OpenFault> {
     let mut disk = make(rt, path)?;
     Ok(write(&mut disk, 1, 5) && disk.sync().is_ok())
 }
 
-// Opens such a disk for reading. Returns whether it reads, syncs and buffers a write, and whether
-// it syncs after the write.
+// Opens this disk for reading. Returns whether it can be read and synced and buffers a write, and
+// whether a sync after the write succeeds.
 fn read_and_write(rt: &HostRuntime, path: &str) -> Result<(bool, bool), OpenFault> {
     let mut disk: FileDisk<DiskFile> = FileDisk::open(rt, rt.alloc(), path, Access::Reading)?;
     let reads = disk.sectors() == 8 && disk.sync().is_ok() && read(&mut disk, 1) == Some(5);
@@ -92,8 +92,8 @@ fn a_disk_that_is_opened_for_reading_is_not_written(rt: HostRuntime) {
 }
 
 // Makes a disk, writes sector 1, and truncates the disk's file to three and a half sectors. Returns
-// what sectors 1 to 4 then read as, and whether a sync and a write succeed. The first write stays
-// in the buffer.
+// the contents that sectors 1 to 4 then have, and whether a sync and a write succeed. The first
+// write is still in the buffer.
 fn cut(rt: &HostRuntime, path: &str) -> Result<([Option<u8>; 4], [bool; 2]), OpenFault> {
     let mut disk = make(rt, path)?;
     let begun = write(&mut disk, 1, 5) && set_length(rt, path, 3 * 512 + 256);
@@ -118,8 +118,8 @@ fn a_file_that_was_cut_is_not_written(rt: HostRuntime) {
     assert!(rt; begun && kept && ended && lost);
 }
 
-// The sectors that are written on a disk of eight sectors, the length in bytes that its file then
-// gets, and the sector that is written next. If there is none, the disk is synced.
+// The sectors that are written on a disk of eight sectors, the length in bytes to which its file is
+// then set, and the sector that is written next. If there is no such sector, a sync is next.
 const RESIZED: [(&[u32], u64, Option<u32>); 7] = [
     (&[], 512, None),
     (&[1, 4], 512, None),
@@ -147,7 +147,7 @@ fn resized(
     Ok((begun && is_resized).then_some(disk))
 }
 
-// Returns whether the next call of such a disk fails, and its file then has only zeros.
+// Returns whether the disk's next call fails, and its file then has only zeros.
 fn is_seen(
     rt: &HostRuntime,
     path: &str,
@@ -165,7 +165,7 @@ fn is_seen(
     Ok(!done && is_file(rt, path, length as usize, 0))
 }
 
-// Returns the first case whose next call doesn't fail, or writes into the file.
+// Returns the first case whose next call succeeds, or writes into the file.
 fn unseen(rt: &HostRuntime, folder: &str, path: &str) -> Option<usize> {
     for (case, (before, length, next)) in RESIZED.iter().enumerate() {
         let begun = make_folder(rt, folder);
@@ -202,7 +202,7 @@ fn a_cut_between_two_writes_is_seen_by_the_sync(rt: HostRuntime) {
     assert!(rt; begun && ended && answers == Ok((true, false)));
 }
 
-// The paths that can't be opened, and those that can't be made.
+// The paths that can't be opened, and the paths that can't be made.
 const OPENED: [&str; 5] = [
     "/dev/full",
     "/dev/null",
@@ -220,13 +220,16 @@ const MADE: [&str; 3] = [
 // The lengths of files, and the result of opening a disk over each.
 const LENGTHS: [(u64, Result<u32, OpenFault>); 8] = [
     (0, Ok(0)),
-    (511, Err(OpenFault::BadLength)),
+    (511, Err(OpenFault::BadLength(511))),
     (512, Ok(1)),
     (7 * 512, Ok(7)),
-    (8 * 512 + 1, Err(OpenFault::BadLength)),
+    (8 * 512 + 1, Err(OpenFault::BadLength(8 * 512 + 1))),
     (4_194_305 * 512, Ok(4_194_305)),
     (4_294_967_295 * 512, Ok(u32::MAX)),
-    (4_294_967_296 * 512, Err(OpenFault::BadLength)),
+    (
+        4_294_967_296 * 512,
+        Err(OpenFault::BadLength(4_294_967_296 * 512)),
+    ),
 ];
 
 // Returns the first path that is opened or made with another result.

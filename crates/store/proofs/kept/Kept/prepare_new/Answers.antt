@@ -8,7 +8,7 @@ use Rattle.store.specs.declared.placed_entry.PlacedEntry.{PlacedEntry}
 use Rattle.store.specs.declared.refusal.StoreRefusal.{StoreRefusal}
 use Rattle.store.specs.declared.refusal.StoreRefusal.TheVariants.{OutOfMemory}
 use Rattle.store.specs.declared.change.Staged.TheVariants.{Put}
-use Rattle.store.specs.declared.edit.Edit.TheVariants.{Behind}
+use Rattle.store.specs.declared.edit.Edit.TheVariants.{Append}
 use Rattle.store.specs.declared.prepared.Prepared.{Prepared}
 use Rattle.store.specs.NameOrder.{IsOrderOf, entry_names}
 use Rattle.store.specs.Stands.{entry_sectors, name_of}
@@ -82,7 +82,7 @@ newly c =
     }
 
 abbrev prepared_by : After-next_root-root → Prepared
-prepared_by c = record { change = record { staged = Put c.in_ok-room.room.put c.in_ok-room.room.catalogues; root = c.next_root-root.result }; edit = Behind c.in_ok-room.room.put }
+prepared_by c = record { change = record { staged = Put c.in_ok-room.room.put c.in_ok-room.room.catalogues; root = c.next_root-root.result }; edit = Append c.in_ok-room.room.put }
 
 pub catalogues-requires : goal.catalogues-requires
 catalogues-requires c = c.requires.stored.0.root_fits

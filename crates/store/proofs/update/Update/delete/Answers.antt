@@ -2,7 +2,7 @@ use Rattle.std.proofs.Common.{◌≡◌, ◌≢◌, ◌<◌, All, List, length, 
 use Rattle.std.specs.List.{refill, remove}
 use Rattle.std.proofs.lemmas.List.Edits.{length-remove}
 use Rattle.store.specs.declared.placed_entry.PlacedEntry.{PlacedEntry}
-use Rattle.store.specs.declared.edit.Edit.TheVariants.{Out}
+use Rattle.store.specs.declared.edit.Edit.TheVariants.{Remove}
 use Rattle.store.specs.Draft.{IsDraftedAt, IsDraftedNamed, IsNoPreloadOfDraft}
 use Rattle.store.specs.Opened.{IsAt}
 use Rattle.store.specs.Stands.{entry_sectors, name_of}
@@ -59,7 +59,7 @@ invariant_of-self g c =
     (subst (IsStagedIn c.leave.new.self) (sym left) (left_staged is.staged gone c.index.result.now (there g here) c.index.ensures keeps c.leave.ensures.freed))
     (subst (IsDraftList c.self.inside.kept.entries.items) (sym left) (list_less is.list gone (there g here)))
     c.edit.ensures.index
-    (c.edit.ensures.sectors ∙ ap (λ l. remove l gone) is.places ∙ edited_map (λ (p : PlacedEntry). p.at) (Out gone) entries ∙ ap entry_sectors (sym left))
+    (c.edit.ensures.sectors ∙ ap (λ l. remove l gone) is.places ∙ edited_map (λ (p : PlacedEntry). p.at) (Remove gone) entries ∙ ap entry_sectors (sym left))
     (subst (ArePreloads (length c.edit.new.self.entries.items)) (sym (closed g (goal.at.invariant_of-self g c).After-close_up))
     (preloads_closed gone is.preloads (there g here) (omega (arith, ap length left, length-remove entries gone (there g here))) (others g here)))
     (λ _. c.in_ok-test_change.ensures.later)

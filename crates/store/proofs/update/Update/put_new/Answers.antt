@@ -3,7 +3,7 @@ use Rattle.std.specs.Int.{div_ceil}
 use Rattle.std.proofs.lemmas.List.{length-append}
 use Rattle.std.proofs.lemmas.Result.{err_from_is_err_and}
 use Rattle.sector_disk.specs.Disk.{sector_bytes}
-use Rattle.store.specs.declared.edit.Edit.TheVariants.{Behind}
+use Rattle.store.specs.declared.edit.Edit.TheVariants.{Append}
 use Rattle.store.specs.declared.placed_entry.PlacedEntry.{PlacedEntry}
 use Rattle.store.specs.Draft.{IsDraftedAt, IsDraftedBehind, IsLine, IsNewToDraft, IsSameDraft}
 use Rattle.store.specs.Stands.{entry_sectors, name_of}
@@ -110,7 +110,7 @@ invariant_of-self-2 g c =
     (subst (IsDraftList c.self.inside.kept.entries.items) (sym its) (list_more is.list put taken.fits (put_unlisted is taken) (put_apart is taken)
     (subst (λ name. All (λ (other : PlacedEntry). name_of other.entry ≢ name) entries) (sym taken.its_name) new) c.in_ok-put.ensures.few))
     c.edit.ensures.index
-    (c.edit.ensures.sectors ∙ ap (λ l. l ++ put.at ∷ []) (c.take_new.ensures.sectors ∙ is.places) ∙ edited_map (λ (p : PlacedEntry). p.at) (Behind put) entries ∙ ap entry_sectors (sym its))
+    (c.edit.ensures.sectors ∙ ap (λ l. l ++ put.at ∷ []) (c.take_new.ensures.sectors ∙ is.places) ∙ edited_map (λ (p : PlacedEntry). p.at) (Append put) entries ∙ ap entry_sectors (sym its))
     (subst (ArePreloads (length c.edit.new.self.entries.items)) (sym (still_preloads g here.After-edit))
     (preloads_within is.preloads (omega (arith, ap length its, length-append entries (put ∷ [])))))
     (λ _. c.in_ok-put.ensures.later)

@@ -2,7 +2,7 @@ use Rattle.std.proofs.Common.{ℕ, ◌≡◌, ◌≢◌, ◌<◌, All, IsFalse, 
 use Rattle.std.proofs.lemmas.List.{length-set}
 use Rattle.std.proofs.lemmas.Result.{err_from_is_err_and}
 use Rattle.states.specs.State.{State}
-use Rattle.store.specs.declared.edit.Edit.TheVariants.{Over}
+use Rattle.store.specs.declared.edit.Edit.TheVariants.{Replace}
 use Rattle.store.specs.declared.placed_entry.PlacedEntry.{PlacedEntry}
 use Rattle.store.specs.Draft.{IsDraftedAt, IsDraftedNamed, IsDraftedOver}
 use Rattle.store.specs.Names.{IsName}
@@ -121,7 +121,7 @@ invariant_of-self-2 g c =
     (over_staged is taken place placed lt c.index.ensures same freed (ap (spare_of (length (catalogues_of kept.root))) (count_is g here.After-take_over))))
     (subst (IsDraftList kept.entries.items) (sym its) (list_set is.list put taken.fits (put_unlisted is taken) (put_apart is taken) place lt (λ d. named g here.After-take_over d ∙ sym taken.its_name)))
     c.edit.ensures.index
-    (c.edit.ensures.sectors ∙ ap (λ l. set l place put.at) is.places ∙ edited_map (λ (p : PlacedEntry). p.at) (Over place put) entries ∙ ap entry_sectors (sym its))
+    (c.edit.ensures.sectors ∙ ap (λ l. set l place put.at) is.places ∙ edited_map (λ (p : PlacedEntry). p.at) (Replace place put) entries ∙ ap entry_sectors (sym its))
     (subst (λ v. ArePreloads (length c.edit.new.self.entries.items) v.items) (sym c.edit.ensures.preloads)
     (preloads_within is.preloads (omega (arith, ap length its, length-set entries place put))))
     (λ _. c.in_ok-put.ensures.later)
