@@ -135,8 +135,8 @@ static void want_bound(uint32_t status) {
     rlibreg_close(it);
 }
 
-/* Checks that one of the changes is refused, after `behind` others, by the update and by a bind
- * before it. */
+/* Checks that change number `behind` (from 0) is refused with `status`, by the update and by a bind
+ * that previews it. */
 static void want_refused(uint32_t status, uint64_t behind, const char *line) {
     rlibreg_image image;
     read_disk(before);

@@ -10,7 +10,7 @@ static int same(const char *a, const char *b) {
     return *a == *b;
 }
 
-/* Returns whether the kernel reports the same users and groups of the process. */
+/* Returns whether the users and groups in the auxiliary vector `of` are those of the process. */
 static int has_ids(const uint64_t *of) {
     return of[UID] == (uint64_t)kernel(102, 0, 0, 0) && of[EUID] == (uint64_t)kernel(107, 0, 0, 0) &&
            of[GID] == (uint64_t)kernel(104, 0, 0, 0) && of[EGID] == (uint64_t)kernel(108, 0, 0, 0);

@@ -24,8 +24,8 @@ abbrev pub exchanges : List Happening → List EventReply → List Exchange
 exchanges (happening ∷ happenings) (reply ∷ replies) = exchange_of happening reply ∷ exchanges happenings replies
 exchanges happenings replies = []
 
--- A registry with binders answered an event with this reply, and the event had this effect. Before
--- and after it, each held byte string has one row.
+-- A registry with binders answered an event with this reply, and the event had this effect. Before and
+-- after the event, each held byte string has exactly one row in the store's table of holds.
 pub record EventStep {D : Type 0} (facts : D → DiskFacts) (old : Slotted D) (happening : Happening) (reply : EventReply) (new : Slotted D) : Type 0 where
   pub happens : Happens facts old new happening reply
   pub holds_before : AreHolds old.registry

@@ -22,7 +22,7 @@ module _ {F : Type 0} {g : Ghosts F} where
   abbrev pub time_at : List (Buffered F g) → Buffered F g → ℕ → ℕ
   time_at files b v = (g.facts (slice_index_or files v b).file).time
 
-  -- the file had no later time at any earlier moment
+  -- at each moment up to `now`, the file's time was at most its present time
   abbrev pub IsTimed : List (Buffered F g) → Buffered F g → ℕ → Type 0
   IsTimed files b now = (v : ℕ) → v ≤ now → time_at files b v ≤ (g.facts b.file).time
 

@@ -176,8 +176,8 @@ impl<'a> UnnamedFile<'a> {
         drop(file);
     }
 
-    /// Gives the file its name, if no file exists there, and removes the other name. Then syncs the
-    /// folder. The file itself must have been synced before.
+    /// Gives the file its own name, if no file has this name, and removes the other name. Then syncs
+    /// the folder. The caller has synced the file itself.
     pub fn publish<R: Files<File = File>>(self, rt: &R) -> Result<(), NameFault> {
         let Ok(folder) = open_folder(rt, self.path) else {
             return self.refuse(rt);

@@ -52,9 +52,9 @@ fn disk_in(tally: &Tally, file: &str) -> Result<Memory> {
 }
 
 impl<'a> Trial<'a> {
-    // Makes the trial of a disk that has the registry after the changes `changes`. An opening makes
-    // a sync and reads. In version 1 there is no catalogue to read. An upgrade writes one, makes a
-    // sync, writes the root, and makes a sync.
+    // Makes the trial of a disk that has the registry after `changes`. An upgrade makes three calls
+    // more than an opening of version 2: it reads no catalogue, because version 1 has none, but it
+    // writes one, syncs, writes the root, and syncs.
     fn of(
         alloc: Global,
         beginning: Beginning,

@@ -17,8 +17,8 @@ const FEW: u64 = 2048;
 /// The number of bytes that are tested for zeros at once.
 pub(crate) const BLOCK: usize = 64;
 
-/// Returns whether a block has only zeros. Compares all bytes without stopping early, so the
-/// compiler can compare them at once.
+/// Returns whether a block has only zeros. Looks at all bytes without stopping early, so that the
+/// compiler can use vector instructions.
 fn is_zero(block: &[u8; BLOCK]) -> bool
     ensures { result ≡ true → block.now ≡ replicate (length block.now) 0 }
 {

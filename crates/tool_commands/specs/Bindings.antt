@@ -84,9 +84,9 @@ ReadsAsBind facts old new s program = AreCallsExactly (bind_sectors s program) (
 abbrev pub ReadsFound : {D : Type 0} → (D → DiskFacts) → Opened D → Opened D → Found → Type 0
 ReadsFound facts old new found = AreCallsExactly (found_sectors found) (facts old.disk) (facts new.disk)
 
--- The form ends in a state. Either the program is refused by itself. Or a library can't be read; then S5
--- (Damaged) means that a file that the bind reads isn't a library. Or the bindings or the missing names
--- are reported by the calls of a bind.
+-- How `bindings` ends over a disk that holds the state `s`. There are three cases: the program is refused
+-- by itself; a library can't be read, and S5 (Damaged) then means that a file that the bind reads isn't a
+-- library; or the bindings or the missing names are reported, after exactly the calls of a bind.
 abbrev pub BindingsEnd : {D : Type 0} → (D → DiskFacts) → Opened D → Opened D → State → List ℕ → ℕ → Streams → Status → Type 0
 BindingsEnd facts old new s program base io status =
     IsRefusedUnread old new program base io status

@@ -13,8 +13,8 @@ pub record StaysWithin (Allowed : ℕ → Sector → Type 0) (old new : FileFact
   pub past : (u k : ℕ) (c : Sector) → u ≤ old.time → new.may_have u k c → old.may_have u k c
   pub each : (u k : ℕ) (c : Sector) → old.time ≤ u → u ≤ new.time → new.may_have u k c → Allowed k c
 
--- the sectors `given` were given from sector `at` on, some perhaps more than once, and the first `done` of them were
--- moved
+-- writes were given the sectors `given`, from sector `at` on, some perhaps more than once, and transferred the first
+-- `done` of them
 pub record IsWrittenAt (at : ℕ) (given : List Sector) (done : ℕ) (old new : FileFacts) : Type 0 where
   pub within : StaysWithin (λ k c. MayHave old k c ⊎ IsGivenTo at given k c) old new
   pub trusted : new.sync_failed ≡ false

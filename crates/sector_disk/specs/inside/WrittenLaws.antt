@@ -12,7 +12,7 @@ pub length-contents : (start : List Sector) (writes : List Written) → length (
 length-contents start [] = refl
 length-contents start (w ∷ writes) = length-contents (set start w.at w.content) writes ∙ length-set start w.at w.content
 
--- the first n writes, followed by the others, are all writes
+-- the first n writes, and then the others, leave the same contents as all writes at once
 pub contents_split : (start : List Sector) (writes : List Written) (n : ℕ)
     → contents start writes ≡ contents (contents start (take n writes)) (drop n writes)
 contents_split start writes zero = refl
