@@ -1,4 +1,4 @@
-"""What runs beside a start that is timed: a folder for kept images, and a process that writes to the file system."""
+"""Things that run or exist beside a timed start: a folder for kept images, and a process that writes to the file system."""
 
 import contextlib
 import os

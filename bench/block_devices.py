@@ -1,5 +1,6 @@
 """Block devices for the other scripts here, in addition to the loop devices and partitions of `media.py`. Each device is
-removed when its `with` block ends, also by an error. A function raises NotHere if the machine has no such device."""
+removed when its `with` block ends, even if it ends with an error. A function raises NotHere if the machine has no such
+device."""
 
 import contextlib
 import itertools

@@ -4,9 +4,10 @@
     python3 bench/c_library.py FOLDER [NUMBER LENGTH]..
 
 FOLDER has librlibreg.so and rlibreg (c/build.sh). For each NUMBER and LENGTH the script makes a disk with NUMBER
-libraries of about LENGTH bytes, and then times the calls that read it: the least of five times each. The program that
-is bound needs all libraries; it is left out if these have more than 64 MiB together. One further installation is timed
-as a plan, and once as the plan is carried out with its syncs. With 2,048 libraries there can be no further one.
+libraries of about LENGTH bytes, and then times the calls that read it: it prints the least of five times for each. The
+program that is bound needs all libraries. The bind is left out if these have more than 64 MiB together. The installation
+of one more library is timed twice: when it is planned, and when the plan is carried out with its syncs. With 2,048
+libraries no further one can be installed.
 """
 
 import ctypes
@@ -19,7 +20,7 @@ import time
 from disks import install
 from libraries import Made
 
-RUNS, ROOM, MOST, RLIBREG_CHANGES = 5, 1 << 26, 2048, 1
+RUNS, ROOM, MOST, RLIBREG_READ_WRITE = 5, 1 << 26, 2048, 1
 
 
 class Answer(ctypes.Structure):
@@ -68,7 +69,7 @@ def fill(path, number, length):
 def install_one(it, path, file):
     """Prints how long an installation takes with its syncs, once the disk is open."""
     registry = ctypes.c_void_p(it.rlibreg_create())
-    assert it.rlibreg_open(registry, path.encode(), RLIBREG_CHANGES) == 0
+    assert it.rlibreg_open(registry, path.encode(), RLIBREG_READ_WRITE) == 0
     start = time.perf_counter()
     assert it.rlibreg_install(registry, *bytes_and_length(file)) == 0, it.rlibreg_text(registry)
     print(f'  rlibreg_install: {1000 * (time.perf_counter() - start):.1f} ms')

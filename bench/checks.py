@@ -1,5 +1,5 @@
-"""What the scripts about processes, making and media share: the program and the C library's test program in a folder, and
-the number of things that were checked and of things that were wrong."""
+"""The parts that the scripts about processes, making and media share: the program and the C library's test program in a
+folder, and the number of things that were checked and of things that were wrong."""
 
 import collections
 import contextlib
@@ -68,7 +68,7 @@ class CLibrary(Program):
         return ended.status == 9 and not ended.output and ended.errors.startswith(b'tool: ')
 
     def held(self, ended, disk):
-        return ended[:3] == (9, b'', b'tool: the file is held\n')
+        return ended[:3] == (9, b'', b'tool: the file is locked\n')
 
 
 class Checks:

@@ -19,7 +19,7 @@ OWNER = re.compile(r'^(?:pub )?(impl|trait)\b(?:<.*?>)? ?(?:[\w:]+(?:<.*?>)? for
 CLAUSE = re.compile(r'^ *ensures (?:(\w+) )?\{')
 # The maximum length of a clause with a label that is copied as it is.
 MOST = 100
-# Records of disks and of states that most clauses cite, whose parts say nothing of a call.
+# Records of disks and of states that most clauses cite. Their parts say nothing about a single call.
 GENERAL = {'sector_disk/Disk', 'states/State', 'store/Opened', 'store/Stands', 'registry/Opened', 'registry/Stands'}
 HEAD = """# Clauses
 

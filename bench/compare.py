@@ -1,5 +1,6 @@
 #!/usr/bin/env python3
-"""Compares programs on the programs of a folder, which programs.py made: the fastest of five runs of each, in turn.
+"""Compares programs that bind the files of a folder, which programs.py made. The programs run in turn, and the fastest of
+five runs of each counts.
 
     python3 bench/compare.py FOLDER PROGRAM ..
 

@@ -5,7 +5,9 @@
     python3 bench/documents.py --check    writes nothing, and fails if a page would change
 
 It fails if a name between backquotes isn't in the tree, if the list of bench/README.md doesn't name each file of bench/
-once, if a crate doesn't export a name of docs/PROMISED_CALLS.txt, or if no test calls it by its path. A name is a path,
+once, if a source file has no comment at its head, if a picture would change (pictures.py), if a refusal code comes before
+its name on a page, if a command of a page doesn't exist (page_checks.py), if a crate doesn't export a name of
+docs/PROMISED_CALLS.txt, or if no test calls it by its path. A name is a path,
 or a word of the code: a word with `_`, `::` or a capital letter within it. In a crate's page, a path that begins with
 `src/`, `specs/`, `proofs/`, `data/` or `must-fail/` is a path of that crate; in any other page it is a path of some
 crate. All other paths begin at the root of the repository.
@@ -17,10 +19,13 @@ from pathlib import Path
 
 import clauses
 import definitions
+import file_map
+import page_checks
+import pictures
 import promised
 
 ROOT = Path(__file__).resolve().parent.parent
-PROOFS, DEFINITIONS, CLAUSES = (ROOT / 'docs' / f'{name}.md' for name in ('PROOFS', 'DEFINITIONS', 'CLAUSES'))
+PROOFS, DEFINITIONS, CLAUSES, MAP = (ROOT / 'docs' / f'{name}.md' for name in ('PROOFS', 'DEFINITIONS', 'CLAUSES', 'MAP'))
 # Names of the standards, of the system and of the toolchain, which no file of the tree contains.
 ELSEWHERE = {'sqlite_std_file', 'elf_x86_64', 'thread_local', 'lW', '__cxa_atexit', 'luaL_openlibs'}
 QUOTED = re.compile(r'`([^`\n]+)`')
@@ -28,8 +33,8 @@ NAME = re.compile(r'[A-Za-z_][\w]*(?:::[A-Za-z_]\w*)*')
 PATH = re.compile(r'^[\w.{},*-]+(?:/[\w.{},*-]+)+/?$')
 BRACES = re.compile(r'\{([^{}]*)\}')
 OF_THE_ROOT, IN_A_CRATE = ('crates', 'docs', 'bench', 'c', 'python', '.ci'), ('src', 'specs', 'proofs', 'data', 'must-fail')
-# The folder that a build makes, and a path that stands for many.
-MADE, ANY_FILE = 'out', 'proofs/FILE'
+# The folder that a build makes, and a path of a crate that stands for many: one of its names is a word in capitals.
+MADE, PATTERN = 'out', re.compile(r'(?:src|specs|proofs|must-fail)/.*\b[A-Z_]{4,}\b')
 
 
 def replaced(text, mark, lines):
@@ -39,6 +44,11 @@ def replaced(text, mark, lines):
     return f'{before}{begin}\n\n' + '\n'.join(lines) + f'\n{end}' + rest.split(end)[1]
 
 
+def crates():
+    """Returns the names of the crates of crates.txt, in its order."""
+    return re.findall(r'^(\w+)(?: staticlib)?:', (ROOT / 'crates.txt').read_text(), re.M)
+
+
 def pages():
     """Returns the generated pages as they have to be."""
     files, first, needed = definitions.all_of_them()
@@ -46,13 +56,14 @@ def pages():
     return {
         PROOFS: replaced(text, 'reading', definitions.reading(files)),
         DEFINITIONS: definitions.page(files, first, needed),
-        CLAUSES: clauses.page(definitions.CRATES)}
+        CLAUSES: clauses.page(definitions.CRATES),
+        MAP: file_map.page(crates())[0]}
 
 
 def written():
     """Returns the documents that are written by hand."""
-    found = [ROOT / 'README.md', *sorted(ROOT.glob('docs/*.md')), *sorted(ROOT.glob('crates/*/README.md'))]
-    return [path.relative_to(ROOT).as_posix() for path in found if path not in (CLAUSES, DEFINITIONS)]
+    found = [ROOT / 'README.md', ROOT / 'CONTRIBUTING.md', *sorted(ROOT.glob('docs/*.md')), *sorted(ROOT.glob('crates/*/README.md'))]
+    return [path.relative_to(ROOT).as_posix() for path in found if path not in (CLAUSES, DEFINITIONS, MAP)]
 
 
 def words_of_the_tree():
@@ -92,7 +103,7 @@ def unknown_names(text, words, crate):
     text = re.sub(r'^    .*$', '', text, flags=re.M)
     for quoted in QUOTED.findall(text):
         if PATH.match(quoted) and quoted.split('/')[0] in OF_THE_ROOT + IN_A_CRATE:
-            if MADE not in quoted.split('/') and not quoted.startswith(ANY_FILE):
+            if MADE not in quoted.split('/') and not PATTERN.match(quoted):
                 yield from (path for path in expanded(quoted) if not is_there(path.strip('/'), crate))
             continue
         for name in NAME.findall(quoted):
@@ -107,12 +118,18 @@ def unlisted():
                   if path.is_file() and path.name != 'README.md' and named.count(path.name) != 1)
 
 
+def faults_of_files():
+    """Yields what is wrong with the lists of files and calls, and with the pictures."""
+    yield from (f'bench/README.md names {name} not once' for name in unlisted())
+    yield from (f'{name} has no comment at its head' for name in file_map.page(crates())[1])
+    yield from promised.broken()
+    if '--check' in sys.argv:
+        yield from pictures.wrong()
+
+
 def main():
     wrong = 0
-    for name in unlisted():
-        print(f'bench/README.md names {name} not once')
-        wrong += 1
-    for fault in promised.broken():
+    for fault in faults_of_files():
         print(fault)
         wrong += 1
     for path, text in pages().items():
@@ -121,12 +138,15 @@ def main():
         elif not path.exists() or path.read_text() != text:
             print(f'{path.relative_to(ROOT)} would change: python3 bench/documents.py')
             wrong += 1
-    words = words_of_the_tree()
+    words, names, known = words_of_the_tree(), page_checks.names_of_codes(), page_checks.forms()
     for name in written():
         text = (ROOT / name).read_text()
         crate = name.split('/')[1] if name.startswith('crates/') else None
         for unknown in sorted(set(unknown_names(text, words, crate))):
             print(f'{name} names {unknown}, which is nowhere')
+            wrong += 1
+        for fault in page_checks.faults(text, names, known):
+            print(f'{name} has {fault}')
             wrong += 1
     print(f'documents: {wrong} wrong')
     sys.exit(wrong != 0)

@@ -28,7 +28,7 @@ from short import try_short_calls
 from streams import Streams, ToolStreams, try_streams
 
 SECTORS = '64'
-# If a call fails before the program's own code runs, the loader of the C library says so and exits with 127.
+# If a call fails before the program's own code runs, the loader of the C library reports it and exits with 127.
 LOADER = 127
 CALLS = ('openat,read,pread64,readv,write,pwrite64,writev,lseek,fsync,fdatasync,fstat,stat,lstat,newfstatat,statx,close,ftruncate,'
          'flock,fadvise64,link,linkat,unlink,unlinkat,rename,renameat,renameat2,readlink,readlinkat,getdents64,fremovexattr')

@@ -96,7 +96,7 @@ END
     of Fleets 'dump image' > "$ways/sign"
 }
 
-# rauc_knows: RAUC's slots, and the program that switches.
+# rauc_knows: writes RAUC's configuration, with its slots and the program that switches between them.
 rauc_knows() {
     mkdir -p "$root/etc/rauc"
     rm "$root/usr/share/dbus-1/system-services/de.pengutronix.rauc.service" # else dbus starts it

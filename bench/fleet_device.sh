@@ -19,7 +19,7 @@ failed() {
     busybox poweroff -f
 }
 
-# runs WAY NUMBER [FOLDER]: goes the way, to that version, from a folder of the server.
+# runs WAY NUMBER [FOLDER]: brings the device to this version in this way, from a folder of the server.
 runs() {
     url=$server${3:-} number=$2 bash -euo pipefail "/try/$1" > said 2>&1
 }
@@ -33,14 +33,14 @@ version() {
     done
 }
 
-# forgets NUMBER: removes everything that OSTree has, except that version.
+# forgets NUMBER: removes everything that OSTree has, except this version.
 forgets() {
     ostree --repo=$repository refs --list | grep -v ":v$1$" |
         xargs -rn 1 ostree --repo=$repository refs --delete
     ostree --repo=$repository prune --refs-only
 } > said
 
-# begins WAY NUMBER: begins with this version.
+# begins WAY NUMBER: sets the device up with this version.
 begins() {
     forgets none
     dd if=/try/image-"$2" of=$a conv=fsync status=none
@@ -50,7 +50,7 @@ begins() {
     [ "$(version)" = "$2" ] || failed "$1 doesn't begin with $2"
 }
 
-# reaches WAY: goes to version 4, by as many lists as it takes, or at once.
+# reaches WAY: brings the device to version 4, by as many lists as this takes, or at once.
 reaches() {
     local at
     while at=$(version) && [ "$at" != 4 ]; do

@@ -16,7 +16,7 @@ of() {
     commands "$page" "$1" "$2" || failed "${page##*/} has no commands that begin with $2"
 }
 
-# debian PACKAGES MODULE..: makes a Debian with these, and with what is installed.
+# debian PACKAGES MODULE..: makes a Debian with these, and with the installed files.
 debian() {
     local wanted=udev,initramfs-tools,linux-image-amd64,busybox,zstd,$1
     debootstrap --variant=minbase --include="$wanted" "$release" "$root" > "$room/log" 2>&1 ||
@@ -62,7 +62,7 @@ begun() {
         failed 'the guest goes on'
 }
 
-# power_cut SECONDS: cuts the guest's power after this time at most.
+# power_cut SECONDS: cuts the guest's power after a random time, which is at most about this.
 power_cut() {
     sleep "$((RANDOM % $1)).$((RANDOM % 10))"
     kill -9 $guest || true
@@ -80,7 +80,7 @@ ended() {
         grep -a '^rlibreg\|^library' > "$room/said" || true
 }
 
-# said LINE..: whether the console has each of these lines.
+# said LINE..: ends the script unless the console has each of these lines.
 said() {
     local line
     for line; do grep -aq "$line" "$room/said" || failed "the guest didn't say: $line"; done

@@ -3,10 +3,11 @@
 
     python3 bench/initializers.py FOLDER [GRAPHS [START]]
 
-FOLDER has rlibreg, rlibreg-run, rlibreg-tool and rlibreg-gcc (c/build.sh). Each graph has libraries that need each other at random, also in circles,
-with or without DT_INIT, DT_FINI, arrays, DF_1_INITFIRST and preloads. A program needs some of them. Each function writes
-its name, so everything that is called is compared, in its order. gcc makes the functions, and ld links them. For the
-system's loader the program also needs its C library, after all others: without a C library that loader doesn't finalize.
+FOLDER has rlibreg, rlibreg-run, rlibreg-tool and rlibreg-gcc (c/build.sh). Each graph has libraries that need each other
+at random, sometimes in circles, with or without DT_INIT, DT_FINI, arrays, DF_1_INITFIRST and preloads. A program needs
+some of them. Each function writes its name, so all calls and their order are compared. gcc makes the functions, and ld
+links them. For the system's loader the program also needs its C library, after all others: without a C library that loader
+doesn't finalize.
 
 If there is a musl-gcc, the order is also compared with that in a program of rlibreg-gcc: under rlibreg-run, in its file of
 `rlibreg-tool executable`, and under musl's loader, if that is there. In the last two the program itself makes the calls.

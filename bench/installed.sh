@@ -1,8 +1,8 @@
 #!/usr/bin/env bash
 # installed.sh FOLDER [RELEASE] installs what c/build.sh has put into FOLDER in a Debian that has nothing
-# else (RELEASE is bookworm), as a new user would: by c/install.sh, with pkg-config, and as the documents
-# say. It runs their commands exactly as the documents have them. Finally it checks that nothing is left
-# after the removal.
+# else (RELEASE is bookworm by default), as a new user would: by c/install.sh, with pkg-config, and as the
+# documents describe. It runs the commands exactly as the documents have them. Finally it checks that
+# nothing is left after the removal.
 #
 # It needs root and debootstrap, and loads some 150 MB from a mirror of Debian.
 set -eu
@@ -111,7 +111,7 @@ C
     [ "$(tr '\n' ' ' < said)" = '+one +two main -main -two -one ' ]
 }
 
-# What rlibreg-tool prints about that disk, and the same on a larger one.
+# The output of rlibreg-tool for that disk, and the same for a larger disk.
 tool() {
     rlibreg-tool info old
     rlibreg-tool check old

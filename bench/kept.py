@@ -7,12 +7,12 @@ PROGRAMS has rlibreg and rlibreg-run (c/build.sh). Disk and images lie in FOLDER
 needs root, the disk is a loop device over a file there; images of a device are kept without waiting for a time without
 changes.
 
-Twenty loops start a program that prints the version of its library, each time with `rlibreg-run -c`. Every other start also
-has -v, which reports what the loader did, but makes it set up its C library first. One loop puts further versions in the
-place of the library, at times so slowly that images are kept in between, and empties the folder of images. Some starts
-and some changes are killed. The printed version has to be one that the disk had while the start went on: none that is
-older than the last version acknowledged before the start, and none whose change hadn't begun. The script exits with status
-1 if one is different.
+Twenty loops start a program that prints the version of its library, each time with `rlibreg-run -c`. Every second start
+also has -v, which reports what the loader did, but makes the loader set up its C library first. One loop puts further
+versions in the place of the library, at times so slowly that images are kept in between, and empties the folder of
+images. Some starts and some changes are killed. The printed version has to be one that the disk had while the start went
+on: none that is older than the last version acknowledged before the start, and none whose change hadn't begun. The script
+exits with status 1 if one is different.
 """
 
 import collections

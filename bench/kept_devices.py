@@ -1,7 +1,7 @@
 #!/usr/bin/env python3
 """Changes block devices whose images `rlibreg-run -c` keeps. Each later start with `-c` has to print and end as the start
-without it. The script needs root and gcc, and makes the devices itself: loop devices, partitions of them, zram, and devices
-of device mapper. What the kernel lacks is left out, with a line that says so.
+without it. The script needs root and gcc, and makes the devices itself: loop devices, partitions of them, zram, and
+devices of device mapper. If the kernel lacks a kind of device, its part is left out, and a line reports this.
 
     python3 bench/kept_devices.py BUILT FOLDER [--loader RLIBREG_RUN] [--only PART..]
 

@@ -1,6 +1,6 @@
-"""What the scripts about kept images share. It makes libraries, each in versions of equal length, programs that print what
-they get from these, and registries. It compares starts with `-c` with the start without it: both have to print the same
-and end in the same way."""
+"""The parts that the scripts about kept images share. They make libraries, each in versions of equal length, programs
+that print the values of these libraries, and registries. They compare a start with `-c` with a start without it: both
+have to print the same text and end in the same way."""
 
 import collections
 import os
@@ -53,7 +53,7 @@ PROGRAMS = {
     '    say(own), say(a_text), say(more), say("\\n");\n    leave(a_value());\n}\n',
 }
 OPTIONS = {'both': ['-x']}
-# Prints how the kernel maps it.
+# A program that prints how the kernel has mapped it.
 MAPS = '''#include "start.h"
 extern int a_value(void);
 void begin(uint64_t *stack, uint64_t at_end) {

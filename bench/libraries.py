@@ -5,8 +5,8 @@
     python3 bench/libraries.py FOLDER CASES      runs each list by the program CASES, five times, and prints the least time
 
 A list `NAME.txt` has one case, which binds the program and reads one word. `NAME-unbound.txt` has the same at a base that
-is refused once all files are read and admitted, so the difference is load order, placement and relocation. The time of
-`cp` of a file as long as the image's bytes is printed beside them.
+is refused once all files are read and admitted, so the difference is load order, placement and relocation. The time that
+`cp` takes for a file with as many bytes as the image is printed beside these times.
 """
 
 import random

@@ -1,5 +1,6 @@
-"""Machines that run the program `rlibreg` over the stand-in for a kernel in `medium.c`: what they have before and after a
-run, the log of the calls that were made, and what is found after a power cut. For the other scripts here; needs gcc."""
+"""Machines that run the program `rlibreg` over the stand-in for a kernel in `medium.c`: their files and media before and
+after a run, the log of the calls that were made, and the contents after a power cut. For the other scripts here; needs
+gcc."""
 
 import collections
 import itertools
@@ -14,7 +15,7 @@ from libraries import Made
 from registries import SECTOR
 
 SECTORS, ROOTS, PAGE, PAGES, CUT_STATUS = 64, 1024, 4096, 1024, 86
-# A run that takes more seconds ends the script.
+# The script ends if a run takes more than this number of seconds.
 LONGEST = 60
 DISK, NEW = 'disk', 'new'
 FILES = {DISK: 'disk', NEW: '.disk.rlibreg-new'}

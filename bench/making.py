@@ -37,10 +37,10 @@ FAULTS = ('EIO', 'ENOSPC', 'EDQUOT', 'EINTR')
 FULL = {'a full file system': 'size=8k', 'a file system without a free number': 'size=1m,nr_inodes=2', 'a read-only file system': 'size=1m'}
 NO_LINKS = ('EPERM', 'EOPNOTSUPP', 'ENOSYS', 'EMLINK')
 LINKS = ('link', 'linkat')
-# Calls of memory and of the process itself: if they fail, that says nothing of files.
+# Calls about memory and about the process itself. Their failure says nothing about files.
 NO_FILES = set('brk mmap munmap mprotect madvise mremap arch_prctl set_tid_address set_robust_list rseq prlimit64 rt_sigaction '
                'rt_sigprocmask sigaltstack getrandom futex getpid gettid uname personality sched_getaffinity clock_gettime'.split())
-# If a call fails before the program's own code runs, the loader of the C library says so.
+# If a call fails before the program's own code runs, the loader of the C library reports it.
 LOADER = 127
 
 Call = collections.namedtuple('Call', 'name number text')

@@ -77,6 +77,16 @@ def loop(image, *options):
         subprocess.run(['losetup', '-d', path], check=True)
 
 
+def unmount(place):
+    """Unmounts a file system. A detached loop device uses its file until every process has closed the device, so this
+    waits as long as the file system is in use, but not for more than ten seconds."""
+    until = time.monotonic() + 10
+    while (ended := subprocess.run(['umount', str(place)], capture_output=True, text=True)).returncode:
+        if time.monotonic() > until:
+            raise OSError(ended.stderr.strip())
+        time.sleep(0.1)
+
+
 @contextlib.contextmanager
 def mounted(what, place, *options):
     place.mkdir(exist_ok=True)
@@ -84,7 +94,7 @@ def mounted(what, place, *options):
     try:
         yield place
     finally:
-        subprocess.run(['umount', str(place)], check=True)
+        unmount(place)
 
 
 def zeros(path, sectors):

@@ -56,8 +56,8 @@ for place in root other; do
     chmod u+w $place/old-one.disk
 done
 
-# both COMMAND WORD..: runs it in both places, with the same text, status and bytes of the disk. The line
-# on standard input is for `script`.
+# both COMMAND WORD..: runs the command in both places. The text, the status and the bytes of the disk have
+# to be the same. The line on standard input is for `script`.
 count=0
 both() {
     (cd other && ended "./$@") <<< preload > there

@@ -1,4 +1,4 @@
-"""Disks of version 1 as docs/FORMATS.md describes them, which no command writes any more, for the other scripts here."""
+"""Disks of version 1, which no command writes any more, as docs/FORMATS.md describes them. For the other scripts here."""
 
 import struct
 

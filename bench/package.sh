@@ -1,12 +1,15 @@
 #!/usr/bin/env bash
 # package.sh BUILT FOLDER [RELEASE]..  makes a Debian package in FOLDER from the files that c/build.sh has
 # put into BUILT. It has each file that c/install.sh installs, lintian (if installed) finds no errors in
-# it, and its bytes are the same each time. If c/plugin.sh has put gcc's plugin into BUILT, it has a package
-# of its own, rlibreg-gcc-12 for gcc 12, since it has another license. Then the script installs it in a bare Debian of each RELEASE,
+# it, and its bytes are the same each time. Then the script installs it in a bare Debian of each RELEASE,
 # such as bookworm or trixie, runs what it has, and removes it.
 #
-# It wants dpkg-dev, and pandoc for manual pages. Who makes it is DEBFULLNAME with DEBEMAIL, or else the
-# last commit's author. With a RELEASE it is for root, needs debootstrap, and has some 50 MB from a mirror.
+# If c/plugin.sh has put gcc's plugin into BUILT, the plugin gets a package of its own, because it has
+# another license. For gcc 12 this is rlibreg-gcc-12.
+#
+# It needs dpkg-dev, and pandoc for manual pages. The package's maintainer is DEBFULLNAME with DEBEMAIL, or
+# else the last commit's author. With a RELEASE it needs root and debootstrap, and loads some 50 MB from a
+# mirror.
 set -eu
 export LC_ALL=C
 umask 022
@@ -24,7 +27,7 @@ export SOURCE_DATE_EPOCH
 room=$(mktemp -d)
 trap 'rm -rf "$room"' EXIT
 
-# The changelog: what NEWS has of this version.
+# Prints the changelog: the part of docs/NEWS.md about this version.
 changelog() {
     printf 'rlibreg (%s) unstable; urgency=medium\n\n' "$version"
     awk -v version="$version" '/^## / {inside = $2 == version; next}
@@ -33,7 +36,7 @@ changelog() {
     printf '\n -- %s  %s\n' "$who" "$(date -u -R -d "@$SOURCE_DATE_EPOCH")"
 }
 
-# What the shared library needs of the system's packages.
+# Prints the packages of the system that the shared library needs.
 depends() {
     mkdir -p "$room/source/debian"
     printf 'Source: rlibreg\n\nPackage: rlibreg\nArchitecture: amd64\n' > "$room/source/debian/control"
@@ -41,7 +44,7 @@ depends() {
         sed -n 's/^shlibs:Depends=//p'
 }
 
-# tree FOLDER: what the package installs.
+# tree FOLDER: puts the files that the package installs into FOLDER.
 tree() {
     local page doc=$1/usr/share/doc/rlibreg
     DESTDIR=$1 PYTHONDIR=/usr/lib/python3/dist-packages c/install.sh /usr "$built" > "$room/said"
@@ -57,7 +60,7 @@ tree() {
     install -Dm 644 c/debian/overrides "$1/usr/share/lintian/overrides/rlibreg"
 }
 
-# control FOLDER: what dpkg is told.
+# control FOLDER: adds the files that dpkg reads about the package.
 control() {
     local size
     size=$(du -sk --apparent-size "$1" | cut -f1)
@@ -69,7 +72,7 @@ control() {
     echo "librlibreg ${version%.*} rlibreg (>= ${version%.*})" > "$1/DEBIAN/shlibs"
 }
 
-# plugin_tree FOLDER: what the package of gcc's plugin installs, with the plugin's source.
+# plugin_tree FOLDER: puts into FOLDER what the package of gcc's plugin installs, with the plugin's source.
 plugin_tree() {
     local doc=$1/usr/share/doc/rlibreg-gcc-$gcc
     install -Dm 644 "$plugin" "$1/usr/lib/rlibreg/${plugin##*/}"
@@ -78,7 +81,7 @@ plugin_tree() {
     changelog | sed "1s/^rlibreg /rlibreg-gcc-$gcc /" | gzip -9n > "$doc/changelog.gz"
 }
 
-# plugin_control FOLDER: what dpkg is told of it.
+# plugin_control FOLDER: writes its files for dpkg.
 plugin_control() {
     local release=${plugin##*/rlibreg_tls-} using
     release=${release%.so}
@@ -89,7 +92,7 @@ plugin_control() {
         c/debian/plugin-control > "$1/DEBIAN/control"
 }
 
-# make FILE KIND: the package, by the functions KINDtree and KINDcontrol.
+# make FILE KIND: makes the package, by the functions KINDtree and KINDcontrol.
 make() {
     rm -rf "$room/tree"
     mkdir "$room/tree"
@@ -112,10 +115,11 @@ tested() {
     fi
 }
 
-# whole FILE: whether the package has each file that install.sh has listed. Manual pages are compressed.
+# whole FILE: ends the script unless the package has each file that install.sh has listed. Manual pages are
+# compressed.
 whole() {
-    sed '/^#/d; /\/$/d; \|/share/rlibreg/installed$|d; \|/rlibreg_tls-[^/]*$|d; s|/man/man[13]/.*|&.gz|' "$room/installed" |
-        sort > "$room/listed"
+    sed '/^#/d; /\/$/d; \|/share/rlibreg/installed$|d; \|/rlibreg_tls-[^/]*$|d; s|/man/man[13]/.*|&.gz|' \
+        "$room/installed" | sort > "$room/listed"
     dpkg-deb --fsys-tarfile "$1" | tar -t | sed 's/^\.//' | sort > "$room/packed"
     comm -23 "$room/listed" "$room/packed" > "$room/missing"
     [ -s "$room/missing" ] || return 0
@@ -124,7 +128,7 @@ whole() {
     exit 1
 }
 
-# What a new user does with it, in a Debian that has python3 and no compiler.
+# The steps of a new user with the package, in a Debian that has python3 and no compiler.
 cat > "$room/day.sh" << 'END'
 set -eEuo pipefail
 trap 'echo "failed: $BASH_COMMAND" >&2' ERR
@@ -159,7 +163,7 @@ greeting() {
     $object -I c/tests/programs "$room/$1.c" "${@:2}"
 }
 
-# try RELEASE: in a bare one.
+# try RELEASE: tries the package in a bare Debian of this release.
 try() {
     local root=$room/$1
     debootstrap --variant=minbase --include=python3 "$1" "$root" > "$room/log" 2>&1 ||

@@ -30,7 +30,7 @@ trap 'ended=$?; [ -z "$guest" ] || kill "$guest" || true
     for loop in $loop "${loops[@]}"; do losetup -d "$loop"; done
     rm -rf "$room"; exit $ended' EXIT
 
-# Two libraries of one name, a program that prints what they say, and one that is the first process.
+# Two libraries of one name, a program that prints their text, and a program that is the first process.
 programs() {
     local object='gcc -O1 -fPIC -nostdlib -fno-stack-protector -Wl,--hash-style=sysv -I c/tests/programs'
     for number in one other; do
@@ -109,7 +109,7 @@ killed_over_loop_devices() {
     echo "two loop devices: 40 switches that were killed, of which $reached had been made, and each again"
 }
 
-# A Debian with the installed files, and with what else the guest needs.
+# A Debian with the installed files, and with everything else that the guest needs.
 prepare() {
     debian systemd,systemd-sysv,cryptsetup-bin,e2fsprogs
     cp "$room/made/program" "$room/made/first" "$root/usr/bin/"
@@ -132,7 +132,7 @@ checkers() {
     fi
 }
 
-# What the guest does on its first day, with the commands of DEVICES, and in its cuts.
+# The steps of the guest on its first day, with the commands of docs/DEVICES.md, and during its cuts.
 scripts() {
     {
         cat << 'END'

@@ -100,4 +100,5 @@ def main():
         print(name, len(file), 'bytes')
 
 
-main()
+if __name__ == '__main__':
+    main()

@@ -4,7 +4,7 @@ A crate exports a name if its lib.rt has it in a `pub use`. Of a type it exports
 functions of a trait, the variants of an enum, and the `pub` fields of a struct.
 
 A test calls a function by its path if a file of a crate with tests brings the path's first name in from the crate that
-exports it, and has a call such as `Layout::take(..)` or `choose(..)`. No call of the list is without one.
+exports it, and has a call such as `Layout::take(..)` or `choose(..)`. Each call of the list has to have such a test.
 """
 
 import re
@@ -87,8 +87,8 @@ def brought_in(text):
     return {(crate, name) for crate, several, one in BROUGHT.findall(text) for name in re.findall(r'\w+', several or one)}
 
 
-# Calls that no test makes by itself: `Registry::remove` makes the first, and crates/registry_cuts runs the second
-# with every cut and pick.
+# Calls that no test makes directly: `Registry::remove` makes the first, and crates/registry_cuts runs the second with
+# every cut and pick.
 THROUGH_OTHERS = {'store::Store::delete', 'registry::run_rounds'}
 
 

@@ -1,5 +1,5 @@
-"""Real programs of Debian's sources, each as a program with libraries for a registry, and as a static program. rlibreg-gcc
-makes them; docs/LINKING.md says how Lua gets a module in C."""
+"""Builds real programs from Debian's sources, each as a program with libraries for a registry, and as a static program.
+rlibreg-gcc links them. docs/LINKING.md describes how Lua gets a module in C."""
 
 import os
 import re

@@ -1,4 +1,4 @@
-"""How real programs are tried: their files, their starts, and what they have to do."""
+"""The trials of real programs: their files, their starts, and the results that they have to have."""
 
 import bz2
 import collections

@@ -49,7 +49,7 @@ def is_refused(by, ended, disk):
     return replied or ended[:3] == (3, b'', b'rlibreg-tool: ' + S1) or by.unread(ended, disk)
 
 
-# What is done to the disk.
+# The ways to replace, move or remove the disk.
 
 def rename_over(folder):
     os.rename(folder / 'other', folder / 'disk')

@@ -4,7 +4,7 @@
     python3 bench/scripts.py FOLDER            makes the scripts
     python3 bench/scripts.py FOLDER PROGRAM    gives each to the program `rlibreg`, five times, its output to /dev/null
 
-The disk is a new one each time, in the folder for temporary files (which TMPDIR names).
+Each run has a new disk, in the folder for temporary files (which TMPDIR names).
 """
 
 import subprocess

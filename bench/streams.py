@@ -1,8 +1,8 @@
 """Runs each command of the program `rlibreg`, and of `rlibreg-tool`, with standard streams that are closed, that fail, or
 that are the disk itself, and with DISK, FILE and PROGRAM given as numbers of open files; `faults.py` calls it.
 
-After each run the disk has, byte by byte, what it had before the command or what the command by itself leaves, and no other
-file has changed. The script prints, for each kind of stream, how many runs ended with which status.
+After each run the disk has exactly the bytes from before the command, or those that the command leaves if it runs by
+itself, and no other file has changed. The script prints, for each kind of stream, how many runs ended with which status.
 """
 
 import collections

@@ -1,6 +1,6 @@
 #!/usr/bin/env python3
-"""Runs the commands of the program `rlibreg` over a stand-in for a kernel (`medium.c`) in which syncs fail, processes end and
-the machine loses its power, and checks that what was answered stays true. Needs gcc, and a PROGRAM that isn't static
+"""Runs the commands of the program `rlibreg` over a stand-in for a kernel (`medium.c`) in which syncs fail, processes end
+and the machine loses its power, and checks that the answers stay true. Needs gcc, and a PROGRAM that isn't static
 (`DYNAMIC=yes c/build.sh`).
 
     python3 bench/syncs.py PROGRAM FOLDER [--all] [--body NAME]
@@ -52,7 +52,7 @@ FURTHER = [
     ('script', ('remove', b'b'), ('install', 'c.so'), LIST),
 ]
 FEW_FURTHER = [('replace', 'a2.so'), ('remove', b'b')]
-# What a failing sync writes to the medium, as `medium.c` has it.
+# The parts that a failing sync may write to the medium, by their names in `medium.c`.
 PARTS = ['none', 'all', 'first', 'rest', 'half', 'kept']
 FEW_PARTS = ['none', 'rest']
 BODIES = [

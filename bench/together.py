@@ -4,9 +4,9 @@ library.
 
     python3 bench/together.py PROGRAM FOLDER [--clib TOOL] [--rounds N]
 
-TOOL is the program of c/tests/tool.c, built as c/tests/run.sh builds it. Every change that was answered `ok` has to be there
-at the end. Everything else has to be answered as for a locked disk: a change of PROGRAM after two seconds, and all else at
-once. A `list` has to show a state between those before and after it.
+TOOL is the program of c/tests/tool.c, built as c/tests/run.sh builds it. Every change that was answered `ok` has to be
+there at the end. Everything else has to be answered that the disk is locked: a change by PROGRAM after two seconds, and
+everything else at once. A `list` has to show a state between those before and after it.
 
 The rounds are: installs; the same, each repeated until it is done; all commands; both programs; lists beside one writer; a
 file that is put in another's place (mv); and two and twelve `format`s of one name. Before them come a disk that another

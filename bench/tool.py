@@ -1,14 +1,14 @@
 #!/usr/bin/env python3
-"""Checks what rlibreg-tool reads of a disk, its memory, and the answers of the programs if a library is damaged or can't be
-read. Needs strace, and root for sectors that can't be read.
+"""Checks which sectors of a disk rlibreg-tool reads, how much memory it uses, and the answers of the programs if a
+library is damaged or can't be read. Needs strace, and root for sectors that can't be read.
 
     python3 bench/tool.py PROGRAMS FOLDER
 
-PROGRAMS has rlibreg, rlibreg-run and rlibreg-tool (c/build.sh). Each sector that describes the registry is requested once,
-and so is each sector of a file that a form needs; nothing is requested of any other file. The system reads more than that,
-since it reads ahead: the script prints how much. The memory of a dump, or of digests, grows by less than 1 KiB for each
-library, whatever its length. If a library has a wrong byte, or sectors that can't be read (a loop device whose image has
-lost its end), the other libraries are reported as before; the script prints the answer of each program.
+PROGRAMS has rlibreg, rlibreg-run and rlibreg-tool (c/build.sh). Each sector that describes the registry is requested
+once, and so is each sector of a file that a form needs; nothing is requested of any other file. The system reads more
+sectors, because it reads ahead. The script prints how many. The memory of a dump, or of digests, grows by less than 1 KiB
+for each library, whatever its length. If a library has a wrong byte, or sectors that can't be read (a loop device whose
+image has lost its end), the other libraries are reported as before; the script prints the answer of each program.
 """
 
 import collections
@@ -77,7 +77,7 @@ class Bench:
         self.rlibreg.done('format', 'disk', str(sectors))
         install(self.rlibreg.path, self.disk, files)
 
-    # What is read.
+    # The sectors that are read.
 
     def reads(self):
         self.fill([library(i, 2000 + i * 37 % 40 * 1000).file for i in range(200)])

@@ -31,7 +31,7 @@ done
 dmsetup targets 2> /dev/null | grep -q flakey || modprobe dm_flakey 2> /dev/null
 dmsetup targets 2> /dev/null | grep -q flakey || skipped 'all of it: the kernel has no dm-flakey'
 
-# table TARGET WORD..: what the device does from now on.
+# table TARGET WORD..: sets how the device behaves from now on.
 table() {
     target=$1
     shift
@@ -72,7 +72,7 @@ failing_format() {
     cat reply
 }
 
-# Prints what a cut leaves: the listing of the disk in a copy.
+# Prints the listing of the disk that a power cut leaves, from a copy of the device.
 after_a_cut() {
     cp image copy
     other=$(losetup -f) && losetup "$other" copy
@@ -83,7 +83,7 @@ after_a_cut() {
     losetup -d "$other"
 }
 
-# one FS SYNC WAY: whether that sync failed.
+# one FS SYNC WAY: tries a `format` whose sync of this number fails. Returns whether there is such a sync.
 one() {
     up "$1" || return 1
     first=$(failing_format "$2")

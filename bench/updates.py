@@ -1,6 +1,7 @@
 #!/usr/bin/env python3
-"""Runs random updates of `rlibreg-tool` on small disks, and compares each answer, and what the disk holds afterwards, with what
-this script computes from the lines by itself (`registries.py`). Then updates of 20 libraries are killed at random.
+"""Runs random updates of `rlibreg-tool` on small disks, and compares each answer, and the registry on the disk
+afterwards, with those that this script itself computes from the lines (`registries.py`). Then updates of 20 libraries are
+killed at random.
 
     python3 bench/updates.py RLIBREG_TOOL FOLDER [--updates N] [--cuts N] [--kills N] [--first NUMBER]
 
@@ -29,7 +30,7 @@ from registries import CHANGES, PAGE, REGISTRY, SECTOR, State, listing, root, st
 OK, FULL = b'ok\n', b'refused S7 Full\n'
 END = 2 ** 47 - PAGE
 SET, KILLED_SECTORS = 20, 4096
-# What is known of a file: its name, what it needs, what it exports, and what it refers to.
+# The facts about a file: its name, and the names that it needs, exports and refers to.
 Known = collections.namedtuple('Known', 'soname needs exports wants')
 Ending = collections.namedtuple('Ending', 'output status state generation')
 

@@ -114,7 +114,7 @@ program() {
         object=crates/$crate/out/$crate.o
     fi
     linked 4 "$stream" "$message" "$name" \
-        -Wl,--gc-sections,--wrap=open,--wrap=fsync,--wrap=flock,--wrap=main c/rlibreg_{main,front,names,turn}.c \
+        -Wl,--gc-sections,--wrap=open,--wrap=pwrite,--wrap=fsync,--wrap=flock,--wrap=main c/rlibreg_{main,front,names,turn}.c \
         c/rlibreg_program_{lock,sync}.c "$object" "$kit/c/libos_c.a" \
         "$kit/c/liblibc_c.a" -lm
 }
@@ -149,7 +149,8 @@ soname=librlibreg.so.${version%.*}
 (
     of_program="$flags -g0 -fno-stack-protector -U_FORTIFY_SOURCE"
     for part in begin begin_calls objects; do
-        $cc $of_program -Os -c -o "$folder/begins_$part.o" "c/rlibreg_$part.c"
+        $cc $of_program -Os -fno-asynchronous-unwind-tables -c -o "$folder/begins_$part.o" \
+            "c/rlibreg_$part.c"
     done
     for part in emulated dl; do
         $cc $of_program -c -o "$folder/begins_$part.o" "c/rlibreg_$part.c"

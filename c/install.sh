@@ -21,9 +21,9 @@ refuse() {
     exit 1
 }
 
-# add MODE SOURCE FILE: to what is installed. The mode `link` is that of a link to SOURCE.
+# add MODE SOURCE FILE: adds a file to those that are installed. The mode `link` makes a link to SOURCE.
 add() {
-    [ "$1" = link ] || [ -f "$2" ] || refuse "there is no $2: run c/build.sh first"
+    [ "$1" = link ] || [ -f "$2" ] || refuse "$2 doesn't exist: run c/build.sh first"
     modes+=("$1") sources+=("$2") files+=("$3")
 }
 
@@ -99,6 +99,9 @@ add_all() {
     for page in "$here"/../docs/*.md; do
         add 644 "$page" "$1/share/doc/rlibreg/${page##*/}"
     done
+    for page in "$here"/../docs/pictures/*.svg; do
+        add 644 "$page" "$1/share/doc/rlibreg/pictures/${page##*/}"
+    done
     for page in "$3"/*.[13]; do
         [ ! -f "$page" ] || add 644 "$page" "$1/share/man/man${page##*.}/${page##*/}"
     done
@@ -125,12 +128,12 @@ write_list() {
     } | sort -u >> "$2"
 }
 
-# check_path NAME PATH: it is absolute, and has no character that a pkg-config file or the list can't
-# have.
+# check_path NAME PATH: refuses a path that isn't absolute, or that has a character which a pkg-config
+# file or the list can't have.
 check_path() {
     case $2 in
-        [!/]*) refuse "$1 has to be an absolute path, and is $2" ;;
-        *[!A-Za-z0-9/._+~=,@%-]*) refuse "$1 has a character that it can't have, and is $2" ;;
+        [!/]*) refuse "$1 has to be an absolute path: $2" ;;
+        *[!A-Za-z0-9/._+~=,@%-]*) refuse "$1 may only have letters, digits and the characters / . _ + ~ = , @ % -: $2" ;;
     esac
 }
 
@@ -167,17 +170,17 @@ remove_file() {
     esac
 }
 
-# Files, the list, and then the folders that were made for them, from the deepest on, where nothing
-# else is in them.
+# Removes the files of a list, the list, and then the folders that were made for them, if nothing else is
+# in them, from the deepest on.
 remove_all() {
     local lines path list=$root${1#"$root"} own=0
-    [ -f "$list" ] || refuse "there is no list $list"
-    [ "$(head -n 1 "$list")" = "$mark" ] || refuse "$list is no list of what was installed"
+    [ -f "$list" ] || refuse "the list $list doesn't exist"
+    [ "$(head -n 1 "$list")" = "$mark" ] || refuse "$list isn't a list that this script wrote"
     mapfile -t lines <<< "$(sort -r "$list")"
     for path in "${lines[@]}"; do
-        [ ! "$root$path" -ef "$list" ] || own=1 # it names itself, where DESTDIR is the right one
+        [ ! "$root$path" -ef "$list" ] || own=1 # it names itself, if DESTDIR is the right one
     done
-    [ $own = 1 ] || refuse "$list is of what was installed with another DESTDIR"
+    [ $own = 1 ] || refuse "$list was written with another DESTDIR"
     for path in "${lines[@]}"; do
         case $path in /*[!/]) remove_file "$root$path" "$list" ;; esac
     done

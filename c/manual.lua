@@ -1,6 +1,8 @@
--- For manual.sh: a table becomes a list of its rows, since on a page of 80 columns a column of it is too
--- narrow to be read or searched. A row's first cell stands on a line of its own; below are the others,
--- from the third on with what stands at their head.
+-- Turns the tables of a manual page into lists of their rows, for manual.sh: on a page of 80 columns a table's
+-- columns are too narrow to be read or searched. A row's first cell is on a line of its own, with the others below
+-- it; from the third cell on, each follows the head of its column. Pictures are left out.
+
+function Image() return {} end
 
 function Table(it)
     local inlines = pandoc.utils.blocks_to_inlines

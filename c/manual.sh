@@ -18,9 +18,9 @@ if ! command -v pandoc > /dev/null; then
     exit 0
 fi
 
-# page NAME SECTION WHAT: makes a page of the Markdown on standard input, whose sections begin with `##`.
-# A link to a document that is a page becomes the page's name, and any other link its own. Words aren't
-# hyphenated and lines aren't adjusted, so that they can be searched.
+# page NAME SECTION WHAT: makes a manual page from the Markdown on standard input, whose sections begin
+# with `##`. A link to a document that has a manual page becomes the name of that page, and any other link
+# the document's name. Words aren't hyphenated and lines aren't justified, so that they can be searched.
 page() {
     {
         printf '# %s(%s)\n\n## Name\n\n%s - %s\n\n' "$1" "$2" "$1" "$3"

@@ -22,7 +22,7 @@ REFUSALS = re.compile(r'[Rr]efusals:\s(.*?)\.(?:\s|$)', re.S)
 CODE = re.compile(r'\b([BCS])(\d+)(?: to [BCS](\d+))?')
 CAPTION = re.compile(r'^([A-Z][A-Z ]+)\n\n', re.M)
 LIKE = re.compile(r'\b(?:as|and)\s(rlibreg_\w+)')
-NO_ROOM = 1  # of buffers, which calls over a file make themselves
+BUFFER_TOO_SMALL = 1  # of buffers, which calls over a file make themselves
 HUNDREDS = {'B': 100, 'C': 200, 'S': 300}
 DOCUMENTS = {'docs/COMMANDS.md': 'rlibreg(1)', 'docs/C.md': 'rlibreg(3)'}
 
@@ -81,9 +81,9 @@ class Header:
             for letter, first, last in CODE.findall(sentence):
                 found.update(HUNDREDS[letter] + n for n in range(int(first), int(last or first) + 1))
             if re.match(r'those\sof\sthe\splan', sentence):
-                found |= self.numbers_of(call.replace('rlibreg_', 'rlibreg_plan_')) - {NO_ROOM}
+                found |= self.numbers_of(call.replace('rlibreg_', 'rlibreg_plan_')) - {BUFFER_TOO_SMALL}
         for like in LIKE.findall(group.text):
-            found |= self.numbers_of(like) - {NO_ROOM}
+            found |= self.numbers_of(like) - {BUFFER_TOO_SMALL}
         return found
 
 

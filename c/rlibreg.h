@@ -20,7 +20,7 @@
  *         rlibreg *it = rlibreg_create();
  *         rlibreg_listing found;
  *         if (!it || rlibreg_open(it, "disk", RLIBREG_WAIT)) return 1;
- *         if (rlibreg_listing_of(it, &found)) return 2;
+ *         if (rlibreg_get_listing(it, &found)) return 2;
  *         for (size_t i = 0; i < found.libraries; i++)
  *             puts(found.names + found.entries[i].name);
  *         rlibreg_listing_free(&found);
@@ -136,8 +136,8 @@
  * - pthread_cancel ends no call that opens, changes or closes a file. The call returns first, and
  *   the thread ends at its next cancellation point. It keeps the lock until rlibreg_close, which a
  *   cleanup handler has to call (pthread_cleanup_push). A wait for a lock isn't cancelled either,
- *   but a limit ends it (rlibreg_wait_limit). A thread that can be cancelled asynchronously makes
- *   no calls.
+ *   but a limit ends it (rlibreg_set_wait_limit). A thread that can be cancelled asynchronously
+ *   makes no calls.
  * - malloc, realloc and free are the program's, of one allocator. malloc and realloc have to align
  *   a block to each power of two up to 16 that divides its size. Each block is freed before the
  *   call ends, except those for which the second layer says who frees them.
@@ -165,8 +165,8 @@ extern "C" {
  *
  * rlibreg_version returns the version of the library that is called, and RLIBREG_VERSION is that of
  * this header: 10,000 * major + 100 * minor + patch. If major or minor changes, callers have to be
- * compiled again: the shared library's name has the two, as in librlibreg.so.0.3. */
-#define RLIBREG_VERSION 300
+ * compiled again: the shared library's name has the two, as in librlibreg.so.0.4. */
+#define RLIBREG_VERSION 400
 uint32_t rlibreg_version(void);
 
 /* ---- Statuses
@@ -178,17 +178,17 @@ uint32_t rlibreg_version(void);
  * these. rlibreg_status_name returns the name. */
 enum {
     RLIBREG_DONE = 0,
-    RLIBREG_NO_ROOM = 1,      /* a buffer is too small: the answer has the sizes that are needed */
-    RLIBREG_BAD_ARGUMENT = 2, /* an argument isn't as the call requires it */
-    RLIBREG_SYSTEM = 3,       /* a file can't be opened, locked, synced, made or mapped: errno */
-    RLIBREG_HELD = 4,         /* another process, or this one, has locked the file */
-    RLIBREG_READ_ONLY = 5,    /* a change is asked for, but the file wasn't opened for changes */
+    RLIBREG_BUFFER_TOO_SMALL = 1, /* a buffer is too small: the answer has the sizes */
+    RLIBREG_BAD_ARGUMENT = 2,     /* an argument isn't as the call requires it */
+    RLIBREG_SYSTEM = 3,           /* a file can't be opened, locked, synced, made or mapped: errno */
+    RLIBREG_LOCKED = 4,           /* another process, or this one, has locked the file */
+    RLIBREG_READ_ONLY = 5,        /* the file wasn't opened for changes, as this call requires */
 
-    RLIBREG_BAD_PROGRAM = 101, /* B1: the program's file is refused, by the test file_refusal */
-    RLIBREG_BAD_BASE = 102,    /* B2: the base isn't a multiple of the program's unit */
-    RLIBREG_MISSING = 103,     /* B3: a needed library isn't installed; the text names both */
-    RLIBREG_NO_PLACE = 104,    /* B4: an object's memory would end above 2^47 - 4,096 */
-    RLIBREG_UNDEFINED = 105,   /* B5: a symbol is bound to nothing; the text names it */
+    RLIBREG_BAD_PROGRAM = 101,      /* B1: the program's file is refused, by the test file_refusal */
+    RLIBREG_BAD_BASE = 102,         /* B2: the base isn't a multiple of the program's unit */
+    RLIBREG_MISSING = 103,          /* B3: a needed library isn't installed; the text names both */
+    RLIBREG_ADDRESS_TOO_HIGH = 104, /* B4: an object's memory would end above 2^47 - 4,096 */
+    RLIBREG_UNDEFINED = 105,        /* B5: a symbol is bound to nothing; the text names it */
 
     RLIBREG_BAD_FILE = 201,          /* C1: the file is no library, by the test file_refusal */
     RLIBREG_ALREADY_INSTALLED = 202, /* C2: a library of this SONAME is installed */
@@ -251,7 +251,7 @@ enum { RLIBREG_EXECUTE = 1, RLIBREG_WRITE = 2, RLIBREG_READ = 4 };
 typedef struct rlibreg_segment {
     uint64_t address;     /* address of its first byte */
     uint64_t length;      /* length in bytes; if it is 0, nothing has to be mapped */
-    uint64_t from;        /* offset of its bytes in the buffer of bytes */
+    uint64_t offset;      /* offset of its bytes in the buffer of bytes */
     uint64_t permissions; /* a sum of RLIBREG_EXECUTE, RLIBREG_WRITE and RLIBREG_READ */
 } rlibreg_segment;
 
@@ -306,7 +306,7 @@ typedef struct rlibreg_finding {
 /* A change of an update. One buffer has the bytes of all changes. */
 typedef struct rlibreg_change {
     uint64_t kind;   /* RLIBREG_INSTALL, RLIBREG_REPLACE, RLIBREG_REMOVE or RLIBREG_PRELOAD */
-    uint64_t from;   /* offset of its bytes in the buffer */
+    uint64_t offset; /* offset of its bytes in the buffer */
     uint64_t length; /* number of its bytes: of a file, of a name, or of names in a row */
 } rlibreg_change;
 
@@ -331,7 +331,7 @@ RLIBREG_SAME(offsetof(rlibreg_information, largest) == 56);
 RLIBREG_SAME(sizeof(rlibreg_finding) == 16);
 RLIBREG_SAME(offsetof(rlibreg_finding, finding) == 12);
 RLIBREG_SAME(sizeof(rlibreg_change) == 24);
-RLIBREG_SAME(offsetof(rlibreg_change, from) == 8);
+RLIBREG_SAME(offsetof(rlibreg_change, offset) == 8);
 RLIBREG_SAME(offsetof(rlibreg_change, length) == 16);
 RLIBREG_SAME(sizeof(size_t) == 8 && sizeof(void *) == 8);
 
@@ -364,8 +364,9 @@ RLIBREG_SAME(sizeof(size_t) == 8 && sizeof(void *) == 8);
  * If memory is refused, the call returns S11 (OutOfMemory), and nothing was done. No call returns
  * S1 (Device).
  *
- * If another buffer is too small, the call returns RLIBREG_NO_ROOM. Then the contents of the call's
- * buffers are unspecified, and the answer has the sizes that are needed: call again with these. */
+ * If another buffer is too small, the call returns RLIBREG_BUFFER_TOO_SMALL. Then the contents of
+ * the call's buffers are unspecified, and the answer has the sizes that are needed: call again with
+ * these. */
 
 /* Binds a program at an address, with the preloads and the libraries of the registry. PROGRAM has
  * the PROGRAM_LENGTH bytes of the program's file. BASE is the address, in bytes.
@@ -604,7 +605,7 @@ const char *rlibreg_text(const rlibreg *registry);
 
 /* Returns the answer of the last call of this struct. It belongs to the struct, and stays until its
  * next call. */
-const rlibreg_answer *rlibreg_last(const rlibreg *registry);
+const rlibreg_answer *rlibreg_last_answer(const rlibreg *registry);
 
 /* Returns errno as the last call of this struct left it. If that call returned neither
  * RLIBREG_SYSTEM nor S1 (Device), the result is 0. */
@@ -613,16 +614,16 @@ int rlibreg_errno(const rlibreg *registry);
 /* How a file is opened. Without any of these it is opened for reading only, with a lock that other
  * readers share, and without waiting for the lock. A sum of them changes that. */
 enum {
-    RLIBREG_CHANGES = 1, /* for changes too: the lock is exclusive */
-    RLIBREG_WAIT = 2     /* if the file is locked, wait (rlibreg_wait_limit) */
+    RLIBREG_READ_WRITE = 1, /* for changes too: the lock is exclusive */
+    RLIBREG_WAIT = 2        /* if the file is locked, wait (rlibreg_set_wait_limit) */
 };
 
 /* Sets how long the following calls wait that are given RLIBREG_WAIT. Each waits up to
- * MILLISECONDS, by CLOCK_MONOTONIC, whatever signals come, and then returns RLIBREG_HELD. If
+ * MILLISECONDS, by CLOCK_MONOTONIC, whatever signals come, and then returns RLIBREG_LOCKED. If
  * MILLISECONDS is less than 0, a call waits without end, but a signal whose handler doesn't have
  * SA_RESTART (sigaction(2)) ends the wait. A new struct has this setting. A call waits for other
  * processes, and for other threads of this one. */
-void rlibreg_wait_limit(rlibreg *registry, int milliseconds);
+void rlibreg_set_wait_limit(rlibreg *registry, int milliseconds);
 
 /* Returns the number of a standard stream that may be written and is the file of PATH. It is 2, 1
  * or 0, or -1 if there is none. A stream that isn't open is opened, as STANDARD STREAMS says. If
@@ -630,15 +631,15 @@ void rlibreg_wait_limit(rlibreg *registry, int milliseconds);
 int rlibreg_stream_of(const char *path);
 
 /* Opens the file of a registry, locks and syncs it, and maps what the medium has of it. PATH names
- * a regular file or a block device. FLAGS is 0 or a sum of RLIBREG_CHANGES and RLIBREG_WAIT. The
+ * a regular file or a block device. FLAGS is 0 or a sum of RLIBREG_READ_WRITE and RLIBREG_WAIT. The
  * call doesn't test what the file holds: the calls after it do.
  *
  * It returns 0 if the file is open, and otherwise one of these:
  *
- * - RLIBREG_HELD: another struct, of this process or another, has locked the file, and RLIBREG_WAIT
- *   isn't given or its limit is over. With RLIBREG_WAIT the call returns this at once if this
- *   thread would wait for itself: for a struct that it used last, or for a thread that waits for
- *   one. It also returns this if the path named another file each of 16 times.
+ * - RLIBREG_LOCKED: another struct, of this process or another, has locked the file, and
+ *   RLIBREG_WAIT isn't given or its limit is over. With RLIBREG_WAIT the call returns this at once
+ *   if this thread would wait for itself: for a struct that it used last, or for a thread that
+ *   waits for one. It also returns this if the path named another file each of 16 times.
  * - RLIBREG_SYSTEM: a call of the system failed, and errno says why. EINTR: a signal ended a wait
  *   without limit. EINVAL: the path is neither a regular file nor a block device. EBUSY: a block
  *   device is in use. ETXTBSY: the file is a standard stream that may be written.
@@ -664,7 +665,7 @@ uint32_t rlibreg_open(rlibreg *registry, const char *path, unsigned flags);
  * It returns 0 if the registry was made, and otherwise one of these:
  *
  * - RLIBREG_BAD_ARGUMENT: SECTORS isn't 8 to 4,194,304, or the struct already has a file.
- * - RLIBREG_HELD: the disk or the file with the other name is locked.
+ * - RLIBREG_LOCKED: the disk or the file with the other name is locked.
  * - RLIBREG_SYSTEM: something that comes before the plan failed. errno is EINVAL if the other name
  *   isn't that of a regular file.
  * - The other statuses are the same as rlibreg_open and rlibreg_plan_format return.
@@ -684,7 +685,7 @@ uint32_t rlibreg_format(rlibreg *registry, const char *path, uint32_t sectors, u
  * a write or a sync failed, or that the path no longer names the file (LOCKS); errno says why. The
  * change may or may not have been made, and the struct then answers S2 (Reopen).
  *
- * RLIBREG_READ_ONLY means that the file wasn't opened with RLIBREG_CHANGES. RLIBREG_SYSTEM with
+ * RLIBREG_READ_ONLY means that the file wasn't opened with RLIBREG_READ_WRITE. RLIBREG_SYSTEM with
  * ETXTBSY means that the file has become a standard stream that may be written; nothing was done.
  * RLIBREG_BAD_ARGUMENT means that the parent of this process opened the file.
  *
@@ -710,8 +711,9 @@ uint32_t rlibreg_preload(rlibreg *registry, const char *const *names, size_t cou
 
 /* Makes an update, as rlibreg_plan_update plans it. CHANGES has COUNT changes, which are one change
  * of the registry: all of them are made or none. BYTES has the LENGTH bytes of all changes. CHANGES
- * may be null if there are none, and BYTES if it has no bytes. If a change is refused, rlibreg_last
- * has in `count` the number of changes before it. Refusals: those of the plan; S1, S2. */
+ * may be null if there are none, and BYTES if it has no bytes. If a change is refused,
+ * rlibreg_last_answer has in `count` the number of changes before it. Refusals: those of the plan;
+ * S1, S2. */
 uint32_t rlibreg_update(rlibreg *registry, const rlibreg_change *changes, size_t count,
                         const void *bytes, size_t length);
 
@@ -731,7 +733,7 @@ typedef struct rlibreg_listing {
     char *names; /* the name of an entry is names + entry.name, ended by a byte 0 */
 } rlibreg_listing;
 
-uint32_t rlibreg_listing_of(rlibreg *registry, rlibreg_listing *listing);
+uint32_t rlibreg_get_listing(rlibreg *registry, rlibreg_listing *listing);
 
 /* Frees what a listing has, and empties it. It may be called again for the same listing. */
 void rlibreg_listing_free(rlibreg_listing *listing);
@@ -739,16 +741,16 @@ void rlibreg_listing_free(rlibreg_listing *listing);
 /* Returns a library's bytes, as rlibreg_file does. NAME ends with a byte 0. With the status 0,
  * *BYTES has *LENGTH bytes, which the caller frees with free. With another status *LENGTH is 0, and
  * *BYTES is null. Both are written in every case. Other refusals: S1, S2. */
-uint32_t rlibreg_file_of(rlibreg *registry, const char *name, void **bytes, size_t *length);
+uint32_t rlibreg_get_file(rlibreg *registry, const char *name, void **bytes, size_t *length);
 
 /* Returns the SHA-256 of a library's bytes, as rlibreg_digest does. NAME ends with a byte 0. DIGEST
  * is left as it was if the status isn't 0. Other refusals: S1, S2. */
-uint32_t rlibreg_digest_of(rlibreg *registry, const char *name,
-                           uint8_t digest[RLIBREG_DIGEST_BYTES]);
+uint32_t rlibreg_get_digest(rlibreg *registry, const char *name,
+                            uint8_t digest[RLIBREG_DIGEST_BYTES]);
 
 /* Returns information on the registry as a whole, as rlibreg_info does. INFORMATION is left as it
  * was if the status isn't 0. Other refusals: S1, S2. */
-uint32_t rlibreg_info_of(rlibreg *registry, rlibreg_information *information);
+uint32_t rlibreg_get_info(rlibreg *registry, rlibreg_information *information);
 
 /* Tests each library's file, as rlibreg_check does. FINDINGS is written in every case. The caller
  * frees what it has with rlibreg_findings_free. Other refusals: S1, S2. */
@@ -758,7 +760,7 @@ typedef struct rlibreg_findings {
     char *names; /* the name of a library is names + finding.name, ended by a byte 0 */
 } rlibreg_findings;
 
-uint32_t rlibreg_findings_of(rlibreg *registry, rlibreg_findings *findings);
+uint32_t rlibreg_check_libraries(rlibreg *registry, rlibreg_findings *findings);
 
 /* Frees what findings have, and empties them. It may be called again for the same findings. */
 void rlibreg_findings_free(rlibreg_findings *findings);
@@ -774,21 +776,21 @@ typedef struct rlibreg_image {
     uint8_t *bytes; /* the name of an object is bytes + object.name, ended by a byte 0 */
 } rlibreg_image;
 
-uint32_t rlibreg_image_of(rlibreg *registry, const void *program, size_t length, uint64_t base,
-                          rlibreg_image *image);
+uint32_t rlibreg_bind_program(rlibreg *registry, const void *program, size_t length, uint64_t base,
+                              rlibreg_image *image);
 
 /* Frees what an image has, and empties it. It may be called again for the same image. */
 void rlibreg_image_free(rlibreg_image *image);
 
 /* Binds a program over the state after an update, and writes nothing. The result is the image that
- * rlibreg_image_of would return after an update of these changes. So it is known before the update
- * whether the program will be bound. PROGRAM has the PROGRAM_LENGTH bytes of the program's file,
- * and BASE is the address. CHANGES, COUNT, BYTES and LENGTH are those of rlibreg_update. The file
- * may be open for reading only. IMAGE is written in every case, and is freed with
+ * rlibreg_bind_program would return after an update of these changes. So it is known before the
+ * update whether the program will be bound. PROGRAM has the PROGRAM_LENGTH bytes of the program's
+ * file, and BASE is the address. CHANGES, COUNT, BYTES and LENGTH are those of rlibreg_update. The
+ * file may be open for reading only. IMAGE is written in every case, and is freed with
  * rlibreg_image_free.
  *
- * If a change is refused, the call returns its refusal, and rlibreg_last has in `count` the number
- * of changes before it. If the bind is refused, `count` is 0.
+ * If a change is refused, the call returns its refusal, and rlibreg_last_answer has in `count` the
+ * number of changes before it. If the bind is refused, `count` is 0.
  *
  * The call maps the file once more, privately, and carries the plan out in that memory. It
  * allocates memory for the plan, for the pages that are written, and for the image. It needs memory
@@ -797,23 +799,23 @@ void rlibreg_image_free(rlibreg_image *image);
  * the call returns S11 (OutOfMemory), which says nothing of the update.
  *
  * Refusals: B1 to B5; C1 to C6, S7 to S10; S1, S2, S3, S5, S6, S11, S12. */
-uint32_t rlibreg_update_image_of(rlibreg *registry, const rlibreg_change *changes, size_t count,
-                                 const void *bytes, size_t length, const void *program,
-                                 size_t program_length, uint64_t base, rlibreg_image *image);
+uint32_t rlibreg_preview_bind(rlibreg *registry, const rlibreg_change *changes, size_t count,
+                              const void *bytes, size_t length, const void *program,
+                              size_t program_length, uint64_t base, rlibreg_image *image);
 
 /* Says what symbols are bound to, as rlibreg_bindings does. PROGRAM has the LENGTH bytes of the
  * program's file, and BASE is the address. With the statuses 0, B3 and B5, *BINDINGS is a text of
  * *BYTES bytes, followed by a byte 0, which the caller frees with free. With every other status
  * *BYTES is 0, and *BINDINGS is null. Both are written in every case. Other refusals: S1, S2. */
-uint32_t rlibreg_bindings_of(rlibreg *registry, const void *program, size_t length, uint64_t base,
-                             char **bindings, size_t *bytes);
+uint32_t rlibreg_get_bindings(rlibreg *registry, const void *program, size_t length, uint64_t base,
+                              char **bindings, size_t *bytes);
 
 /* Makes a static executable file of a bound program, as rlibreg_executable does. PROGRAM has the
  * LENGTH bytes of the program's file, and BASE is the address. With the status 0, *FILE has *BYTES
  * bytes, which the caller frees with free. With another status *BYTES is 0, and *FILE is null. Both
  * are written in every case. Other refusals: S1, S2. */
-uint32_t rlibreg_executable_of(rlibreg *registry, const void *program, size_t length,
-                               uint64_t base, void **file, size_t *bytes);
+uint32_t rlibreg_get_executable(rlibreg *registry, const void *program, size_t length,
+                                uint64_t base, void **file, size_t *bytes);
 
 #ifdef __cplusplus
 }

@@ -1,13 +1,13 @@
 /* The start of a program that rlibreg-gcc links. It replaces musl's Scrt1.o.
  *
- * A library's constructor may use the program's C library. So musl is set up before the first constructor,
- * and only once, because a second time would lose what constructors have set, started or allocated. A
- * function in the program's DT_PREINIT_ARRAY sets musl up. rlibreg-run calls this array before the
- * libraries' initializers, and then enters the program at `_start`.
+ * A library's constructor may use the program's C library. So musl is set up before the first
+ * constructor, and only once, because a second time would lose what constructors have set, started
+ * or allocated. A function in the program's DT_PREINIT_ARRAY sets musl up. rlibreg-run calls this
+ * array before the libraries' initializers, and then enters the program at `_start`.
  *
- * If no loader has called the initializers, the program calls them itself after `_start`. This is so in a
- * file of `rlibreg-tool executable`, which has no loader, and under musl's own loader, which leaves them to
- * its own C library. */
+ * If no loader has called the initializers, the program calls them itself after `_start`. This is
+ * so in a file of `rlibreg-tool executable`, which has no loader, and under musl's own loader,
+ * which leaves them to its own C library. */
 #include "rlibreg_begin.h"
 
 extern int main(int, char **, char **);
@@ -24,9 +24,9 @@ extern initializer *const __init_array_start[], *const __init_array_end[];
 static int is_set_up;        /* whether musl is set up */
 static void (*at_end)(void); /* finalizes the libraries, or null */
 
-/* By this note the program says that it calls its libraries' initializers and finalizers if no loader does.
- * `rlibreg-tool executable` reads the note. Its name has eight bytes, it has no descriptor, and its type
- * is 1. */
+/* By this note the program says that it calls its libraries' initializers and finalizers if no
+ * loader does. `rlibreg-tool executable` reads the note. Its name has eight bytes, it has no
+ * descriptor, and its type is 1. */
 __asm__(".pushsection .note.rlibreg, \"a\", @note\n"
         "  .balign 4\n"
         "  .long 8, 0, 1\n"
@@ -35,17 +35,16 @@ __asm__(".pushsection .note.rlibreg, \"a\", @note\n"
 
 static void set_up(int count, char **words, char **environment) {
     (void)count;
-    if (is_set_up) return;
-    is_set_up = 1;
-    __init_libc(environment, words[0]);
+    /* If the page were read first, it would take a second fault to write it. */
+    if (!__atomic_exchange_n(&is_set_up, 1, __ATOMIC_RELAXED)) __init_libc(environment, words[0]);
 }
 
 /* This file is linked first, so `set_up` is the first function of the array. */
 __attribute__((section(".preinit_array"), used)) static initializer *const first = set_up;
 
-/* Starts the program. `stack` is the stack as the program finds it. `end` is what the program finds in rdx.
- * From rlibreg-run it is a function that finalizes the libraries, or null; from musl's loader it means
- * nothing. */
+/* Starts the program. `stack` is the stack as the program finds it. `end` is what the program finds
+ * in rdx. From rlibreg-run it is a function that finalizes the libraries, or null; from musl's
+ * loader it means nothing. */
 __attribute__((used)) static _Noreturn void begin(long *stack, void (*end)(void)) {
     int count = (int)*stack;
     char **words = (char **)(stack + 1);
@@ -71,8 +70,8 @@ __asm__(".globl _start\n"
         "  and $-16, %rsp\n"
         "  call begin\n");
 
-/* Finalizes the libraries. By its priority it is called after all other destructors of the program. If a
- * library's initializer ends the process, no library is finalized. */
+/* Finalizes the libraries. By its priority it is called after all other destructors of the program.
+ * If a library's initializer ends the process, no library is finalized. */
 __attribute__((destructor(101))) static void end(void) {
     if (at_end) at_end();
 }

@@ -1,6 +1,6 @@
-/* Calls the libraries' initializers and finalizers if no loader does. As in rlibreg-run, a function has to
- * lie in the code of the object that names it (rlibreg_run_calls.c), and the order is the same
- * (rlibreg_run_order.c). */
+/* Calls the libraries' initializers and finalizers if no loader does. As in rlibreg-run, a function
+ * has to lie in the code of the object that names it (rlibreg_run_calls.c), and the order is the
+ * same (rlibreg_run_order.c). */
 #define _GNU_SOURCE
 #include "rlibreg_begin.h"
 #include "rlibreg_objects.h"
@@ -17,18 +17,26 @@ typedef void finalizer(void);
 extern initializer *const __preinit_array_start[], *const __preinit_array_end[];
 #pragma GCC visibility pop
 
-/* A walk over the libraries, which are named by their numbers. It is mapped only if it is needed, so that
- * other starts touch fewer pages. */
+/* Addresses of functions in an object's memory. */
+struct functions {
+    const uintptr_t *at;
+    size_t count;
+};
+
+/* A walk over the libraries, which are named by their numbers. It is mapped only if it is needed,
+ * so that other starts touch fewer pages. */
 struct walk {
     struct rlibreg_objects objects;
-    char was_entered[MOST + 1]; /* by number */
-    uint16_t order[MOST];       /* the order in which the libraries are initialized */
-    size_t ordered;
+    char was_entered[MOST + 1];  /* by number */
+    uint16_t order[MOST];        /* the order in which the libraries are initialized */
+    size_t ordered;              /* at the end of the program: number of libraries that are left */
+    struct functions finalizers; /* those of one library that are left, and its DT_FINI or 0 */
+    uintptr_t last;
 };
 static struct walk *walked;
 
 static _Noreturn void refuse(const struct rlibreg_object *it, const char *tag, const char *why) {
-    const char *parts[] = { "rlibreg: ", it->name, ": ", tag, why, "\n" };
+    const char *parts[] = { "rlibreg: ", it->name, *it->name ? ": " : "", tag, why, "\n" };
     for (size_t i = 0; i < sizeof parts / sizeof *parts; i++)
         if (write(2, parts[i], strlen(parts[i])) < 0) break;
     _exit(REFUSED);
@@ -60,19 +68,16 @@ static int is_within(const struct rlibreg_object *it, uintptr_t address, uint32_
 static uintptr_t function_of(const struct rlibreg_object *it, int64_t tag, const char *name) {
     uint64_t value = rlibreg_tag_of(it, tag, UINT64_MAX);
     if (value == UINT64_MAX) return 0;
-    if (!is_within(it, it->base + value, PF_X)) refuse(it, name, " names a function that isn't in its own code");
+    if (!is_within(it, it->base + value, PF_X))
+        refuse(it, name, " names a function that isn't in its own code");
     return it->base + value;
 }
 
-/* Addresses of functions in an object's memory. */
-struct functions {
-    const uintptr_t *at;
-    size_t count;
-};
-
+/* Returns the functions of an array, or none if the object doesn't have the tag. */
 static struct functions array_of(const struct rlibreg_object *it, int64_t tag, int64_t size_tag,
                                  const char *name) {
-    uint64_t value = rlibreg_tag_of(it, tag, UINT64_MAX), size = rlibreg_tag_of(it, size_tag, UINT64_MAX);
+    uint64_t value = rlibreg_tag_of(it, tag, UINT64_MAX),
+             size = rlibreg_tag_of(it, size_tag, UINT64_MAX);
     struct functions found = { 0 };
     if (value == UINT64_MAX || !size) return found;
     if (size == UINT64_MAX || !is_within(it, it->base + value, 0) ||
@@ -82,7 +87,8 @@ static struct functions array_of(const struct rlibreg_object *it, int64_t tag, i
     found.at = (const uintptr_t *)(it->base + value);
     found.count = size / sizeof *found.at;
     for (size_t i = 0; i < found.count; i++)
-        if (!is_within(it, found.at[i], PF_X)) refuse(it, name, " names a function that isn't in its own code");
+        if (!is_within(it, found.at[i], PF_X))
+            refuse(it, name, " names a function that isn't in its own code");
     return found;
 }
 
@@ -101,15 +107,18 @@ static void test(const struct rlibreg_object *it) {
     finalizers_of(it);
 }
 
-static void initialize(const struct rlibreg_object *it, int count, char **words, char **environment) {
+static void initialize(const struct rlibreg_object *it, int count, char **words,
+                       char **environment) {
     struct functions array = initializers_of(it);
     uintptr_t function = function_of(it, DT_INIT, "DT_INIT");
     if (function) ((initializer *)function)(count, words, environment);
-    for (size_t i = 0; i < array.count; i++) ((initializer *)array.at[i])(count, words, environment);
+    for (size_t i = 0; i < array.count; i++)
+        ((initializer *)array.at[i])(count, words, environment);
 }
 
 /* Returns the number of the library that is initialized before everything else, because of its
- * DF_1_INITFIRST. As in rlibreg-run, it is the last of them in load order. Returns 0 if there is none. */
+ * DF_1_INITFIRST. As in rlibreg-run, it is the last of them in load order. Returns 0 if there is
+ * none. */
 static size_t first_of(const struct rlibreg_objects *all) {
     size_t i = all->count - 1;
     while (i && !(rlibreg_tag_of(&all->at[i], DT_FLAGS_1, 0) & DF_1_INITFIRST)) i--;
@@ -117,7 +126,8 @@ static size_t first_of(const struct rlibreg_objects *all) {
 }
 
 static struct walk *walk_over(struct rlibreg_objects all) {
-    struct walk *it = mmap(NULL, sizeof *it, PROT_READ | PROT_WRITE, MAP_PRIVATE | MAP_ANONYMOUS, -1, 0);
+    struct walk *it =
+        mmap(NULL, sizeof *it, PROT_READ | PROT_WRITE, MAP_PRIVATE | MAP_ANONYMOUS, -1, 0);
     if (it == MAP_FAILED) refuse(&all.at[0], "memory", " was refused");
     it->objects = all;
     for (size_t i = all.count; i-- > 1;) enter(it, i);
@@ -133,15 +143,25 @@ void rlibreg_initialize(int count, char **words, char **environment) {
     for (initializer *const *it = __preinit_array_start; it != __preinit_array_end; it++)
         (*it)(count, words, environment);
     for (size_t i = 0; i < walk->ordered; i++)
-        if (walk->order[i] != first) initialize(&objects[walk->order[i]], count, words, environment);
+        if (walk->order[i] != first)
+            initialize(&objects[walk->order[i]], count, words, environment);
 }
 
-void rlibreg_finalize(void) {
-    while (walked->ordered) {
-        const struct rlibreg_object *it = &walked->objects.at[walked->order[--walked->ordered]];
-        struct functions array = finalizers_of(it);
-        uintptr_t function = function_of(it, DT_FINI, "DT_FINI");
-        for (size_t i = array.count; i-- > 0;) ((finalizer *)array.at[i])();
-        if (function) ((finalizer *)function)();
+/* Returns the next finalizer, or 0 if each of them was called. */
+static uintptr_t next_finalizer(struct walk *walk) {
+    while (!walk->finalizers.count && !walk->last && walk->ordered) {
+        const struct rlibreg_object *it = &walk->objects.at[walk->order[--walk->ordered]];
+        walk->finalizers = finalizers_of(it);
+        walk->last = function_of(it, DT_FINI, "DT_FINI");
     }
+    if (walk->finalizers.count) return walk->finalizers.at[--walk->finalizers.count];
+    uintptr_t last = walk->last;
+    walk->last = 0;
+    return last;
+}
+
+/* Each finalizer is called once, even if one of them ends the program. */
+void rlibreg_finalize(void) {
+    uintptr_t it;
+    while ((it = next_finalizer(walked))) ((finalizer *)it)();
 }

@@ -85,7 +85,7 @@ static int waits_for(const struct disk_file *wanted, uint64_t thread, unsigned s
 }
 
 /* Puts a file into the list. The caller has locked `guard`. If the thread would wait for itself,
- * leaves the list as it is and returns RLIBREG_HELD. */
+ * leaves the list as it is and returns RLIBREG_LOCKED. */
 static uint32_t put_into_list(struct disk_file *it, const struct stat *found, unsigned flags,
                               int is_waiting) {
     static unsigned searches;
@@ -94,12 +94,12 @@ static uint32_t put_into_list(struct disk_file *it, const struct stat *found, un
     wanted.thread = this_thread();
     wanted.device = found->st_dev;
     wanted.number = found->st_ino;
-    wanted.is_alone = !!(flags & RLIBREG_CHANGES);
+    wanted.is_alone = !!(flags & RLIBREG_READ_WRITE);
     wanted.is_waiting = is_waiting;
     wanted.next = enlisted;
     int never = flags & RLIBREG_WAIT && waits_for(&wanted, wanted.thread, ++searches);
     if (!never) enlisted = it, *it = wanted;
-    return never ? RLIBREG_HELD : RLIBREG_DONE;
+    return never ? RLIBREG_LOCKED : RLIBREG_DONE;
 }
 
 static uint32_t enlist(struct disk_file *it, const struct stat *found, unsigned flags,
@@ -119,7 +119,7 @@ static uint32_t enlist(struct disk_file *it, const struct stat *found, unsigned 
 }
 
 uint32_t rlibreg_disk_file_enlist(struct disk_file *it, const struct stat *found) {
-    return enlist(it, found, RLIBREG_CHANGES, 0);
+    return enlist(it, found, RLIBREG_READ_WRITE, 0);
 }
 
 static void end_waiting(struct disk_file *it) {
@@ -145,7 +145,7 @@ static void strike(struct disk_file *it) {
 /* ---- */
 
 static int open_flags(unsigned flags) {
-    int access = flags & RLIBREG_CHANGES ? O_RDWR : O_RDONLY;
+    int access = flags & RLIBREG_READ_WRITE ? O_RDWR : O_RDONLY;
     return access | O_CLOEXEC | O_NOCTTY | O_NONBLOCK; /* opening a pipe doesn't wait */
 }
 
@@ -158,7 +158,7 @@ int rlibreg_flock(int fd, int kind) {
  * wait. */
 static int lock(const struct disk_file *it, int is_device, unsigned flags) {
     int64_t until = flags & RLIBREG_WAIT ? it->until : 0;
-    if (!(flags & RLIBREG_CHANGES)) return rlibreg_lock_shared(it->fd, until);
+    if (!(flags & RLIBREG_READ_WRITE)) return rlibreg_lock_shared(it->fd, until);
     if (is_device && !until) until = rlibreg_moment_in(RLIBREG_A_TURN);
     return rlibreg_lock_alone(it->fd, until);
 }
@@ -169,7 +169,7 @@ uint32_t rlibreg_disk_file_lock(struct disk_file *it, const struct stat *found, 
     int failed = lock(it, S_ISBLK(found->st_mode), flags);
     end_waiting(it);
     if (!failed) return RLIBREG_DONE;
-    return errno == EWOULDBLOCK ? RLIBREG_HELD : RLIBREG_SYSTEM;
+    return errno == EWOULDBLOCK ? RLIBREG_LOCKED : RLIBREG_SYSTEM;
 }
 
 /* Opens the file of `path`, checks it and locks it. Returns a status. */
@@ -182,7 +182,7 @@ static uint32_t open_and_lock(struct disk_file *it, const char *path, unsigned f
         return RLIBREG_SYSTEM;
     }
     if (rlibreg_stream_of_file(found) >= 0) return RLIBREG_SYSTEM;
-    if (!(flags & RLIBREG_CHANGES) && rlibreg_write_out(it->fd)) return RLIBREG_SYSTEM;
+    if (!(flags & RLIBREG_READ_WRITE) && rlibreg_write_out(it->fd)) return RLIBREG_SYSTEM;
     return rlibreg_disk_file_lock(it, found, flags);
 }
 
@@ -200,28 +200,28 @@ static uint32_t claim(struct disk_file *it, const char *path, unsigned flags,
                       const struct stat *locked) {
     struct stat found;
     int is_read_only = 0;
-    if (!(flags & RLIBREG_CHANGES) || !S_ISBLK(locked->st_mode)) return RLIBREG_DONE;
+    if (!(flags & RLIBREG_READ_WRITE) || !S_ISBLK(locked->st_mode)) return RLIBREG_DONE;
     it->claim = rlibreg_open_apart(AT_FDCWD, path, open_flags(flags) | O_EXCL);
     if (it->claim < 0 || fstat(it->claim, &found)) return RLIBREG_SYSTEM;
     ioctl(it->claim, BLKROGET, &is_read_only); /* a read-only device can be opened for writing,
                                                 * but not written */
-    if (!S_ISBLK(found.st_mode) || found.st_rdev != locked->st_rdev) return RLIBREG_HELD;
+    if (!S_ISBLK(found.st_mode) || found.st_rdev != locked->st_rdev) return RLIBREG_LOCKED;
     errno = EROFS;
     return is_read_only ? RLIBREG_SYSTEM : RLIBREG_DONE;
 }
 
 /* Opens the file of `path` and locks it. Returns a status: if the path names another file at each
- * try, RLIBREG_HELD. */
+ * try, RLIBREG_LOCKED. */
 static uint32_t open_locked(struct disk_file *it, const char *path, unsigned flags) {
     for (int tries = 0; tries < MOST_TRIES; tries++) {
         struct stat found;
         uint32_t status = open_and_lock(it, path, flags, &found);
         if (status) return status;
-        status = is_still_there(path, &found) ? claim(it, path, flags, &found) : RLIBREG_HELD;
-        if (status != RLIBREG_HELD) return status;
+        status = is_still_there(path, &found) ? claim(it, path, flags, &found) : RLIBREG_LOCKED;
+        if (status != RLIBREG_LOCKED) return status;
         rlibreg_disk_file_close(it);
     }
-    return RLIBREG_HELD;
+    return RLIBREG_LOCKED;
 }
 
 /* Syncs a file, and makes the medium and the system agree on its roots. Returns 0, or -1 with
@@ -230,7 +230,7 @@ static uint32_t open_locked(struct disk_file *it, const char *path, unsigned fla
  * returns EROFS: it has pages that the medium doesn't have. */
 static int sync_file(int fd, unsigned flags) {
     if (!fsync(fd)) return rlibreg_meet_front(fd, fsync);
-    return !(flags & RLIBREG_CHANGES) && errno == EINVAL ? 0 : -1;
+    return !(flags & RLIBREG_READ_WRITE) && errno == EINVAL ? 0 : -1;
 }
 
 uint32_t rlibreg_disk_file_map(struct disk_file *it, unsigned flags) {

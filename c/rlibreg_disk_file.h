@@ -60,7 +60,7 @@ uint32_t rlibreg_disk_file_map(struct disk_file *it, unsigned flags);
 int rlibreg_meet_front(int fd, int (*sync)(int));
 
 /* Locks a file that is open, and puts it into the list of the locks of this process. Returns a
- * status: RLIBREG_HELD, with RLIBREG_WAIT too, if this thread would wait for itself, and
+ * status: RLIBREG_LOCKED, with RLIBREG_WAIT too, if this thread would wait for itself, and
  * RLIBREG_SYSTEM with ENOMEM if forks can't be watched. */
 uint32_t rlibreg_disk_file_lock(struct disk_file *it, const struct stat *found, unsigned flags);
 
@@ -74,8 +74,8 @@ void rlibreg_disk_file_use(struct disk_file *it);
  * it: a child of fork shares its parent's lock. */
 void rlibreg_disk_file_close(struct disk_file *it);
 
-/* Binds a program as rlibreg_image_of does. At first the image's bytes have room for `first_bytes`
- * bytes, which are 16 MiB or more (rlibreg_file.c). Returns a status. */
+/* Binds a program as rlibreg_bind_program does. At first the image's bytes have room for
+ * `first_bytes` bytes, which are 16 MiB or more (rlibreg_file.c). Returns a status. */
 uint32_t rlibreg_image_in(rlibreg *registry, const void *program, size_t length, uint64_t base,
                           rlibreg_image *image, size_t first_bytes);
 
@@ -132,6 +132,13 @@ int rlibreg_sync_folder(const char *path);
 /* Returns whether two files are the same: the same inode, or the same block device, whichever nodes
  * name it. */
 int rlibreg_is_same_file(const struct stat *one, const struct stat *other);
+
+/* Reads which file `path` names, relative to `folder`; if it is empty, `folder` is the file. Sets
+ * the type, the numbers of the file and of its file system, and the number of a device
+ * (rlibreg_names.c). Returns 0, or -1 with errno. The file's times aren't read: from Linux 6.13 on,
+ * the write after such a call changes the file's times, and the next sync has to write these. On
+ * ext4 that takes up to a third of a change. */
+int rlibreg_which_file(int folder, const char *path, struct stat *found);
 
 /* Returns whether `path`, relative to `folder`, names the file `file`. If it doesn't, errno says
  * why: ESTALE if it names another file (rlibreg_names.c). */

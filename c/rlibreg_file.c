@@ -122,7 +122,7 @@ const char *rlibreg_text(const rlibreg *it) {
     return it->text;
 }
 
-const rlibreg_answer *rlibreg_last(const rlibreg *it) {
+const rlibreg_answer *rlibreg_last_answer(const rlibreg *it) {
     return &it->answer;
 }
 
@@ -142,7 +142,7 @@ static int is_inherited(const rlibreg *it) {
     return it->file.fd >= 0 && !rlibreg_is_this_process(&it->file.owner);
 }
 
-void rlibreg_wait_limit(rlibreg *it, int milliseconds) {
+void rlibreg_set_wait_limit(rlibreg *it, int milliseconds) {
     it->limit = milliseconds;
 }
 
@@ -153,10 +153,10 @@ static void begin_waiting(rlibreg *it) {
 
 static uint32_t open_file(rlibreg *it, const char *path, unsigned flags) {
     uint32_t status = rlibreg_disk_file_open(&it->file, path, flags);
-    if (!status && flags & RLIBREG_CHANGES && rlibreg_place_take(&it->place, path))
+    if (!status && flags & RLIBREG_READ_WRITE && rlibreg_place_take(&it->place, path))
         status = RLIBREG_SYSTEM;
     if (status) let_go(it);
-    it->may_change = !status && flags & RLIBREG_CHANGES;
+    it->may_change = !status && flags & RLIBREG_READ_WRITE;
     return say(it, status, "");
 }
 
@@ -294,12 +294,12 @@ static uint32_t make_plan(rlibreg *it, plan_call *call, const void *asked, size_
         *plan = malloc(room);
         if (!*plan) return say_memory(it);
         uint32_t status = call(it, asked, length, *plan, room);
-        int again = text_was_cut(it) || status == RLIBREG_NO_ROOM;
+        int again = text_was_cut(it) || status == RLIBREG_BUFFER_TOO_SMALL;
         if (!status && !again) return status;
         free(*plan);
         *plan = NULL;
         if (!again) return status;
-        if (status == RLIBREG_NO_ROOM) room = it->answer.bytes;
+        if (status == RLIBREG_BUFFER_TOO_SMALL) room = it->answer.bytes;
     }
 }
 
@@ -457,7 +457,7 @@ uint32_t rlibreg_format(rlibreg *it, const char *path, uint32_t sectors, unsigne
     if (it->file.fd >= 0 || sectors < 8 || sectors > 4194304)
         return say(it, RLIBREG_BAD_ARGUMENT, "");
     size_t length = (size_t)sectors * SECTOR;
-    unsigned how = RLIBREG_CHANGES | (flags & RLIBREG_WAIT);
+    unsigned how = RLIBREG_READ_WRITE | (flags & RLIBREG_WAIT);
     int before = begin_call();
     begin_waiting(it);
     uint32_t status = format_file(it, path, length, how);
@@ -484,18 +484,18 @@ static uint32_t list(rlibreg *it, rlibreg_listing *out, size_t entries, size_t n
                         it->text, it->text_room, &it->answer);
 }
 
-uint32_t rlibreg_listing_of(rlibreg *it, rlibreg_listing *out) {
+uint32_t rlibreg_get_listing(rlibreg *it, rlibreg_listing *out) {
     size_t entries = 64, names = 4096;
     *out = (rlibreg_listing){ 0 };
     uint32_t status = refuse(it);
     if (status) return status;
     for (;;) {
         status = list(it, out, entries, names);
-        int again = text_was_cut(it) || status == RLIBREG_NO_ROOM;
+        int again = text_was_cut(it) || status == RLIBREG_BUFFER_TOO_SMALL;
         if (!status && !again) break;
         rlibreg_listing_free(out);
         if (!again) return status;
-        if (status != RLIBREG_NO_ROOM) continue;
+        if (status != RLIBREG_BUFFER_TOO_SMALL) continue;
         entries = it->answer.count + it->answer.preloads;
         names = it->answer.bytes;
     }
@@ -541,7 +541,7 @@ static uint32_t give(rlibreg *it, give_call *call, struct asked what, size_t fir
     if (!out && first > room) out = malloc(room + 1);
     for (; out; out = malloc(room + 1)) {
         status = call(it, &what, out, room);
-        int again = text_was_cut(it) || status == RLIBREG_NO_ROOM;
+        int again = text_was_cut(it) || status == RLIBREG_BUFFER_TOO_SMALL;
         if (!again && it->answer.bytes) {
             *length = it->answer.bytes;
             out[*length] = 0;
@@ -550,7 +550,7 @@ static uint32_t give(rlibreg *it, give_call *call, struct asked what, size_t fir
         }
         free(out);
         if (!again) return status;
-        if (status == RLIBREG_NO_ROOM) room = it->answer.bytes;
+        if (status == RLIBREG_BUFFER_TOO_SMALL) room = it->answer.bytes;
     }
     return say_memory(it);
 }
@@ -570,13 +570,13 @@ static uint32_t give_executable(rlibreg *it, const struct asked *what, void *out
                               what->base, out, room, it->text, it->text_room, &it->answer);
 }
 
-uint32_t rlibreg_file_of(rlibreg *it, const char *name, void **bytes, size_t *length) {
+uint32_t rlibreg_get_file(rlibreg *it, const char *name, void **bytes, size_t *length) {
     struct asked what = { name, strlen(name), 0 };
     return give(it, give_file, what, FIRST_FILE, bytes, length);
 }
 
-uint32_t rlibreg_bindings_of(rlibreg *it, const void *program, size_t length, uint64_t base,
-                             char **bindings, size_t *bytes) {
+uint32_t rlibreg_get_bindings(rlibreg *it, const void *program, size_t length, uint64_t base,
+                              char **bindings, size_t *bytes) {
     void *given;
     struct asked what = { program, length, base };
     uint32_t status = give(it, give_bindings, what, FIRST_FILE, &given, bytes);
@@ -584,14 +584,14 @@ uint32_t rlibreg_bindings_of(rlibreg *it, const void *program, size_t length, ui
     return status;
 }
 
-uint32_t rlibreg_executable_of(rlibreg *it, const void *program, size_t length, uint64_t base,
-                               void **file, size_t *bytes) {
+uint32_t rlibreg_get_executable(rlibreg *it, const void *program, size_t length, uint64_t base,
+                                void **file, size_t *bytes) {
     struct asked what = { program, length, base };
     return give(it, give_executable, what, FIRST_BYTES, file, bytes);
 }
 
-uint32_t rlibreg_digest_of(rlibreg *it, const char *name,
-                           uint8_t digest[RLIBREG_DIGEST_BYTES]) {
+uint32_t rlibreg_get_digest(rlibreg *it, const char *name,
+                            uint8_t digest[RLIBREG_DIGEST_BYTES]) {
     uint32_t status = refuse(it);
     if (status) return status;
     do {
@@ -601,7 +601,7 @@ uint32_t rlibreg_digest_of(rlibreg *it, const char *name,
     return status;
 }
 
-uint32_t rlibreg_info_of(rlibreg *it, rlibreg_information *out) {
+uint32_t rlibreg_get_info(rlibreg *it, rlibreg_information *out) {
     uint32_t status = refuse(it);
     if (status) return status;
     do {
@@ -621,18 +621,18 @@ static uint32_t check(rlibreg *it, rlibreg_findings *out, size_t libraries, size
                          names, it->text, it->text_room, &it->answer);
 }
 
-uint32_t rlibreg_findings_of(rlibreg *it, rlibreg_findings *out) {
+uint32_t rlibreg_check_libraries(rlibreg *it, rlibreg_findings *out) {
     size_t libraries = 64, names = 4096;
     *out = (rlibreg_findings){ 0 };
     uint32_t status = refuse(it);
     if (status) return status;
     for (;;) {
         status = check(it, out, libraries, names);
-        int again = text_was_cut(it) || status == RLIBREG_NO_ROOM;
+        int again = text_was_cut(it) || status == RLIBREG_BUFFER_TOO_SMALL;
         if (!status && !again) break;
         rlibreg_findings_free(out);
         if (!again) return status;
-        if (status != RLIBREG_NO_ROOM) continue;
+        if (status != RLIBREG_BUFFER_TOO_SMALL) continue;
         libraries = it->answer.count;
         names = it->answer.bytes;
     }
@@ -701,13 +701,13 @@ static uint32_t bind_over(rlibreg *it, const uint8_t *disk, const struct asked *
     if (!make_first_room(out, &room)) room = (struct room){ 0 }; /* the bind reports the sizes */
     for (;;) {
         uint32_t status = bind_into(it, disk, what, out, room);
-        int again = text_was_cut(it) || status == RLIBREG_NO_ROOM;
+        int again = text_was_cut(it) || status == RLIBREG_BUFFER_TOO_SMALL;
         if (!status && !again) break;
         if (!again) {
             rlibreg_image_free(out);
             return status;
         }
-        if (status != RLIBREG_NO_ROOM) continue;
+        if (status != RLIBREG_BUFFER_TOO_SMALL) continue;
         rlibreg_image_free(out);
         room = (struct room){ it->answer.objects, it->answer.count, it->answer.bytes };
         if (!make_room(out, room)) return say_memory(it);
@@ -718,8 +718,8 @@ static uint32_t bind_over(rlibreg *it, const uint8_t *disk, const struct asked *
     return RLIBREG_DONE;
 }
 
-uint32_t rlibreg_image_of(rlibreg *it, const void *program, size_t length, uint64_t base,
-                          rlibreg_image *out) {
+uint32_t rlibreg_bind_program(rlibreg *it, const void *program, size_t length, uint64_t base,
+                              rlibreg_image *out) {
     return rlibreg_image_in(it, program, length, base, out, FIRST_BYTES);
 }
 
@@ -746,9 +746,9 @@ static uint8_t *copy_after(const struct disk_file *file, const uint8_t *plan, si
     return copy;
 }
 
-uint32_t rlibreg_update_image_of(rlibreg *it, const rlibreg_change *changes, size_t count,
-                                 const void *bytes, size_t length, const void *program,
-                                 size_t program_length, uint64_t base, rlibreg_image *out) {
+uint32_t rlibreg_preview_bind(rlibreg *it, const rlibreg_change *changes, size_t count,
+                              const void *bytes, size_t length, const void *program,
+                              size_t program_length, uint64_t base, rlibreg_image *out) {
     const struct update update = { changes, count, bytes, length };
     const struct asked what = { program, program_length, base };
     uint8_t *plan;

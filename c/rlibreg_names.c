@@ -10,8 +10,16 @@
 #include "rlibreg_disk_file.h"
 
 #include <errno.h>
+#include <fcntl.h>
 #include <sys/statvfs.h>
+#include <sys/syscall.h>
+#include <sys/sysmacros.h>
 #include <sys/xattr.h>
+#include <unistd.h>
+
+#ifndef STATX_TYPE /* musl before 1.2.5 has neither the call nor its structure */
+#include <linux/stat.h>
+#endif
 
 #define NO_ATTRIBUTE "user.rlibreg.none"
 
@@ -20,9 +28,21 @@ int rlibreg_is_same_file(const struct stat *one, const struct stat *other) {
     return one->st_dev == other->st_dev && one->st_ino == other->st_ino;
 }
 
+int rlibreg_which_file(int folder, const char *path, struct stat *found) {
+    struct statx it;
+    const int flags = *path ? 0 : AT_EMPTY_PATH;
+    if (syscall(SYS_statx, folder, path, flags, STATX_TYPE | STATX_INO, &it))
+        return fstatat(folder, path, found, flags);
+    *found = (struct stat){ .st_mode = it.stx_mode,
+                            .st_ino = it.stx_ino,
+                            .st_dev = makedev(it.stx_dev_major, it.stx_dev_minor),
+                            .st_rdev = makedev(it.stx_rdev_major, it.stx_rdev_minor) };
+    return 0;
+}
+
 int rlibreg_path_names(int folder, const char *path, const struct stat *file) {
     struct stat found;
-    if (fstatat(folder, path, &found, 0)) return 0;
+    if (rlibreg_which_file(folder, path, &found)) return 0;
     errno = ESTALE;
     return rlibreg_is_same_file(&found, file);
 }

@@ -68,7 +68,7 @@ static int take_other(const struct new_disk *it, int fd) {
 
 static uint32_t lock_alone(int fd) {
     if (!flock(fd, LOCK_EX | LOCK_NB)) return RLIBREG_DONE;
-    return errno == EWOULDBLOCK ? RLIBREG_HELD : RLIBREG_SYSTEM;
+    return errno == EWOULDBLOCK ? RLIBREG_LOCKED : RLIBREG_SYSTEM;
 }
 
 /* Removes the other name if a process that has ended left it. With RLIBREG_WAIT it waits, until the
@@ -105,7 +105,7 @@ static uint32_t lock_made(const struct new_disk *it, int *fd) {
     }
     close_quietly(*fd);
     *fd = -1;
-    return status == RLIBREG_HELD ? RLIBREG_DONE : status;
+    return status == RLIBREG_LOCKED ? RLIBREG_DONE : status;
 }
 
 /* Refuses a disk that exists by now, because another process has made it: RLIBREG_SYSTEM with
@@ -131,7 +131,7 @@ static uint32_t make_locked(const struct new_disk *it, struct disk_file *file, u
         if (!status && *fd < 0) status = refuse_made(it);
         if (status || *fd >= 0) return status;
     }
-    return RLIBREG_HELD;
+    return RLIBREG_LOCKED;
 }
 
 /* Gives a file its length, and writes the block with the roots: on a full tmpfs, reading a hole
@@ -158,7 +158,7 @@ uint32_t rlibreg_new_disk_make(struct new_disk *it, const char *path, size_t len
     status = rlibreg_disk_file_enlist(file, &made);
     if (status) return status;
     if (fill(file->fd, length)) return RLIBREG_SYSTEM;
-    return rlibreg_disk_file_map(file, RLIBREG_CHANGES);
+    return rlibreg_disk_file_map(file, RLIBREG_READ_WRITE);
 }
 
 void rlibreg_new_disk_end(const struct new_disk *it, const struct disk_file *file) {

@@ -1,17 +1,17 @@
 /* Finds the objects of a bound program in memory.
  *
- * The first object is the program. Each other object lies at the least multiple of its unit that isn't below
- * the end of the object before it (COMMANDS, `bind`). The unit isn't known before the object is found, so
- * each unit is tried: one place for each. A library is found if its memory begins with its ELF header, as
- * linkers make it. This works under rlibreg-run and in a file of `rlibreg-tool executable`.
+ * The first object is the program. Each other object lies at the least multiple of its unit that
+ * isn't below the end of the object before it (COMMANDS, `bind`). The unit isn't known before the
+ * object is found, so each unit is tried: one place for each. A library is found if its memory
+ * begins with its ELF header, as linkers make it. This works under rlibreg-run and in a file of
+ * `rlibreg-tool executable`.
  *
- * Under musl's loader, which starts programs where they are built, the objects are those in the list to which
- * DT_DEBUG points. */
+ * Under musl's loader, which starts programs where they are built, the objects are those in the
+ * list to which DT_DEBUG points. */
 #define _GNU_SOURCE
 #include "rlibreg_objects.h"
 
 #include <link.h>
-#include <stdlib.h>
 #include <string.h>
 #include <sys/auxv.h>
 #include <sys/mman.h>
@@ -29,7 +29,8 @@ extern Elf64_Dyn _DYNAMIC[];
 struct table {
     size_t count;
     struct rlibreg_object at[MOST];
-    const struct rlibreg_object *by_name[MOST]; /* the libraries, sorted by name */
+    const struct rlibreg_object *by_name[MOST]; /* the libraries that have a name, sorted by it */
+    size_t named;
     const Elf64_Phdr *headers; /* the program headers of a file that has all objects, or null */
     size_t header_count;
 };
@@ -44,9 +45,9 @@ static _Noreturn void fail(const char *why, const char *name) {
 
 /* ---- Memory that may be read */
 
-/* Sets `headers` if the program runs as a file of `rlibreg-tool executable`. Then the kernel reports the
- * file's program headers instead of the program's own, and each page of an object is in one of its
- * PT_LOADs. */
+/* Sets `headers` if the program runs as a file of `rlibreg-tool executable`. Then the kernel
+ * reports the file's program headers instead of the program's own, and each page of an object is in
+ * one of its PT_LOADs. */
 static void find_headers(struct table *all) {
     const Elf64_Phdr *headers = (const Elf64_Phdr *)getauxval(AT_PHDR);
     if (headers == all->at[0].headers) return;
@@ -106,9 +107,8 @@ static void read_dynamic(struct rlibreg_object *it) {
     if (name && it->strings) it->name = it->strings + name;
 }
 
-/* Reads the program headers and the dynamic section of an object whose base is known. Returns 0 if the object
- * has no dynamic section. */
-static int read_headers(struct rlibreg_object *it, const Elf64_Ehdr *file) {
+/* Reads the program headers of an object whose base is known. */
+static void read_headers(struct rlibreg_object *it, const Elf64_Ehdr *file) {
     it->headers = (const Elf64_Phdr *)((const char *)file + file->e_phoff);
     it->header_count = file->e_phnum;
     for (size_t i = 0; i < it->header_count; i++) {
@@ -118,30 +118,57 @@ static int read_headers(struct rlibreg_object *it, const Elf64_Ehdr *file) {
         if (header->p_type == PT_DYNAMIC)
             it->dynamic = (const Elf64_Dyn *)(it->base + header->p_vaddr);
     }
-    if (!it->dynamic) return 0;
-    read_dynamic(it);
-    return 1;
 }
 
 /* Reads the library whose base is `base`. Returns 0 if there is none. */
 static int read_library(const struct table *all, struct rlibreg_object *it, uintptr_t base) {
     const Elf64_Ehdr *file = (const Elf64_Ehdr *)base;
-    static const unsigned char begin[] = { 0x7f, 'E', 'L', 'F', ELFCLASS64, ELFDATA2LSB, EV_CURRENT };
+    static const unsigned char begin[] = {
+        0x7f, 'E', 'L', 'F', ELFCLASS64, ELFDATA2LSB, EV_CURRENT
+    };
     *it = (struct rlibreg_object){ .base = base };
     if (base == getauxval(AT_SYSINFO_EHDR) || !is_mapped(all, base, sizeof *file)) return 0;
     if (memcmp(file->e_ident, begin, sizeof begin) || file->e_type != ET_DYN ||
         file->e_machine != EM_X86_64 || file->e_phentsize != sizeof(Elf64_Phdr) ||
         file->e_phoff > END_OF_MEMORY)
         return 0;
-    return is_mapped(all, base + file->e_phoff, file->e_phnum * sizeof(Elf64_Phdr)) &&
-        read_headers(it, file);
+    if (!is_mapped(all, base + file->e_phoff, file->e_phnum * sizeof(Elf64_Phdr))) return 0;
+    read_headers(it, file);
+    if (!it->dynamic || !is_mapped(all, (uintptr_t)it->dynamic, sizeof *it->dynamic)) return 0;
+    read_dynamic(it);
+    return 1;
 }
 
 /* ---- All objects */
 
+/* Returns how many libraries have names before `name`. */
+static size_t place_of(const struct table *all, const char *name) {
+    size_t from = 0, to = all->named;
+    while (from < to) {
+        size_t middle = from + (to - from) / 2;
+        if (strcmp(all->by_name[middle]->name, name) < 0)
+            from = middle + 1;
+        else
+            to = middle;
+    }
+    return from;
+}
+
+static const struct rlibreg_object *named(const struct table *all, const char *name) {
+    size_t place = place_of(all, name);
+    if (place == all->named || strcmp(all->by_name[place]->name, name)) return NULL;
+    return all->by_name[place];
+}
+
 static void add(struct table *all, const struct rlibreg_object *it) {
     if (all->count == MOST) fail("too many libraries", "");
-    all->at[all->count++] = *it;
+    all->at[all->count] = *it;
+    if (*it->name && !named(all, it->name)) {
+        const struct rlibreg_object **place = all->by_name + place_of(all, it->name);
+        memmove(place + 1, place, (size_t)(all->by_name + all->named++ - place) * sizeof *place);
+        *place = &all->at[all->count];
+    }
+    all->count++;
 }
 
 static void add_program(struct table *all) {
@@ -152,22 +179,25 @@ static void add_program(struct table *all) {
     while (header->p_type != PT_DYNAMIC) header++; /* each program that is accepted has one */
     it.base = (uintptr_t)_DYNAMIC - header->p_vaddr;
     read_headers(&it, &__ehdr_start);
+    read_dynamic(&it);
     it.name = "";
     add(all, &it);
 }
 
-/* Adds the objects in the list of musl's loader, except the kernel's object and the loader, which has the
- * list in its own memory. */
+/* Adds the objects in the list of musl's loader, except the kernel's object and the loader, which
+ * has the list in its own memory. */
 static void add_listed(struct table *all, const struct r_debug *list) {
     struct rlibreg_object it;
-    for (const struct link_map *map = list->r_map ? list->r_map->l_next : NULL; map; map = map->l_next) {
+    for (const struct link_map *map = list->r_map ? list->r_map->l_next : NULL; map;
+         map = map->l_next) {
         if (map->l_addr == getauxval(AT_SYSINFO_EHDR)) continue;
         if (!read_library(all, &it, map->l_addr)) fail(WRONG_HEADERS, map->l_name);
         if ((uintptr_t)list < it.base || (uintptr_t)list >= it.end) add(all, &it);
     }
 }
 
-/* Reads the object that is placed after an object that ends at `end`. Returns 0 if there is none. */
+/* Reads the object that is placed after an object that ends at `end`. Returns 0 if there is none.
+ */
 static int read_next(const struct table *all, struct rlibreg_object *it, uintptr_t end) {
     for (uintptr_t unit = PAGE; rounded(end, unit) < END_OF_MEMORY; unit *= 2)
         if (read_library(all, it, rounded(end, unit)) && unit_of(it) == unit && *it->name) return 1;
@@ -180,23 +210,6 @@ static void add_placed(struct table *all) {
     while (read_next(all, &it, all->at[all->count - 1].end)) add(all, &it);
 }
 
-static int compare_names(const void *a, const void *b) {
-    const struct rlibreg_object *const *one = a, *const *other = b;
-    int order = strcmp((*one)->name, (*other)->name);
-    return order ? order : (*one > *other) - (*one < *other);
-}
-
-static int compare_name(const void *name, const void *one) {
-    const struct rlibreg_object *const *it = one;
-    return strcmp(name, (*it)->name);
-}
-
-static const struct rlibreg_object *named(const struct table *all, const char *name) {
-    const struct rlibreg_object *const *it =
-        bsearch(name, all->by_name, all->count - 1, sizeof *it, compare_name);
-    return it ? *it : NULL;
-}
-
 /* Ends the process if a library that an object needs isn't among them. */
 static void test_needed(const struct table *all) {
     for (size_t i = 0; i < all->count; i++)
@@ -206,7 +219,8 @@ static void test_needed(const struct table *all) {
 }
 
 static struct table *find_objects(void) {
-    struct table *all = mmap(NULL, sizeof *all, PROT_READ | PROT_WRITE, MAP_PRIVATE | MAP_ANONYMOUS, -1, 0);
+    struct table *all =
+        mmap(NULL, sizeof *all, PROT_READ | PROT_WRITE, MAP_PRIVATE | MAP_ANONYMOUS, -1, 0);
     if (all == MAP_FAILED) fail("memory was refused", "");
     add_program(all);
     uint64_t list = rlibreg_tag_of(&all->at[0], DT_DEBUG, 0);
@@ -214,8 +228,6 @@ static struct table *find_objects(void) {
         add_listed(all, (const struct r_debug *)list);
     else
         add_placed(all);
-    for (size_t i = 1; i < all->count; i++) all->by_name[i - 1] = &all->at[i];
-    qsort(all->by_name, all->count - 1, sizeof *all->by_name, compare_names);
     if (!list) test_needed(all);
     return all;
 }
@@ -225,7 +237,8 @@ static const struct table *table(void) {
     struct table *it = __atomic_load_n(&found, __ATOMIC_ACQUIRE), *none = NULL;
     if (it) return it;
     it = find_objects();
-    if (__atomic_compare_exchange_n(&found, &none, it, 0, __ATOMIC_ACQ_REL, __ATOMIC_ACQUIRE)) return it;
+    if (__atomic_compare_exchange_n(&found, &none, it, 0, __ATOMIC_ACQ_REL, __ATOMIC_ACQUIRE))
+        return it;
     munmap(it, sizeof *it);
     return none;
 }
@@ -235,7 +248,9 @@ struct rlibreg_objects rlibreg_all_objects(void) {
     return (struct rlibreg_objects){ all->count, all->at };
 }
 
-const struct rlibreg_object *rlibreg_object_named(const char *soname) { return named(table(), soname); }
+const struct rlibreg_object *rlibreg_object_named(const char *soname) {
+    return named(table(), soname);
+}
 
 const struct rlibreg_object *rlibreg_object_at(uintptr_t address) {
     const struct table *all = table();

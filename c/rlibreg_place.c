@@ -40,6 +40,6 @@ int rlibreg_is_in_place(const struct place *it, const struct disk_file *file) {
     struct stat opened;
     if (!rlibreg_has_length(file)) return 0;
     if (!it->path[0]) return 1; /* the file has no name yet */
-    if (fstat(file->fd, &opened)) return 0;
+    if (rlibreg_which_file(file->fd, "", &opened)) return 0;
     return rlibreg_path_names(it->folder, it->path, &opened);
 }

@@ -1,5 +1,6 @@
-/* Opens and syncs a disk for the programs, in place of their language's open and fsync, over which
- * build.sh links it. rlibreg_disk_file.c does the same for the calls over a file. */
+/* Opens, writes and syncs a disk for the programs, in place of their language's open, pwrite and
+ * fsync, over which build.sh links it. rlibreg_disk_file.c does the same for the calls over a
+ * file. */
 #define _GNU_SOURCE
 #include "rlibreg_disk_file.h"
 #include "rlibreg_turn.h"
@@ -12,10 +13,15 @@
 
 int __real_open(const char *path, int flags, ...);
 int __wrap_open(const char *path, int flags, ...);
+ssize_t __real_pwrite(int fd, const void *bytes, size_t length, off_t at);
+ssize_t __wrap_pwrite(int fd, const void *bytes, size_t length, off_t at);
 int __real_fsync(int fd);
 int __wrap_fsync(int fd);
 
-enum { NUMBERS = 64 };
+enum { NUMBERS = 64, ROOTS = 1024 };
+
+/* The sectors that were written since the last sync. The roots are the first two sectors. */
+enum written { NOTHING, NO_ROOT, A_ROOT };
 
 /* The disk that is open for changes, and the path by which it was opened. The program opens nothing
  * else for writing, and never changes its working directory. A disk that `format` makes isn't kept
@@ -23,6 +29,7 @@ enum { NUMBERS = 64 };
 static struct {
     int fd;
     struct stat file;
+    enum written written;
     char path[PATH_MAX];
 } changed = { .fd = -1 };
 
@@ -33,6 +40,7 @@ static int keep_path(int fd, const char *path, int flags) {
     if ((flags & O_ACCMODE) == O_RDONLY || flags & O_CREAT) return 0;
     if (fstat(fd, &changed.file)) return -1;
     changed.fd = fd;
+    changed.written = NOTHING;
     strcpy(changed.path, path); /* the system opens no path that is longer */
     return 0;
 }
@@ -61,10 +69,23 @@ static int meet_front_once(int fd) {
     return 0;
 }
 
+ssize_t __wrap_pwrite(int fd, const void *bytes, size_t length, off_t at) {
+    if (fd == changed.fd && at < ROOTS)
+        changed.written = A_ROOT;
+    else if (fd == changed.fd && changed.written == NOTHING)
+        changed.written = NO_ROOT;
+    return __real_pwrite(fd, bytes, length, at);
+}
+
 /* Checks, after a sync of the disk that is open for changes, that its path still names it. If it
- * doesn't, nobody will see what was written, and the sync fails. */
+ * doesn't, nobody will see what was written, and the sync fails. No check is made if only other
+ * sectors than the roots were written: they become part of the registry with a root, and the sync
+ * after that root checks. */
 static int sync_changed(void) {
+    enum written written = changed.written;
+    changed.written = NOTHING;
     if (meet_front_once(changed.fd)) return -1;
+    if (written == NO_ROOT) return 0;
     return rlibreg_path_names(AT_FDCWD, changed.path, &changed.file) ? 0 : -1;
 }
 

@@ -137,11 +137,6 @@ void find_calls(struct program *it);
 
 /* ---- The start (rlibreg_run_debugger.c, rlibreg_run_start.c) */
 
-/* Writes the whole path of the program's open file to the buffer `to` of `room` bytes, followed by
- * a byte 0 if there is room. Returns the path's length in bytes: 0 if the system doesn't report the
- * path, and `room` if there may be more of it. */
-size_t read_path(const struct program *it, char *to, size_t room);
-
 /* room_of_list returns the size in bytes of the list of objects that a debugger reads.
  * tell_debugger makes the list in `room` and shows it to the debugger. The list and the program's
  * path have to stay where they are. If the path is null, it does nothing. */

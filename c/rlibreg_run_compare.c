@@ -57,19 +57,23 @@ static int read_pages(const struct kept_file *it, int kept) {
 /* ---- What the image was bound from */
 
 /* Bytes of an open file that were read at once. A program or a disk is read, not mapped, because
- * other processes may shorten it. */
+ * other processes may shorten it. The system copies faster to bytes that begin with a line of the
+ * processor's cache. */
+enum { CACHE_LINE = 64 };
 struct window {
     int fd;
     uint64_t from, to; /* offsets in the file */
-    uint8_t bytes[AT_ONCE];
+    _Alignas(CACHE_LINE) uint8_t bytes[AT_ONCE];
 };
 
 /* Moves a window to the offset `at`, unless it already has that byte. Reads nothing from the offset
- * `end` on. */
+ * `end` on. A window that isn't the last of a row ends where a page of the file ends, so no page is
+ * read in two parts. */
 static int move_window(struct window *it, uint64_t at, uint64_t end) {
     if (it->from <= at && at < it->to) return 0;
+    uint64_t most = at / PAGE * PAGE + AT_ONCE;
     it->from = at;
-    it->to = end - at < AT_ONCE ? end : at + AT_ONCE;
+    it->to = end < most ? end : most;
     return read_exactly(it->fd, it->bytes, it->to - at, at);
 }
 

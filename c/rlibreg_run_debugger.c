@@ -18,18 +18,6 @@ struct told {
     struct link_map objects[];
 };
 
-size_t read_path(const struct program *it, char *to, size_t room) {
-    char link[32] = "/proc/self/fd/", *at = link + strlen(link);
-    int unit = 1;
-    while (it->fd / unit >= 10) unit *= 10;
-    for (; unit; unit /= 10) *at++ = (char)('0' + it->fd / unit % 10);
-    *at = 0;
-    int64_t length = kernel_link(link, to, room);
-    if (length < 0) return 0;
-    if ((size_t)length < room) to[length] = 0;
-    return (size_t)length;
-}
-
 size_t room_of_list(const struct program *it) {
     return sizeof(struct told) + it->image.object_count * sizeof(struct link_map);
 }
@@ -47,11 +35,18 @@ static void tell_state(struct r_debug *list, int state) {
     if (list->r_brk != (ElfW(Addr))r_debug_state) ((void (*)(void))list->r_brk)();
 }
 
+/* Writes to a page without changing it. A page that is read first, and written later, makes two
+ * page faults; this makes one. */
+static void expect_write(void *at) {
+    __asm__ volatile("lock orb $0, %0" : "+m"(*(uint8_t *)at) : : "cc");
+}
+
 /* Returns the list of the C library. As long as there is none, returns a list that has only the
  * loader. */
 static struct r_debug *list_of_objects(const struct program *it, struct told *room) {
     extern const char __ehdr_start[] __attribute__((visibility("hidden")));
     ElfW(Dyn) *entry = _DYNAMIC;
+    if (it->is_early) expect_write(entry);
     while (entry->d_tag != DT_NULL && entry->d_tag != DT_DEBUG) entry++;
     if (entry->d_tag == DT_NULL) return NULL;
     if (entry->d_un.d_ptr || !it->is_early) return (struct r_debug *)entry->d_un.d_ptr;

@@ -243,7 +243,7 @@ static void put_segment(const rlibreg_segment *it, const uint8_t *bytes) {
 
 static void put_bytes(const rlibreg_image *image) {
     for (size_t i = 0; i < image->count; i++)
-        put_segment(&image->segments[i], image->bytes + image->segments[i].from);
+        put_segment(&image->segments[i], image->bytes + image->segments[i].offset);
 }
 
 void map_program(struct program *it, rlibreg *registry, const char *disk) {

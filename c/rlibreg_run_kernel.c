@@ -83,8 +83,8 @@ int64_t kernel_read(int fd, void *to, size_t length, uint64_t at) {
     return ASK(SYS_pread64, NUMBER(fd), PLACE(to), length, at);
 }
 
-int64_t kernel_link(const char *path, char *to, size_t room) {
-    return ASK(SYS_readlink, PLACE(path), PLACE(to), room);
+int64_t kernel_folder(char *to, size_t room) {
+    return ASK(SYS_getcwd, PLACE(to), room);
 }
 
 /* ---- Memory */
@@ -135,14 +135,14 @@ int has_fixed_bases(void) {
 /* ---- Bytes */
 
 void *memcpy(void *to, const void *from, size_t length) {
-    uint8_t *at = to;
-    for (size_t i = 0; i < length; i++) at[i] = ((const uint8_t *)from)[i];
+    void *at = to;
+    __asm__ volatile("rep movsb" : "+D"(at), "+S"(from), "+c"(length) : : "memory");
     return to;
 }
 
 void *memset(void *to, int byte, size_t length) {
-    uint8_t *at = to;
-    for (size_t i = 0; i < length; i++) at[i] = (uint8_t)byte;
+    void *at = to;
+    __asm__ volatile("rep stosb" : "+D"(at), "+c"(length) : "a"(byte) : "memory");
     return to;
 }
 
@@ -150,14 +150,16 @@ void *memset(void *to, int byte, size_t length) {
 typedef uint64_t __attribute__((may_alias, aligned(1))) piece;
 
 /* Returns the number of equal bytes at the front, in multiples of what the processor compares at
- * once. */
+ * once. The second bytes are requested early: most often they are a map of a file, which this
+ * process hasn't read before, while the first bytes have just been read. */
 static size_t equal_at_once(const uint8_t *one, const uint8_t *other, size_t length) {
-    enum { PIECES = 8 };
+    enum { PIECES = 8, AHEAD = 1024 };
     const size_t step = PIECES * sizeof(piece);
     size_t at = 0;
     for (; at + step <= length; at += step) {
         const piece *a = (const piece *)(one + at), *b = (const piece *)(other + at);
         uint64_t differ = 0;
+        __builtin_prefetch(other + at + AHEAD);
         for (int i = 0; i < PIECES; i++) differ |= a[i] ^ b[i];
         if (differ) break;
     }

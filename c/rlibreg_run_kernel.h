@@ -33,7 +33,7 @@ int kernel_ioctl(int fd, unsigned long request, void *argument);
 int kernel_may_execute(int fd); /* 0 if the user may */
 int64_t kernel_end(int fd);     /* length of a file or a device in bytes */
 int64_t kernel_read(int fd, void *to, size_t length, uint64_t at);
-int64_t kernel_link(const char *path, char *to, size_t room); /* target of a symbolic link */
+int64_t kernel_folder(char *to, size_t room); /* the current folder; its length with the byte 0 */
 int64_t kernel_map(uint64_t at, uint64_t length, int how, int kind, int fd, uint64_t from);
 int kernel_unmap(uint64_t at, uint64_t length);
 int kernel_advise(uint64_t at, uint64_t length, int how);

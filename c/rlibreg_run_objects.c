@@ -38,7 +38,7 @@ const uint8_t *memory_at(const rlibreg_image *image, const rlibreg_object *objec
     const rlibreg_segment *segment = segment_of(image, object, address);
     if (!segment) return NULL;
     *length = segment->length - (address - segment->address);
-    return image->bytes + segment->from + (address - segment->address);
+    return image->bytes + segment->offset + (address - segment->address);
 }
 
 /* ---- Program headers */

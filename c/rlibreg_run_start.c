@@ -5,6 +5,7 @@
 #include "rlibreg_run.h"
 
 #include <alloca.h>
+#include <errno.h>
 #include <limits.h>
 #include <sys/mman.h>
 
@@ -127,15 +128,29 @@ static void *room_for(size_t bytes) {
     return (void *)map;
 }
 
-/* Returns the program's whole path, or null if the system doesn't report it. The path is in `room`
- * if it is short enough. */
+/* If the program's path is relative, writes the path of the current folder to `to`, with a slash at
+ * its end. Returns the number of bytes that were written, or an error, less than 0. */
+static int64_t read_folder(const struct program *it, char *to, size_t room) {
+    if (*it->path == '/') return 0;
+    int64_t length = kernel_folder(to, room); /* with the byte 0 at the end */
+    if (length > 0 && *to != '/') return -ENOENT; /* the root doesn't lead to that folder */
+    if (length > 0) to[length - 1] = '/';
+    return length;
+}
+
+/* Returns a copy of the program's path, made absolute, or null if the system doesn't report the
+ * current folder. The copy is in `room` if it is short enough. /proc/self/fd has the path of the
+ * open file too, but reading it takes longer than everything else that is done here. */
 static char *path_of(const struct program *it, char *room, size_t length) {
-    size_t found = read_path(it, room, length);
-    if (found == length) {
-        room = room_for(PATH_MAX);
-        found = read_path(it, room, length = PATH_MAX);
+    size_t own = strlen(it->path) + 1;
+    int64_t folder = own < length ? read_folder(it, room, length - own) : -ERANGE;
+    if (folder == -ERANGE) {
+        room = room_for(PATH_MAX + own);
+        folder = read_folder(it, room, PATH_MAX);
     }
-    return found && found < length ? room : NULL;
+    if (folder < 0) return NULL;
+    memcpy(room + folder, it->path, own);
+    return room;
 }
 
 /* The program's stack lies below what this process has on its own stack, and grows down from

@@ -11,15 +11,15 @@ const char *rlibreg_status_name(uint32_t status) {
         const char *name;
     } all[] = {
         { RLIBREG_DONE, "done" },
-        { RLIBREG_NO_ROOM, "a buffer is too small" },
+        { RLIBREG_BUFFER_TOO_SMALL, "a buffer is too small" },
         { RLIBREG_BAD_ARGUMENT, "bad argument" },
         { RLIBREG_SYSTEM, "a call of the system failed" },
-        { RLIBREG_HELD, "the file is held" },
-        { RLIBREG_READ_ONLY, "opened for reading alone" },
+        { RLIBREG_LOCKED, "the file is locked" },
+        { RLIBREG_READ_ONLY, "opened for reading only" },
         { RLIBREG_BAD_PROGRAM, "B1" },
         { RLIBREG_BAD_BASE, "B2 BadBase" },
         { RLIBREG_MISSING, "B3 Missing" },
-        { RLIBREG_NO_PLACE, "B4 NoRoom" },
+        { RLIBREG_ADDRESS_TOO_HIGH, "B4 NoRoom" },
         { RLIBREG_UNDEFINED, "B5 Undefined" },
         { RLIBREG_BAD_FILE, "C1" },
         { RLIBREG_ALREADY_INSTALLED, "C2 AlreadyInstalled" },
@@ -46,7 +46,7 @@ const char *rlibreg_status_name(uint32_t status) {
         { RLIBREG_FINALIZERS, "Finalizers" },
         { RLIBREG_TOO_MANY_HEADERS, "TooManyHeaders" },
         { RLIBREG_WRITABLE_CODE, "WritableCode" },
-        { RLIBREG_NO_PAGES, "NoRoom" },
+        { RLIBREG_NO_PAGES, "NoPages" },
     };
     for (size_t i = 0; i < sizeof all / sizeof *all; i++)
         if (all[i].status == status) return all[i].name;

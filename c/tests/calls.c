@@ -90,7 +90,7 @@ static uint32_t plan(struct call it, uint8_t *out, size_t room, char *text, size
                                 answer);
 }
 
-/* Makes a plan with room of every size, and then carries it out. */
+/* Makes a plan in buffers of every size, and then carries it out. */
 static void try_plan(struct call it) {
     static uint8_t whole[ROOM], before[sizeof disk];
     char ok[8];
@@ -103,7 +103,7 @@ static void try_plan(struct call it) {
         uint8_t *out = guarded(room);
         char *text = guarded(2);
         uint32_t status = plan(it, out, room, text, 2, &other);
-        WANT(status == (room < answer.bytes ? RLIBREG_NO_ROOM : RLIBREG_DONE));
+        WANT(status == (room < answer.bytes ? RLIBREG_BUFFER_TOO_SMALL : RLIBREG_DONE));
         WANT(other.status == status && other.bytes == answer.bytes && other.count == answer.count);
         if (!status) WANT(!memcmp(out, whole, room) && other.text == 3 && !memcmp(text, "ok", 2));
         if (status) WANT(other.text == 0 && text[0] == (char)GUARDED);
@@ -165,7 +165,8 @@ static void try_listing(uint64_t libraries, uint64_t preloads, uint64_t generati
             char *out = guarded(room), *text = guarded(strlen(said));
             uint32_t status = rlibreg_list(disk, sizeof disk, list, entries, out, room, text,
                                            strlen(said), &answer);
-            WANT(status == (fits ? RLIBREG_DONE : RLIBREG_NO_ROOM) && answer.status == status);
+            WANT(status == (fits ? RLIBREG_DONE : RLIBREG_BUFFER_TOO_SMALL));
+            WANT(answer.status == status);
             WANT(answer.count == libraries && answer.preloads == preloads);
             WANT(answer.bytes == names_length && answer.generation == generation);
             WANT(answer.text == (fits ? strlen(said) : 0));
@@ -193,7 +194,7 @@ static void try_file(const char *name, struct file wanted) {
         uint8_t *bytes = guarded(room);
         uint32_t status =
             rlibreg_file(disk, sizeof disk, name, strlen(name), bytes, room, NULL, 0, &answer);
-        WANT(status == (room < wanted.length ? RLIBREG_NO_ROOM : RLIBREG_DONE));
+        WANT(status == (room < wanted.length ? RLIBREG_BUFFER_TOO_SMALL : RLIBREG_DONE));
         WANT(is_answer(&answer, status, wanted.length, 0));
         if (!status) WANT(!memcmp(bytes, wanted.bytes, wanted.length));
         check_guard(bytes, room);
@@ -294,7 +295,7 @@ static void check_image(struct image it, const rlibreg_answer *answer, const cha
     WANT(answer->count > 1 && answer->objects == 2 && answer->text == 0);
     for (size_t i = 0; i < answer->count; i++) {
         const rlibreg_segment *one = &it.segments[i];
-        WANT(one->from == at && one->permissions < 8);
+        WANT(one->offset == at && one->permissions < 8);
         if (i) WANT(one[-1].address + one[-1].length <= one->address);
         at += one->length;
     }
@@ -321,7 +322,7 @@ static void try_room(struct file program, const struct image *whole, const rlibr
     it.segments = guarded(segments);
     it.bytes = guarded(it.room);
     uint32_t status = bind_into(program, it, &answer);
-    WANT(status == (fits ? RLIBREG_DONE : RLIBREG_NO_ROOM) && answer.status == status);
+    WANT(status == (fits ? RLIBREG_DONE : RLIBREG_BUFFER_TOO_SMALL) && answer.status == status);
     WANT(answer.objects == wanted->objects && answer.count == wanted->count);
     WANT(answer.bytes == wanted->bytes);
     if (fits)
@@ -361,15 +362,15 @@ static uint32_t give(char what, struct file program, uint64_t base, void *bytes,
                               text, text_room, answer);
 }
 
-/* Checks that a call returns the bytes `given` with the status `wanted`, for room of every size. If
- * there is too little room, it writes nothing. */
+/* Checks that a call returns the bytes `given` with the status `wanted`, with buffers of every
+ * size. If the buffer is too small, the call writes nothing. */
 static void try_given(char what, struct file program, uint32_t wanted, const void *given,
                       size_t length, uint64_t count) {
     for (size_t room = 0; room <= length + 1; room++) {
         uint8_t *bytes = guarded(room);
         int fits = room >= length;
         rlibreg_answer answer, all = { .bytes = length, .count = count };
-        all.status = fits ? wanted : RLIBREG_NO_ROOM;
+        all.status = fits ? wanted : RLIBREG_BUFFER_TOO_SMALL;
         WANT(give(what, program, 0x10000, bytes, room, NULL, 0, &answer) == all.status);
         WANT(!memcmp(&answer, &all, sizeof all));
         if (fits) WANT(!memcmp(bytes, given, length));
@@ -378,8 +379,8 @@ static void try_given(char what, struct file program, uint32_t wanted, const voi
     }
 }
 
-/* Checks that a call returns nothing: the buffer stays as it is, and the text says why, with room
- * of every size for the text. */
+/* Checks that a call returns nothing: the buffer stays unchanged, and the text reports the reason,
+ * with buffers of every size for the text. */
 static void try_not_given(char what, struct file program, uint64_t base, uint32_t wanted,
                           const char *line) {
     for (size_t room = 0; room <= strlen(line) + 1; room++) {
@@ -401,7 +402,7 @@ static void try_none_given(struct file program, uint64_t base, uint32_t wanted, 
     try_not_given('x', program, base, wanted, line);
 }
 
-/* Without its library a program has no executable file, and its bindings say what is missing. */
+/* Without its library a program has no executable, and its bindings report the missing name. */
 static void try_lacking(struct file program, const char *library) {
     char missing[600], said[2000];
     snprintf(missing, sizeof missing, "refused B3 Missing /program %s\n", library);
@@ -574,7 +575,7 @@ static void try_installed(const struct given *it) {
     try_image(it->program, it->name);
     try_bindings(it->program, it->name);
     try_executable(it->program);
-    try_bind_refusal(it->program, 0x7ffffffff000, RLIBREG_NO_PLACE, "refused B4 NoRoom\n");
+    try_bind_refusal(it->program, 0x7ffffffff000, RLIBREG_ADDRESS_TOO_HIGH, "refused B4 NoRoom\n");
 }
 
 static void try_changed(const struct given *it) {

@@ -8,8 +8,8 @@ fi
 [ ! -d "$objects/constructors" ] || exit 0 # once: the driver isn't what the two compilers make
 mkdir "$objects/constructors"
 PATH=$built:$PATH
-mkdir constructors kept
-chmod 700 kept
+mkdir constructors constructors/kept
+chmod 700 constructors/kept
 cd constructors
 cp "$here"/programs/{named,named_main,busy,busy_main}.c "$here"/programs/driver_* .
 gcc=rlibreg-gcc
@@ -28,7 +28,7 @@ library() {
 by() {
     case $1 in
         loader) ended "$built/rlibreg-run" disk "./$2" "${@:3}" ;;
-        kept) ended "$built/rlibreg-run" -v -c ../kept disk "./$2" "${@:3}" ;;
+        kept) ended "$built/rlibreg-run" -v -c kept disk "./$2" "${@:3}" ;;
         executable)
             rm -f alone
             if "$built/rlibreg-tool" executable disk "$2" 0x10000000 > alone; then
@@ -91,7 +91,21 @@ EOF
 library later later.c -Wl,-init,first
 says 'initializers in the next version' '= 61' later
 
-# Units of a library's own, a library without a word of its own, an early stack protector.
+# A destructor that ends the process again: each is called once.
+cat > again.c << 'EOF'
+#include <stdio.h>
+#include <stdlib.h>
+__attribute__((destructor(201))) static void last(void) { printf("last\n"); }
+__attribute__((destructor(202))) static void again(void) { printf("again "); exit(9); }
+__attribute__((destructor(203))) static void first(void) { printf("first "); }
+EOF
+library again again.c
+echo 'int main(void) { return 0; }' > main.c
+$gcc -o again main.c $needs libagain.so
+says 'a destructor that ends the process' 'first again last
+= 9' again
+
+# Units of a library's own.
 for size in 0x1000 0x10000 0x100000; do
     echo "int of_$size(void) { return 1; }" > plain.c
     $gcc -DNAME="\"$size\"" -DFUNCTION=said_$size -shared -Wl,-z,max-page-size=$size -o libwide$size.so named.c
@@ -111,11 +125,25 @@ for linker in bfd gold lld; do
     done
 done
 
+# Static objects in C++.
+if command -v g++ > told; then
+    rlibreg-g++ -shared -o libbase.so driver_base.cc
+    rlibreg-g++ -shared -o libderived.so driver_derived.cc libbase.so
+    rlibreg-g++ -o shapes driver_shapes.cc libderived.so libbase.so
+    for name in base derived; do "$built/rlibreg" install disk lib$name.so > told; done
+    says 'C++' "$(cat driver_shapes.txt)
+= 0" shapes
+else
+    echo 'skipped: constructors in C++, for want of g++'
+fi
+
 # A program of another entry begins as it says, and makes no promise.
 for words in '-e first' -efirst --entry=first '--entry first'; do
     $gcc -o entered main.c -Wl,${words/ /,} -x c - <<< 'void _start(void); void first(void) { _start(); }'
     want "$words" '' "$(readelf -nW entered | grep rlibreg || true)"
 done
+$gcc -rdynamic -o entered main.c -Wl,-enable-new-dtags,-exclude-libs,ALL
+want 'words that are no entry' 1 "$(readelf -nW entered | grep -c 'rlibreg ')"
 
 # wrong WHAT WANTED WORD..: the driver links no such library.
 wrong() {
@@ -158,7 +186,7 @@ sleep 2.1
 for program in named 'busy word'; do
     by kept $program > told
     said=$(by loader $program)
-    want "$program, kept" "rlibreg-run: ../kept: its image is taken
+    want "$program, kept" "rlibreg-run: kept: its image is taken
 $said" "$(by kept $program)"
 done
 cd ..

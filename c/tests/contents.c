@@ -38,7 +38,7 @@ static rlibreg *formatted(uint32_t sectors) {
 
 static rlibreg *opened(void) {
     rlibreg *it = rlibreg_create();
-    WANT(it && !rlibreg_open(it, "disk", RLIBREG_CHANGES));
+    WANT(it && !rlibreg_open(it, "disk", RLIBREG_READ_WRITE));
     return it;
 }
 
@@ -51,7 +51,7 @@ static void want_digest(rlibreg *it, char name, const void *bytes, size_t length
     uint8_t digest[RLIBREG_DIGEST_BYTES];
     FILE *file = fopen("given", "wb"), *sum;
     WANT(file && fwrite(bytes, 1, length, file) == length && !fclose(file));
-    WANT(!rlibreg_digest_of(it, (char[]){ name, 0 }, digest) && !rlibreg_text(it)[0]);
+    WANT(!rlibreg_get_digest(it, (char[]){ name, 0 }, digest) && !rlibreg_text(it)[0]);
     sum = popen("sha256sum given", "r");
     for (size_t i = 0; i < sizeof digest; i++) {
         unsigned byte;
@@ -63,7 +63,7 @@ static void want_digest(rlibreg *it, char name, const void *bytes, size_t length
 static void want_file(rlibreg *it, char name, const void *wanted, size_t length) {
     void *bytes;
     size_t given;
-    WANT(!rlibreg_file_of(it, (char[]){ name, 0 }, &bytes, &given));
+    WANT(!rlibreg_get_file(it, (char[]){ name, 0 }, &bytes, &given));
     WANT(given == length && !memcmp(bytes, wanted, length) && !rlibreg_text(it)[0]);
     free(bytes);
 }
@@ -80,10 +80,10 @@ static void want_no_file(rlibreg *it, const char *name, uint32_t wanted, const c
     uint8_t digest[RLIBREG_DIGEST_BYTES] = { 0 };
     void *bytes = library;
     size_t length = 1;
-    WANT(rlibreg_file_of(it, name, &bytes, &length) == wanted && !bytes && !length);
-    WANT(!strcmp(rlibreg_text(it), text) && rlibreg_last(it)->status == wanted);
-    WANT(rlibreg_digest_of(it, name, digest) == wanted && !digest[0]);
-    WANT(!strcmp(rlibreg_text(it), text) && rlibreg_last(it)->status == wanted);
+    WANT(rlibreg_get_file(it, name, &bytes, &length) == wanted && !bytes && !length);
+    WANT(!strcmp(rlibreg_text(it), text) && rlibreg_last_answer(it)->status == wanted);
+    WANT(rlibreg_get_digest(it, name, digest) == wanted && !digest[0]);
+    WANT(!strcmp(rlibreg_text(it), text) && rlibreg_last_answer(it)->status == wanted);
 }
 
 /* Tries lengths around those of sectors and of the first buffer. */
@@ -119,18 +119,18 @@ static int put_byte(long at, int byte) {
     return before;
 }
 
-/* A damaged library is returned as it is, and keeps nothing else from being returned. Its data are
+/* A damaged library is returned as it is, and everything else can still be returned. Its data are
  * in sector 2, its entry in 3, and the catalogue in 4. Those of another library follow. */
 static void try_damaged(void) {
     unsigned char damaged[SECTOR];
     rlibreg_listing listing;
     rlibreg_information told, before;
     rlibreg *it = formatted(64);
-    WANT(!install(it, 'a', least) && !install(it, 'b', 2000) && !rlibreg_info_of(it, &before));
+    WANT(!install(it, 'a', least) && !install(it, 'b', 2000) && !rlibreg_get_info(it, &before));
     rlibreg_close(it);
     WANT(put_byte(2 * SECTOR, 0) == library[0]);
     it = opened();
-    WANT(!rlibreg_listing_of(it, &listing) && listing.libraries == 2);
+    WANT(!rlibreg_get_listing(it, &listing) && listing.libraries == 2);
     rlibreg_listing_free(&listing);
     want_library(it, 'b', 2000);
     *soname = 'a';
@@ -138,7 +138,7 @@ static void try_damaged(void) {
     damaged[0] = 0;
     want_file(it, 'a', damaged, least);
     want_digest(it, 'a', damaged, least);
-    WANT(!rlibreg_info_of(it, &told) && !memcmp(&told, &before, sizeof told));
+    WANT(!rlibreg_get_info(it, &told) && !memcmp(&told, &before, sizeof told));
     WANT(!rlibreg_text(it)[0]);
     rlibreg_close(it);
 
@@ -146,7 +146,7 @@ static void try_damaged(void) {
     put_byte(3 * SECTOR, 0); /* the entry: then nothing is returned */
     it = opened();
     want_no_file(it, "b", RLIBREG_DAMAGED, "refused S5 Damaged\n");
-    WANT(rlibreg_info_of(it, &told) == RLIBREG_DAMAGED && !memcmp(&told, &before, sizeof told));
+    WANT(rlibreg_get_info(it, &told) == RLIBREG_DAMAGED && !memcmp(&told, &before, sizeof told));
     WANT(!strcmp(rlibreg_text(it), "refused S5 Damaged\n"));
     rlibreg_close(it);
 }
@@ -169,18 +169,18 @@ static int is_too_large(rlibreg *it, uint32_t status, size_t length) {
 static void try_told(rlibreg *it, uint64_t sectors) {
     rlibreg_information told, after;
     rlibreg_listing listing;
-    WANT(!rlibreg_listing_of(it, &listing) && !rlibreg_info_of(it, &told));
+    WANT(!rlibreg_get_listing(it, &listing) && !rlibreg_get_info(it, &told));
     WANT(told.version == 2 && told.sectors == sectors && told.generation == listing.generation);
     WANT(told.libraries == listing.libraries && told.preloads == listing.preloads);
     rlibreg_listing_free(&listing);
     size_t above = told.largest < least ? least : told.largest + 1;
     seen_empty += told.largest < least;
     WANT(is_too_large(it, install(it, '~', above), above));
-    WANT(!rlibreg_info_of(it, &after) && !memcmp(&told, &after, sizeof told));
+    WANT(!rlibreg_get_info(it, &after) && !memcmp(&told, &after, sizeof told));
     if (told.largest < least) return;
     WANT(!install(it, '~', told.largest));
     want_library(it, '~', told.largest);
-    WANT(!remove_library(it, '~') && !rlibreg_info_of(it, &after));
+    WANT(!remove_library(it, '~') && !rlibreg_get_info(it, &after));
     WANT(after.generation == told.generation + 2 && after.unused_sectors == told.unused_sectors);
     WANT(after.largest == told.largest || told.unused_runs > 32);
 }

@@ -239,7 +239,7 @@ static uint32_t plan_update(const uint8_t *disk, size_t length, char **words, ui
             at += own_length;
             if (is_file) free(own);
         }
-        it->length = at - it->from;
+        it->length = at - it->offset;
         if (!*words) break;
     }
     return rlibreg_plan_update(disk, length, changes, count, bytes, at, plan, ROOM, text, ROOM,

@@ -66,7 +66,7 @@ int main(int argc, char **argv) {
     it.length = fread(bytes, 1, ROOM, file);
     fclose(file);
     if (rlibreg_open(registry, argv[1], 0)) return 2;
-    if (rlibreg_image_of(registry, bytes, it.length, it.base, &it.image)) return 2;
+    if (rlibreg_bind_program(registry, bytes, it.length, it.base, &it.image)) return 2;
     size_t length = it.image.objects->name; /* bytes of the segments, which the names follow */
     uint8_t *kept = malloc(length);
     if (!kept || !is_started(&it)) return 1;

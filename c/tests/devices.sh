@@ -11,7 +11,7 @@ trap 'losetup -d "$device"' EXIT
 
 busy="tool: $(error_text 16)
 = 9"
-held='tool: the file is held
+held='tool: the file is locked
 = 9'
 want 'no registry' 'refused S3 NotFormatted
 = 1' "$(ended ./tool list "$device")"

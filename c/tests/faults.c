@@ -70,7 +70,7 @@ static const char *state(void) {
     WANT(it);
     uint32_t status = rlibreg_open(it, DISK, 0);
     WANT(!status || (status == RLIBREG_SYSTEM && errno == ENOENT));
-    if (!status) rlibreg_listing_of(it, &listing);
+    if (!status) rlibreg_get_listing(it, &listing);
     snprintf(text, sizeof text, "%s", status ? "none" : rlibreg_text(it));
     if (!status) rlibreg_listing_free(&listing);
     rlibreg_close(it);
@@ -104,7 +104,7 @@ static uint32_t make_preload(rlibreg *it) {
 }
 
 /* An update that replaces the library, sets the preloads, installs and removes. A listing shows all
- * of it or nothing. */
+ * of these changes or none. */
 static struct update {
     rlibreg_change changes[4];
     char bytes[2 << 20];
@@ -128,9 +128,9 @@ static uint32_t make_update(rlibreg *it) {
     return rlibreg_update(it, updated.changes, updated.count, updated.bytes, updated.length);
 }
 
-static uint32_t update_image_of(rlibreg *it, uint64_t base, rlibreg_image *image) {
-    return rlibreg_update_image_of(it, updated.changes, updated.count, updated.bytes,
-                                   updated.length, program.bytes, program.length, base, image);
+static uint32_t preview_bind(rlibreg *it, uint64_t base, rlibreg_image *image) {
+    return rlibreg_preview_bind(it, updated.changes, updated.count, updated.bytes,
+                                updated.length, program.bytes, program.length, base, image);
 }
 
 static uint32_t make_format(rlibreg *it) {
@@ -180,12 +180,12 @@ struct outcome {
     int why;
 };
 
-static uint32_t bindings_of(rlibreg *it, uint64_t base, char **text, size_t *length) {
-    return rlibreg_bindings_of(it, program.bytes, program.length, base, text, length);
+static uint32_t get_bindings(rlibreg *it, uint64_t base, char **text, size_t *length) {
+    return rlibreg_get_bindings(it, program.bytes, program.length, base, text, length);
 }
 
-static uint32_t executable_of(rlibreg *it, uint64_t base, void **bytes, size_t *length) {
-    return rlibreg_executable_of(it, program.bytes, program.length, base, bytes, length);
+static uint32_t get_executable(rlibreg *it, uint64_t base, void **bytes, size_t *length) {
+    return rlibreg_get_executable(it, program.bytes, program.length, base, bytes, length);
 }
 
 /* After S1 (Device) a struct refuses every call with S2 (Reopen). */
@@ -201,16 +201,16 @@ static void want_reopen(rlibreg *it, const struct change *change) {
     if (change->opens) return; /* the struct has no file then */
     WANT(change->make(it) == RLIBREG_REOPEN);
     WANT(!strcmp(rlibreg_text(it), "refused S2 Reopen\n"));
-    WANT(rlibreg_listing_of(it, &listing) == RLIBREG_REOPEN && !listing.entries);
-    WANT(rlibreg_image_of(it, program.bytes, program.length, 0, &image) == RLIBREG_REOPEN);
-    WANT(rlibreg_last(it)->status == RLIBREG_REOPEN && !image.bytes);
-    WANT(update_image_of(it, 0, &image) == RLIBREG_REOPEN && !image.bytes);
-    WANT(rlibreg_file_of(it, name, &bytes, &length) == RLIBREG_REOPEN && !bytes && !length);
-    WANT(rlibreg_digest_of(it, name, digest) == RLIBREG_REOPEN && !digest[0]);
-    WANT(rlibreg_info_of(it, &information) == RLIBREG_REOPEN);
-    WANT(rlibreg_findings_of(it, &findings) == RLIBREG_REOPEN && !findings.findings);
-    WANT(executable_of(it, 0, &bytes, &length) == RLIBREG_REOPEN && !bytes && !length);
-    WANT(bindings_of(it, 0, &text, &length) == RLIBREG_REOPEN && !text && !length);
+    WANT(rlibreg_get_listing(it, &listing) == RLIBREG_REOPEN && !listing.entries);
+    WANT(rlibreg_bind_program(it, program.bytes, program.length, 0, &image) == RLIBREG_REOPEN);
+    WANT(rlibreg_last_answer(it)->status == RLIBREG_REOPEN && !image.bytes);
+    WANT(preview_bind(it, 0, &image) == RLIBREG_REOPEN && !image.bytes);
+    WANT(rlibreg_get_file(it, name, &bytes, &length) == RLIBREG_REOPEN && !bytes && !length);
+    WANT(rlibreg_get_digest(it, name, digest) == RLIBREG_REOPEN && !digest[0]);
+    WANT(rlibreg_get_info(it, &information) == RLIBREG_REOPEN);
+    WANT(rlibreg_check_libraries(it, &findings) == RLIBREG_REOPEN && !findings.findings);
+    WANT(get_executable(it, 0, &bytes, &length) == RLIBREG_REOPEN && !bytes && !length);
+    WANT(get_bindings(it, 0, &text, &length) == RLIBREG_REOPEN && !text && !length);
 }
 
 static int is_of_the_system(uint32_t status) {
@@ -222,10 +222,10 @@ static struct outcome attempt(const struct change *change) {
     struct outcome it = { 0 };
     rlibreg *registry = rlibreg_create();
     WANT(registry);
-    if (!change->opens) it.opened = rlibreg_open(registry, DISK, RLIBREG_CHANGES);
+    if (!change->opens) it.opened = rlibreg_open(registry, DISK, RLIBREG_READ_WRITE);
     it.status = it.opened ? it.opened : change->make(registry);
     it.why = errno;
-    WANT(rlibreg_last(registry)->status == it.status);
+    WANT(rlibreg_last_answer(registry)->status == it.status);
     WANT(rlibreg_errno(registry) == (is_of_the_system(it.status) ? it.why : 0));
     if (it.status == RLIBREG_SYSTEM) WANT(!rlibreg_text(registry)[0]);
     if (it.status == RLIBREG_DEVICE) {
@@ -236,7 +236,7 @@ static struct outcome attempt(const struct change *change) {
     return it;
 }
 
-/* Makes a change again, which may have been made already. */
+/* Makes a change that may have been made already. */
 static void make_again(const struct change *change, int was_made) {
     uint32_t status = attempt(change).status;
     WANT(!status ||
@@ -335,37 +335,37 @@ static uint32_t look_by(rlibreg *it, int number) {
     size_t length;
     switch (number) {
     case 0:
-        status = rlibreg_listing_of(it, &listing);
+        status = rlibreg_get_listing(it, &listing);
         rlibreg_listing_free(&listing);
         return status;
     case 1:
-        status = rlibreg_image_of(it, program.bytes, program.length, 0x10000, &image);
+        status = rlibreg_bind_program(it, program.bytes, program.length, 0x10000, &image);
         rlibreg_image_free(&image);
         return status;
     case 2:
-        status = rlibreg_file_of(it, name, &bytes, &length);
+        status = rlibreg_get_file(it, name, &bytes, &length);
         free(bytes);
         return status;
     case 3:
-        status = rlibreg_findings_of(it, &findings);
+        status = rlibreg_check_libraries(it, &findings);
         rlibreg_findings_free(&findings);
         return status;
     case 4:
-        return rlibreg_digest_of(it, name, digest);
+        return rlibreg_get_digest(it, name, digest);
     case 5:
-        status = bindings_of(it, 0x10000, &text, &length);
+        status = get_bindings(it, 0x10000, &text, &length);
         free(text);
         return status;
     case 6:
-        status = executable_of(it, 0x10000, &bytes, &length);
+        status = get_executable(it, 0x10000, &bytes, &length);
         free(bytes);
         return status;
     case 7:
-        status = update_image_of(it, 0x10000, &image);
+        status = preview_bind(it, 0x10000, &image);
         rlibreg_image_free(&image);
         return status;
     }
-    return rlibreg_info_of(it, &information);
+    return rlibreg_get_info(it, &information);
 }
 
 /* Reads the disk by each call. Returns the first status that differs from the one without a fault,
@@ -396,7 +396,7 @@ static long try_memory(const struct change *change) {
         growths = n;
         rlibreg *it = rlibreg_create();
         if (!it) continue;
-        if (!change->opens) WANT(!rlibreg_open(it, DISK, RLIBREG_CHANGES));
+        if (!change->opens) WANT(!rlibreg_open(it, DISK, RLIBREG_READ_WRITE));
         uint32_t status = change->opens ? 0 : look(it, usual);
         if (!status) status = change->make(it);
         int has_failed = growths < 0;
@@ -427,17 +427,18 @@ static void try_misuse(void) {
     size_t length;
     leave_empty();
     rlibreg *it = rlibreg_create();
-    WANT(!rlibreg_text(it)[0] && rlibreg_last(it)->status == 0);
-    WANT(rlibreg_listing_of(it, &listing) == RLIBREG_BAD_GEOMETRY); /* the struct has no file */
+    WANT(!rlibreg_text(it)[0] && rlibreg_last_answer(it)->status == 0);
+    WANT(rlibreg_get_listing(it, &listing) == RLIBREG_BAD_GEOMETRY); /* the struct has no file */
     WANT(!strcmp(rlibreg_text(it), "refused S6 BadGeometry\n"));
-    WANT(rlibreg_image_of(it, program.bytes, program.length, 0, &image) == RLIBREG_BAD_GEOMETRY);
-    WANT(rlibreg_file_of(it, name, &bytes, &length) == RLIBREG_BAD_GEOMETRY && !bytes);
-    WANT(rlibreg_digest_of(it, name, digest) == RLIBREG_BAD_GEOMETRY && !digest[0]);
-    WANT(rlibreg_info_of(it, &information) == RLIBREG_BAD_GEOMETRY);
-    WANT(rlibreg_findings_of(it, &findings) == RLIBREG_BAD_GEOMETRY && !findings.findings);
-    WANT(executable_of(it, 0, &bytes, &length) == RLIBREG_BAD_GEOMETRY && !bytes && !length);
-    WANT(bindings_of(it, 0, &text, &length) == RLIBREG_BAD_GEOMETRY && !text && !length);
-    WANT(update_image_of(it, 0, &image) == RLIBREG_BAD_GEOMETRY && !image.bytes);
+    WANT(rlibreg_bind_program(it, program.bytes, program.length, 0, &image) ==
+         RLIBREG_BAD_GEOMETRY);
+    WANT(rlibreg_get_file(it, name, &bytes, &length) == RLIBREG_BAD_GEOMETRY && !bytes);
+    WANT(rlibreg_get_digest(it, name, digest) == RLIBREG_BAD_GEOMETRY && !digest[0]);
+    WANT(rlibreg_get_info(it, &information) == RLIBREG_BAD_GEOMETRY);
+    WANT(rlibreg_check_libraries(it, &findings) == RLIBREG_BAD_GEOMETRY && !findings.findings);
+    WANT(get_executable(it, 0, &bytes, &length) == RLIBREG_BAD_GEOMETRY && !bytes && !length);
+    WANT(get_bindings(it, 0, &text, &length) == RLIBREG_BAD_GEOMETRY && !text && !length);
+    WANT(preview_bind(it, 0, &image) == RLIBREG_BAD_GEOMETRY && !image.bytes);
     WANT(make_install(it) == RLIBREG_READ_ONLY && make_update(it) == RLIBREG_READ_ONLY);
     WANT(rlibreg_format(it, DISK, 7, 0) == RLIBREG_BAD_ARGUMENT);
     WANT(rlibreg_format(it, DISK, 4194305, 0) == RLIBREG_BAD_ARGUMENT);
@@ -450,11 +451,11 @@ static void try_misuse(void) {
     WANT(rlibreg_open(it, DISK, 0) == RLIBREG_BAD_ARGUMENT);
     WANT(make_format(it) == RLIBREG_BAD_ARGUMENT);
     WANT(make_install(it) == RLIBREG_READ_ONLY);
-    WANT(!rlibreg_text(it)[0] && rlibreg_last(it)->status == RLIBREG_READ_ONLY);
+    WANT(!rlibreg_text(it)[0] && rlibreg_last_answer(it)->status == RLIBREG_READ_ONLY);
     WANT(rlibreg_upgrade(it) == RLIBREG_READ_ONLY && make_remove(it) == RLIBREG_READ_ONLY);
     WANT(rlibreg_preload(it, NULL, 0) == RLIBREG_READ_ONLY);
-    WANT(make_update(it) == RLIBREG_READ_ONLY && rlibreg_last(it)->count == 0);
-    WANT(!rlibreg_listing_of(it, &listing) && listing.libraries == 0);
+    WANT(make_update(it) == RLIBREG_READ_ONLY && rlibreg_last_answer(it)->count == 0);
+    WANT(!rlibreg_get_listing(it, &listing) && listing.libraries == 0);
     rlibreg_listing_free(&listing);
     rlibreg_listing_free(&listing);
     rlibreg_image_free(&image);

@@ -85,7 +85,7 @@ static void want_findings(const uint32_t *wanted) {
 
     write_disk();
     rlibreg *it = rlibreg_create();
-    WANT(it && !rlibreg_open(it, "disk", 0) && !rlibreg_findings_of(it, &found));
+    WANT(it && !rlibreg_open(it, "disk", 0) && !rlibreg_check_libraries(it, &found));
     WANT(found.count == LIBRARIES && !rlibreg_text(it)[0]);
     want_found(found.findings, found.names, wanted);
     rlibreg_findings_free(&found);
@@ -94,7 +94,7 @@ static void want_findings(const uint32_t *wanted) {
     rlibreg_close(it);
 }
 
-/* Returns what an installation says about this file, if a library of this name is installed. */
+/* Returns what an installation reports about this file, if a library of this name is installed. */
 static uint32_t installation_says(const uint8_t *file, char name) {
     static uint8_t alone[sizeof disk], plan[ROOM];
     rlibreg_answer answer;
@@ -173,9 +173,9 @@ static void try_mended(void) {
         file_of('b')[0] = 0;
         write_disk();
         *soname = 'b';
-        WANT(it && !rlibreg_open(it, "disk", RLIBREG_CHANGES));
+        WANT(it && !rlibreg_open(it, "disk", RLIBREG_READ_WRITE));
         WANT(!(removes ? rlibreg_remove(it, "b") : rlibreg_replace(it, library, length)));
-        WANT(!rlibreg_findings_of(it, &found) && found.count == LIBRARIES - (size_t)removes);
+        WANT(!rlibreg_check_libraries(it, &found) && found.count == LIBRARIES - (size_t)removes);
         if (!removes) want_found(found.findings, found.names, wanted);
         for (size_t i = 0; i < found.count; i++) WANT(found.findings[i].finding == RLIBREG_SOUND);
         rlibreg_findings_free(&found);
@@ -231,7 +231,7 @@ static void try_rooms(void) {
         for (size_t bytes = 0; bytes <= sizeof names + 1; bytes++) {
             int fits = room >= LIBRARIES && bytes >= sizeof names;
             rlibreg_answer answer,
-                needed = { .status = fits ? RLIBREG_DONE : RLIBREG_NO_ROOM,
+                needed = { .status = fits ? RLIBREG_DONE : RLIBREG_BUFFER_TOO_SMALL,
                            .count = LIBRARIES,
                            .bytes = sizeof names };
             rlibreg_finding places[LIBRARIES + 2];
@@ -250,8 +250,7 @@ static void try_rooms(void) {
 
 /* ---- Without a registry */
 
-/* Checks bytes that hold no registry: the answer says only why, and nothing is written except the
- * line. */
+/* Checks bytes without a registry: the answer has only the reason, and only its line is written. */
 static void want_refused(const uint8_t *bytes, size_t size, uint32_t status, const char *line) {
     for (size_t room = 0; room <= strlen(line) + 1; room++) {
         rlibreg_answer answer, wanted = { .status = status, .text = strlen(line) };
@@ -287,11 +286,11 @@ static void try_numbers(void) {
     rlibreg_findings found;
     rlibreg *it = formatted(512);
     size_t count = 0;
-    WANT(!rlibreg_findings_of(it, &found) && !found.count);
+    WANT(!rlibreg_check_libraries(it, &found) && !found.count);
     rlibreg_findings_free(&found);
     for (char name = '0'; name < '~'; name++)
         if (name != '/') install(it, name), count++;
-    WANT(!rlibreg_findings_of(it, &found) && found.count == count && count > 64);
+    WANT(!rlibreg_check_libraries(it, &found) && found.count == count && count > 64);
     for (size_t i = 0; i < count; i++) {
         const char wanted[] = { (char)('0' + i), 0 };
         WANT(!strcmp(found.names + found.findings[i].name, wanted) && !found.findings[i].finding);
@@ -299,7 +298,7 @@ static void try_numbers(void) {
     rlibreg_findings_free(&found);
     rlibreg_close(it);
     it = rlibreg_create();
-    WANT(rlibreg_findings_of(it, &found) == RLIBREG_BAD_GEOMETRY && !found.findings);
+    WANT(rlibreg_check_libraries(it, &found) == RLIBREG_BAD_GEOMETRY && !found.findings);
     WANT(!strcmp(rlibreg_text(it), "refused S6 BadGeometry\n"));
     rlibreg_close(it);
 }

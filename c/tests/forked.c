@@ -66,23 +66,23 @@ static void call_all(rlibreg *it) {
     size_t length;
     const uint32_t bad = RLIBREG_BAD_ARGUMENT;
     const rlibreg_change install = { RLIBREG_INSTALL, 0, library_length };
-    WANT(rlibreg_listing_of(it, &listing) == bad && !listing.entries && !listing.names);
-    WANT(rlibreg_image_of(it, program, program_length, 0, &image) == bad && !image.bytes);
-    WANT(rlibreg_file_of(it, name, &bytes, &length) == bad && !bytes && !length);
-    WANT(rlibreg_digest_of(it, name, digest) == bad && !digest[0]);
-    WANT(rlibreg_info_of(it, &information) == bad);
-    WANT(rlibreg_findings_of(it, &findings) == bad && !findings.findings && !findings.names);
-    WANT(rlibreg_bindings_of(it, program, program_length, 0, &text, &length) == bad && !text);
-    WANT(rlibreg_executable_of(it, program, program_length, 0, &bytes, &length) == bad && !bytes);
+    WANT(rlibreg_get_listing(it, &listing) == bad && !listing.entries && !listing.names);
+    WANT(rlibreg_bind_program(it, program, program_length, 0, &image) == bad && !image.bytes);
+    WANT(rlibreg_get_file(it, name, &bytes, &length) == bad && !bytes && !length);
+    WANT(rlibreg_get_digest(it, name, digest) == bad && !digest[0]);
+    WANT(rlibreg_get_info(it, &information) == bad);
+    WANT(rlibreg_check_libraries(it, &findings) == bad && !findings.findings && !findings.names);
+    WANT(rlibreg_get_bindings(it, program, program_length, 0, &text, &length) == bad && !text);
+    WANT(rlibreg_get_executable(it, program, program_length, 0, &bytes, &length) == bad && !bytes);
     WANT(rlibreg_install(it, library, library_length) == bad);
     WANT(rlibreg_replace(it, library, library_length) == bad);
     WANT(rlibreg_remove(it, name) == bad && rlibreg_preload(it, &name, 1) == bad);
     WANT(rlibreg_update(it, &install, 1, library, library_length) == bad);
-    WANT(rlibreg_update_image_of(it, &install, 1, library, library_length, program, program_length,
-                                 0, &image) == bad && !image.bytes);
+    WANT(rlibreg_preview_bind(it, &install, 1, library, library_length, program, program_length,
+                              0, &image) == bad && !image.bytes);
     WANT(rlibreg_upgrade(it) == bad && rlibreg_format(it, "new", 64, 0) == bad);
     WANT(rlibreg_open(it, "disk", 0) == bad);
-    WANT(rlibreg_last(it)->status == bad && !rlibreg_text(it)[0]);
+    WANT(rlibreg_last_answer(it)->status == bad && !rlibreg_text(it)[0]);
 }
 
 /* Closes the struct in a child, which affects only the child. Then the child can open a disk as
@@ -90,7 +90,7 @@ static void call_all(rlibreg *it) {
 static void close_it(rlibreg *it) {
     rlibreg_close(it);
     it = rlibreg_create();
-    WANT(rlibreg_open(it, "disk", RLIBREG_CHANGES) == RLIBREG_HELD);
+    WANT(rlibreg_open(it, "disk", RLIBREG_READ_WRITE) == RLIBREG_LOCKED);
     WANT(!rlibreg_format(it, "new", 64, RLIBREG_WAIT));
     rlibreg_close(it);
     WANT(!unlink("new"));
@@ -132,9 +132,9 @@ static void disk_of(int generation, char *path) {
 static void wait_for_parent(const char *path) {
     struct timespec begun, ended;
     rlibreg *it = rlibreg_create();
-    rlibreg_wait_limit(it, 50);
+    rlibreg_set_wait_limit(it, 50);
     WANT(!clock_gettime(CLOCK_MONOTONIC, &begun));
-    WANT(rlibreg_open(it, path, RLIBREG_CHANGES | RLIBREG_WAIT) == RLIBREG_HELD);
+    WANT(rlibreg_open(it, path, RLIBREG_READ_WRITE | RLIBREG_WAIT) == RLIBREG_LOCKED);
     WANT(!clock_gettime(CLOCK_MONOTONIC, &ended));
     WANT((ended.tv_sec - begun.tv_sec) * 1000 + (ended.tv_nsec - begun.tv_nsec) / 1000000 >= 49);
     rlibreg_close(it);
@@ -165,7 +165,8 @@ static void end_late(int number) {
     _exit(1);
 }
 
-/* Each generation can only close what those before it opened, and that releases no lock. */
+/* Each generation can only close the disks that the generations before it opened. This releases no
+ * lock. */
 static void try_generations(struct way way, rlibreg **opened, int generation) {
     char path[16];
     WANT(!way.flags || getpid() == 1);
@@ -209,7 +210,7 @@ static void try_all_generations(void) {
         printf("skipped: children with their parent's process number (%s)\n", strerror(errno));
 }
 
-/* If forks can't be watched for want of memory, no disk is opened. Later, with memory, it is. */
+/* If there is no memory to watch forks, no disk is opened. Later, when there is memory, it is. */
 static void try_unwatched(void) {
     fflush(stdout);
     pid_t child = fork();
@@ -241,7 +242,7 @@ int main(int argc, char **argv) {
     end(child_that(call_all, it));
     WANT(!rlibreg_install(it, library, library_length));
     rlibreg_close(it);
-    for (unsigned flags = 0; flags <= RLIBREG_CHANGES; flags++) {
+    for (unsigned flags = 0; flags <= RLIBREG_READ_WRITE; flags++) {
         rlibreg_listing listing;
         it = opened(flags);
         pid_t first = child_that(call_all, it), second = child_that(close_it, it);
@@ -249,13 +250,13 @@ int main(int argc, char **argv) {
         end(first);
         end(second);
         WANT(flags ? is_held_alone("disk") : is_held("disk"));
-        WANT(!rlibreg_listing_of(it, &listing) && listing.libraries == 1);
+        WANT(!rlibreg_get_listing(it, &listing) && listing.libraries == 1);
         rlibreg_listing_free(&listing);
         pid_t third = child_that(only_has_it, it); /* the child keeps the file open as long as it
                                                     * lives */
         rlibreg_close(it);
         WANT(!is_held("disk"));
-        rlibreg_close(opened(RLIBREG_CHANGES | RLIBREG_WAIT));
+        rlibreg_close(opened(RLIBREG_READ_WRITE | RLIBREG_WAIT));
         end(third);
     }
     WANT(!unlink("disk"));

@@ -7,7 +7,7 @@
 #include <fcntl.h>
 #include <unistd.h>
 
-enum { CHANGES = RLIBREG_CHANGES, BLOCK = 4096, ROOTS = 1024, FOR_EVER = 1 << 20 };
+enum { READ_WRITE = RLIBREG_READ_WRITE, BLOCK = 4096, ROOTS = 1024, FOR_EVER = 1 << 20 };
 
 /* Opens a disk, and closes it. Returns the status of the opening. */
 static uint32_t opens(const char *path, unsigned flags) {
@@ -58,14 +58,14 @@ static void try_forgetting(void) {
     for (size_t i = 0; i < sizeof often / sizeof *often; i++) {
         for (int differ = 1; differ <= 3; differ++) {
             watch_differing(differ, often[i]);
-            WANT(!opens("disk", differ % 2 ? CHANGES : 0) && !made("write"));
+            WANT(!opens("disk", differ % 2 ? READ_WRITE : 0) && !made("write"));
             WANT(watched.forgotten == BLOCK << often[i] % 10);
             WANT(count("forget ") == often[i] + 1 && count("nap ") == often[i] / 10);
             WANT(made("asked read read-past map"));
         }
     }
     watch_differing(0, 0);
-    WANT(!opens("disk", CHANGES) && !made("forget") && !made("write"));
+    WANT(!opens("disk", READ_WRITE) && !made("forget") && !made("write"));
 }
 
 /* The system keeps the front. An opening for reading is refused, and an opening for changes writes
@@ -76,27 +76,28 @@ static void try_staying(void) {
         WANT(fails_by(opens("disk", 0), EIO) && !made("write"));
         WANT(count("forget ") == 400 && count("nap ") == 39);
         watch_differing(differ, FOR_EVER);
-        WANT(!opens("disk", CHANGES) && made("write sync read read-past map") && !watched.differ);
+        WANT(!opens("disk", READ_WRITE) && made("write sync read read-past map"));
+        WANT(!watched.differ);
         WANT(count("forget ") == 400 && count("write ") == 1 && watched.wrote == ROOTS);
         watch_differing(differ, FOR_EVER);
         watched.is_stuck = 1;
-        WANT(fails_by(opens("disk", CHANGES), EIO) && made("write sync read read-past unlock"));
+        WANT(fails_by(opens("disk", READ_WRITE), EIO) && made("write sync read read-past unlock"));
     }
     const char *words[] = { "write", "hold", "forget", "asked" };
     for (size_t i = 0; i < sizeof words / sizeof *words; i++) {
         watch_differing(1, FOR_EVER);
         watched.refused = words[i];
         watched.because = ENOSPC;
-        uint32_t status = opens("disk", CHANGES);
+        uint32_t status = opens("disk", READ_WRITE);
         WANT(i ? !status && made("write sync") : fails_by(status, ENOSPC));
     }
     watch_differing(1, FOR_EVER);
     watched.refused = "write";
     watched.because = EPERM;
-    WANT(fails_by(opens("disk", CHANGES), EPERM));
+    WANT(fails_by(opens("disk", READ_WRITE), EPERM));
     watch_differing(1, FOR_EVER);
     watched.is_short = 1;
-    WANT(fails_by(opens("disk", CHANGES), EIO));
+    WANT(fails_by(opens("disk", READ_WRITE), EIO));
 }
 
 /* Only a root is written to the medium, of either version. */
@@ -107,14 +108,14 @@ static void try_roots(void) {
         write_at("other", zeros, BLOCK, 0);
         write_at("other", magics[i / 2], 8, i % 2 ? 512 : 0);
         watch_differing(1, FOR_EVER);
-        uint32_t status = opens("other", CHANGES);
+        uint32_t status = opens("other", READ_WRITE);
         WANT(i < 4 ? !status && count("write ") == 1 : fails_by(status, EIO) && !made("write"));
     }
     for (off_t length = 0; length < BLOCK; length += 511) { /* no registry is that short */
         WANT(!truncate("other", length));
         watch_differing(3, FOR_EVER);
         rlibreg *it = rlibreg_create();
-        WANT(!rlibreg_open(it, "other", CHANGES) && !made("read-past") && !made("write"));
+        WANT(!rlibreg_open(it, "other", READ_WRITE) && !made("read-past") && !made("write"));
         rlibreg_close(it);
         unwatch();
     }
@@ -127,14 +128,14 @@ static void want_unknown(void (*prepare)(int), int way) {
     prepare(way);
     WANT(!opens("disk", 0) && made("forget asked ") && !made("write") && count("forget ") == 1);
     prepare(way);
-    WANT(!opens("disk", CHANGES) && made("forget asked ") && made("write sync "));
+    WANT(!opens("disk", READ_WRITE) && made("forget asked ") && made("write sync "));
     WANT(watched.wrote == ROOTS);
     prepare(way);
     watched.keeps = FOR_EVER;
     WANT(!opens("disk", 0) && !made("write") && count("forget ") == 10);
     prepare(way);
     watched.keeps = FOR_EVER;
-    WANT(!opens("disk", CHANGES) && made("write sync ") && count("forget ") == 10);
+    WANT(!opens("disk", READ_WRITE) && made("write sync ") && count("forget ") == 10);
 }
 
 static void refuse_past(int why) {
@@ -166,12 +167,12 @@ static void try_unknown(void) {
         loop_over_memory(0);
         watched.refused = "write";
         watched.because = i ? EIO : EPERM;
-        uint32_t status = opens("disk", CHANGES);
+        uint32_t status = opens("disk", READ_WRITE);
         WANT(i ? fails_by(status, EIO) : !status && !made("write sync"));
     }
     loop_over_memory(0);
     watched.loop = 2; /* and a loop past memory */
-    WANT(!opens("disk", CHANGES) && !made("forget") && !made("write"));
+    WANT(!opens("disk", READ_WRITE) && !made("forget") && !made("write"));
     set_encrypted(0);
     watched.differ = 2;
     watched.keeps = FOR_EVER;
@@ -183,7 +184,7 @@ static void try_failing(void) {
     const int kinds[] = { EIO, EINTR, ENODATA };
     const char *words[] = { "read", "read-past", "no-more-past" };
     for (size_t i = 0; i < 9; i++) {
-        for (unsigned flags = 0; flags <= CHANGES; flags++) {
+        for (unsigned flags = 0; flags <= READ_WRITE; flags++) {
             watch();
             watched.refused = words[i / 3];
             watched.because = kinds[i % 3];
@@ -193,7 +194,7 @@ static void try_failing(void) {
     for (ssize_t length = 1; length <= BLOCK; length += 341) {
         watch();
         watched.past_length = length;
-        uint32_t status = opens("disk", CHANGES);
+        uint32_t status = opens("disk", READ_WRITE);
         WANT(length < ROOTS ? fails_by(status, EIO) && !made("write") : !status);
     }
 }

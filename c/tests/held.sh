@@ -3,7 +3,7 @@
 rm -f disk
 ./tool format disk 64 > /dev/null
 
-held='tool: the file is held
+held='tool: the file is locked
 = 9'
 held_by ./tool hold install disk "$data/strong.so"
 want 'a list beside a change' "$held" "$(ended ./tool list disk)"

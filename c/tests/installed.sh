@@ -7,14 +7,14 @@ prefix=/opt/rlibreg
 list=$target$prefix/share/rlibreg/installed
 export DESTDIR=$target
 want 'where nothing is built' \
-    'c/install.sh: there is no nowhere/rlibreg: run c/build.sh first
+    'c/install.sh: nowhere/rlibreg doesn'\''t exist: run c/build.sh first
 = 1' "$(ended "$install" $prefix nowhere | grep -v '^left out')"
 want 'what it left' '' "$(ls -A "$target" 2> /dev/null)"
 
 for path in relative ./a/b 'with a blank'; do
-    want "PREFIX $path" 'c/install.sh: PREFIX has to be an absolute path, and is '"$path
+    want "PREFIX $path" 'c/install.sh: PREFIX has to be an absolute path: '"$path
 = 1" "$(ended timeout 20 "$install" "$path" "$built")"
-    want "PYTHONDIR $path" 'c/install.sh: PYTHONDIR has to be an absolute path, and is '"$path
+    want "PYTHONDIR $path" 'c/install.sh: PYTHONDIR has to be an absolute path: '"$path
 = 1" "$(PYTHONDIR=$path ended timeout 20 "$install" $prefix "$built")"
 done
 want 'what they left' '' "$(ls -A "$target" 2> /dev/null)"
@@ -52,7 +52,7 @@ import rlibreg
 assert rlibreg.Registry("installed.disk").list() == (0, [], [])'
 fi
 
-want 'another DESTDIR' "c/install.sh: $list is of what was installed with another DESTDIR
+want 'another DESTDIR' "c/install.sh: $list was written with another DESTDIR
 = 1" "$(DESTDIR= ended "$install" --remove "$list")"
 "$install" --remove "$list"
 want 'what is left' '' "$(ls -A "$target")"

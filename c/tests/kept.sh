@@ -125,7 +125,7 @@ if [ "$(id -u)" = 0 ] && cp before.disk first.disk && device=$(losetup -f --show
     dd if=before.disk of="$device" conv=notrunc,fsync 2> lost
     start 'the first one, written onto it' "$other$keeps" "$said" "$device" ./chain
     # An entry gets another name, and its library's bytes stay.
-    entry=$(LC_ALL=C grep -aboP 'LIBE[\s\S]{12}libone' before.disk | sed -n '1s/:.*//p')
+    entry=$(LC_ALL=C grep -aboP 'LIBE[\s\S]{12}libone' before.disk | LC_ALL=C sed -n '1s/:.*//p')
     printf libuno | dd of="$device" bs=1 seek=$((entry + 16)) conv=notrunc,fsync 2> lost
     start 'another name in an entry' "$other" 'refused B3 Missing /program libone.so
 = 125' "$device" ./chain

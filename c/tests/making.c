@@ -1,7 +1,7 @@
 /* making LIBRARY NAME makes registries in the folder where it is run, with the calls of the system
  * watched. Each call fails, every two of them fail, and the process ends at each. There are file
- * systems without hard links, and files that exist before or are put there meanwhile. What is left
- * has to be no disk or a whole one, and then a registry is made. LIBRARY has the SONAME NAME. */
+ * systems without hard links, and files that exist before or are put there meanwhile. After each of
+ * these there is no disk or a whole one, and one can be made. LIBRARY has the SONAME NAME. */
 #define _GNU_SOURCE
 #include "watched.h"
 
@@ -32,15 +32,15 @@ static const char *text_of(uint32_t status) {
     return "";
 }
 
-/* Makes a registry. Returns a status. If it is made, the struct is open for changes, and has the
- * lock. */
+/* Makes a registry, and returns the status. If the registry is made, the struct is open for changes
+ * and has the lock. */
 static uint32_t format_path(const char *path, unsigned flags) {
     rlibreg *it = rlibreg_create();
     WANT(it);
-    rlibreg_wait_limit(it, 20);
+    rlibreg_set_wait_limit(it, 20);
     uint32_t status = rlibreg_format(it, path, 64, flags);
     int why = errno;
-    WANT(rlibreg_last(it)->status == status);
+    WANT(rlibreg_last_answer(it)->status == status);
     WANT(!strcmp(rlibreg_text(it), text_of(status)));
     if (!status) {
         int was_on = watched.is_on;
@@ -68,7 +68,7 @@ static int fails_by(uint32_t status, int why) {
 static uint64_t generation_of(const char *path) {
     rlibreg_listing listing;
     rlibreg *it = rlibreg_create();
-    WANT(!rlibreg_open(it, path, 0) && !rlibreg_listing_of(it, &listing) && !listing.libraries);
+    WANT(!rlibreg_open(it, path, 0) && !rlibreg_get_listing(it, &listing) && !listing.libraries);
     rlibreg_listing_free(&listing);
     rlibreg_close(it);
     return listing.generation;
@@ -88,7 +88,7 @@ static void clear(void) {
     WANT(here(""));
 }
 
-/* Writes a file, in place of what it had. */
+/* Writes a file, and replaces its old content. */
 static void put(const char *path, const char *bytes, size_t length) {
     int fd = open(path, O_WRONLY | O_CREAT | O_TRUNC, 0666);
     WANT(fd >= 0 && write(fd, bytes, length) == (ssize_t)length && !close(fd));
@@ -291,7 +291,7 @@ static void try_stolen(void) {
     thefts = 16;
     watched.before = steal;
     clear();
-    WANT(format(0) == RLIBREG_HELD && !is_there(DISK));
+    WANT(format(0) == RLIBREG_LOCKED && !is_there(DISK));
     unwatch();
     WANT(here(""));
 }
@@ -335,7 +335,7 @@ static void try_held(void) {
         put(OTHER, "x", 1);
         int fd = open(OTHER, O_RDONLY);
         WANT(fd >= 0 && !flock(fd, kinds[i]));
-        WANT(format(0) == RLIBREG_HELD && format(RLIBREG_WAIT) == RLIBREG_HELD);
+        WANT(format(0) == RLIBREG_LOCKED && format(RLIBREG_WAIT) == RLIBREG_LOCKED);
         WANT(here(OTHER " ") && !close(fd) && !format(0));
         clear();
     }

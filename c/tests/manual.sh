@@ -76,10 +76,10 @@ statuses rlibreg_open 2 3 4
 statuses rlibreg_format 2 3 4 301 304 306 311
 statuses rlibreg_remove 2 3 5 203 204 301 302 303 305 306 310 311 312
 statuses rlibreg_update 2 3 5 201 202 203 204 205 206 301 302 303 305 306 307 308 309 310 311 312
-statuses rlibreg_update_image_of 2 101 102 103 104 105 201 202 203 204 205 206 301 302 303 305 306 307 308 309 310 311 312
-statuses rlibreg_image_of 2 101 102 103 104 105 301 302 303 305 306 311 312
-statuses rlibreg_bindings_of 2 101 102 103 104 105 301 302 303 305 306 311 312
-statuses rlibreg_executable_of 2 101 102 103 104 105 301 302 303 305 306 311 312 401 402 403 404 405 407 408 409
+statuses rlibreg_preview_bind 2 101 102 103 104 105 201 202 203 204 205 206 301 302 303 305 306 307 308 309 310 311 312
+statuses rlibreg_bind_program 2 101 102 103 104 105 301 302 303 305 306 311 312
+statuses rlibreg_get_bindings 2 101 102 103 104 105 301 302 303 305 306 311 312
+statuses rlibreg_get_executable 2 101 102 103 104 105 301 302 303 305 306 311 312 401 402 403 404 405 407 408 409
 statuses rlibreg_list 1 303 305 306 311 312
 statuses rlibreg_file 1 203 303 305 306 311 312
 statuses rlibreg_digest 1 203 303 305 306 311 312
@@ -94,11 +94,11 @@ statuses rlibreg_upgrade 2 3 5 301 302 303 305 306 307 310 311
 statuses rlibreg_install 2 3 5 201 202 301 302 303 305 306 307 308 309 310 311 312
 statuses rlibreg_replace 2 3 5 201 203 301 302 303 305 306 307 308 310 311 312
 statuses rlibreg_preload 2 3 5 203 205 206 301 302 303 305 306 310 311 312
-statuses rlibreg_listing_of 2 301 302 303 305 306 311 312
-statuses rlibreg_file_of 2 203 301 302 303 305 306 311 312
-statuses rlibreg_digest_of 2 203 301 302 303 305 306 311 312
-statuses rlibreg_info_of 2 301 302 303 305 306 311 312
-statuses rlibreg_findings_of 2 301 302 303 305 306 311 312
+statuses rlibreg_get_listing 2 301 302 303 305 306 311 312
+statuses rlibreg_get_file 2 203 301 302 303 305 306 311 312
+statuses rlibreg_get_digest 2 203 301 302 303 305 306 311 312
+statuses rlibreg_get_info 2 301 302 303 305 306 311 312
+statuses rlibreg_check_libraries 2 301 302 303 305 306 311 312
 statuses rlibreg_text
 [ $count = 0 ] || echo "manual: $count refusals, each on one line of 80 columns"
 echo "manual: $calls calls, each with its declaration and its statuses"

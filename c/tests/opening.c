@@ -14,14 +14,14 @@ static char library[1 << 20];
 static size_t library_length;
 static const char *name;
 
-enum { CHANGES = RLIBREG_CHANGES, WAIT = RLIBREG_WAIT };
+enum { READ_WRITE = RLIBREG_READ_WRITE, WAIT = RLIBREG_WAIT };
 
 static uint32_t opens(const char *path, unsigned flags) {
     rlibreg *it = rlibreg_create();
     WANT(it);
     uint32_t status = rlibreg_open(it, path, flags);
     int why = errno;
-    WANT(rlibreg_last(it)->status == status && !rlibreg_text(it)[0]);
+    WANT(rlibreg_last_answer(it)->status == status && !rlibreg_text(it)[0]);
     WANT(rlibreg_errno(it) == (status == RLIBREG_SYSTEM ? why : 0));
     rlibreg_close(it);
     errno = why;
@@ -42,7 +42,7 @@ static void format(const char *path) {
 static uint64_t generation_of(const char *path, unsigned flags) {
     rlibreg_listing listing;
     rlibreg *it = rlibreg_create();
-    WANT(it && !rlibreg_open(it, path, flags) && !rlibreg_listing_of(it, &listing));
+    WANT(it && !rlibreg_open(it, path, flags) && !rlibreg_get_listing(it, &listing));
     rlibreg_listing_free(&listing);
     rlibreg_close(it);
     return listing.generation;
@@ -57,12 +57,12 @@ static void try_order(void) {
         const char *lock;
     } all[] = { { 0, "early lock-shared" },
                 { WAIT, "early lock-shared-waits" },
-                { CHANGES, "lock-alone mark-changes" },
-                { CHANGES | WAIT, "lock-alone mark-changes" } };
+                { READ_WRITE, "lock-alone mark-changes" },
+                { READ_WRITE | WAIT, "lock-alone mark-changes" } };
     for (size_t i = 0; i < sizeof all / sizeof *all; i++) {
         char wanted[160];
         snprintf(wanted, sizeof wanted, "open %s %s%sunlock ", all[i].lock, behind,
-                 all[i].flags & CHANGES ? "folder " : "");
+                 all[i].flags & READ_WRITE ? "folder " : "");
         watch();
         WANT(!opens("disk", all[i].flags));
         WANT(!strcmp(watched.log, wanted));
@@ -100,11 +100,11 @@ static void want_held_alone(const char *word) {
 static void try_locks(void) {
     rlibreg *it = rlibreg_create();
     WANT(!rlibreg_open(it, "disk", 0) && is_held("disk") && !is_held_alone("disk"));
-    WANT(opens("disk", CHANGES) == RLIBREG_HELD && !opens("disk", 0));
+    WANT(opens("disk", READ_WRITE) == RLIBREG_LOCKED && !opens("disk", 0));
     rlibreg_close(it);
     it = rlibreg_create();
-    WANT(!is_held("disk") && !rlibreg_open(it, "disk", CHANGES) && is_held_alone("disk"));
-    WANT(opens("disk", 0) == RLIBREG_HELD && opens("disk", CHANGES) == RLIBREG_HELD);
+    WANT(!is_held("disk") && !rlibreg_open(it, "disk", READ_WRITE) && is_held_alone("disk"));
+    WANT(opens("disk", 0) == RLIBREG_LOCKED && opens("disk", READ_WRITE) == RLIBREG_LOCKED);
     watched_disk = "disk";
     watch();
     watched.before = want_held_alone;
@@ -129,23 +129,23 @@ static void try_locks(void) {
 /* A process doesn't wait for a lock that it has: it would wait for itself. */
 static void try_own_locks(void) {
     WANT(!link("disk", "second"));
-    for (unsigned first = 0; first <= CHANGES; first++) {
+    for (unsigned first = 0; first <= READ_WRITE; first++) {
         rlibreg *it = rlibreg_create(), *other = rlibreg_create();
         WANT(!rlibreg_open(it, "disk", first | WAIT));
-        for (unsigned second = 0; second <= CHANGES; second++) {
-            uint32_t wanted = first || second ? RLIBREG_HELD : RLIBREG_DONE;
+        for (unsigned second = 0; second <= READ_WRITE; second++) {
+            uint32_t wanted = first || second ? RLIBREG_LOCKED : RLIBREG_DONE;
             WANT(opens("disk", second | WAIT) == wanted);
             WANT(opens("second", second | WAIT) == wanted);
         }
-        WANT(rlibreg_format(other, "disk", 64, WAIT) == RLIBREG_HELD);
+        WANT(rlibreg_format(other, "disk", 64, WAIT) == RLIBREG_LOCKED);
         rlibreg_close(it);
-        WANT(!rlibreg_open(other, "disk", CHANGES | WAIT));
+        WANT(!rlibreg_open(other, "disk", READ_WRITE | WAIT));
         rlibreg_close(other);
     }
     rlibreg *it = rlibreg_create();
-    WANT(!rlibreg_format(it, "new", 64, WAIT) && opens("new", WAIT) == RLIBREG_HELD);
+    WANT(!rlibreg_format(it, "new", 64, WAIT) && opens("new", WAIT) == RLIBREG_LOCKED);
     rlibreg_close(it);
-    WANT(!opens("new", CHANGES | WAIT) && !unlink("new") && !unlink("second"));
+    WANT(!opens("new", READ_WRITE | WAIT) && !unlink("new") && !unlink("second"));
 }
 
 /* ---- Files that are replaced before they are locked */
@@ -176,10 +176,10 @@ static uint32_t opens_replaced(int times, int none, unsigned flags) {
 
 static void try_replaced(void) {
     WANT(!unlink("disk"));
-    for (unsigned flags = 0; flags <= CHANGES; flags++) {
+    for (unsigned flags = 0; flags <= READ_WRITE; flags++) {
         WANT(!opens_replaced(1, 0, flags) && strstr(made("open") + 1, "open"));
         WANT(!opens_replaced(15, 0, flags));
-        WANT(opens_replaced(16, 0, flags) == RLIBREG_HELD && !made("sync"));
+        WANT(opens_replaced(16, 0, flags) == RLIBREG_LOCKED && !made("sync"));
         WANT(fails_by(opens_replaced(3, 1, flags), ENOENT));
     }
     format("disk");
@@ -197,7 +197,7 @@ static void try_syncs(void) {
         uint32_t status = opens("disk", 0);
         WANT(has_none ? !status && made("sync map unlock")
                       : fails_by(status, kinds[i]) && !made("map"));
-        WANT(fails_by(opens("disk", CHANGES), kinds[i]));
+        WANT(fails_by(opens("disk", READ_WRITE), kinds[i]));
         unwatch();
     }
 }
@@ -211,13 +211,13 @@ static void try_kinds(void) {
     const char *others[] = { "folder", "pipe", "/dev/null", "to-folder", "to-pipe", "to-null" };
     for (size_t i = 0; i < sizeof others / sizeof *others; i++) {
         WANT(fails_by(opens(others[i], 0), EINVAL));
-        WANT(opens(others[i], CHANGES) == RLIBREG_SYSTEM);
+        WANT(opens(others[i], READ_WRITE) == RLIBREG_SYSTEM);
         rlibreg *it = rlibreg_create();
         WANT(rlibreg_format(it, others[i], 64, 0) == RLIBREG_SYSTEM);
         rlibreg_close(it);
     }
-    WANT(fails_by(opens("nothing", 0), ENOENT) && fails_by(opens("nothing", CHANGES), ENOENT));
-    WANT(!opens("to-disk", 0) && !opens("to-disk", CHANGES));
+    WANT(fails_by(opens("nothing", 0), ENOENT) && fails_by(opens("nothing", READ_WRITE), ENOENT));
+    WANT(!opens("to-disk", 0) && !opens("to-disk", READ_WRITE));
     WANT(!strcmp(names_here(), "disk folder nothing pipe to-disk to-folder to-null to-pipe "));
     const char *made_here[] = { "nothing", "to-disk", "to-folder", "to-null", "to-pipe", "pipe" };
     for (size_t i = 0; i < sizeof made_here / sizeof *made_here; i++) WANT(!unlink(made_here[i]));
@@ -243,26 +243,26 @@ static void try_devices(void) {
     WANT(generation_of("disk", 0) == generation);
     WANT(!strcmp(watched.log, "open early lock-shared sync read read-past map unlock "));
     watch_device();
-    WANT(generation_of("disk", CHANGES) == generation);
+    WANT(generation_of("disk", READ_WRITE) == generation);
     WANT(!strcmp(watched.log, "open lock-alone mark-changes open-alone sync read read-past map "
                               "folder unlock "));
     watch_device();
     watched.refused = "open-alone";
     watched.because = EBUSY;
-    WANT(fails_by(opens("disk", CHANGES), EBUSY) && !made("sync"));
+    WANT(fails_by(opens("disk", READ_WRITE), EBUSY) && !made("sync"));
     watch_device();
     watched.before = change_device;
     changes_left = 15;
-    WANT(!opens("disk", CHANGES) && made("sync"));
+    WANT(!opens("disk", READ_WRITE) && made("sync"));
     watch_device();
     watched.before = change_device;
     changes_left = 16;
-    WANT(opens("disk", CHANGES) == RLIBREG_HELD && !made("sync"));
+    WANT(opens("disk", READ_WRITE) == RLIBREG_LOCKED && !made("sync"));
     unwatch();
     WANT(!is_held("disk"));
 }
 
-/* Returns how many milliseconds pass until a lock is had, or is given up. Others have it for
+/* Returns how many milliseconds pass until a lock is taken or given up. Others have the lock for
  * `times` tries. */
 static long waits(unsigned flags, int limit, const char *lock, long times, uint32_t wanted) {
     rlibreg *it = rlibreg_create();
@@ -270,7 +270,7 @@ static long waits(unsigned flags, int limit, const char *lock, long times, uint3
     watched.refused = lock;
     watched.because = EWOULDBLOCK;
     watched.times = times;
-    if (limit >= 0) rlibreg_wait_limit(it, limit);
+    if (limit >= 0) rlibreg_set_wait_limit(it, limit);
     WANT(rlibreg_open(it, "disk", flags) == wanted);
     unwatch();
     rlibreg_close(it);
@@ -281,15 +281,15 @@ enum { LONG = 1 << 20 };
 
 static void try_held_devices(void) {
     watch_device();
-    WANT(waits(CHANGES, -1, "lock-alone", 150, RLIBREG_DONE) == 300);
+    WANT(waits(READ_WRITE, -1, "lock-alone", 150, RLIBREG_DONE) == 300);
     watch_device();
-    WANT(waits(CHANGES, -1, "lock-alone", LONG, RLIBREG_HELD) == 2000);
+    WANT(waits(READ_WRITE, -1, "lock-alone", LONG, RLIBREG_LOCKED) == 2000);
     watch_device();
-    WANT(waits(0, -1, "lock-shared", 1, RLIBREG_HELD) == 0);
+    WANT(waits(0, -1, "lock-shared", 1, RLIBREG_LOCKED) == 0);
     watch_device();
-    WANT(waits(CHANGES | WAIT, -1, "lock-alone", 1, RLIBREG_DONE) == 0 && made("waits"));
+    WANT(waits(READ_WRITE | WAIT, -1, "lock-alone", 1, RLIBREG_DONE) == 0 && made("waits"));
     watch();
-    WANT(waits(CHANGES, -1, "lock-alone", 1, RLIBREG_HELD) == 0); /* a regular file */
+    WANT(waits(READ_WRITE, -1, "lock-alone", 1, RLIBREG_LOCKED) == 0); /* a regular file */
 }
 
 /* A wait ends when its limit is over, even if signals interrupt the calls of the system. */
@@ -297,21 +297,21 @@ static void try_limits(void) {
     const int limits[] = { 0, 1, 30, 5000 };
     for (size_t i = 0; i < 4; i++) {
         watch();
-        WANT(waits(WAIT, limits[i], "lock-shared", LONG, RLIBREG_HELD) == limits[i]);
+        WANT(waits(WAIT, limits[i], "lock-shared", LONG, RLIBREG_LOCKED) == limits[i]);
         watch();
-        WANT(waits(CHANGES | WAIT, limits[i], "lock-alone", LONG, RLIBREG_HELD) == limits[i]);
+        WANT(waits(READ_WRITE | WAIT, limits[i], "lock-alone", LONG, RLIBREG_LOCKED) == limits[i]);
         watch();
         watched.system = 0x6969; /* NFS */
-        WANT(waits(CHANGES | WAIT, limits[i], "lock-alone", LONG, RLIBREG_HELD) == limits[i]);
+        WANT(waits(READ_WRITE | WAIT, limits[i], "lock-alone", LONG, RLIBREG_LOCKED) == limits[i]);
         WANT(!made("mark"));
     }
     watch();
     WANT(waits(WAIT, 5000, "lock-shared", 100, RLIBREG_DONE) == 200);
     watch();
-    WANT(waits(CHANGES | WAIT, 5000, "lock-alone", 100, RLIBREG_DONE) == 200);
+    WANT(waits(READ_WRITE | WAIT, 5000, "lock-alone", 100, RLIBREG_DONE) == 200);
     WANT(made("lock-alone mark-waits nap lock-alone") && made("mark-changes sync"));
     watch();
-    WANT(waits(CHANGES | WAIT, -1, "lock-alone", 1, RLIBREG_DONE) == 0);
+    WANT(waits(READ_WRITE | WAIT, -1, "lock-alone", 1, RLIBREG_DONE) == 0);
     WANT(made("lock-alone mark-waits lock-alone-waits mark-changes sync"));
 }
 
@@ -327,7 +327,7 @@ int main(int argc, char **argv) {
     format("disk");
     try_order();
     try_faults(0);
-    try_faults(CHANGES);
+    try_faults(READ_WRITE);
     try_locks();
     try_own_locks();
     try_syncs();

@@ -8,7 +8,7 @@
 #include <sys/stat.h>
 #include <unistd.h>
 
-enum { SECTORS = 128, CHANGES = RLIBREG_CHANGES };
+enum { SECTORS = 128, READ_WRITE = RLIBREG_READ_WRITE };
 
 static char library[1 << 20];
 static size_t library_length;
@@ -16,7 +16,7 @@ static const char *name;
 
 static rlibreg *open_disk(const char *path) {
     rlibreg *it = rlibreg_create();
-    WANT(it && !rlibreg_open(it, path, CHANGES));
+    WANT(it && !rlibreg_open(it, path, READ_WRITE));
     return it;
 }
 
@@ -30,7 +30,7 @@ static uint32_t install(rlibreg *it) {
     return rlibreg_install(it, library, library_length);
 }
 
-/* Returns whether a call returned S1 (Device) because the file isn't as it was. */
+/* Returns whether a call returned S1 (Device) because the file has changed. */
 static int has_changed(const rlibreg *it, uint32_t status, int why) {
     return status == RLIBREG_DEVICE && errno == why && rlibreg_errno(it) == why &&
            !strcmp(rlibreg_text(it), "refused S1 Device\n");
@@ -142,20 +142,20 @@ static uint32_t look_by(rlibreg *it, int number) {
     char *text;
     size_t length;
     switch (number) {
-    case 0: return rlibreg_listing_of(it, &listing);
-    case 1: return rlibreg_image_of(it, library, library_length, 0, &image);
-    case 2: return rlibreg_file_of(it, name, &bytes, &length);
-    case 3: return rlibreg_findings_of(it, &findings);
+    case 0: return rlibreg_get_listing(it, &listing);
+    case 1: return rlibreg_bind_program(it, library, library_length, 0, &image);
+    case 2: return rlibreg_get_file(it, name, &bytes, &length);
+    case 3: return rlibreg_check_libraries(it, &findings);
     case 4: return rlibreg_upgrade(it);
-    case 5: return rlibreg_digest_of(it, name, digest);
-    case 6: return rlibreg_executable_of(it, library, library_length, 0, &bytes, &length);
-    case 7: return rlibreg_bindings_of(it, library, library_length, 0, &text, &length);
+    case 5: return rlibreg_get_digest(it, name, digest);
+    case 6: return rlibreg_get_executable(it, library, library_length, 0, &bytes, &length);
+    case 7: return rlibreg_get_bindings(it, library, library_length, 0, &text, &length);
     case 8: return rlibreg_update(it, &install, 1, library, library_length);
     case 9:
-        return rlibreg_update_image_of(it, &install, 1, library, library_length, library,
-                                       library_length, 0, &image);
+        return rlibreg_preview_bind(it, &install, 1, library, library_length, library,
+                                    library_length, 0, &image);
     }
-    return rlibreg_info_of(it, &information);
+    return rlibreg_get_info(it, &information);
 }
 
 static void try_looks(void) {

@@ -70,7 +70,7 @@ done
 # of undefined behaviour.
 loader="$flags -O1 $sanitizers"
 compiled loader "$loader" "$here"/../rlibreg_run*.c "$here/../rlibreg_stack.c" $library
-gcc $loader -o "$room/rlibreg-run" "$objects"/loader/*.o "$built/librlibreg.a"
+gcc $loader -o "$room/rlibreg-run" -Wl,--build-id=sha1 "$objects"/loader/*.o "$built/librlibreg.a"
 taking=-Wl,--wrap=mmap,--wrap=kernel_map,--wrap=rlibreg_bind
 gcc $loader -o "$room/run-taken" $taking "$here/taken.c" "$objects"/loader/*.o \
     "$built/librlibreg.a"

@@ -9,7 +9,7 @@ int main(int argc, char **argv) {
     rlibreg_listing listing;
     rlibreg *it = rlibreg_create();
     if (argc != 2 || !it || rlibreg_version() != RLIBREG_VERSION) return 1;
-    if (rlibreg_format(it, argv[1], 64, 0) || rlibreg_listing_of(it, &listing)) return 2;
+    if (rlibreg_format(it, argv[1], 64, 0) || rlibreg_get_listing(it, &listing)) return 2;
     fputs(rlibreg_text(it), stdout);
     rlibreg_listing_free(&listing);
     rlibreg_close(it);

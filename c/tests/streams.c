@@ -7,7 +7,7 @@
 #include <sys/stat.h>
 #include <unistd.h>
 
-enum { STREAMS = 3, CHANGES = RLIBREG_CHANGES };
+enum { STREAMS = 3, READ_WRITE = RLIBREG_READ_WRITE };
 
 static char library[1 << 20], before[64 * 512], found[64 * 512 + 1];
 static size_t library_length;
@@ -59,7 +59,7 @@ static void try_closed(void) {
             for (int i = 0; i < STREAMS; i++)
                 if (set >> i & 1) close(i);
             rlibreg *it = makes ? make("new") : rlibreg_create();
-            if (!makes) WANT(!rlibreg_open(it, "disk", CHANGES));
+            if (!makes) WANT(!rlibreg_open(it, "disk", READ_WRITE));
             for (int i = 0; i < STREAMS; i++)
                 if (set >> i & 1) WANT(is_filled(i));
             WANT(!rlibreg_install(it, library, library_length));
@@ -85,7 +85,7 @@ static void try_closed_meanwhile(const char *word, int makes) {
         watch();
         watched.before = close_stream;
         rlibreg *it = rlibreg_create();
-        WANT(!(makes ? rlibreg_format(it, "new", 64, 0) : rlibreg_open(it, "disk", CHANGES)));
+        WANT(!(makes ? rlibreg_format(it, "new", 64, 0) : rlibreg_open(it, "disk", READ_WRITE)));
         unwatch();
         WANT(made(word) && is_filled(closed));
         WANT(!rlibreg_upgrade(it));
@@ -100,7 +100,7 @@ static void try_the_disk(int how, int may_be_written) {
     for (int i = 0; i < STREAMS; i++) {
         rlibreg_listing listing;
         rlibreg *it = rlibreg_create(), *other = rlibreg_create();
-        WANT(!rlibreg_open(it, "disk", CHANGES));
+        WANT(!rlibreg_open(it, "disk", READ_WRITE));
         int fd = open("link", how);
         WANT(fd >= 0 && dup2(fd, i) == i && !close(fd));
         WANT(rlibreg_stream_of("disk") == (may_be_written ? i : -1));
@@ -109,10 +109,10 @@ static void try_the_disk(int how, int may_be_written) {
                             : !status && !rlibreg_remove(it, name));
         if (may_be_written)
             WANT(is_refused(rlibreg_update(it, NULL, 0, NULL, 0)) && is_as_before());
-        WANT(!rlibreg_listing_of(it, &listing));
+        WANT(!rlibreg_get_listing(it, &listing));
         rlibreg_listing_free(&listing);
         rlibreg_close(it);
-        for (unsigned flags = 0; flags <= CHANGES; flags++) {
+        for (unsigned flags = 0; flags <= READ_WRITE; flags++) {
             it = rlibreg_create();
             status = rlibreg_open(it, "disk", flags);
             WANT(may_be_written ? is_refused(status) && !is_held("disk") : !status);
@@ -131,7 +131,7 @@ static void try_the_disk(int how, int may_be_written) {
 static void try_devices(void) {
     int fd = open("other", O_RDWR | O_CREAT, 0666);
     WANT(fd >= 0 && dup2(fd, 1) == 1 && !close(fd));
-    for (unsigned flags = 0; flags <= CHANGES; flags++) {
+    for (unsigned flags = 0; flags <= READ_WRITE; flags++) {
         rlibreg *it = rlibreg_create();
         watch();
         watched.device = 0x701;

@@ -23,7 +23,7 @@ for number in range(3):
     except OSError:
         pass
 try:
-    with rlibreg.Registry('disk', changes=True) as registry:
+    with rlibreg.Registry('disk', read_write=True) as registry:
         for number in (1, 2):
             try:
                 os.write(number, b'what is printed\n' * 100)

@@ -52,7 +52,7 @@ leads() {
     want "the other link $1" '' "$(find . -maxdepth 1 -name '.disk*')"
 }
 
-# To and fro.
+# Switches to and fro.
 start
 ln -s nowhere .disk.rlibreg-switch
 want 'a switch' 'planned
@@ -180,7 +180,7 @@ start
 mkfifo begun
 change one two sh -c 'echo > begun; sleep 0.3; rlibreg-tool update "$RLIBREG_OTHER" < first' > waited &
 read -r < begun
-want 'a change of the live one meanwhile' "tool: the file is held
+want 'a change of the live one meanwhile' "tool: the file is locked
 = 9" "$(ended ../tool install disk "$data/long.so")"
 want 'a listing meanwhile' 'library b 376
 end' "$("$rlibreg" list disk)"

@@ -75,7 +75,8 @@ static void want_done(uint64_t steps) {
     WANT(!ask(ROOM) && answer.status == 0 && answer.count == steps);
     uint64_t whole = answer.bytes;
     memset(out, GUARDED, sizeof out);
-    WANT(ask(whole - 1) == RLIBREG_NO_ROOM && answer.count == steps && answer.bytes == whole);
+    WANT(ask(whole - 1) == RLIBREG_BUFFER_TOO_SMALL);
+    WANT(answer.count == steps && answer.bytes == whole);
     WANT(answer.text == 0 && out[whole - 1] == GUARDED);
     WANT(!ask(whole) && answer.bytes == whole);
     for (size_t i = 0; i < GUARD; i++) WANT(out[whole + i] == GUARDED);

@@ -28,7 +28,7 @@ static void print_segment(const rlibreg_image *image, const rlibreg_segment *it)
            it->permissions & RLIBREG_EXECUTE ? 'x' : '-');
     for (size_t at = 0; at < it->length; at++)
         printf(at % 16 == 15 || at + 1 == it->length ? "%02x\n" : "%02x",
-               image->bytes[it->from + at]);
+               image->bytes[it->offset + at]);
 }
 
 static void print_image(const rlibreg_image *image) {
@@ -65,7 +65,7 @@ static uint32_t with_file(rlibreg *it, const char *what, char **words) {
         status = rlibreg_replace(it, bytes, length);
     } else {
         rlibreg_image image;
-        status = rlibreg_image_of(it, bytes, length, strtoull(words[1], NULL, 16), &image);
+        status = rlibreg_bind_program(it, bytes, length, strtoull(words[1], NULL, 16), &image);
         if (!status) print_image(&image);
         rlibreg_image_free(&image);
     }
@@ -83,7 +83,7 @@ static uint32_t do_command(rlibreg *it, const char *what, char **words) {
     }
     if (!strcmp(what, "list") || !strcmp(what, "generation")) {
         rlibreg_listing listing;
-        uint32_t status = rlibreg_listing_of(it, &listing);
+        uint32_t status = rlibreg_get_listing(it, &listing);
         if (!status && what[0] == 'g')
             printf("generation %llu\n", (unsigned long long)listing.generation);
         rlibreg_listing_free(&listing);
@@ -104,7 +104,7 @@ int main(int argc, char **argv) {
         status = rlibreg_format(it, disk, (uint32_t)atol(argv[3]), flags);
     } else {
         int reads = !strcmp(what, "list") || !strcmp(what, "bind") || !strcmp(what, "generation");
-        status = rlibreg_open(it, disk, flags | (reads ? 0 : RLIBREG_CHANGES));
+        status = rlibreg_open(it, disk, flags | (reads ? 0 : RLIBREG_READ_WRITE));
         if (!status) status = do_command(it, what, argv + 3);
     }
     fputs(rlibreg_text(it), stdout);
@@ -112,8 +112,8 @@ int main(int argc, char **argv) {
         fprintf(stderr, "tool: %s\n", strerror(errno));
     else if (status < 100 && status)
         fprintf(stderr, "tool: %s\n", rlibreg_status_name(status));
-    if (rlibreg_last(it)->file_refusal)
-        fprintf(stderr, "%s\n", rlibreg_file_refusal_name(rlibreg_last(it)->file_refusal));
+    if (rlibreg_last_answer(it)->file_refusal)
+        fprintf(stderr, "%s\n", rlibreg_file_refusal_name(rlibreg_last_answer(it)->file_refusal));
     fflush(stdout);
     if (holds)
         while (getchar() != EOF) {

@@ -28,7 +28,7 @@
         }                                                                                          \
     } while (0)
 
-enum { CHANGES = RLIBREG_CHANGES, WAIT = RLIBREG_WAIT, NO_LIMIT = -1 };
+enum { READ_WRITE = RLIBREG_READ_WRITE, WAIT = RLIBREG_WAIT, NO_LIMIT = -1 };
 
 static double seconds(void) {
     struct timespec it;
@@ -45,7 +45,7 @@ static void sleep_for(double time) {
 static rlibreg *opens(const char *path, unsigned flags, int limit, uint32_t wanted) {
     rlibreg *it = rlibreg_create();
     WANT(it);
-    rlibreg_wait_limit(it, limit);
+    rlibreg_set_wait_limit(it, limit);
     WANT(rlibreg_open(it, path, flags) == wanted);
     return it;
 }
@@ -128,7 +128,7 @@ static void try_steady(void) {
     WANT(are_steady());
     for (int i = 0; i < 6; i++) {
         long before = shared->reads;
-        double took = time_of("disk", CHANGES | WAIT, i % 2 ? 5000 : NO_LIMIT, RLIBREG_DONE);
+        double took = time_of("disk", READ_WRITE | WAIT, i % 2 ? 5000 : NO_LIMIT, RLIBREG_DONE);
         WANT(took < 1.5); /* less than the most for which readers give way */
         while (shared->reads < before + READERS) usleep(1000);
     }
@@ -139,7 +139,7 @@ static void try_steady(void) {
 /* ---- Readers that give way */
 
 static void change_a_moment(void) {
-    rlibreg *it = opens("disk", CHANGES | WAIT, NO_LIMIT, RLIBREG_DONE);
+    rlibreg *it = opens("disk", READ_WRITE | WAIT, NO_LIMIT, RLIBREG_DONE);
     shared->waits++;
     sleep_for(0.2);
     rlibreg_close(it);
@@ -168,7 +168,7 @@ static void try_giving_way(void) {
     sleep_for(0.1);
     rlibreg_close(reader);
     while (shared->waits < 2 && !(shared->waits && is_marked())) usleep(1000);
-    if (shared->waits == 1) WANT(time_of("disk", 0, NO_LIMIT, RLIBREG_HELD) < 1.5);
+    if (shared->waits == 1) WANT(time_of("disk", 0, NO_LIMIT, RLIBREG_LOCKED) < 1.5);
     want_well(first);
     want_well(giving);
     want_well(second);
@@ -178,12 +178,12 @@ static void try_giving_way(void) {
 
 static void wait_to_change(void) {
     shared->waits = 1;
-    opens("disk", CHANGES | WAIT, NO_LIMIT, RLIBREG_DONE);
+    opens("disk", READ_WRITE | WAIT, NO_LIMIT, RLIBREG_DONE);
 }
 
 static void wait_with_limit(void) {
     shared->waits = 1;
-    opens("disk", CHANGES | WAIT, 60 * 1000, RLIBREG_DONE);
+    opens("disk", READ_WRITE | WAIT, 60 * 1000, RLIBREG_DONE);
 }
 
 static void *wait_in_thread(void *unused) {
@@ -191,7 +191,7 @@ static void *wait_in_thread(void *unused) {
     return unused;
 }
 
-/* Forks while a thread waits. The child lives on. */
+/* Forks while a thread waits. The child goes on running. */
 static void wait_and_fork(void) {
     pthread_t thread;
     WANT(!pthread_create(&thread, NULL, wait_in_thread, NULL));
@@ -242,20 +242,20 @@ static void have_signals(int come, int flags) {
 }
 
 static void hold_a_moment(void) {
-    rlibreg *it = opens("disk", CHANGES, NO_LIMIT, RLIBREG_DONE);
+    rlibreg *it = opens("disk", READ_WRITE, NO_LIMIT, RLIBREG_DONE);
     shared->waits = 1;
     sleep_for(0.3);
     rlibreg_close(it);
 }
 
 static void try_limits(void) {
-    for (unsigned flags = 0; flags <= CHANGES; flags++) {
+    for (unsigned flags = 0; flags <= READ_WRITE; flags++) {
         shared->is_over = shared->waits = 0;
         pid_t holder = child_that(hold_a_moment);
         while (!shared->waits) usleep(1000);
         have_signals(1, 0);
         WANT(time_of("disk", flags | WAIT, NO_LIMIT, RLIBREG_SYSTEM) < 0.3 && errno == EINTR);
-        double took = time_of("disk", flags | WAIT, 60, RLIBREG_HELD);
+        double took = time_of("disk", flags | WAIT, 60, RLIBREG_LOCKED);
         WANT(took >= 0.06 && took < 0.25);
         time_of("disk", flags | WAIT, 60 * 1000, RLIBREG_DONE);
         have_signals(0, 0);
@@ -279,7 +279,7 @@ static void try_malice(void) {
     shared->waits = 0;
     pid_t holder = child_that(hold_a_moment);
     while (!shared->waits) usleep(1000);
-    time_of("disk", CHANGES | WAIT, NO_LIMIT, RLIBREG_DONE);
+    time_of("disk", READ_WRITE | WAIT, NO_LIMIT, RLIBREG_DONE);
     WANT(waitpid(holder, NULL, 0) == holder);
     WANT(time_of("disk", 0, NO_LIMIT, RLIBREG_DONE) < 1.9);
     close(fd);
@@ -292,7 +292,7 @@ static _Atomic int inside, turns_had;
 /* Opens the disk again and again. A thread that has the exclusive lock has to be the only one with
  * a lock. */
 static void *take_turns(void *number) {
-    unsigned flags = (size_t)number % 4 ? CHANGES : 0;
+    unsigned flags = (size_t)number % 4 ? READ_WRITE : 0;
     for (int i = 0; i < 12; i++) {
         int limit = ((size_t)number + (size_t)i) % 3 ? NO_LIMIT : 60 * 1000;
         rlibreg *it = opens("disk", flags | WAIT, limit, RLIBREG_DONE);
@@ -326,9 +326,9 @@ static rlibreg *_Atomic handed;
 
 /* Opens `other`, waits for `disk`, and closes both. */
 static void *take_both(void *unused) {
-    rlibreg *first = opens("other", CHANGES | WAIT, NO_LIMIT, RLIBREG_DONE);
+    rlibreg *first = opens("other", READ_WRITE | WAIT, NO_LIMIT, RLIBREG_DONE);
     turns_had = 1;
-    rlibreg *second = opens("disk", CHANGES | WAIT, NO_LIMIT, RLIBREG_DONE);
+    rlibreg *second = opens("disk", READ_WRITE | WAIT, NO_LIMIT, RLIBREG_DONE);
     rlibreg_close(second);
     rlibreg_close(first);
     return unused;
@@ -337,7 +337,7 @@ static void *take_both(void *unused) {
 /* Closes what another thread opened. */
 static void *close_handed(void *unused) {
     rlibreg_information found;
-    WANT(!rlibreg_info_of(handed, &found));
+    WANT(!rlibreg_get_info(handed, &found));
     turns_had = 1;
     sleep_for(0.05);
     rlibreg_close(handed);
@@ -352,16 +352,16 @@ static void try_circle(void) {
     WANT(!pthread_create(&thread, NULL, take_both, NULL));
     while (!turns_had) usleep(1000);
     usleep(50 * 1000); /* now the thread waits */
-    time_of("other", WAIT, NO_LIMIT, RLIBREG_HELD);
-    time_of("disk", CHANGES | WAIT, NO_LIMIT, RLIBREG_HELD);
+    time_of("other", WAIT, NO_LIMIT, RLIBREG_LOCKED);
+    time_of("disk", READ_WRITE | WAIT, NO_LIMIT, RLIBREG_LOCKED);
     rlibreg_close(it);
     time_of("other", WAIT, NO_LIMIT, RLIBREG_DONE);
     WANT(!pthread_join(thread, NULL));
     turns_had = 0;
-    handed = opens("disk", CHANGES, NO_LIMIT, RLIBREG_DONE);
+    handed = opens("disk", READ_WRITE, NO_LIMIT, RLIBREG_DONE);
     WANT(!pthread_create(&thread, NULL, close_handed, NULL));
     while (!turns_had) usleep(1000);
-    time_of("disk", CHANGES | WAIT, NO_LIMIT, RLIBREG_DONE);
+    time_of("disk", READ_WRITE | WAIT, NO_LIMIT, RLIBREG_DONE);
     WANT(!pthread_join(thread, NULL));
 }
 
@@ -375,7 +375,7 @@ static void *call_while_cancelled(void *unused) {
     WANT(it && !pthread_cancel(pthread_self()));
     WANT(!rlibreg_format(it, "new", 64, 0) && !rlibreg_preload(it, NULL, 0));
     rlibreg_close(it);
-    it = opens("disk", CHANGES, NO_LIMIT, RLIBREG_DONE);
+    it = opens("disk", READ_WRITE, NO_LIMIT, RLIBREG_DONE);
     WANT(!rlibreg_preload(it, NULL, 0));
     rlibreg_close(it);
     calls_ended = 1;
@@ -390,8 +390,8 @@ static void try_cancel(void) {
     WANT(!pthread_create(&thread, NULL, call_while_cancelled, NULL));
     WANT(!pthread_join(thread, &ended));
     WANT(ended == PTHREAD_CANCELED && calls_ended);
-    rlibreg_close(opens("new", CHANGES, NO_LIMIT, RLIBREG_DONE));
-    rlibreg_close(opens("disk", CHANGES, NO_LIMIT, RLIBREG_DONE));
+    rlibreg_close(opens("new", READ_WRITE, NO_LIMIT, RLIBREG_DONE));
+    rlibreg_close(opens("disk", READ_WRITE, NO_LIMIT, RLIBREG_DONE));
     WANT(!unlink("new"));
 }
 

@@ -1,6 +1,6 @@
 /* Starts rlibreg-run as the tests of the loader do, with images that are kept. For each start, an
- * image is kept first, if it can be. Then it is taken twice, the last time by the loader as it is
- * built. The output of the first two starts goes nowhere, except what is said about the image. RUN
+ * image is kept first, if possible. Then the image is used twice, the second time by the loader as
+ * it is built. The output of the first two starts is dropped, except the lines about the image. RUN
  * is the loader that keeps images at once, BUILT is the other, FOLDER has the images, and SAID gets
  * the lines. */
 #define _GNU_SOURCE

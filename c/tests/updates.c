@@ -60,7 +60,7 @@ static rlibreg *opened(unsigned flags) {
 static const char *listed(rlibreg *it) {
     static char text[4096];
     rlibreg_listing listing;
-    WANT(!rlibreg_listing_of(it, &listing));
+    WANT(!rlibreg_get_listing(it, &listing));
     size_t at = (size_t)sprintf(text, "%d", (int)listing.generation);
     for (size_t i = 0; i < listing.libraries + listing.preloads; i++)
         at += (size_t)sprintf(text + at, " %s %u", listing.names + listing.entries[i].name,
@@ -97,8 +97,8 @@ static uint32_t update(rlibreg *it) {
 }
 
 static uint32_t image_after(rlibreg *it, rlibreg_image *image) {
-    return rlibreg_update_image_of(it, changes, count, bytes, length, program.bytes,
-                                   program.length, BASE, image);
+    return rlibreg_preview_bind(it, changes, count, bytes, length, program.bytes,
+                                program.length, BASE, image);
 }
 
 static int are_same(const rlibreg_image *one, const rlibreg_image *other_one) {
@@ -110,7 +110,7 @@ static int are_same(const rlibreg_image *one, const rlibreg_image *other_one) {
            !memcmp(one->bytes, other_one->bytes, all);
 }
 
-/* A bind before an update returns what a bind after it returns, also if the disk is open only for
+/* A bind before an update returns what a bind after it returns, even if the disk is open only for
  * reading. Nothing changes the disk before the update. */
 static void want_bound(uint32_t status) {
     rlibreg_image tried, shared, found;
@@ -119,11 +119,12 @@ static void want_bound(uint32_t status) {
     WANT(image_after(it, &shared) == status);
     WANT(update(it) == RLIBREG_READ_ONLY);
     rlibreg_close(it);
-    it = opened(RLIBREG_CHANGES);
-    WANT(image_after(it, &tried) == status && rlibreg_last(it)->status == status && is_as_before());
+    it = opened(RLIBREG_READ_WRITE);
+    WANT(image_after(it, &tried) == status && rlibreg_last_answer(it)->status == status);
+    WANT(is_as_before());
     char *line = strdup(rlibreg_text(it));
     WANT(!update(it) && !is_as_before() && !strcmp(rlibreg_text(it), "ok\n"));
-    WANT(rlibreg_image_of(it, program.bytes, program.length, BASE, &found) == status);
+    WANT(rlibreg_bind_program(it, program.bytes, program.length, BASE, &found) == status);
     WANT(!strcmp(rlibreg_text(it), line));
     if (status) WANT(!tried.bytes && !tried.segments && !tried.objects && !tried.count);
     if (!status) WANT(are_same(&tried, &found) && are_same(&tried, &shared));
@@ -134,16 +135,16 @@ static void want_bound(uint32_t status) {
     rlibreg_close(it);
 }
 
-/* Checks that one of the changes is refused, after `behind` others, by the update and by a bind
- * before it. */
+/* Checks that change number `behind` (from 0) is refused with `status`, by the update and by a bind
+ * that previews it. */
 static void want_refused(uint32_t status, uint64_t behind, const char *line) {
     rlibreg_image image;
     read_disk(before);
-    rlibreg *it = opened(RLIBREG_CHANGES);
+    rlibreg *it = opened(RLIBREG_READ_WRITE);
     for (int binds = 0; binds < 2; binds++) {
         WANT((binds ? image_after(it, &image) : update(it)) == status && is_as_before());
-        WANT(rlibreg_last(it)->count == behind && rlibreg_last(it)->status == status);
-        WANT(rlibreg_last(it)->file_refusal == (status == RLIBREG_BAD_FILE ? 1 : 0));
+        WANT(rlibreg_last_answer(it)->count == behind && rlibreg_last_answer(it)->status == status);
+        WANT(rlibreg_last_answer(it)->file_refusal == (status == RLIBREG_BAD_FILE ? 1 : 0));
         WANT(!strcmp(rlibreg_text(it), line) && !rlibreg_errno(it));
     }
     WANT(!image.bytes && !image.segments && !image.objects && !image.count);
@@ -178,7 +179,7 @@ static void try_nothing(void) {
     rlibreg *it = formatted(SECTORS);
     read_disk(before);
     WANT(!rlibreg_update(it, NULL, 0, NULL, 0) && !strcmp(rlibreg_text(it), "ok\n"));
-    WANT(rlibreg_last(it)->count == 1 && is_as_before());
+    WANT(rlibreg_last_answer(it)->count == 1 && is_as_before());
     rlibreg_close(it);
 }
 
@@ -273,7 +274,8 @@ static void want_no_memory(rlibreg *it) {
     rlibreg_image image;
     WANT(image_after(it, &image) == RLIBREG_OUT_OF_MEMORY && !image.bytes && !image.count);
     WANT(!strcmp(rlibreg_text(it), "refused S11 OutOfMemory\n") && !rlibreg_errno(it));
-    WANT(rlibreg_last(it)->count == 0 && rlibreg_last(it)->status == RLIBREG_OUT_OF_MEMORY);
+    const rlibreg_answer *answer = rlibreg_last_answer(it);
+    WANT(answer->count == 0 && answer->status == RLIBREG_OUT_OF_MEMORY);
 }
 
 static void try_no_map(void) {
@@ -341,7 +343,7 @@ static void try_limits(const char *which, int (*set)(void), uint32_t sectors) {
     pid_t child = fork();
     WANT(child >= 0);
     if (!child) {
-        rlibreg *it = opened(RLIBREG_CHANGES);
+        rlibreg *it = opened(RLIBREG_READ_WRITE);
         if (set()) _exit(SKIPPED);
         bind_and_update(it, sectors);
         _exit(0);

@@ -45,7 +45,7 @@ static int updater(long end, int *has_ended) {
 static void want_installed(const char *path) {
     rlibreg_listing listing;
     rlibreg *it = rlibreg_create();
-    WANT(it && !rlibreg_open(it, path, 0) && !rlibreg_listing_of(it, &listing));
+    WANT(it && !rlibreg_open(it, path, 0) && !rlibreg_get_listing(it, &listing));
     WANT(listing.libraries == 1 && !strcmp(listing.names + listing.entries[0].name, name));
     rlibreg_listing_free(&listing);
     rlibreg_close(it);
@@ -124,7 +124,7 @@ static void *update(void *unused) {
     return unused;
 }
 
-/* Each thread succeeds: it waits for the others, also for the one that makes the disk. */
+/* Each thread succeeds: it waits for the others, including the one that makes the disk. */
 static void try_threads(void (*leave)(void)) {
     int status;
     leave();

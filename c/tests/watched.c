@@ -49,7 +49,7 @@ static int is_refused_word(const char *word) {
     return 0;
 }
 
-/* Logs a call. Returns whether it is to fail. */
+/* Logs a call. Returns whether the call has to fail. */
 static int fails(const char *word, int only_looks) {
     if (!watched.is_on) return 0;
     long number = watched.calls++;

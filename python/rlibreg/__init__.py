@@ -1,6 +1,6 @@
 """A registry of shared libraries that survives power cuts, and a binder of programs.
 
-    with rlibreg.Registry('disk', changes=True) as registry:
+    with rlibreg.Registry('disk', read_write=True) as registry:
         registry.install(Path('libone.so'))
         image = registry.bind(Path('program'), 1 << 40)
 
@@ -26,9 +26,10 @@ from typing import (Any, Callable, Iterable, Iterator, List, Literal, NamedTuple
 from . import _calls
 from ._calls import library as _library
 
-__all__ = ['Binding', 'Bindings', 'BoundObject', 'Busy', 'Closed', 'Error', 'Finding', 'Held',
-           'Image', 'Info', 'Library', 'Listing', 'Object', 'Permissions', 'Put', 'Refusal',
-           'Registry', 'Segment', 'Status', 'SystemFault', 'Update', 'format', 'upgrade', 'version']
+__all__ = ['Binding', 'Bindings', 'BoundObject', 'Busy', 'Closed', 'Error', 'Finding', 'Image',
+           'Info', 'Library', 'Listing', 'Locked', 'Object', 'Permissions', 'Put', 'Refusal',
+           'Registry', 'Segment', 'Status', 'SystemFault', 'Update', 'format', 'upgrade',
+           'version']
 
 PathName = Union[str, bytes, 'os.PathLike[str]', 'os.PathLike[bytes]']
 Content = Union[bytes, bytearray, memoryview, str, 'os.PathLike[str]', 'os.PathLike[bytes]']
@@ -43,15 +44,15 @@ class Status(enum.IntEnum):
     """The answers of calls, by the names and numbers of rlibreg.h."""
 
     DONE = 0
-    NO_ROOM = 1
+    BUFFER_TOO_SMALL = 1
     BAD_ARGUMENT = 2
     SYSTEM = 3
-    HELD = 4
+    LOCKED = 4
     READ_ONLY = 5
     BAD_PROGRAM = 101
     BAD_BASE = 102
     MISSING = 103
-    NO_PLACE = 104
+    ADDRESS_TOO_HIGH = 104
     UNDEFINED = 105
     BAD_FILE = 201
     ALREADY_INSTALLED = 202
@@ -210,7 +211,7 @@ class Refusal(Error):
     then a change was made or not, and the registry has to be opened again."""
 
 
-class Held(Error):
+class Locked(Error):
     """Another process, or another Registry of this process, has locked the file."""
 
 
@@ -286,7 +287,7 @@ def _word(word: PathName) -> bytes:
 def _words(names: Iterable[str]) -> list[bytes]:
     """Returns the names of preloads for C."""
     if isinstance(names, (str, bytes)):
-        raise TypeError('preloads are a list of names')
+        raise TypeError('preloads must be a list of names')
     return [_word(name) for name in names]
 
 
@@ -294,16 +295,16 @@ def _unsigned(value: int, bits: int) -> int:
     """Returns a number that fits into C's type: ctypes would take it modulo 2^bits."""
     number = operator.index(value)
     if not 0 <= number < 1 << bits:
-        raise OverflowError(f'{number} is no unsigned number of {bits} bits')
+        raise OverflowError(f'{number} is not an unsigned {bits}-bit number')
     return number
 
 
 def _seconds(wait: Wait) -> float:
     """Returns how many seconds to wait for a lock."""
     if not isinstance(wait, (int, float)):
-        raise TypeError('wait is True, False, or a number of seconds')
+        raise TypeError('wait must be True, False, or a number of seconds')
     if not wait >= 0:
-        raise ValueError('wait is less than no time')
+        raise ValueError('wait must not be negative')
     return math.inf if wait is True else wait
 
 
@@ -385,7 +386,7 @@ class _Handle:
         if self.is_closed:
             return _error(Closed, Status.BAD_ARGUMENT, 'the registry is closed')
         if self.turn.is_taken:
-            return _error(Busy, Status.BAD_ARGUMENT, 'the registry is within another call')
+            return _error(Busy, Status.BAD_ARGUMENT, 'the registry is in another call')
         return None
 
     def do(self, work: Callable[[], Union[Error, _Given]]) -> _Given:
@@ -424,10 +425,10 @@ class _Handle:
         while True:
             begun = time.monotonic()
             piece = max(0, min(end - begun, _PIECE))
-            _library.rlibreg_wait_limit(self.struct, math.ceil(piece * 1000))
+            _library.rlibreg_set_wait_limit(self.struct, math.ceil(piece * 1000))
             try:
                 return self.call(name, *words, flags)
-            except Held:
+            except Locked:
                 now = time.monotonic()
                 if now >= end or now < begun + piece:
                     raise
@@ -449,10 +450,10 @@ class _Handle:
             text = os.strerror(why)
             kind = _FAULTS.get(type(OSError(why, text)), SystemFault)
             return _error(kind, status, why, text, self.path)
-        error = _error(Refusal if status > 100 else Held if status == Status.HELD else Error,
+        error = _error(Refusal if status > 100 else Locked if status == Status.LOCKED else Error,
                        status, _library.rlibreg_status_name(status).decode())
         error.text = _library.rlibreg_text(self.struct).decode('ascii', 'replace').rstrip('\n')
-        error.file_refusal = _library.rlibreg_last(self.struct).contents.file_refusal
+        error.file_refusal = _library.rlibreg_last_answer(self.struct).contents.file_refusal
         if error.file_refusal:
             named = _library.rlibreg_file_refusal_name(error.file_refusal)
             error.file_refusal_name = named.decode()
@@ -465,7 +466,7 @@ def _list(handle: _Handle) -> Error | Listing:
     """Returns a listing in Python's own memory."""
     given = _calls.Listing()
     try:
-        error = handle.ask('listing_of', ctypes.byref(given))
+        error = handle.ask('get_listing', ctypes.byref(given))
         if error:
             return error
         entries = given.entries[:given.libraries + given.preloads]
@@ -490,17 +491,17 @@ def _given(handle: _Handle, call: str, *words: object) -> Tuple[Error | None, by
 
 def _file(handle: _Handle, name: bytes) -> Error | bytes:
     """Returns a library's bytes."""
-    error, data = _given(handle, 'file_of', name)
+    error, data = _given(handle, 'get_file', name)
     return error or data
 
 
 def _executable(handle: _Handle, program: bytes, base: int) -> Error | bytes:
-    error, data = _given(handle, 'executable_of', program, len(program), base)
+    error, data = _given(handle, 'get_executable', program, len(program), base)
     return error or data
 
 
 def _bindings(handle: _Handle, program: bytes, base: int) -> Error | Bindings:
-    error, data = _given(handle, 'bindings_of', program, len(program), base)
+    error, data = _given(handle, 'get_bindings', program, len(program), base)
     if error and not data:
         return error
     text = data.decode('ascii')
@@ -597,7 +598,7 @@ def _image(given: _calls.Image) -> Image:
     places = given.segments[:given.count]
     data = given.view(sum(it.length for it in places))
     segments = [Segment(it.address, Permissions(it.permissions),
-                        data[it.from_:it.from_ + it.length]) for it in places]
+                        data[it.offset:it.offset + it.length]) for it in places]
     return Image(segments, [_object(it, given, segments)
                             for it in given.objects[:given.object_count]])
 
@@ -629,7 +630,7 @@ class Update:
         if error:
             raise error
         if self._changes is not None:
-            raise _error(Error, Status.BAD_ARGUMENT, 'the update has begun')
+            raise _error(Error, Status.BAD_ARGUMENT, 'the update has already begun')
         self._changes = []
         return self
 
@@ -643,7 +644,7 @@ class Update:
     def _begun(self) -> list[tuple[int, bytes]]:
         """Returns the changes so far."""
         if self._changes is None:
-            raise _error(Error, Status.BAD_ARGUMENT, 'an update is made within its `with`')
+            raise _error(Error, Status.BAD_ARGUMENT, 'changes of an update must be made inside its `with` block')
         return self._changes
 
     def _call(self, name: str, *words: object) -> None:
@@ -660,7 +661,7 @@ class Update:
         """Makes a call. Returns its error, which says which change is refused, or None."""
         error = self._handle.ask(name, *words)
         if error and _is_of_a_change(error.number):
-            error.change = _library.rlibreg_last(self._handle.struct).contents.count
+            error.change = _library.rlibreg_last_answer(self._handle.struct).contents.count
         return error
 
     def install(self, file: Content) -> None:
@@ -685,24 +686,26 @@ class Update:
         Writes nothing."""
         data, given = _content(program), _calls.Image()
         address = _unsigned(base, 64)
-        self._call('update_image_of', data, len(data), address, ctypes.byref(given))
+        self._call('preview_bind', data, len(data), address, ctypes.byref(given))
         return _image(given)
 
 
 class Registry:
     """The registry in a file, or on a block device. It is open and locked until `close`, or until
-    the end of a `with` block. With `changes` the lock is exclusive, otherwise it is shared with
-    other readers. If somebody else has the lock, Held is raised; with `wait` the call waits for the
-    lock instead, without end or for that many seconds.
+    the end of a `with` block. With `read_write` it is open for changes too, and the lock is
+    exclusive; otherwise the lock is shared with other readers. If somebody else has the lock,
+    Locked is raised; with `wait` the call waits for the lock instead, without end or for that many
+    seconds.
 
     The file of a library or a program is given as its bytes (any object that has a buffer), or by
     its path (a str or an os.PathLike). A path is read whole."""
 
-    def __init__(self, path: PathName, changes: bool = False, wait: Wait = False) -> None:
+    def __init__(self, path: PathName, read_write: bool = False, wait: Wait = False) -> None:
         name = _word(path)
         self._handle = _Handle(path)
         try:
-            self._handle.open('open', name, flags=_calls.CHANGES if changes else 0, wait=wait)
+            flags = _calls.READ_WRITE if read_write else 0
+            self._handle.open('open', name, flags=flags, wait=wait)
         except BaseException:
             self._handle.close()
             raise
@@ -783,13 +786,13 @@ class Registry:
         """Returns the SHA-256 of the bytes that `file` returns for this name, as hashlib's
         `digest` does."""
         word, given = _word(name), _calls.array(_calls.DIGEST_BYTES)()
-        self._handle.call('digest_of', word, given)
+        self._handle.call('get_digest', word, given)
         return bytes(given.raw)
 
     def info(self) -> Info:
         """Returns the numbers of the registry as a whole. It reads no library's file."""
         given = _calls.Information()
-        self._handle.call('info_of', ctypes.byref(given))
+        self._handle.call('get_info', ctypes.byref(given))
         return Info(*(getattr(given, name) for name in Info._fields))
 
     def check(self) -> Findings:
@@ -797,7 +800,7 @@ class Registry:
         of its file. A damaged library doesn't prevent the others from being tested."""
         given = _calls.Findings()
         try:
-            self._handle.call('findings_of', ctypes.byref(given))
+            self._handle.call('check_libraries', ctypes.byref(given))
             return _findings(given)
         finally:
             _library.rlibreg_findings_free(ctypes.byref(given))
@@ -815,7 +818,7 @@ class Registry:
                     raise _damaged(name, finding)
                 data = self.file(name)
                 if self.info().generation != listing.generation:
-                    raise _error(Error, Status.BAD_ARGUMENT, 'the registry was changed meanwhile')
+                    raise _error(Error, Status.BAD_ARGUMENT, 'the registry was changed during the dump')
                 yield begin + b'install '
                 for at in range(0, len(data), _DUMPED):
                     yield binascii.hexlify(data[at:at + _DUMPED])
@@ -832,7 +835,7 @@ class Registry:
         """Binds a program at an address, with the preloads and the libraries that it needs."""
         data, given = _content(program), _calls.Image()
         address = _unsigned(base, 64)
-        self._handle.call('image_of', data, len(data), address, ctypes.byref(given))
+        self._handle.call('bind_program', data, len(data), address, ctypes.byref(given))
         return _image(given)
 
     def bindings(self, program: Content, base: int) -> Bindings:
@@ -863,5 +866,5 @@ def format(path: PathName, sectors: int, wait: Wait = False) -> None:
 
 def upgrade(path: PathName, wait: Wait = False) -> None:
     """Makes a registry of version 1 one of version 2, with everything that it has."""
-    with Registry(path, changes=True, wait=wait) as registry:
+    with Registry(path, read_write=True, wait=wait) as registry:
         registry._handle.call('upgrade')

@@ -8,10 +8,10 @@ import glob
 import os
 from typing import Any
 
-VERSION = '0.3.0'  # the version of rlibreg.h, whose structures and calls are below
+VERSION = '0.4.0'  # the version of rlibreg.h, whose structures and calls are below
 NAME = f'librlibreg.so.{VERSION.rpartition(".")[0]}'  # its SONAME
 
-CHANGES, WAIT = 1, 2
+READ_WRITE, WAIT = 1, 2
 SOUND, OTHER_NAME = 0, 100
 INSTALL, REPLACE, REMOVE, PRELOAD = 1, 2, 3, 4
 DIGEST_BYTES = 32
@@ -26,7 +26,7 @@ class Answer(ctypes.Structure):
 
 class Segment(ctypes.Structure):
     _fields_ = [('address', ctypes.c_uint64), ('length', ctypes.c_uint64),
-                ('from_', ctypes.c_uint64), ('permissions', ctypes.c_uint64)]
+                ('offset', ctypes.c_uint64), ('permissions', ctypes.c_uint64)]
 
 
 class Object(ctypes.Structure):
@@ -46,7 +46,7 @@ class Finding(ctypes.Structure):
 
 
 class Change(ctypes.Structure):
-    _fields_ = [(name, ctypes.c_uint64) for name in ('kind', 'from', 'length')]
+    _fields_ = [(name, ctypes.c_uint64) for name in ('kind', 'offset', 'length')]
 
 
 class Information(ctypes.Structure):
@@ -101,9 +101,9 @@ PROTOTYPES: dict[str, tuple[Any, ...]] = {  # the result of each call, and its a
     'create': (Registry,),
     'close': (None, POINTER),
     'text': (TEXT, POINTER),
-    'last': (ctypes.POINTER(Answer), POINTER),
+    'last_answer': (ctypes.POINTER(Answer), POINTER),
     'errno': (ctypes.c_int, POINTER),
-    'wait_limit': (None, POINTER, ctypes.c_int),
+    'set_wait_limit': (None, POINTER, ctypes.c_int),
     'open': (NUMBER, POINTER, TEXT, FLAGS),
     'format': (NUMBER, POINTER, TEXT, NUMBER, FLAGS),
     'upgrade': (NUMBER, POINTER),
@@ -112,21 +112,21 @@ PROTOTYPES: dict[str, tuple[Any, ...]] = {  # the result of each call, and its a
     'remove': (NUMBER, POINTER, TEXT),
     'preload': (NUMBER, POINTER, ctypes.POINTER(TEXT), SIZE),
     'update': (NUMBER, POINTER, ctypes.POINTER(Change), SIZE, TEXT, SIZE),
-    'listing_of': (NUMBER, POINTER, ctypes.POINTER(Listing)),
+    'get_listing': (NUMBER, POINTER, ctypes.POINTER(Listing)),
     'listing_free': (None, ctypes.POINTER(Listing)),
-    'file_of': (NUMBER, POINTER, TEXT, ctypes.POINTER(POINTER), ctypes.POINTER(SIZE)),
-    'digest_of': (NUMBER, POINTER, TEXT, POINTER),
-    'info_of': (NUMBER, POINTER, ctypes.POINTER(Information)),
-    'findings_of': (NUMBER, POINTER, ctypes.POINTER(Findings)),
+    'get_file': (NUMBER, POINTER, TEXT, ctypes.POINTER(POINTER), ctypes.POINTER(SIZE)),
+    'get_digest': (NUMBER, POINTER, TEXT, POINTER),
+    'get_info': (NUMBER, POINTER, ctypes.POINTER(Information)),
+    'check_libraries': (NUMBER, POINTER, ctypes.POINTER(Findings)),
     'findings_free': (None, ctypes.POINTER(Findings)),
-    'image_of': (NUMBER, POINTER, TEXT, SIZE, ctypes.c_uint64, ctypes.POINTER(Image)),
-    'update_image_of': (NUMBER, POINTER, ctypes.POINTER(Change), SIZE, TEXT, SIZE, TEXT, SIZE,
-                        ctypes.c_uint64, ctypes.POINTER(Image)),
+    'bind_program': (NUMBER, POINTER, TEXT, SIZE, ctypes.c_uint64, ctypes.POINTER(Image)),
+    'preview_bind': (NUMBER, POINTER, ctypes.POINTER(Change), SIZE, TEXT, SIZE, TEXT, SIZE,
+                     ctypes.c_uint64, ctypes.POINTER(Image)),
     'image_free': (None, ctypes.POINTER(Image)),
-    'bindings_of': (NUMBER, POINTER, TEXT, SIZE, ctypes.c_uint64, ctypes.POINTER(POINTER),
-                    ctypes.POINTER(SIZE)),
-    'executable_of': (NUMBER, POINTER, TEXT, SIZE, ctypes.c_uint64, ctypes.POINTER(POINTER),
-                      ctypes.POINTER(SIZE)),
+    'get_bindings': (NUMBER, POINTER, TEXT, SIZE, ctypes.c_uint64, ctypes.POINTER(POINTER),
+                     ctypes.POINTER(SIZE)),
+    'get_executable': (NUMBER, POINTER, TEXT, SIZE, ctypes.c_uint64, ctypes.POINTER(POINTER),
+                       ctypes.POINTER(SIZE)),
 }
 
 

@@ -96,7 +96,7 @@ def run_command(disk, command, words):
         return rlibreg.upgrade(disk)
     if command in ('install', 'replace', 'bind') and words[0] != str(disk):
         words = [Path(words[0]).read_bytes(), *words[1:]]  # as the program: before the disk
-    with rlibreg.Registry(disk, changes=command not in ('list', 'bind')) as registry:
+    with rlibreg.Registry(disk, read_write=command not in ('list', 'bind')) as registry:
         test_all(registry)
         return ask(registry, command, words)
 
@@ -196,7 +196,7 @@ def on_disk(case, disk):
     name, *words = run.words
     path = disk if name == 'disk' else name and disk.parent / name
     if run.program == 'tool':
-        with rlibreg.Registry(path, changes=True) as registry:
+        with rlibreg.Registry(path, read_write=True) as registry:
             text, status = update_by(registry, update_of(run.script))
     elif run.command == 'script':
         text, status = told_script(path, run.script)
@@ -210,7 +210,7 @@ def on_disk(case, disk):
 
 def told_script(path, script):
     try:
-        with rlibreg.Registry(path, changes=True) as registry:
+        with rlibreg.Registry(path, read_write=True) as registry:
             test_all(registry)
             replies, statuses = run_lines(registry, script)
     except OSError:
@@ -258,7 +258,7 @@ def script_on(case, disk):
     script = script_of(file(' '.join(words)))
     lines, refused, wanted = case.answer.split(' ', 2)
     rlibreg.format(disk, number(sectors))
-    with rlibreg.Registry(disk, changes=True) as registry:
+    with rlibreg.Registry(disk, read_write=True) as registry:
         replies, statuses = run_lines(registry, script)
     counts = len(statuses) - 1, sum(1 for it in statuses if it)
     return (int(lines), int(refused), without_objects(answer(wanted))), (*counts, replies)
@@ -274,7 +274,7 @@ def bound(spelt, disk):
     program, base = program.rsplit(' ', 1)
     disk.unlink(missing_ok=True)
     rlibreg.format(disk, 8192)
-    with rlibreg.Registry(disk, changes=True) as registry:
+    with rlibreg.Registry(disk, read_write=True) as registry:
         for library in libraries:
             registry.install(file(library))
         registry.preload(preloads.split())
@@ -322,7 +322,7 @@ def library_on(case, disk):
     before = file('strong.so').ljust(len(data), b'+')[:len(data)]
     disk.unlink(missing_ok=True)
     rlibreg.format(disk, 40000)
-    with rlibreg.Registry(disk, changes=True) as registry:
+    with rlibreg.Registry(disk, read_write=True) as registry:
         try:
             registry.install(before)
         except rlibreg.Refusal:

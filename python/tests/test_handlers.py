@@ -23,7 +23,7 @@ SECONDS = 0.4  # the seconds of each test
 class Handlers(OnDisk):
     def setUp(self):
         super().setUp()
-        self.registry = Registry(self.disk, changes=True)
+        self.registry = Registry(self.disk, read_write=True)
         library, program = LIBRARY.read_bytes(), PROGRAM.read_bytes()
         self.registry.install(library)
         self.addCleanup(lambda: self.registry.close())
@@ -127,7 +127,7 @@ class Handlers(OnDisk):
     def test_a_handler_closes(self):
         self.registry.close()
         within, files = [], len(os.listdir('/proc/self/fd'))
-        self.registry = Registry(self.disk, changes=True)
+        self.registry = Registry(self.disk, read_write=True)
 
         def handler():
             within.extend([1] * self.registry._handle.turn.is_taken)
@@ -142,7 +142,7 @@ class Handlers(OnDisk):
                     self.try_all(wrong)
             self.assertEqual(wrong, [])
             self.assertEqual(len(os.listdir('/proc/self/fd')), files)
-            self.registry = Registry(self.disk, changes=True)
+            self.registry = Registry(self.disk, read_write=True)
         self.assertGreater(len(within), 10)
 
     @unittest.skipIf(sys.version_info < (3, 10), 'a `with` may end without its end')
@@ -186,7 +186,7 @@ class Handlers(OnDisk):
             self.registry.close()
             for it in threads:
                 it.join()
-            self.registry = Registry(self.disk, changes=True)
+            self.registry = Registry(self.disk, read_write=True)
         self.assertEqual((wrong, len(closed)), ([], 80))
 
     def test_a_child_of_a_handler_closes(self):
@@ -208,7 +208,7 @@ class Handlers(OnDisk):
         self.assertEqual(len(children), 10)
         for it in children:
             self.assertEqual(os.waitpid(it, 0)[1], 0)
-        self.refused(Status.HELD, Registry, self.disk)
+        self.refused(Status.LOCKED, Registry, self.disk)
 
 
 CLOSED = '''
@@ -223,7 +223,7 @@ rlibreg.format(disk, 512)
 say()
 with rlibreg.Registry(disk) as registry:
     say()
-with rlibreg.Registry(disk, changes=True, wait=1) as registry:
+with rlibreg.Registry(disk, read_write=True, wait=1) as registry:
     say()
     registry.install(library)
     say()
@@ -235,14 +235,14 @@ def is_refused(call):
     try: call()
     except rlibreg.SystemFault as error: return error.errno == 26
 disk, library = sys.argv[1:]
-sys.exit(not (is_refused(lambda: rlibreg.Registry(disk, changes=True))
+sys.exit(not (is_refused(lambda: rlibreg.Registry(disk, read_write=True))
               and is_refused(lambda: rlibreg.Registry(disk))))
 '''
 
 END = '''
 import pathlib, sys, threading, time, rlibreg
 program = pathlib.Path(sys.argv[2])
-registry = sys.kept = rlibreg.Registry(sys.argv[1], changes=True)
+registry = sys.kept = rlibreg.Registry(sys.argv[1], read_write=True)
 registry.itself = registry
 def work(call):
     while True: call()
@@ -261,7 +261,7 @@ class Streams(OnDisk):
 
     def test_closed_streams(self):
         """Printed text doesn't go into a disk that would have the number of a closed stream."""
-        with Registry(self.disk, changes=True) as registry:
+        with Registry(self.disk, read_write=True) as registry:
             registry.install(LIBRARY)
         for closed in ('0', '1', '2', '012'):
             found = self.run_on(self.disk.with_name(closed), CLOSED, *closed, capture_output=True)
@@ -277,13 +277,13 @@ class Streams(OnDisk):
 class Ends(OnDisk):
     def test_the_end_of_python(self):
         """Python ends with a registry that is open, in a circle, and in use by two threads."""
-        with Registry(self.disk, changes=True) as registry:
+        with Registry(self.disk, read_write=True) as registry:
             registry.install(LIBRARY)
         for _ in range(3):
             done = subprocess.run([sys.executable, '-B', '-X', 'dev', '-W', 'error', '-c', END,
                                    self.disk, PROGRAM], capture_output=True)
             self.assertEqual((done.returncode, done.stdout, done.stderr), (0, b'', b''))
-            Registry(self.disk, changes=True).close()
+            Registry(self.disk, read_write=True).close()
 
 
 if __name__ == '__main__':

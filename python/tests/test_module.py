@@ -93,11 +93,11 @@ class Header(unittest.TestCase):
     """Compares the module with rlibreg.h."""
 
     def test_statuses(self):
-        flags = ('EXECUTE', 'WRITE', 'READ', 'CHANGES', 'WAIT')
+        flags = ('EXECUTE', 'WRITE', 'READ', 'READ_WRITE', 'WAIT')
         found = dict(re.findall(r'RLIBREG_(\w+) = (\d+)', HEADER))
         found = {name: int(number) for name, number in found.items()}
         self.assertEqual({name: found.pop(name) for name in flags},
-                         {**rlibreg.Permissions.__members__, 'CHANGES': 1, 'WAIT': 2})
+                         {**rlibreg.Permissions.__members__, 'READ_WRITE': 1, 'WAIT': 2})
         for name in ('SOUND', 'OTHER_NAME', 'INSTALL', 'REPLACE', 'REMOVE', 'PRELOAD'):
             self.assertEqual(found.pop(name), getattr(_calls, name))
         self.assertEqual(found, dict(Status.__members__))
@@ -122,7 +122,7 @@ class Arguments(OnDisk):
         spread[::2] = data
         given = (data, bytearray(data), memoryview(data), memoryview(spread)[::2], LIBRARY,
                  str(LIBRARY))
-        with Registry(self.disk, changes=True) as registry:
+        with Registry(self.disk, read_write=True) as registry:
             for it in given:
                 registry.install(it)
                 self.assertEqual(registry.list().libraries, [('b', len(data))])
@@ -133,7 +133,7 @@ class Arguments(OnDisk):
             Registry(name).close()
 
     def test_a_byte_0_ends_no_name(self):
-        with Registry(self.disk, changes=True) as registry:
+        with Registry(self.disk, read_write=True) as registry:
             registry.install(LIBRARY)
             for call in (lambda: registry.remove('b\0c'), lambda: registry.preload(['b\0']),
                          lambda: registry.file('b\0'), lambda: registry.digest('b\0'),
@@ -163,7 +163,7 @@ class Arguments(OnDisk):
 
         writer = threading.Thread(target=write)
         writer.start()
-        with Registry(self.disk, changes=True) as registry:
+        with Registry(self.disk, read_write=True) as registry:
             for call in (lambda: registry.install(long), lambda: registry.replace(str(long)),
                          lambda: registry.install(pipe), lambda: registry.bind(long, 0)):
                 with self.assertRaises(rlibreg.Refusal) as found:
@@ -172,7 +172,7 @@ class Arguments(OnDisk):
         writer.join()
 
     def test_other_types(self):
-        with Registry(self.disk, changes=True) as registry:
+        with Registry(self.disk, read_write=True) as registry:
             self.assertRaises(TypeError, registry.install, 5)
             self.assertRaises(TypeError, registry.preload, 'b')
             self.assertRaises(TypeError, registry.remove, 5)
@@ -182,7 +182,7 @@ class Arguments(OnDisk):
 
 class Errors(OnDisk):
     def test_a_refusal_has_number_name_and_text(self):
-        with Registry(self.disk, changes=True) as registry:
+        with Registry(self.disk, read_write=True) as registry:
             error = self.refused(Status.MISSING, registry.bind, PROGRAM, 0x10000)
             self.assertIsInstance(error, rlibreg.Refusal)
             self.assertEqual((error.name, error.text, error.file_refusal),
@@ -192,7 +192,7 @@ class Errors(OnDisk):
             self.assertEqual((copy.number, copy.text), (error.number, error.text))
 
     def test_a_file_that_is_refused(self):
-        with Registry(self.disk, changes=True) as registry:
+        with Registry(self.disk, read_write=True) as registry:
             error = self.refused(Status.BAD_FILE, registry.install, b'')
             self.assertEqual((error.file_refusal, error.file_refusal_name), (1, 'E1 TooShort'))
 
@@ -204,7 +204,7 @@ class Errors(OnDisk):
         for call, number, kind in (
                 (lambda: Registry(beside), errno.ENOENT, FileNotFoundError),
                 (lambda: Registry(below), errno.ENOTDIR, NotADirectoryError),
-                (lambda: Registry(folder, changes=True), errno.EISDIR, IsADirectoryError),
+                (lambda: Registry(folder, read_write=True), errno.EISDIR, IsADirectoryError),
                 (lambda: Registry(folder), errno.EINVAL, rlibreg.SystemFault),
                 (lambda: rlibreg.format(beside / 'disk', 64), errno.ENOENT, FileNotFoundError),
                 (lambda: self.as_nobody(Registry, self.disk), errno.EACCES, PermissionError)):
@@ -215,7 +215,7 @@ class Errors(OnDisk):
             again = pickle.loads(pickle.dumps(error))
             self.assertEqual((type(again), str(again)), (type(error), str(error)))
         self.assertEqual(self.refused(Status.SYSTEM, Registry, 'no-disk').filename, 'no-disk')
-        with Registry(self.disk, changes=True) as registry:
+        with Registry(self.disk, read_write=True) as registry:
             self.assertRaises(FileNotFoundError, registry.install, 'no-such-file')
 
     @staticmethod
@@ -237,7 +237,7 @@ class Errors(OnDisk):
 
     def test_a_write_that_fails(self):
         limits = resource.getrlimit(resource.RLIMIT_FSIZE)
-        with Registry(self.disk, changes=True) as registry:
+        with Registry(self.disk, read_write=True) as registry:
             resource.setrlimit(resource.RLIMIT_FSIZE, (0, limits[1]))
             try:
                 error = self.refused(Status.DEVICE, registry.install, LIBRARY)
@@ -245,11 +245,11 @@ class Errors(OnDisk):
                 resource.setrlimit(resource.RLIMIT_FSIZE, limits)
             self.assertEqual((error.errno, error.text), (errno.EFBIG, 'refused S1 Device'))
             self.refused(Status.REOPEN, registry.list)
-        with Registry(self.disk, changes=True) as registry:
+        with Registry(self.disk, read_write=True) as registry:
             registry.install(LIBRARY)
 
     def test_after_close(self):
-        registry = Registry(self.disk, changes=True)
+        registry = Registry(self.disk, read_write=True)
         registry.close()
         registry.close()
         for call in (registry.list, registry.info, registry.check, registry.__enter__,
@@ -270,7 +270,7 @@ class Updates(OnDisk):
         return segments, [(it.base, it.name) for it in image.objects]
 
     def test_changes_are_made_together(self):
-        with Registry(self.disk, changes=True) as registry:
+        with Registry(self.disk, read_write=True) as registry:
             with registry.update() as update:
                 before = self.state()
                 self.refused(Status.MISSING, update.bind, PROGRAM, 0x10000)
@@ -297,7 +297,7 @@ class Updates(OnDisk):
 
     def test_an_exception_gives_all_up(self):
         before = self.state()
-        with Registry(self.disk, changes=True) as registry:
+        with Registry(self.disk, read_write=True) as registry:
             for kind in (ZeroDivisionError, KeyboardInterrupt, GeneratorExit):
                 with self.assertRaises(kind), registry.update() as update:
                     update.install(LIBRARY)
@@ -311,7 +311,7 @@ class Updates(OnDisk):
         self.assertEqual(self.state(), before)
 
     def test_a_refusal_has_its_place(self):
-        with Registry(self.disk, changes=True) as registry:
+        with Registry(self.disk, read_write=True) as registry:
             registry.install(LIBRARY)
             before = self.state()
             for place in range(20):
@@ -342,7 +342,7 @@ class Updates(OnDisk):
             call(update)
 
     def test_only_within_a_with(self):
-        with Registry(self.disk, changes=True) as registry:
+        with Registry(self.disk, read_write=True) as registry:
             update = registry.update()
             for _ in range(2):
                 for call in (lambda: update.install(LIBRARY), lambda: update.replace(LIBRARY),
@@ -366,7 +366,7 @@ class Updates(OnDisk):
     def test_a_write_that_fails(self):
         limits = resource.getrlimit(resource.RLIMIT_FSIZE)
         before = self.state()
-        with Registry(self.disk, changes=True) as registry:
+        with Registry(self.disk, read_write=True) as registry:
             with self.assertRaises(rlibreg.Refusal) as found, registry.update() as update:
                 update.install(LIBRARY)
                 resource.setrlimit(resource.RLIMIT_FSIZE, (0, limits[1]))
@@ -385,7 +385,7 @@ class Updates(OnDisk):
 
         def child():
             limit = Memory.in_use()[0] + (64 << 20)
-            with Registry(self.disk, changes=True) as registry, registry.update() as update:
+            with Registry(self.disk, read_write=True) as registry, registry.update() as update:
                 resource.setrlimit(resource.RLIMIT_DATA, (limit, limit))
                 update.install(LIBRARY)
                 error = self.refused(Status.OUT_OF_MEMORY, update.bind, PROGRAM, 0)
@@ -398,22 +398,22 @@ class Updates(OnDisk):
 
 class Locks(OnDisk):
     def test_held_and_let_go(self):
-        with Registry(self.disk, changes=True):
-            self.assertIsInstance(self.refused(Status.HELD, Registry, self.disk), rlibreg.Held)
+        with Registry(self.disk, read_write=True):
+            self.assertIsInstance(self.refused(Status.LOCKED, Registry, self.disk), rlibreg.Locked)
         with Registry(self.disk), Registry(self.disk):
-            self.refused(Status.HELD, Registry, self.disk, True)
+            self.refused(Status.LOCKED, Registry, self.disk, True)
         self.assertRaises(ZeroDivisionError, self.ends_by_an_exception)
-        Registry(self.disk, changes=True)  # and one that nobody names any more
-        Registry(self.disk, changes=True).close()
+        Registry(self.disk, read_write=True)  # and one that nobody names any more
+        Registry(self.disk, read_write=True).close()
 
     def test_its_own_lock_is_not_waited_for(self):
-        with Registry(self.disk, changes=True):
-            self.refused(Status.HELD, Registry, self.disk, True, True)
+        with Registry(self.disk, read_write=True):
+            self.refused(Status.LOCKED, Registry, self.disk, True, True)
         with Registry(self.disk), Registry(self.disk, wait=True):
-            self.refused(Status.HELD, Registry, self.disk, True, True)
+            self.refused(Status.LOCKED, Registry, self.disk, True, True)
 
     def ends_by_an_exception(self):
-        with Registry(self.disk, changes=True):
+        with Registry(self.disk, read_write=True):
             raise ZeroDivisionError
 
     def held_by_a_child(self, seconds):
@@ -421,7 +421,7 @@ class Locks(OnDisk):
         says, said = os.pipe()
         child = os.fork()
         if not child:
-            with Registry(self.disk, changes=True):
+            with Registry(self.disk, read_write=True):
                 os.write(said, b'!')
                 time.sleep(seconds)
             os._exit(0)
@@ -454,12 +454,12 @@ class Locks(OnDisk):
 
     def held_for(self, seconds, call):
         start = time.monotonic()
-        self.refused(Status.HELD, call)
+        self.refused(Status.LOCKED, call)
         self.assertTrue(seconds <= time.monotonic() - start < seconds + 30)
 
     def test_each_thread_has_its_turn(self):
         def update():
-            with Registry(self.disk, changes=True, wait=True) as registry:
+            with Registry(self.disk, read_write=True, wait=True) as registry:
                 try:
                     registry.install(LIBRARY)
                 except rlibreg.Refusal as refusal:
@@ -501,17 +501,17 @@ class Locks(OnDisk):
 
 class Processes(OnDisk):
     def test_a_child_only_closes(self):
-        registry = Registry(self.disk, changes=True)
+        registry = Registry(self.disk, read_write=True)
 
         def child():
             error = self.refused(Status.BAD_ARGUMENT, registry.list)
             assert 'another process' in str(error)
             registry.close()
-            self.refused(Status.HELD, Registry, self.disk)
+            self.refused(Status.LOCKED, Registry, self.disk)
 
         self.in_a_child(child)
         registry.install(LIBRARY)
-        self.refused(Status.HELD, Registry, self.disk)
+        self.refused(Status.LOCKED, Registry, self.disk)
         registry.close()
 
     def test_children_with_their_parents_number(self):
@@ -537,17 +537,17 @@ class Processes(OnDisk):
         if len(before) < 3:
             disk = self.disk.with_name(f'disk-{len(before)}')
             rlibreg.format(disk, SECTORS)
-            own = Registry(disk, changes=True)
+            own = Registry(disk, read_write=True)
             assert not leave_namespace()
             with own._handle.lock:  # in the child no thread has it
                 self.in_a_child(lambda: self.in_generations([*before, own]))
-            self.refused(Status.HELD, Registry, disk)
+            self.refused(Status.LOCKED, Registry, disk)
             own.install(LIBRARY)
         for registry in before:
             registry.close()
 
     def test_a_child_while_another_thread_waits(self):
-        registry = Registry(self.disk, changes=True)
+        registry = Registry(self.disk, read_write=True)
         with registry._handle.lock:
             thread = threading.Thread(target=self.in_a_child, args=(registry.close,))
             thread.start()
@@ -571,7 +571,7 @@ class GivingLock:
 
 class Contents(OnDisk):
     def test_it_has_the_names_of_its_libraries(self):
-        with Registry(self.disk, changes=True) as registry:
+        with Registry(self.disk, read_write=True) as registry:
             self.assertTrue(registry)
             self.assertEqual((len(registry), list(registry), 'b' in registry), (0, [], False))
             registry.install(file('first.so'))
@@ -592,7 +592,7 @@ class Contents(OnDisk):
     def test_each_library_has_its_bytes(self):
         """Installs each stored library, by itself on the disk."""
         count = 0
-        with Registry(self.disk, changes=True) as registry:
+        with Registry(self.disk, read_write=True) as registry:
             for path in sorted(DATA.glob('*.so')):
                 try:
                     registry.install(path)
@@ -609,7 +609,7 @@ class Contents(OnDisk):
 
     def two_are_there(self):
         """Installs two libraries, and returns their names."""
-        with Registry(self.disk, changes=True) as registry:
+        with Registry(self.disk, read_write=True) as registry:
             registry.install(LIBRARY)
             registry.install(file('first.so'))
             return list(registry)
@@ -648,7 +648,7 @@ class Contents(OnDisk):
                 self.refused(number, registry.check)
 
     def test_the_greatest_file_goes_in(self):
-        with Registry(self.disk, changes=True) as registry:
+        with Registry(self.disk, read_write=True) as registry:
             info = registry.info()
             self.assertEqual(info[:7], (2, SECTORS, 0, 0, 0, SECTORS - 2, 1))
             data = LIBRARY.read_bytes()
@@ -663,7 +663,7 @@ class Contents(OnDisk):
     def test_what_is_put(self):
         other, long = LIBRARY.read_bytes() + b'+', LIBRARY.read_bytes().ljust(1 << 18)
         changed = other[:-1] + b'-'  # of the same length
-        with Registry(self.disk, changes=True) as registry:
+        with Registry(self.disk, read_write=True) as registry:
             for it, done in ((file('first.so'), 'installed'), (LIBRARY, 'installed'),
                              (bytearray(LIBRARY.read_bytes()), 'unchanged'), (other, 'replaced'),
                              (changed, 'replaced'), (file('first.so'), 'unchanged')):
@@ -684,7 +684,7 @@ class Contents(OnDisk):
         these bytes."""
         self.two_are_there()
         self.damage()
-        with Registry(self.disk, changes=True) as registry:
+        with Registry(self.disk, read_write=True) as registry:
             data = registry.file('b')
             self.refused(Status.BAD_FILE, registry.put, data)
             self.assertEqual([registry.put(LIBRARY) for _ in range(2)], ['replaced', 'unchanged'])
@@ -693,7 +693,7 @@ class Contents(OnDisk):
     def test_another_thread_removes_what_is_put(self):
         """Between the parts of a call no other call is made, though another thread waits to make
         one."""
-        with Registry(self.disk, changes=True) as registry:
+        with Registry(self.disk, read_write=True) as registry:
             registry.install(LIBRARY)
             handle, thread = registry._handle, threading.Thread(target=registry.remove, args=('b',))
             ask = handle.ask
@@ -712,7 +712,7 @@ class Contents(OnDisk):
         """Compares them for each stored object as a program, together with the libraries that have
         room."""
         seen = set()
-        with Registry(self.disk, changes=True) as registry:
+        with Registry(self.disk, read_write=True) as registry:
             for path in sorted(DATA.glob('linked*.so')) + sorted(DATA.glob('*.so')):
                 try:
                     registry.install(path)
@@ -772,14 +772,14 @@ class Contents(OnDisk):
         files = [LIBRARY.read_bytes().ljust(100000, b'+'), file('first.so')]
         with Registry(self.disk) as registry:
             self.assertEqual(self.dumped(registry), b'')
-        with Registry(self.disk, changes=True) as registry:
+        with Registry(self.disk, read_write=True) as registry:
             for it in files:
                 registry.install(it)
             preloads = sorted(registry, reverse=True)
         wanted = [f'install {it.hex()}\n'.encode() for it in files]
         with Registry(self.disk) as registry:
             self.assertEqual(self.dumped(registry), b''.join(wanted))
-        with Registry(self.disk, changes=True) as registry:
+        with Registry(self.disk, read_write=True) as registry:
             registry.preload(preloads)
         wanted.append(f'preload {" ".join(preloads)}\n'.encode())
         with Registry(self.disk) as registry:
@@ -795,7 +795,7 @@ class Contents(OnDisk):
         self.damage()
         with Registry(self.disk) as registry:
             self.assertEqual(self.dumped(registry, Status.DAMAGED), b'cut')
-        with Registry(self.disk, changes=True) as registry:
+        with Registry(self.disk, read_write=True) as registry:
             registry.replace(LIBRARY)
         data = self.disk.read_bytes()
         at = data.index(file('first.so'))
@@ -815,7 +815,7 @@ class Contents(OnDisk):
     def test_a_dump_of_what_changes(self):
         """A dump is of one state, or ends; changes that were refused meanwhile make no difference."""
         self.two_are_there()
-        with Registry(self.disk, changes=True) as registry:
+        with Registry(self.disk, read_write=True) as registry:
             wanted = b''.join(registry.dump())
             pieces = registry.dump()
             begun = next(pieces)
@@ -831,7 +831,7 @@ class Contents(OnDisk):
 
 class Objects(OnDisk):
     def test_an_image_has_its_objects(self):
-        with Registry(self.disk, changes=True) as registry:
+        with Registry(self.disk, read_write=True) as registry:
             registry.install(LIBRARY)
             image = registry.bind(PROGRAM, 0x10000)
         program, library = image.objects
@@ -853,7 +853,7 @@ class Memory(OnDisk):
         large = self.disk.with_name('large')
         rlibreg.format(large, 1 << 16)
         first, second = (LIBRARY.read_bytes().ljust(9 << 20, end) for end in (b'+', b'-'))
-        with Registry(large, changes=True) as registry:
+        with Registry(large, read_write=True) as registry:
             registry.install(first)
             self.assertEqual(registry.file('b'), first)
             with registry.update() as update:
@@ -879,7 +879,7 @@ class Memory(OnDisk):
         places = (_calls.Segment * 2)((0, half, 0, 4), (half, end - half, half, 4))
         objects = (_calls.Object * 1)((0, end - 1, 1, 0, 2))
 
-        def image_of(name, *words):
+        def bind_program(name, *words):
             given = words[-1]._obj
             given.bytes = ctypes.addressof(ctypes.c_char.from_buffer(memory))
             given.count, given.object_count = 2, 1
@@ -888,13 +888,13 @@ class Memory(OnDisk):
                 self.addCleanup(setattr, given, name, None)  # which it would free
 
         with Registry(self.disk) as registry:
-            registry._handle.ask = image_of
+            registry._handle.ask = bind_program
             first, second = registry.bind(b'', 0).segments
         self.assertEqual((len(first.data), len(second.data)), (half, end - half))
         self.assertEqual((first.data[-1], second.data[0], second.data[-1]), (0, 7, 9))
 
     def test_an_image_stays(self):
-        with Registry(self.disk, changes=True) as registry:
+        with Registry(self.disk, read_write=True) as registry:
             registry.install(LIBRARY)
             image = registry.bind(PROGRAM, 0x10000)
         self.assertEqual(image.segments[0].data[:4], b'\x7fELF')
@@ -902,7 +902,7 @@ class Memory(OnDisk):
 
     def test_nothing_is_lost(self):
         """Neither memory nor files are lost, whether calls succeed or are refused."""
-        with Registry(self.disk, changes=True) as registry:
+        with Registry(self.disk, read_write=True) as registry:
             registry.install(LIBRARY)
             self.is_kept(100, lambda: registry.bind(PROGRAM, 0x10000))
             self.is_kept(100, lambda: self.refused(Status.BAD_BASE, registry.bind, PROGRAM, 1))
@@ -919,7 +919,7 @@ class Memory(OnDisk):
                                                           lambda it: it.bind(PROGRAM, 0)))
             self.is_kept(1000, lambda: list(registry.dump()))
             self.is_kept(2000, lambda: self.refused(Status.NOT_INSTALLED, registry.file, 'c'))
-            self.is_kept(2000, lambda: self.refused(Status.HELD, Registry, self.disk))
+            self.is_kept(2000, lambda: self.refused(Status.LOCKED, Registry, self.disk))
 
     def is_kept(self, count, call):
         """Checks that `count` calls need no more memory and files than fifty calls, or than as
@@ -950,7 +950,7 @@ class Memory(OnDisk):
         failed = []
         self.addCleanup(sys.setswitchinterval, sys.getswitchinterval())
         sys.setswitchinterval(1e-6)
-        with Registry(self.disk, changes=True) as registry:
+        with Registry(self.disk, read_write=True) as registry:
             asked = {'refused B2 BadBase': lambda: registry.bind(PROGRAM, 1),
                      'refused B3 Missing /program b': lambda: registry.bind(PROGRAM, 0),
                      'refused C1 E1 TooShort': lambda: registry.install(b''),

@@ -1,5 +1,5 @@
-/* A program without initializers of its own: it says when it is entered, and calls what it was
- * given to be called at its end. */
+/* A program without initializers of its own: it prints a line when it is entered,
+ * and calls the function that it was given for its end. */
 #include "start.h"
 
 void begin(uint64_t *stack, uint64_t at_end) {

@@ -1,4 +1,4 @@
-/* A preload that stands between: its `who` is found before that of libone.so. */
+/* A preload: its `who` is found before that of libone.so. */
 const char *who(void) {
     return "between";
 }

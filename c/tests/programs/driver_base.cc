@@ -1,4 +1,4 @@
-/* The library of the shape: an object, and a static of a function. */
+/* The library of the base class: a static object, and a static variable of a function. */
 #include "driver_shapes.h"
 
 int noted;

@@ -1,4 +1,4 @@
-/* A shape of another library, with an object of its own. */
+/* A class that is derived from one of another library, and a static object. */
 #include "driver_shapes.h"
 
 namespace {

@@ -1,4 +1,4 @@
-/* A program that says when it ends. */
+/* A program that prints a line when it ends. */
 #include <stdio.h>
 
 int last(void);

@@ -1,4 +1,4 @@
-/* A library that says when it ends, by the program's C library. */
+/* A library that prints a line when it ends, through the program's C library. */
 #include <stdio.h>
 
 static void __attribute__((destructor)) end(void) { puts("last ends"); }

@@ -1,4 +1,4 @@
-/* What two libraries say whose inner functions have the same name. */
+/* Prints the answers of two libraries whose inner functions have the same name. */
 #include <stdio.h>
 
 int also_one(void);

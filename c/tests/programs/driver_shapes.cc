@@ -1,4 +1,4 @@
-/* Makes and deletes shapes of another library. */
+/* Makes and deletes objects whose class is in another library. */
 #include "driver_shapes.h"
 
 int main() {

@@ -1,4 +1,4 @@
-/* Shapes, which two libraries share. */
+/* The classes that two libraries share. */
 extern "C" int printf(const char *, ...);
 
 struct Shape {
@@ -6,7 +6,7 @@ struct Shape {
     virtual int area() const = 0;
 };
 
-/* A static object of a function that counts. */
+/* Counts with a static object of a function. */
 struct Counter {
     Counter();
     ~Counter();
@@ -16,5 +16,5 @@ Counter &counter();
 
 Shape *square(int side);
 
-/* What the constructors of static objects have noted, which run before printf is there. */
+/* The numbers that constructors of static objects have noted: they run before printf can be used. */
 extern int noted;

@@ -1,4 +1,4 @@
-/* A library that keeps what its initializer is given. */
+/* A library that keeps the arguments of its initializer. */
 #include "say.h"
 
 static int count;
@@ -10,13 +10,13 @@ __attribute__((constructor)) static void keep(int argc, char **argv, char **vari
     all_variables = variables;
 }
 
-/* Whether a program has the same. */
+/* Returns whether the program has the same arguments. */
 int is_given(const uint64_t *stack) {
     char **own = (char **)(stack + 1);
     return (uint64_t)count == stack[0] && words == own && all_variables == own + count + 1;
 }
 
-/* An address, written before the start alone. */
+/* An address, which only the loader writes, before the start. */
 static int *const fixed[] = { &count };
 
 void write_fixed(void) {

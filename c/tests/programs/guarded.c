@@ -1,5 +1,5 @@
-/* A library whose frames have a secret, which stands in the block of the thread; and what its program
- * calls, whose frames have one too, where that isn't the same at their end. */
+/* A library whose functions are compiled with a stack protector: each frame holds the secret value of the
+ * thread. The library has the function that it and its program call if a frame's value has changed. */
 #include "say.h"
 
 void __stack_chk_fail(void);

@@ -1,4 +1,4 @@
-// A library in C++ with objects that are made before the program and ended behind it.
+// A library in C++ with objects that are constructed before the program starts and destroyed after it ends.
 #include "say.h"
 
 namespace {

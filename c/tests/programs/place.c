@@ -1,5 +1,5 @@
-/* A program that shows its name and its memory, as the kernel has them, and then the file that its
- * word names, if it has one. */
+/* A program that prints its name and its maps, as the kernel has them, and then the file that its
+ * argument names, if there is one. */
 #include "start.h"
 
 static void show(const char *path) {

@@ -1,4 +1,4 @@
-/* What a program or a library needs that has no C library: calls of the kernel. */
+/* Calls of the kernel, for programs and libraries without a C library. */
 #ifndef SAY_H
 #define SAY_H
 

@@ -1,5 +1,5 @@
-/* A library that tells its stages: what is called when it is initialized, and when it is finalized.
- * NAME is its name. With -init and -fini of the linker the first and the last are called too. */
+/* A library that prints a line in each of its initializers and finalizers. NAME is its name. With the
+ * linker's -init and -fini, the first and the last of these functions are called too. */
 #include "say.h"
 
 #define TELLS(stage, how)                                                                          \

@@ -1,5 +1,5 @@
-/* A program that says when it is entered, and calls what it was given to be called at its end:
- * twice, with a word once, with two not at all. */
+/* A program that prints a line when it is entered, and calls the function that it was given for its
+ * end: twice, with one argument once, with two not at all. */
 #include "start.h"
 
 static void before(int argc, char **argv, char **variables) {
@@ -7,7 +7,8 @@ static void before(int argc, char **argv, char **variables) {
     say("before "), say_number((uint64_t)argc), say(" "), say(argv[0]);
 }
 
-/* The program's own: before all others, and, for its own start to call, none of these. */
+/* The program's own functions: the first is called before all others. The program's start would have to
+ * call the rest, and doesn't. */
 __attribute__((section(".preinit_array"), used)) static void (*const preinit)(int, char **,
                                                                               char **) = before;
 __attribute__((constructor)) static void own(void) {

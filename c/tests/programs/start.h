@@ -1,8 +1,8 @@
-/* What a program needs that has no C library: its entry, and calls of the kernel. */
+/* The entry of a program without a C library, and calls of the kernel. */
 #include "say.h"
 
-/* The stack as the program is entered, with the words, the environment and the auxiliary vector;
- * and what is to be called at the end, or 0. */
+/* The stack as the program is entered, with the arguments, the environment and the auxiliary vector;
+ * and the function to call at the end, or 0. */
 void begin(uint64_t *stack, uint64_t at_end);
 __asm__(".globl _start\n"
         ".hidden begin\n"

@@ -1,5 +1,5 @@
-/* A library that needs libone.so: its functions, its data, and a pointer to each in its own data.
- */
+/* A library that needs libone.so: its functions, its data, and a pointer to each in its own
+ * data. */
 extern int one(void);
 extern int one_count;
 extern int nobody(void) __attribute__((weak));

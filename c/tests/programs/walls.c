@@ -1,9 +1,9 @@
-/* A program that touches what it may not: its first word says what. */
+/* A program that touches memory that it may not touch: its first argument says which. */
 #include "start.h"
 
 static const char constant[] = "constant";
 static char variable[] = { (char)0xc3, 0 };
-static const char *const fixed[] = { constant }; /* an address, written before the start alone */
+static const char *const fixed[] = { constant }; /* an address, which only the loader writes */
 static char *volatile at;
 
 void begin(uint64_t *stack, uint64_t at_end) {

@@ -1,4 +1,4 @@
-/* A program that tells its words, a variable, and what the auxiliary vector says. */
+/* A program that prints its arguments, a variable of its environment, and the auxiliary vector. */
 #include "start.h"
 
 enum { PHDR = 3, PHENT = 4, PHNUM = 5, PAGESZ = 6, BASE = 7, ENTRY = 9, RANDOM = 25, EXECFN = 31 };
@@ -10,7 +10,7 @@ static int same(const char *a, const char *b) {
     return *a == *b;
 }
 
-/* Whether the kernel says the same of the process's users and groups. */
+/* Returns whether the users and groups in the auxiliary vector `of` are those of the process. */
 static int has_ids(const uint64_t *of) {
     return of[UID] == (uint64_t)kernel(102, 0, 0, 0) && of[EUID] == (uint64_t)kernel(107, 0, 0, 0) &&
            of[GID] == (uint64_t)kernel(104, 0, 0, 0) && of[EGID] == (uint64_t)kernel(108, 0, 0, 0);

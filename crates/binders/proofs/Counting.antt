@@ -1,4 +1,5 @@
--- The sectors that aren't free since binders live are those of each byte string that they alone hold, once.
+-- The sectors that aren't free because of binders are those of each byte string that only binders hold,
+-- counted once.
 use Rattle.std.proofs.Common.{◌≡◌, ◌≢◌, ℕ, ◌+◌, ◌<◌, List, [], ◌∷◌, length, get_or, if◌then◌else◌, Bool, true, false, refl, ap, suc, sym, subst, ◌∙◌, arith}
 use Rattle.std.specs.Prelude.{All, AllPairs, Contains, sum_by}
 use Rattle.std.proofs.lemmas.List.{get_or_default, length-append}
@@ -13,17 +14,18 @@ use Rattle.store.specs.declared.placed_entry.PlacedEntry.{PlacedEntry}
 use Rattle.binders.specs.Counted.{CountsOnce, IsLone}
 use Rattle.binders.specs.Slotted.{HoldAlone, Slotted}
 
--- the entry of a row, before others, where the state doesn't list it
+-- the entry of a row and then the entries `later`, if the state doesn't list the entry; otherwise only
+-- `later`
 abbrev add : Bool → PlacedEntry → List PlacedEntry → List PlacedEntry
 add true placed later = later
 add false placed later = placed ∷ later
 
--- what is held and the state lists no longer, row by row
+-- the entries that are held and that the state no longer lists, in the order of the rows
 abbrev lone_holds : List HeldRow → List PlacedEntry
 lone_holds [] = []
 lone_holds (row ∷ rows) = add row.listed row.placed (lone_holds rows)
 
--- their sectors
+-- the number of sectors of an entry and its byte string
 abbrev size : PlacedEntry → ℕ
 size placed = length (sectors_of placed)
 
@@ -39,7 +41,7 @@ lone_size (row ∷ rows) =
     ∙ ap (λ n. length (if row.listed then [] else sectors_of row.placed) + n) (lone_size rows)
     ∙ add_size row.listed row.placed (lone_holds rows)
 
--- what holds of each row's entry that the state doesn't list holds of each of them
+-- a property of the added entry and of all later ones is a property of all
 add_all : (P : PlacedEntry → Type 0) (listed : Bool) (placed : PlacedEntry) (later : List PlacedEntry) → (listed ≡ false → P placed) → All P later → All P (add listed placed later)
 add_all P true placed later here there = there
 add_all P false placed later here there = All-cons P placed later (here refl) there
@@ -50,7 +52,7 @@ lone_all P (row ∷ rows) all =
     let Q : HeldRow → Type 0 = λ h. h.listed ≡ false → P h.placed in
     add_all P row.listed row.placed (lone_holds rows) (All-head Q row rows all) (lone_all P rows (All-tail Q row rows all))
 
--- each of these entries is one of them
+-- each of the later entries is in the list to which an entry may be added
 later_in : (listed : Bool) (placed q : PlacedEntry) (later : List PlacedEntry) → Contains later q → Contains (add listed placed later) q
 later_in true placed q later there = there
 later_in false placed q later there = contains-later q placed later there
@@ -66,7 +68,7 @@ lone_each (row ∷ rows) =
     let later : All Within rows = λ k d lt unlisted. later_in row.listed row.placed (get_or rows k d).placed (lone_holds rows) (lone_each rows k d lt unlisted) in
     All-cons Within row rows (first_in row.listed row.placed (lone_holds rows)) later
 
--- none of them is there twice
+-- no two of the entries are at the same sector
 abbrev Apart : PlacedEntry → PlacedEntry → Type 0
 Apart a b = a.at ≢ b.at
 
@@ -89,7 +91,8 @@ not_both : (b : Bool) → b ≡ true → b ≡ false → ⊥
 not_both true e f = absurd cc
 not_both false e f = absurd cc
 
--- The sectors that holders alone keep are counted once for each byte string of a snapshot.
+-- If only binders hold byte strings, the sectors that only they keep are counted once for each byte
+-- string.
 pub counts_once : {D : Type 0} (binders : Slotted D) → AreHolds binders.registry → HoldAlone binders → CountsOnce binders
 counts_once {D} binders are alone = record {
   holds = lone_holds held;

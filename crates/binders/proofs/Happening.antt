@@ -1,4 +1,4 @@
--- Events happen one after the other, and what a stop leaves of them.
+-- Lemmas about events one after the other, and about the states that a stop leaves.
 use Rattle.std.proofs.Common.{◌≡◌, List, [], ◌∷◌, ◌++◌, map, append-nil, append_assoc, IsTrue, ⊎_elim, sym, subst, ap}
 use Rattle.sector_disk.specs.Disk.{DiskFacts, Mixture, LeavesOnly}
 use Rattle.sector_disk.proofs.Moments.{at_rest}
@@ -25,7 +25,7 @@ module _ {D : Type 0} (facts : D → DiskFacts) where
     still_failed : StaysAt facts mid new → IsTrue mid.registry.failed → IsTrue new.registry.failed
     still_failed stays failed = subst IsTrue (sym stays.kept.2) failed
 
-    -- no call of the disk was made
+    -- a run stays a run if an event that makes no call of the disk follows
     goes_unread : StaysAt facts mid new → new.registry.disk ≡ mid.registry.disk → GoesOn stepped
     goes_unread stays same = runs_idle facts old.registry mid.registry new.registry s xs registries so_far stays.same
         (λ honest. subst (λ (d : D). LeavesOnly (facts mid.registry.disk) (facts d) (Mixture (facts mid.registry.disk))) (sym same)
@@ -36,7 +36,7 @@ module _ {D : Type 0} (facts : D → DiskFacts) where
     goes_advanced slot result advances = runs_idle facts old.registry mid.registry new.registry s xs registries so_far advances.stays.same advances.any_moment
         (λ failed. (still_failed advances.stays failed, ap (λ (b : Slotted D). b.registry.disk) (advances.failed failed)))
 
-    -- an event more
+    -- a run stays a run if one more event follows
     goes_on : (h : Happening) (r : EventReply) → Happens facts mid new h r → GoesOn (exchange_of h r)
     goes_on (apply request) (Replied answer) happens =
         runs_turn facts old.registry mid.registry new.registry s xs registries so_far request answer happens.applied happens.all_calls
@@ -56,7 +56,7 @@ module _ {D : Type 0} (facts : D → DiskFacts) where
     goes_on (cancel slot) (Slot other) happens = absurd happens
     goes_on (cancel slot) Going happens = absurd happens
 
-  -- events that happened behind others
+  -- a run stays a run if more events follow
   runs_events : (old mid : Slotted D) (s : State) (xs : List Exchange) (registries : List (Opened D)) → RunsVia facts old.registry registries mid.registry s xs
       → (hs : List Happening) (rs : List EventReply) (passed : List (Slotted D)) → Steps (EventStep facts) mid hs rs passed
       → RunsVia facts old.registry (registries ++ map (λ (b : Slotted D). b.registry) passed) (last_of mid passed).registry s (xs ++ exchanges hs rs)
@@ -75,7 +75,7 @@ module _ {D : Type 0} (facts : D → DiskFacts) where
   runs_events old mid s xs registries so_far (x ∷ hs) [] passed h = absurd h
   runs_events old mid s xs registries so_far (x ∷ hs) (r ∷ rs) [] h = absurd h
 
-  -- events that happened one after the other ran
+  -- if events happened one after the other, `EventsRan` holds
   pub events_ran : (old new : Slotted D) (hs : List Happening) (rs : List EventReply) → Run (EventStep facts) old hs rs new → EventsRan facts old new hs rs
   events_ran old new hs rs run = record {
     passed = run.0;

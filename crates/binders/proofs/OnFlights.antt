@@ -1,4 +1,4 @@
--- Binders in slots stay on their flights.
+-- Lemmas about binders in slots, which stay on their flights.
 use Rattle.std.proofs.Common.{◌≡◌, ◌≢◌, ℕ, zero, suc, ◌<◌, List, [], ◌∷◌, length, get_or, set, Option, Some, None, ⊎_elim, refl, sym, ap, subst, ◌∙◌, arith}
 use Rattle.std.proofs.lemmas.Bool.{cases_lt}
 use Rattle.std.proofs.Math.ListN.{get_or-eq_default}
@@ -14,14 +14,14 @@ use Rattle.binders.specs.Slotted.{AreOn, IsOn, Slotted}
 abbrev pub with_slots : {D : Type 0} → Opened D → List (Option Binding) → Slotted D
 with_slots registry slots = record { registry = registry; slots = slots }
 
--- where something stands there is a place
+-- a position that has an element is less than the length of the list
 pub there_is : {X : Type 0} (xs : List (Option X)) (i : ℕ) (x : X) → get_or xs i None ≡ Some x → i < length xs
 there_is xs i x is = ⊎_elim (λ inside. inside) (λ outside. absurd (some_none (sym is ∙ get_or-eq_default xs None outside))) (cases_lt i (length xs))
   where
     some_none : Some x ≡ None → ⊥
     some_none e = cc
 
--- the same place is written twice
+-- of two values written at the same position, the second one stays
 pub set_twice : {X : Type 0} (xs : List X) (i : ℕ) (x y : X) → set (set xs i x) i y ≡ set xs i y
 set_twice [] i x y = refl
 set_twice (z ∷ zs) zero x y = refl
@@ -34,7 +34,7 @@ module _ {D : Type 0} (facts : D → DiskFacts) where
   is_on_moved old new moves None (Some f) on = absurd on
   is_on_moved old new moves (Some b) None on = absurd on
 
-  -- where each flight goes on, all do
+  -- if every binder stays on its flight, the binders in the slots stay on their flights
   pub are_on_moved : (old new : Opened D) (slots : List (Option Binding)) (flights : List (Option Flight)) → ((b : Binding) (f : Flight) → Flies facts old b f → Flies facts new b f)
       → AreOn facts (with_slots old slots) flights → AreOn facts (with_slots new slots) flights
   are_on_moved old new slots flights moves on = record {
@@ -42,7 +42,7 @@ module _ {D : Type 0} (facts : D → DiskFacts) where
     each = λ i lt. is_on_moved old new moves (get_or slots i None) (get_or flights i None) (on.each i lt);
   }
 
-  -- another binder in a slot, or none, with its flight
+  -- if a slot gets a binder on a flight, or neither, the binders in the slots are on the changed flights
   pub are_on_set : (registry : Opened D) (slots : List (Option Binding)) (flights : List (Option Flight))
       → AreOn facts (with_slots registry slots) flights → (slot : ℕ) (o : Option Binding) (p : Option Flight) → IsOn facts registry o p
       → AreOn facts (with_slots registry (set slots slot o)) (set flights slot p)
@@ -72,7 +72,7 @@ module _ {D : Type 0} (facts : D → DiskFacts) where
           (cases_lt slot i))
           (cases_lt i slot)
 
-  -- the binder that is on a flight
+  -- if a slot has a binder and a flight, the binder is on this flight
   pub binder_on : (registry : Opened D) (slots : List (Option Binding)) (flights : List (Option Flight))
       → AreOn facts (with_slots registry slots) flights → (slot : ℕ) (flight : Flight) → get_or flights slot None ≡ Some flight
       → (b : Binding) → get_or slots slot None ≡ Some b → Flies facts registry b flight
@@ -80,7 +80,7 @@ module _ {D : Type 0} (facts : D → DiskFacts) where
       let lt : slot < length flights = there_is flights slot flight is in
       subst (λ (p : Option Flight). IsOn facts registry (Some b) p) is (subst (λ (o : Option Binding). IsOn facts registry o (get_or flights slot None)) there (on.each slot lt))
 
-  -- where no binder lives there is no flight
+  -- a slot without a binder has no flight
   pub no_flight_on : (registry : Opened D) (slots : List (Option Binding)) (flights : List (Option Flight))
       → AreOn facts (with_slots registry slots) flights → (slot : ℕ) → get_or slots slot None ≡ None → get_or flights slot None ≡ None
   no_flight_on registry slots flights on slot none = by (get_or flights slot None) refl
@@ -93,7 +93,7 @@ module _ {D : Type 0} (facts : D → DiskFacts) where
           off : IsOn facts registry None (Some flight) → ⊥
           off on = on
 
-  -- where each that is there goes on, all do
+  -- if each binder in a slot stays on its flight, the binders in the slots stay on their flights
   pub are_on_left : (old new : Opened D) (slots : List (Option Binding)) (flights : List (Option Flight))
       → ((b : Binding) (f : Flight) (i : ℕ) → get_or slots i None ≡ Some b → Flies facts old b f → Flies facts new b f)
       → AreOn facts (with_slots old slots) flights → AreOn facts (with_slots new slots) flights

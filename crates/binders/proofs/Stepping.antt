@@ -1,4 +1,4 @@
--- Binders in slots are begun, make their steps, and are ended.
+-- Lemmas about beginning binders in slots, their steps, and ending them.
 use Rattle.std.proofs.Common.{◌≡◌, ℕ, ◌+◌, ◌<◌, ◌≤◌, List, length, get_or, set, Option, Some, None, Result, Ok, Err, IsTrue, IsFalse, inl, inr, ⊎_elim, refl, sym, ap, subst, ◌∙◌, arith}
 use Rattle.std.specs.Prelude.{◌⊎◌, IfErr}
 use Rattle.std.proofs.lemmas.Bool.{false≢true}
@@ -63,7 +63,7 @@ module _ {D : Type 0} (facts : D → DiskFacts) (old new : Opened D) (slots : Li
         not_none : ◌≡◌ {A = Option ℕ} (Some slot) None → ⊥
         not_none is = cc
 
-  -- It is refused as the registry refuses it,
+  -- If the registry refuses to begin a binder, so does the registry with slots.
   pub refused_in : (e : Refusal) → IsFalse old.failed → (slot : ℕ) → lowest_free slots ≡ Some slot → Begins facts old new program base (Err e)
       → BeginsIn facts (with_slots old slots) (with_slots new slots) program base (Err e)
   refused_in e usable slot lowest begins = record {
@@ -94,7 +94,7 @@ module _ {D : Type 0} (facts : D → DiskFacts) (old new : Opened D) (slots : Li
       not_none : ◌≡◌ {A = Option ℕ} (Some slot) None → ⊥
       not_none is = cc
 
--- what does nothing leaves all as it was
+-- a registry to which nothing is done stays at its state
 pub stays_at : {D : Type 0} (facts : D → DiskFacts) (b : Slotted D) → StaysAt facts b b
 stays_at facts b = record { same = λ s at. at; kept = (refl, refl, refl); holders = λ sector. refl; alone = λ alone. alone }
 
@@ -102,7 +102,7 @@ module _ {D : Type 0} (facts : D → DiskFacts) (old : Opened D) (slots : List (
   abbrev before : Slotted D
   before = with_slots old slots
 
-  -- No binder lives in the slot.
+  -- If the slot has no binder, a step is refused with C8.
   pub absent_in : get_or slots slot None ≡ None → AdvancesIn facts before before slot (Err NoSuchBinder)
   absent_in none = record {
     step = λ flights flight on is. absurd (nobody flights flight on is);
@@ -139,17 +139,18 @@ module _ {D : Type 0} (facts : D → DiskFacts) (old : Opened D) (slots : List (
     its_hold : (sector : ℕ) → held_in sector (get_or slots slot None) ≡ times sector (handles_of b)
     its_hold sector = ap (held_in sector) there
 
-    -- what is held once another binder with the same handles is there
+    -- if the binder in the slot is replaced by one with the same handles, each byte string is held as
+    -- often as before
     held_as : (c : Binding) → handles_of c ≡ handles_of b → (sector : ℕ) → held_by (set slots slot (Some c)) sector ≡ held_by slots sector
     held_as c same sector =
         let its : times sector (handles_of c) ≡ times sector (handles_of b) = ap (times sector) same in
         omega (arith, held_set slots slot (Some c) sector inside, its_hold sector, its)
 
-    -- and once none is
+    -- if the binder in the slot is removed, each byte string is held less often by that binder's holds
     held_less : (sector : ℕ) → held_by (set slots slot None) sector + times sector (handles_of b) ≡ held_by slots sector
     held_less sector = omega (arith, held_set slots slot None sector inside, its_hold sector)
 
-    -- A step of the binder leaves it in its slot.
+    -- The binder makes a step and stays in its slot.
     module _ (new : Opened D) (c : Binding) (result : Result Step Refusal) (advances : Advances facts old new b c result) where
       same_holders : (sector : ℕ) → holders_of new.held sector ≡ holders_of old.held sector
       same_holders sector = ap (λ held. holders_of held sector) advances.kept.2
@@ -171,7 +172,7 @@ module _ {D : Type 0} (facts : D → DiskFacts) (old : Opened D) (slots : List (
       moved : (flights : List (Option Flight)) → AreOn facts before flights → AreOn facts (with_slots new slots) flights
       moved flights on = are_on_moved facts old new slots flights advances.others on
 
-      -- the flight that it is on is bounded
+      -- the flight of the binder in the slot is bounded
       bounded_in : (flights : List (Option Flight)) (flight : Flight) → AreOn facts before flights → get_or flights slot None ≡ Some flight → IsBounded flight
       bounded_in flights flight on its = advances.bounds flight (binder_on facts old slots flights on slot flight its b there)
 
@@ -182,7 +183,7 @@ module _ {D : Type 0} (facts : D → DiskFacts) (old : Opened D) (slots : List (
           let put : set slots slot (Some c) ≡ slots = ap (λ k. set slots slot (Some k)) same.1 ∙ ap (λ o. set slots slot o) (sym there) ∙ set-get_or slots slot None in
           λ i. with_slots (same.0 i) (put i)
 
-      -- Going
+      -- if the step is answered with Going, the binder's flight is one step further
       pub going_in : result ≡ Ok Going → AdvancesIn facts before after slot (Ok Going)
       going_in is = record {
         step = λ flights flight on its.
@@ -205,7 +206,7 @@ module _ {D : Type 0} (facts : D → DiskFacts) (old : Opened D) (slots : List (
           going_reopen : ◌≡◌ {A = Result Step Refusal} (Ok Going) (Err Reopen) → ⊥
           going_reopen e = cc
 
-      -- S1, S2 and S11
+      -- if the step is answered with S1, S2 or S11, the binder's flight is unchanged
       pub again_in : (e : Refusal) → result ≡ Err e → AdvancesIn facts before after slot (Err e)
       again_in e is =
           let may : IsStepRefusal facts old new e = subst (λ r. IfErr r (IsStepRefusal facts old new)) is advances.refusals in
@@ -240,7 +241,7 @@ module _ {D : Type 0} (facts : D → DiskFacts) (old : Opened D) (slots : List (
           kept_on flights flight on its flies =
               subst (λ fs. AreOn facts after fs) (set_its flights flight its) (are_on_set facts new slots flights (moved flights on) slot (Some c) (Some flight) flies)
 
-    -- The binder is ended, by whatever handles it has now.
+    -- The binder is ended, and its handles are still the same.
     module _ (mid new : Opened D) (c : Binding) (same : handles_of c ≡ handles_of b) (ends : Ends facts mid new c) where
       its_times : (sector : ℕ) → times sector (handles_of c) ≡ times sector (handles_of b)
       its_times sector = ap (times sector) same
@@ -248,14 +249,14 @@ module _ {D : Type 0} (facts : D → DiskFacts) (old : Opened D) (slots : List (
       pub left_held : IsHeld mid slots → IsHeld new (set slots slot None)
       left_held held sector = omega (arith, held sector, held_less sector, ends.let_go.holders sector, its_times sector)
 
-      -- as often less as that binder holds them
+      -- the number of holders of a byte string decreases by the number of times that this binder held it
       pub left_holders : IsHeld mid slots → (sector : ℕ) → holders_of new.held sector + held_by slots sector ≡ holders_of mid.held sector + held_by (set slots slot None) sector
       left_holders held sector = omega (arith, held sector, held_less sector, ends.let_go.holders sector, its_times sector)
 
       pub left_alone : HoldAlone (with_slots mid slots) → HoldAlone (with_slots new (set slots slot None))
       left_alone alone sector = omega (arith, alone sector, held_less sector, ends.let_go.holders sector, its_times sector)
 
-      -- others still hold what they held
+      -- the other binders still hold what they held
       still : IsHeld mid slots → (i : ℕ) (other : Binding) → get_or (set slots slot None) i None ≡ Some other → (k : ℕ)
           → k < length (handles_of other) → 0 < holders_of new.held (get_or (handles_of other) k 0)
       still held i other is k lt =
@@ -270,7 +271,7 @@ module _ {D : Type 0} (facts : D → DiskFacts) (old : Opened D) (slots : List (
           are_on_left facts mid new (set slots slot None) (set flights slot None) (λ other flight i is flies. ends.others other flight (still held i other is) flies)
           (are_on_set facts mid slots flights on slot None None tt)
 
-    -- after the last step
+    -- The binder made its last step, and is ended.
     module _ (mid new : Opened D) (c : Binding) (answer : Reply) (held : IsHeld old slots) (advances : Advances facts old mid b c (Ok (Final answer))) (ends : Ends facts mid new c) where
       abbrev over : Slotted D
       over = with_slots new (set slots slot None)
@@ -308,7 +309,7 @@ module _ {D : Type 0} (facts : D → DiskFacts) (old : Opened D) (slots : List (
           final_reopen : ◌≡◌ {A = Result Step Refusal} (Ok (Final answer)) (Err Reopen) → ⊥
           final_reopen e = cc
 
-    -- where it is cancelled
+    -- The binder is cancelled.
     module _ (new : Opened D) (held : IsHeld old slots) (ends : Ends facts old new b) where
       pub cancelled_in : CancelsIn facts before (with_slots new (set slots slot None)) slot Done
       cancelled_in = record {
@@ -326,7 +327,7 @@ module _ {D : Type 0} (facts : D → DiskFacts) (old : Opened D) (slots : List (
         slots = refl;
       }
 
-  -- No binder lives there to be cancelled.
+  -- If the slot has no binder, a cancel is refused with C8.
   pub uncancelled_in : get_or slots slot None ≡ None → CancelsIn facts before before slot (Refused NoSuchBinder)
   uncancelled_in none = record {
     ok = λ flights on. are_on_none flights on;

@@ -1,18 +1,18 @@
--- Which sectors aren't free since binders live (own).
+-- The sectors that aren't free because binders hold them (own).
 use Rattle.std.specs.Prelude.{◌≡◌, ◌≢◌, ◌↔◌, ◌<◌, List, length, sum_by, AllPairs, Contains}
 use Rattle.store.specs.Holds.{IsHeldBy, lone_sectors}
 use Rattle.store.specs.Stands.{sectors_of}
 use Rattle.store.specs.declared.placed_entry.PlacedEntry.{PlacedEntry}
 use Rattle.binders.specs.Slotted.{Slotted, held_by}
 
--- a byte string that the snapshot of a binder in some slot holds, and that the state lists no longer
+-- the binder in some slot holds this byte string, and the state no longer lists it
 pub record IsLone {D : Type 0} (binders : Slotted D) (placed : PlacedEntry) : Type 0 where
   pub held : 0 < held_by binders.slots placed.at
   pub hold : IsHeldBy binders.registry.held placed.at placed
   pub unlisted : Contains binders.registry.entries placed → ⊥
 
--- Beside the sectors of the state, those of these byte strings aren't free, and no others: each counts
--- once, however many binders hold it.
+-- Besides the sectors of the state, exactly the sectors of these byte strings aren't free. Each byte
+-- string counts once, however many binders hold it.
 pub record CountsOnce {D : Type 0} (binders : Slotted D) : Type 0 where
   pub holds : List PlacedEntry
   pub once : AllPairs (λ a b. a.at ≢ b.at) holds

@@ -1,4 +1,4 @@
--- What events do to a registry with binders (own).
+-- The effect of events on a registry with binders (own).
 use Rattle.std.specs.Prelude.{◌≡◌, ◌⊎◌, ℕ, List, Ok, Err}
 use Rattle.sector_disk.specs.Disk.{DiskFacts, AreCallsExactly}
 use Rattle.states.specs.State.{State}
@@ -19,23 +19,23 @@ use Rattle.binders.specs.declared.event.Event.TheVariants as event
 use Rattle.binders.specs.declared.event.EventReply.{EventReply}
 use Rattle.binders.specs.declared.event.EventReply.TheVariants.{Replied, Slot, Going}
 
--- what an event asks, which borrows its bytes and so is no plain value
+-- an event as a plain value, because an `Event` borrows its bytes
 pub data Happening : Type 0 where
   apply : Request → Happening
-  -- the bytes of a program's file, and its base
+  -- the bytes of a program's file, and the base address
   begin : List ℕ → ℕ → Happening
-  -- a slot
+  -- the slot of a binder
   advance : ℕ → Happening
   cancel : ℕ → Happening
 
--- what an event asks
+-- the plain value of an event
 abbrev pub happening_of : Event → Happening
 happening_of (event.Apply command) = apply (request_of command)
 happening_of (event.Begin program base) = begin program.now base
 happening_of (event.Advance slot) = advance slot
 happening_of (event.Cancel slot) = cancel slot
 
--- What applying a command does to a registry, whatever binders live; these stay on their flights.
+-- A command was applied to a registry, whatever binders it has. The binders stay on their flights.
 pub record AppliesIn {D : Type 0} (facts : D → DiskFacts) (old new : Slotted D) (request : Request) (answer : Reply) : Type 0 where
   pub applied : (s : State) → IsAt facts old.registry s → Applies facts old.registry new.registry s request answer
   pub all_calls : (s : State) → IsAt facts old.registry s
@@ -46,12 +46,12 @@ pub record AppliesIn {D : Type 0} (facts : D → DiskFacts) (old new : Slotted D
   pub alone : HoldAlone old → HoldAlone new
   pub counted : HoldAlone old → CountsOnce old
 
--- a step was answered last with this, or refused so
+-- the step was answered with this last answer, or with this refusal
 abbrev pub StepReplies : {D : Type 0} → (D → DiskFacts) → Slotted D → Slotted D → ℕ → Reply → Type 0
 StepReplies facts old new slot answer = AdvancesIn facts old new slot (Ok (step.Final answer))
     ⊎ ((refusal : Refusal) × (answer ≡ Refused refusal) × AdvancesIn facts old new slot (Err refusal))
 
--- an event was answered so
+-- the event was answered with this reply, and had the effect of its call
 abbrev pub Happens : {D : Type 0} → (D → DiskFacts) → Slotted D → Slotted D → Happening → EventReply → Type 0
 Happens facts old new (apply request) (Replied answer) = AppliesIn facts old new request answer
 Happens facts old new (begin program base) (Slot slot) = BeginsIn facts old new program base (Ok slot)

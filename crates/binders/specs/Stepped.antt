@@ -1,4 +1,4 @@
--- What beginning, advancing and ending a binder in a slot does (own).
+-- The effect of beginning, advancing and ending a binder in a slot (own).
 use Rattle.std.specs.Prelude.{◌≡◌, ◌≢◌, ◌↔◌, ◌⊎◌, ◌<◌, ◌+◌, ℕ, List, slice_index_or}
 use Rattle.std.specs.Prelude.{slice_set, Option, Some, None, Result, Ok, Err, IfOk, IfErr, OnErr, IsTrue, IsFalse}
 use Rattle.sector_disk.specs.Disk.{DiskFacts, Mixture, IsUnchanged, LeavesOnly, AreCalls, AreCallsAtMost, AreCallsExactly}
@@ -16,7 +16,8 @@ use Rattle.registry.specs.declared.binder.Step.TheVariants.{Going, Final}
 use Rattle.registry.specs.inside.Binding.{Binding}
 use Rattle.binders.specs.Slotted.{Slotted, AreOn, HoldAlone, held_by, lowest_free}
 
--- The registry stays at its state. Its holders of a byte string grow or shrink as the binders' do.
+-- The registry stays at its state. The number of holders of a byte string changes by the same amount as
+-- the number of times that the binders hold it.
 pub record StaysAt {D : Type 0} (facts : D → DiskFacts) (old new : Slotted D) : Type 0 where
   pub same : (s : State) → IsAt facts old.registry s → IsAt facts new.registry s
   pub kept : (new.registry.root ≡ old.registry.root) × (new.registry.entries ≡ old.registry.entries) × (new.registry.failed ≡ old.registry.failed)
@@ -28,23 +29,25 @@ pub record StaysAt {D : Type 0} (facts : D → DiskFacts) (old new : Slotted D) 
 abbrev pub FlyOn : {D : Type 0} → (D → DiskFacts) → Slotted D → Slotted D → Type 0
 FlyOn facts old new = (flights : List (Option Flight)) → AreOn facts old flights → AreOn facts new flights
 
--- the slots after one got a binder
+-- a binder was put into this slot
 abbrev pub IsPut : List (Option Binding) → ℕ → List (Option Binding) → Type 0
 IsPut old slot new = (binder : Binding) × (new ≡ slice_set old slot (Some binder))
 
--- which flights the binders are on after one was begun: a new one, in the lowest free slot
+-- the flights of the binders after one was begun: a new flight, in the lowest free slot
 abbrev pub BegunIn : {D : Type 0} → (D → DiskFacts) → Slotted D → Slotted D → List ℕ
     → ℕ → State → List (Option Flight) → Result ℕ Refusal → Type 0
 BegunIn facts old new program base s flights (Ok slot) = (lowest_free old.slots ≡ Some slot)
     × AreOn facts new (slice_set flights slot (Some (begun program base s)))
 BegunIn facts old new program base s flights (Err refusal) = AreOn facts new flights
 
--- A binder was begun in a slot, or refused: S2, C7 exactly where each slot has a binder, or S11.
+-- A binder was begun in a slot, or refused: with S2, with C7 exactly if each slot has a binder, or
+-- with S11.
 pub record BeginsIn {D : Type 0} (facts : D → DiskFacts) (old new : Slotted D) (program : List ℕ) (base : ℕ) (result : Result ℕ Refusal) : Type 0 where
   pub ok : (s : State) (flights : List (Option Flight)) → IsAt facts old.registry s
       → AreOn facts old flights → BegunIn facts old new program base s flights result
   pub stays : StaysAt facts old new
-  -- On any disk, with no call of it: a slot gets a binder, or none does; no other flight changes.
+  -- on any disk, and without a call of the disk: a slot gets a binder, or none does, and no other flight
+  -- changes
   pub slots : IfOk result (λ slot. (lowest_free old.slots ≡ Some slot) × IsPut old.slots slot new.slots)
   pub err : OnErr result ((new.slots ≡ old.slots) × FlyOn facts old new)
   pub failed : IsTrue old.registry.failed → new ≡ old
@@ -54,8 +57,8 @@ pub record BeginsIn {D : Type 0} (facts : D → DiskFacts) (old new : Slotted D)
   pub no_slot : (result ≡ Err NoSlot) ↔ (IsFalse old.registry.failed × (lowest_free old.slots ≡ None))
   pub refusals : IfErr result (λ e. (e ≡ Reopen) ⊎ (e ≡ NoSlot) ⊎ (e ≡ OutOfMemory))
 
--- which flights the binders are on after a step of one: that one is a step further, or its flight
--- is over with the answer of the bind, or it is where it was
+-- the flights of the binders after one binder made a step: that binder's flight is one step further, has
+-- ended with the bind's answer, or is unchanged
 abbrev pub SteppedIn : {D : Type 0} → (D → DiskFacts) → Slotted D → Slotted D → ℕ
     → List (Option Flight) → Flight → Result Step Refusal → Type 0
 SteppedIn facts old new slot flights flight (Ok Going) = (flight.going < goings flight) × AreOn facts new (slice_set flights slot (Some (further flight)))
@@ -66,23 +69,25 @@ SteppedIn facts old new slot flights flight (Err refusal) = AreOn facts new flig
     × AreCallsAtMost (step_sectors flight) (facts old.registry.disk) (facts new.registry.disk)
     × MayBeRefused flight.program refusal
 
--- the slots after a step: the binder of this one is where it was, or a step further; or it is gone
+-- the slots after a step: the binder in this slot is unchanged, is one step further, or was removed
 abbrev pub SlotsAfter : List (Option Binding) → ℕ → List (Option Binding) → Result Step Refusal → Type 0
 SlotsAfter old slot new (Ok (Final answer)) = new ≡ slice_set old slot None
 SlotsAfter old slot new result = IsPut old slot new
 
--- A step was made of the binder in a slot: C8 exactly where none lives there, before all else.
+-- The binder in a slot made a step. The step is refused with C8, before all other tests, exactly if the
+-- slot has no binder.
 pub record AdvancesIn {D : Type 0} (facts : D → DiskFacts) (old new : Slotted D) (slot : ℕ) (result : Result Step Refusal) : Type 0 where
   pub step : (flights : List (Option Flight)) (flight : Flight) → AreOn facts old flights
       → slice_index_or flights slot None ≡ Some flight → SteppedIn facts old new slot flights flight result
   pub bounds : (flights : List (Option Flight)) (flight : Flight) → AreOn facts old flights
       → slice_index_or flights slot None ≡ Some flight → IsBounded flight
-  -- during it a stop leaves only what it could leave before, and after it may leave just the same
+  -- during the step, a stop leaves only what it could leave before; after the step, it may leave exactly
+  -- the same as before
   pub any_moment : IsTrue (facts old.registry.disk).honest
       → LeavesOnly (facts old.registry.disk) (facts new.registry.disk) (Mixture (facts old.registry.disk))
   pub unchanged : IsTrue (facts old.registry.disk).honest → IsUnchanged (facts old.registry.disk) (facts new.registry.disk)
   pub stays : StaysAt facts old new
-  -- on any disk
+  -- the following holds on any disk
   pub no_binder : (result ≡ Err NoSuchBinder) ↔ (slice_index_or old.slots slot None ≡ None)
   pub absent : slice_index_or old.slots slot None ≡ None → new ≡ old
   pub present : slice_index_or old.slots slot None ≢ None → SlotsAfter old.slots slot new.slots result
@@ -92,7 +97,8 @@ pub record AdvancesIn {D : Type 0} (facts : D → DiskFacts) (old new : Slotted 
   pub answers : IfOk result IsLastStep
   pub calls : AreCalls (facts old.registry.disk) (facts new.registry.disk)
 
--- A binder in a slot was ended: Done, or C8 exactly where none lives there. The disk isn't called.
+-- The binder in a slot was ended. The answer is Done, or C8 exactly if the slot has no binder. No call
+-- of the disk is made.
 pub record CancelsIn {D : Type 0} (facts : D → DiskFacts) (old new : Slotted D) (slot : ℕ) (answer : Reply) : Type 0 where
   pub ok : (flights : List (Option Flight)) → AreOn facts old flights → AreOn facts new (slice_set flights slot None)
   pub stays : StaysAt facts old new

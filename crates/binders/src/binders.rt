@@ -6,8 +6,8 @@ use sector_disk::Disk;
 use std::alloc::Global;
 use std::marker::Model;
 
-/// A registry with up to 8 binders, each of which binds a program step by step for the registry as
-/// it was when it was begun. No binder is kept when the disk is opened again.
+/// A registry with up to 8 binders. Each binds a program, step by step, against the registry as it
+/// was when the binder was begun. No binder is kept when the disk is opened again.
 pub struct Binders<D: Disk> {
     pub(crate) alloc: Global,
     registry: Registry<D>,
@@ -38,7 +38,7 @@ impl<D: Disk> Binders<D> {
     ghost use Rattle.binders.specs.Slotted.{AreOn, HoldAlone};
     ghost use Rattle.binders.specs.Stepped.{AdvancesIn, BeginsIn, CancelsIn, FlyOn};
 
-    /// A registry without a binder. The allocator is for the replies to events.
+    /// Makes a registry without binders. `alloc` allocates the replies to events.
     pub fn new(alloc: Global, registry: Registry<D>) -> Binders<D>
         ensures none { result ≡ record { registry = registry; slots = replicate 8 None } }
         ensures alone { registry.held ≡ [] → HoldAlone result }
@@ -51,16 +51,17 @@ impl<D: Disk> Binders<D> {
         }
     }
 
-    /// Whether a write or a sync failed. Then commands, `begin` and the steps of binders answer S2,
-    /// until the disk is opened again.
+    /// Returns whether a write or a sync has failed. If so, commands, `begin` and the steps of
+    /// binders return S2 until the disk is opened again.
     pub fn has_failed(&self) -> bool
         ensures value { result ≡ self.now.registry.failed }
     {
         self.registry.has_failed()
     }
 
-    /// Does nothing: it tells proofs that on any disk, after any event, what is held has a row
-    /// each, and that without a binder nothing is, where nobody else holds anything.
+    /// Does nothing. The first clause states that, on any disk and after any event, each held byte
+    /// string has one row. The second states that no byte string is held if there is no binder and
+    /// nobody else holds one.
     pub fn holds_are_sound(&self)
         ensures holds { AreHolds self.now.registry }
         ensures empty { HoldAlone self.now → All (λ slot. slot ≡ None) self.now.slots
@@ -69,8 +70,8 @@ impl<D: Disk> Binders<D> {
         self.registry.holds_are_sound();
     }
 
-    /// The registry. Binders that live are gone, and what they hold stays held until the disk is
-    /// opened again.
+    /// Returns the registry. Its binders are dropped, and what they hold stays held until the disk
+    /// is opened again.
     pub fn into_registry(self) -> Registry<D>
         ensures { result ≡ self.registry }
     {
@@ -96,16 +97,17 @@ impl<D: Disk> Binders<D> {
         ensures slots { self.new.slots ≡ self.old.slots }
         ensures alone { HoldAlone self.old → HoldAlone self.new }
 
-        // S7 counts the sectors of the state and, beside them, those of each byte string that only
-        // binders hold, once.
+        // The test for S7 counts the sectors of the state and also, once each, those of the byte
+        // strings that only binders hold.
         ensures counted { HoldAlone self.old → CountsOnce self.old }
     {
         self.registry.holds_are_sound();
         self.registry.apply(command)
     }
 
-    /// Begins to bind a program, and gives the lowest slot that is free: S2, C7, then S11. It
-    /// copies the program, and makes no call of the disk.
+    /// Begins to bind `program` at `base`, and returns the slot of the binder, which is the lowest
+    /// free one. Refuses with S2, C7 or S11, in this order. Copies the program, and makes no call
+    /// of the disk.
     pub fn begin(&mut self, program: &[u8], base: u64) -> Result<usize, Refusal>
         ensures { BeginsIn D.facts self.old self.new program.now base result }
     {
@@ -120,9 +122,10 @@ impl<D: Disk> Binders<D> {
         Ok(slot)
     }
 
-    /// Makes the next step of the binder in a slot: C8, then S2. The first step tests the program
-    /// by itself, each following one reads and admits one library, and the last binds; then the
-    /// slot is free. After S1, S2 and S11 the binder is where it was.
+    /// Makes the next step of the binder in `slot`. Tests for C8 and then for S2. The first step
+    /// tests the program by itself, each following step reads and admits one library, and the last
+    /// step binds. After the last step the slot is free. After S1, S2 and S11 the binder is
+    /// unchanged.
     pub fn advance(&mut self, slot: usize) -> Result<Step, Refusal>
         ensures { AdvancesIn D.facts self.old self.new slot result }
     {
@@ -146,8 +149,8 @@ impl<D: Disk> Binders<D> {
         }
     }
 
-    /// Ends the binder in a slot, which is free then: Done, also after S2, or C8. It takes no
-    /// memory, and makes no call of the disk.
+    /// Ends the binder in `slot`, and then the slot is free. Returns Done, also after S2, or C8 if
+    /// the slot has no binder. Allocates nothing, and makes no call of the disk.
     pub fn cancel(&mut self, slot: usize) -> Reply
         ensures { CancelsIn D.facts self.old self.new slot result }
     {

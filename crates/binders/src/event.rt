@@ -1,31 +1,32 @@
-// What happens to a registry with binders.
+// Events of a registry with binders, and their replies.
 use requests::{Command, Reply};
 
-/// A command, or something that is done with a binder.
+/// A command, or a step of a binder.
 #[derive(Clone, Copy)]
 pub enum Event<'a> {
-    /// A command is applied.
+    /// Applies a command.
     Apply(Command<'a>),
-    /// A binder is begun.
+    /// Begins a binder.
     Begin {
         /// The bytes of the program's file.
         program: &'a [u8],
-        /// The address at which it starts.
+        /// The program's base address.
         base: u64,
     },
-    /// The binder in this slot makes its next step.
+    /// Makes the next step of the binder in this slot.
     Advance(usize),
-    /// The binder in this slot is ended.
+    /// Ends the binder in this slot.
     Cancel(usize),
 }
 
-/// What an event is answered.
+/// The reply to an event.
 #[derive(Drop)]
 pub enum EventReply {
-    /// The reply to a command, the last answer of a binder, Done of a cancelled one, or a refusal.
+    /// The reply to a command, the last answer of a binder, Done for a cancelled binder, or a
+    /// refusal.
     Replied(Reply),
     /// The slot of the binder that was begun.
     Slot(usize),
-    /// The binder has more to do.
+    /// The binder has more steps to make.
     Going,
 }

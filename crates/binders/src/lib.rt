@@ -1,8 +1,8 @@
-//! Binders in flight: programs are bound step by step over a registry, while its libraries change.
+//! Binders: programs are bound step by step against a registry, while its libraries change.
 //!
-//! `Binders` has a registry and up to 8 binders, each of which binds for the registry as it was
-//! when it was begun. `Binders::run_events` takes commands and the steps of binders in any order.
-//! What binders are on is defined in specs/Slotted.antt.
+//! `Binders` has a registry and up to 8 binders. Each binds against the registry as it was when the
+//! binder was begun. `Binders::run_events` carries out commands and steps of binders in any order.
+//! specs/Slotted.antt defines which flights binders are on.
 #![tactic(auto)]
 
 mod binders;

@@ -1,4 +1,4 @@
-// Events happen, one after the other.
+// Carries out events, one after the other.
 use crate::binders::Binders;
 use crate::event::{Event, EventReply};
 use registry::Step;
@@ -11,7 +11,7 @@ impl<D: Disk> Binders<D> {
     ghost use Rattle.binders.specs.Events.{Happens, happening_of};
     ghost use Rattle.binders.specs.EventsRan.{EventStep, EventsRan};
 
-    /// Lets an event happen, and gives its one reply.
+    /// Carries out `event`, and returns its one reply.
     pub fn happen(&mut self, event: &Event<'_>) -> EventReply
         ensures { EventStep D.facts self.old (happening_of event.now) result self.new }
     {
@@ -21,7 +21,7 @@ impl<D: Disk> Binders<D> {
         reply
     }
 
-    // The reply to an event, by what it asks.
+    // Carries out an event by the call for its kind, and returns the reply.
     fn reply_to(&mut self, event: &Event<'_>) -> EventReply
         ensures { Happens D.facts self.old self.new (happening_of event.now) result }
     {
@@ -40,11 +40,12 @@ impl<D: Disk> Binders<D> {
         }
     }
 
-    /// Lets events happen one after the other, and gives one reply for each. Where memory for the
-    /// replies is refused, nothing happens.
+    /// Carries out events one after the other, and returns one reply for each. If memory for the
+    /// replies is refused, carries out none.
     pub fn run_events(&mut self, events: &[Event<'_>]) -> Result<Vec<EventReply>, AllocError>
-        // Each event happens to what the one before left. What a stop leaves at any moment is the
-        // state after accepted commands that hold every one acknowledged by then.
+        // Each event has its effect on the registry that the event before it left. A stop at any
+        // moment leaves the state after accepted commands, which include every command that was
+        // acknowledged by then.
         ensures ok { IfOk result (λ replies. EventsRan D.facts self.old self.new
             (map happening_of events.now) replies.items) }
         ensures err { OnErr result (self.new ≡ self.old) }

@@ -1,4 +1,4 @@
-// The slots of binders.
+// The slots for binders.
 ghost use Rattle.std.specs.Prelude.{◌≡◌, ◌<◌, IfSome, None, Some};
 ghost use Rattle.std.specs.Prelude.{replicate, slice_index_or, slice_set};
 ghost use Rattle.binders.specs.Slotted.{lowest_free};
@@ -6,7 +6,8 @@ ghost use Rattle.binders.specs.Slotted.{lowest_free};
 use registry::Binder;
 use std::marker::Model;
 
-/// 8 slots, each with a binder or free. Contracts see the list of them.
+/// 8 slots, each of which has a binder or is free. In contracts, this value is the list of the
+/// slots.
 #[derive(Drop)]
 pub(crate) struct Slots {
     binders: [Option<Binder>; 8],
@@ -24,7 +25,7 @@ impl Model for Slots {
 }
 
 impl Slots {
-    /// All free.
+    /// Makes 8 free slots.
     pub(crate) fn new() -> Slots
         ensures { result ≡ replicate 8 None }
     {
@@ -33,7 +34,7 @@ impl Slots {
         }
     }
 
-    /// The lowest slot that is free.
+    /// Returns the lowest free slot, or `None` if each slot has a binder.
     pub(crate) fn lowest_free(&self) -> Option<usize>
         ensures lowest { result ≡ lowest_free self.now }
         ensures within { IfSome result (λ slot. slot < 8) }
@@ -41,7 +42,7 @@ impl Slots {
         self.binders.iter().position(|slot| slot.is_none())
     }
 
-    /// Puts a binder into a slot.
+    /// Puts `binder` into the slot `slot`.
     pub(crate) fn put(&mut self, slot: usize, binder: Binder)
         requires { slot < 8 }
         ensures { self.new ≡ slice_set self.old slot (Some binder) }
@@ -49,7 +50,7 @@ impl Slots {
         self.binders[slot] = Some(binder);
     }
 
-    /// Takes the binder out of a slot, if one lives there.
+    /// Takes the binder out of the slot `slot`, if there is one.
     pub(crate) fn take(&mut self, slot: usize) -> Option<Binder>
         ensures taken { result ≡ slice_index_or self.old slot None }
         ensures within { IfSome result (λ _. slot < 8) }

@@ -1,4 +1,4 @@
--- Flags of symbols, relocation by relocation.
+-- The flags of symbols, after each of the relocations.
 use Rattle.std.proofs.Common.{◌≡◌, ℕ, ◌<◌, ◌++◌, [], ◌∷◌, Bool, true, false, ◌||◌, List, length, get_or, refl, sym, ap, ◌∙◌}
 use Rattle.std.specs.Prelude.{◌==◌, ◌&&◌, replicate, set}
 use Rattle.std.specs.List.{list_any}
@@ -10,7 +10,7 @@ use Rattle.elf_dynamic.specs.declared.relocation.Relocation.{Relocation}
 use Rattle.bindings.specs.Named.{names_symbol}
 use Rattle.bindings.specs.inside.Flags.{AreFlags}
 
--- none of them
+-- if there are no relocations, all flags are false
 pub flags-none : (count : ℕ) → AreFlags count [] (replicate count false)
 flags-none count = record {
   counted = length-replicate count false;
@@ -25,7 +25,7 @@ or-true : (b : Bool) → true ≡ (b || true)
 or-true true = refl
 or-true false = refl
 
--- a relocation that names no symbol
+-- a relocation that names no symbol changes no flag
 pub flags-kept : (count : ℕ) (rs : List Relocation) (r : Relocation) (flags : List Bool) → uses_symbol r.kind ≡ false
     → AreFlags count rs flags → AreFlags count (rs ++ r ∷ []) flags
 flags-kept count rs r flags unused h = record {
@@ -43,7 +43,7 @@ set-by flags s i b true lt was same =
     ap (λ k. get_or (set flags s true) k false) (sym (eqb-true s i same)) ∙ get_or-set_same flags s true false lt ∙ or-true b
 set-by flags s i b false lt was differ = get_or-set_other flags s i true false (λ e. eqb-false s i differ (sym e)) ∙ was ∙ or-false b
 
--- one that names a symbol
+-- if a relocation names a symbol, the flags stay right if this symbol's flag is set
 pub flags-set : (count : ℕ) (rs : List Relocation) (r : Relocation) (flags : List Bool) → uses_symbol r.kind ≡ true → r.symbol < length flags
     → AreFlags count rs flags → AreFlags count (rs ++ r ∷ []) (set flags r.symbol true)
 flags-set count rs r flags used within h = record {

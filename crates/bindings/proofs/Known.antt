@@ -1,4 +1,5 @@
--- The text of what is missing, by the names that are installed and by those that were found.
+-- The text of missing names is the same whether the names are those of all installed libraries or of the
+-- libraries that were found.
 use Rattle.std.proofs.Common.{◌≡◌, List, ℕ, [], ◌∷◌, ◌++◌, ap, refl}
 use Rattle.std.specs.Prelude.{All, codes, if◌then◌else◌}
 use Rattle.std.specs.List.{flat_map}
@@ -13,7 +14,7 @@ flat-same f g P each [] all = refl
 flat-same f g P each (x ∷ xs) all = (λ i. each x (All-head P x xs all) i ++ flat-same f g P each xs (All-tail P x xs all) i)
 
 module _ (names others : List (List ℕ)) where
-  -- a need is missing among both or among neither
+  -- a need is missing among `names` exactly if it is missing among `others`
   abbrev Same : Need → Type 0
   Same need = is_missing names need ≡ is_missing others need
 

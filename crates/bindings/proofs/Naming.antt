@@ -1,4 +1,4 @@
--- The names of libraries as keys, and the search for one.
+-- The names of libraries as keys of a table, and the search for a name.
 use Rattle.std.proofs.Common.{◌≡◌, ℕ, suc, ◌+◌, ◌<◌, ◌++◌, [], ◌∷◌, Bool, true, false, not, cond, ◌||◌, List, length, map, take, get_or, Option, Some, None, refl, sym, ap, ◌∙◌, arith}
 use Rattle.std.specs.Prelude.{is_none, nat_lt, position}
 use Rattle.std.specs.List.{list_any, position_or_len}
@@ -43,7 +43,7 @@ not-not : (b : Bool) → not (not b) ≡ b
 not-not true = refl
 not-not false = refl
 
--- a name has a place exactly where it is one of the names
+-- a name has a place exactly if it is one of the names
 pub has-place : (names : List (List ℕ)) (name : List ℕ) → not (is_none (place_of names name)) ≡ list_any (bytes_eq name) names
 has-place names name =
     ap not (none-map (position (bytes_eq name) names)
@@ -51,7 +51,7 @@ has-place names name =
     ∙ ap not (within (bytes_eq name) names))
     ∙ not-not (list_any (bytes_eq name) names)
 
--- a key that is put where it isn't there, behind the others
+-- the keys with `name` appended, unless it is one of them
 abbrev pub with_key : List (List ℕ) → List ℕ → List (List ℕ)
 with_key keys name = cond (list_any (bytes_eq name) keys) keys (keys ++ name ∷ [])
 
@@ -66,7 +66,7 @@ key-by keys name q true there = same-by (list_any (bytes_eq q) keys) (bytes_eq q
     (λ same. ap (λ n. list_any (bytes_eq n) keys) ((bytes_eq-Decides q name).0 same) ∙ there)
 key-by keys name q false there = list_any-append (bytes_eq q) keys (name ∷ [])
 
--- one name more
+-- if the keys are the first i names, the keys with the next name are the first i + 1 names
 pub names-more : (names keys : List (List ℕ)) (i : ℕ) (name : List ℕ) → i < length names → name ≡ get_or names i name
     → AreNames (take i names) keys → AreNames (take (i + 1) names) (with_key keys name)
 names-more names keys i name lt is are = λ q.
@@ -75,7 +75,7 @@ names-more names keys i name lt is are = λ q.
     ∙ sym (list_any-append (bytes_eq q) (take i names) (name ∷ []))
     ∙ ap (list_any (bytes_eq q)) (ap (λ n. take i names ++ n ∷ []) is ∙ sym (take_more names i name lt))
 
--- the keys after one is inserted
+-- inserting an element in a table inserts its key in the list of keys
 pub keys-more : {A : Type 0} (f : A → List ℕ) (keys : List A) (x : A)
     → map f (cond (list_any (λ k. bytes_eq (f x) (f k)) keys) keys (keys ++ x ∷ [])) ≡ with_key (map f keys) (f x)
 keys-more {A} f keys x =

@@ -1,4 +1,4 @@
--- All symbols that relocations name are bound to something exactly where a bind finds none that is undefined.
+-- All symbols that relocations name are bound exactly if a bind finds no undefined symbol.
 use Rattle.std.proofs.Common.{◌≡◌, ℕ, zero, suc, ◌-◌, ◌<◌, ◌≤◌, Bool, true, false, not, cond, ◌||◌, List, [], ◌∷◌, length, map, get_or, Option, Some, None, refl, sym, ap, ◌∙◌, subst, arith}
 use Rattle.std.specs.Prelude.{◌&&◌, ◌==◌, filter, is_none, is_some}
 use Rattle.std.specs.List.{Any, list_all, list_any, find, range_with_len}
@@ -47,7 +47,7 @@ value-none : (objects : List Placed) (own i : ℕ) → is_none (symbol_value obj
 unfolding symbol_value
 value-none objects own i = none-map (target_value objects) (target_at objects own i) ∙ not-none (target_at objects own i)
 
--- a relocation is undefined where it uses a symbol that is bound to nothing
+-- a relocation is undefined exactly if it uses a symbol that isn't bound
 undefined-is : (objects : List Placed) (own : ℕ) (r : Relocation)
     → is_undefined objects own r ≡ (uses_symbol r.kind && not (is_some (target_at objects own r.symbol)))
 undefined-is objects own r =
@@ -103,7 +103,8 @@ and-both : (a b : Bool) → a ≡ true → b ≡ true → (a && b) ≡ true
 and-both true b h e = e
 and-both false b h e = cc
 
--- of relocations that name symbols below a number: all symbols from 1 on that they name pass exactly where none uses one that doesn't
+-- if relocations name only symbols below `n`, the symbols that they name all pass `q` exactly if no
+-- relocation uses a symbol that fails `q`
 module _ (q : ℕ → Bool) (first : q 0 ≡ true) (rs : List Relocation) (n : ℕ)
     (there : (k : ℕ) (d : Relocation) → k < length rs → uses_symbol (get_or rs k d).kind ≡ true → (get_or rs k d).symbol < n) where
   abbrev pub p : ℕ → Bool
@@ -157,7 +158,8 @@ list_all-same : {X : Type 0} (f g : X → Bool) → ((x : X) → f x ≡ g x) �
 list_all-same f g h [] = refl
 list_all-same f g h (x ∷ xs) = ap (λ b. b && list_all f xs) (h x) ∙ ap (λ b. g x && b) (list_all-same f g h xs)
 
--- of the object at a place
+-- the symbols of object number `own` that relocations name are all bound exactly if the object has no
+-- undefined relocation
 pub bound-of : (objects : List Placed) (own : ℕ)
     → first_refusal (file_at objects own) ≡ None → length (symbols (file_at objects own)) ≡ length (chains (file_at objects own))
     → list_all (λ i. is_some (target_at objects own i)) (named_symbols (file_at objects own)) ≡ is_none (undefined_in objects own)
@@ -181,7 +183,7 @@ first-none f (x ∷ xs) = by (f x) (first-none f xs)
     by None h = h
     by (Some e) h = refl
 
--- of all objects
+-- no object has an undefined relocation exactly if `undefined_refusal` is none
 pub all-bound : (objects : List Placed) → list_all (λ own. is_none (undefined_in objects own)) (range_with_len 0 (length objects)) ≡ is_none (undefined_refusal objects)
 unfolding undefined_refusal
 all-bound objects = first-none (undefined_in objects) (range_with_len 0 (length objects))

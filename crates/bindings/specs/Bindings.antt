@@ -1,4 +1,4 @@
--- What the symbols that relocations name are bound to, as text (own).
+-- The text of the symbols that relocations name, and of their bindings (own).
 use Rattle.std.specs.Prelude.{ℕ, List, ◌++◌, length, map, codes, Option, Some, None}
 use Rattle.std.specs.List.{flat_map, range_with_len}
 use Rattle.elf_dynamic.specs.Strings.{name_of, needed}
@@ -11,15 +11,15 @@ use Rattle.image.specs.Placement.{Placed, named}
 use Rattle.image.specs.Relocating.{base_at, file_at, name_at, own_address}
 use Rattle.bindings.specs.Named.{named_symbols}
 
--- a line that says this of a name
+-- a line that begins with `says` and ends with a name
 abbrev pub name_line : List ℕ → List ℕ → List ℕ
 name_line says name = says ++ name_text name ++ codes "\n"
 
--- a line that says this of a name and another one
+-- a line that begins with `says` and ends with two names
 abbrev pub names_line : List ℕ → List ℕ → List ℕ → List ℕ
 names_line says name other = says ++ name_text name ++ name_line (codes " ") other
 
--- the line of an object: its base and its name
+-- the line of an object, with its base and its name
 abbrev pub object_line : (base : ℕ) (name : List ℕ) → List ℕ
 object_line base name = codes "object 0x" ++ address_text base ++ name_line (codes " ") name
 
@@ -27,33 +27,33 @@ object_line base name = codes "object 0x" ++ address_text base ++ name_line (cod
 abbrev pub needs_line : List ℕ → List ℕ
 needs_line name = name_line (codes "needs ") name
 
--- the line of a symbol that is bound: its name, its value, and the object that defines it
+-- the line of a symbol that is bound, with its name, its value, and the object that defines it
 abbrev pub binds_line : (symbol : List ℕ) (value : ℕ) (object : List ℕ) → List ℕ
 binds_line symbol value object = codes "binds " ++ name_text symbol ++ codes " 0x" ++ address_text value ++ name_line (codes " ") object
 
--- the line of a symbol of this name of the object at a place, by what it is bound to: a symbol of an
--- object, 0 where it is weak and no object defines it, or nothing
+-- the line of a symbol of object number `own` with the name `name`, by its target: a symbol of an
+-- object, 0 for a weak symbol that no object defines, or none
 abbrev pub target_line : List Placed → ℕ → List ℕ → Option Target → List ℕ
 target_line objects own name (Some (At object symbol)) = binds_line name (own_address objects object symbol) (name_at objects object)
 target_line objects own name (Some Zero) = name_line (codes "unresolved ") name
 target_line objects own name None = names_line (codes "undefined ") name (name_at objects own)
 
--- what symbol i of the object at a place is bound to
+-- the target of symbol number `i` of object number `own`
 abbrev pub target_at : List Placed → ℕ → ℕ → Option Target
 target_at objects own i = target (map named objects) own i
 
--- its line
+-- the line of symbol number `i` of object number `own`
 unfoldable pub symbol_line : List Placed → ℕ → ℕ → List ℕ
 symbol_line objects own i = target_line objects own (name_of (file_at objects own) i) (target_at objects own i)
 
--- the lines of the object at a place: itself, what it needs, and each symbol that its relocations
--- name, by number
+-- the lines of object number `own`: the object itself, the names that it needs, and each symbol that its relocations name, in the order of the
+-- symbols' numbers
 unfoldable pub object_text : List Placed → ℕ → List ℕ
 object_text objects own =
     object_line (base_at objects own) (name_at objects own)
     ++ flat_map needs_line (needed (file_at objects own))
     ++ flat_map (symbol_line objects own) (named_symbols (file_at objects own))
 
--- the text of objects in their places: object by object in load order, and the line `end`
+-- the text of placed objects: the lines of each object, in load order, and the line `end`
 unfoldable pub bindings_text : List Placed → List ℕ
 bindings_text objects = flat_map (object_text objects) (range_with_len 0 (length objects)) ++ codes "end\n"

@@ -1,24 +1,25 @@
--- What is found for a program, and what is missing, as text (own).
+-- The text of the libraries that are found for a program, and of the names that are missing (own).
 use Rattle.std.specs.Prelude.{ℕ, List, [], ◌++◌, codes, if◌then◌else◌}
 use Rattle.std.specs.List.{flat_map}
 use Rattle.scope.specs.LoadOrder.{Need, needed_by, is_missing}
 use Rattle.scope.specs.Objects.{Named}
 use Rattle.bindings.specs.Bindings.{name_line, names_line, needs_line}
 
--- the line of a name that is missing: the name, and who needs it
+-- the line of a name that is missing, with the object that needs it
 abbrev pub missing_line : Need → List ℕ
 missing_line need = names_line (codes "missing ") need.name need.needer
 
--- a name that is needed, and where no library of these names goes by it, that it is missing
+-- the line of a needed name, and after it the line of a missing name if no library has the needed one;
+-- `names` has the libraries' names
 abbrev pub need_text : List (List ℕ) → Need → List ℕ
 need_text names need = needs_line need.name ++ (if is_missing names need then missing_line need else [])
 
--- the lines of an object that is found: itself, and what it needs
+-- the lines of an object that is found: the line of its name, and the lines of the names that it needs
 unfoldable pub found_text : List (List ℕ) → Named → List ℕ
 found_text names object = name_line (codes "found ") object.name ++ flat_map (need_text names) (needed_by object)
 
--- the text of objects where libraries of these names are installed: object by object, and the line
--- `end`
+-- the text of objects: the lines of each object, in their order, and the line `end`; `names` has the
+-- names of the installed libraries
 unfoldable pub dependencies_text : List (List ℕ) → List Named → List ℕ
 dependencies_text names objects = flat_map (found_text names) objects ++ codes "end\n"
 

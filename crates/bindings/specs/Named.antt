@@ -5,15 +5,14 @@ use Rattle.elf_dynamic.specs.Relocation.{relocations, uses_symbol}
 use Rattle.elf_dynamic.specs.Symbol.{symbols}
 use Rattle.elf_dynamic.specs.declared.relocation.Relocation.{Relocation}
 
--- the value of a relocation is that of the symbol of a number
+-- the relocation uses the value of symbol number `i`
 abbrev pub names_symbol : ℕ → Relocation → Bool
 names_symbol i r = uses_symbol r.kind && r.symbol == i
 
--- some relocation of a file names the symbol of a number
+-- some relocation of a file uses the value of symbol number `i`
 abbrev pub is_named : List ℕ → ℕ → Bool
 is_named file i = list_any (names_symbol i) (relocations file)
 
--- the numbers of the symbols that relocations of a file name, each once, from low to high; 0 is that
--- of no symbol
+-- the numbers of the symbols that relocations of a file name, each only once, in rising order; 0 isn't the number of a symbol
 unfoldable pub named_symbols : List ℕ → List ℕ
 named_symbols file = filter (is_named file) (range_with_len 1 (length (symbols file) - 1))

@@ -1,4 +1,4 @@
-// What the symbols of objects in their places are bound to.
+// Placed objects, and the text of their symbols' bindings.
 
 ghost use Rattle.std.specs.Prelude.{◌≡◌, ◌<◌, length, is_none, IfOk, IfErr, OnOk, true, false};
 ghost use Rattle.std.specs.Io.KnownBytes.{Appends};
@@ -21,8 +21,8 @@ use std::io::Write;
 use std::marker::Model;
 use text_output::WriteFault;
 
-/// A program and its libraries in their places, and which of their symbols relocations name.
-/// Contracts see the objects.
+/// A program and its libraries in their places, and flags for the symbols that their relocations
+/// name. Contracts see the placed objects.
 #[derive(Drop)]
 pub struct Bindings<'a> {
     objects: PlacedOrder<'a>,
@@ -41,8 +41,9 @@ impl<'a> Model for Bindings<'a> {
     ghost invariant = { λ b. AllFlags b.objects (map (λ f. f.items) b.named.items) };
 }
 
-/// The lines of the object at a place, whose symbols that its relocations name are flagged. Gives
-/// whether all of these are bound to something.
+/// Writes the lines of object number `own`. `named` has a flag for each symbol of the object, which
+/// is true if a relocation names the symbol. Returns whether all symbols with a true flag are
+/// bound.
 #[tactic(auto, unfolding(crate::specs::Bindings::object_text))]
 fn put_object<W: Write>(
     out: &mut W,
@@ -63,14 +64,14 @@ fn put_object<W: Write>(
 }
 
 impl<'a> Bindings<'a> {
-    /// Places the objects of an order, the program at a good base, and finds which symbols their
-    /// relocations name. One pass over the relocations, and a byte a symbol.
+    /// Places the objects of an order, the program at `base`, and finds the symbols that their
+    /// relocations name. Makes one pass over the relocations, and allocates one byte a symbol.
     pub fn of(alloc: Global, order: &'a Order<'a>, base: u64) -> Result<Bindings<'a>, BindRefusal>
         requires { is_good_base (ordered.file_at order.now 0) base ≡ true }
         ensures ok { IfOk result (λ bindings. bindings ≡ place base order.now) }
 
-        // Where the memory of one would end above 2^47 - 4,096 that is answered, or want of memory
-        // where the program's own doesn't.
+        // If the memory of an object would end above 2^47 - 4,096, returns NoRoom. Returns
+        // OutOfMemory only if the program's own memory doesn't end above that address.
         ensures room { OnOk result (lacks_room (place base order.now) ≡ false) }
         ensures refused { IfErr result (IsPlaceAnswer (place base order.now)) }
     {
@@ -79,10 +80,10 @@ impl<'a> Bindings<'a> {
         Ok(Bindings { objects, named })
     }
 
-    /// Writes the text, and gives whether every symbol is bound to something: a bind would find
-    /// none that is undefined. It takes 64 KiB of stack and no memory, and gives the writer pieces
-    /// of that size. It costs a search for each symbol that relocations name, and what it writes.
-    /// At a fault what the writer holds is open.
+    /// Writes the text, and returns whether every symbol is bound to something, so that a bind
+    /// would find no undefined symbol. Uses 64 KiB of stack, allocates nothing, and passes the text
+    /// to the writer in pieces of 64 KiB. The time is that of one search for each symbol that
+    /// relocations name, and of writing. If the writer fails, what it has received is unspecified.
     #[tactic(auto, unfolding(crate::specs::Bindings::bindings_text))]
     pub fn write_text<W: Write>(&self, out: &mut W) -> Result<bool, WriteFault>
         ensures text { OnOk result

@@ -1,4 +1,4 @@
-// What the objects of a program need that lacks libraries.
+// The needed names of a program that lacks libraries, as text.
 
 ghost use Rattle.std.specs.Prelude.{◌≡◌, not, is_none, map, IfOk, OnOk};
 ghost use Rattle.std.specs.List.{flat_map};
@@ -18,7 +18,8 @@ use std::io::Write;
 use std::marker::Model;
 use text_output::WriteFault;
 
-/// A program and the libraries that were found for it, in load order. Contracts see these.
+/// A program and the libraries that were found for it, in load order. Contracts see the program and
+/// the libraries.
 #[derive(Drop)]
 pub struct Dependencies<'a> {
     program: &'a Admitted<'a>,
@@ -40,7 +41,8 @@ impl<'a> Model for Dependencies<'a> {
 }
 
 impl<'a> Dependencies<'a> {
-    /// A program and the libraries that were found for it. It takes some 20 bytes a library.
+    /// Makes the dependencies of a program and of the libraries that were found for it. Allocates
+    /// about 20 bytes a library.
     pub fn of(
         alloc: Global,
         program: &'a Admitted<'a>,
@@ -60,14 +62,15 @@ impl<'a> Dependencies<'a> {
         })
     }
 
-    /// Whether one of the libraries goes by a name.
+    /// Returns whether one of the libraries has this name.
     fn has(&self, name: &[u8]) -> bool
         ensures { result ≡ not (is_none (place_of (names_of self.now.libraries) name.now)) }
     {
         self.names.contains(name)
     }
 
-    /// The lines of a name that an object needs.
+    /// Writes the line of a name that an object needs, and after it the line of a missing name if
+    /// no library has it.
     fn put_need<W: Write>(
         &self,
         out: &mut W,
@@ -86,7 +89,7 @@ impl<'a> Dependencies<'a> {
         put_names_line(out, buffer, b"missing ", name, needer)
     }
 
-    /// The lines of an object. One pass over its dynamic section.
+    /// Writes the lines of an object. Makes one pass over its dynamic section.
     #[tactic(auto, unfolding(crate::specs::Dependencies::found_text))]
     fn put_object<W: Write>(
         &self,
@@ -106,7 +109,7 @@ impl<'a> Dependencies<'a> {
         Ok(())
     }
 
-    /// The lines of the libraries.
+    /// Writes the lines of the libraries.
     fn put_libraries<W: Write>(
         &self,
         out: &mut W,
@@ -122,10 +125,10 @@ impl<'a> Dependencies<'a> {
         Ok(())
     }
 
-    /// Writes the text: each object, each name that it needs, and of each that none of the
-    /// libraries goes by that it is missing. It takes 64 KiB of stack and no memory, and gives the
-    /// writer pieces of that size. One pass over the objects' dynamic sections, and a search for
-    /// each name. At a fault what the writer holds is open.
+    /// Writes the text: each object, with a line for each name that it needs, and another line if
+    /// none of the libraries has this name. Uses 64 KiB of stack, allocates nothing, and passes the
+    /// text to the writer in pieces of 64 KiB. Makes one pass over the objects' dynamic sections,
+    /// with one search for each name. If the writer fails, the writer's contents are unspecified.
     #[tactic(auto, unfolding(crate::specs::Dependencies::dependencies_text))]
     pub fn write_text<W: Write>(&self, out: &mut W) -> Result<(), WriteFault>
         ensures { OnOk result (Appends (W.contents out.old) (W.contents out.new)

@@ -1,9 +1,9 @@
-//! What each symbol of a program and its libraries is bound to, and what each of them needs, as
-//! text.
+//! Writes, as text, what each symbol of a program and its libraries is bound to, and what each of
+//! these objects needs.
 //!
-//! `Bindings` tells of objects in their places, each with the symbols that its relocations name
-//! and what these are bound to. `Dependencies` tells of the objects of a program that lacks
-//! libraries: what was found, and each name that is missing.
+//! `Bindings` is for placed objects. Its text has, for each object, the symbols that its
+//! relocations name, and what these are bound to. `Dependencies` is for a program that lacks
+//! libraries. Its text has the objects that were found, and each name that is missing.
 #![tactic(auto)]
 
 mod bindings;

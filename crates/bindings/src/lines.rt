@@ -1,4 +1,4 @@
-// Lines of the texts.
+// The lines of the texts.
 
 ghost use Rattle.std.specs.Prelude.{◌≡◌, true, OnOk, OnErr};
 ghost use Rattle.text_output.specs.Sends.{Sends};
@@ -7,10 +7,10 @@ ghost use Rattle.bindings.specs.Bindings.{binds_line, name_line, names_line, obj
 use std::io::Write;
 use text_output::{OutputBuffer, WriteFault};
 
-/// The bytes that wait for the writer: it gets them in pieces of 64 KiB.
+/// The buffer for the text. The writer receives it in pieces of 64 KiB.
 pub(crate) type TextBuffer = OutputBuffer<65536>;
 
-/// The line that says this of a name.
+/// Writes a line that begins with `says` and ends with a name.
 pub(crate) fn put_name_line<W: Write>(
     out: &mut W,
     buffer: &mut TextBuffer,
@@ -25,7 +25,7 @@ pub(crate) fn put_name_line<W: Write>(
     buffer.put(out, b"\n")
 }
 
-/// The line that says this of a name and another one.
+/// Writes a line that begins with `says` and ends with two names.
 pub(crate) fn put_names_line<W: Write>(
     out: &mut W,
     buffer: &mut TextBuffer,
@@ -41,7 +41,7 @@ pub(crate) fn put_names_line<W: Write>(
     put_name_line(out, buffer, b" ", other)
 }
 
-/// The line of an object: its base and its name.
+/// Writes the line of an object, with its base and its name.
 pub(crate) fn put_object_line<W: Write>(
     out: &mut W,
     buffer: &mut TextBuffer,
@@ -56,7 +56,8 @@ pub(crate) fn put_object_line<W: Write>(
     put_name_line(out, buffer, b" ", name)
 }
 
-/// The line of a symbol that is bound: its name, its value, and the object that defines it.
+/// Writes the line of a symbol that is bound, with its name, its value, and the object that defines
+/// it.
 pub(crate) fn put_binds_line<W: Write>(
     out: &mut W,
     buffer: &mut TextBuffer,

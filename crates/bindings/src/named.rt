@@ -1,4 +1,4 @@
-// Which symbols relocations name.
+// The symbols that relocations name.
 
 ghost use Rattle.std.specs.Prelude.{◌≡◌, ◌<◌, ◌∷◌, ◌++◌, [], ℕ, List, length, map, true, IfOk};
 ghost use Rattle.elf_dynamic.specs.Relocation.{uses_symbol};
@@ -9,7 +9,7 @@ use elf_dynamic::{Object, Relocation, uses_symbol};
 use image::PlacedOrder;
 use std::alloc::{AllocError, Global};
 
-/// Notes the symbol whose value a relocation has, if it has one.
+/// Sets the flag of the symbol whose value `relocation` uses, if it uses one.
 fn note(flags: &mut [bool], relocation: Relocation)
     requires { uses_symbol relocation.kind ≡ true → relocation.symbol < length flags.old }
     ensures { (count : ℕ) → (rs : List Rela) → AreFlags count rs flags.old
@@ -20,8 +20,8 @@ fn note(flags: &mut [bool], relocation: Relocation)
     }
 }
 
-/// Which symbols the relocations of an object name, by number: a byte a symbol, and one pass over
-/// the relocations.
+/// Returns a flag for each symbol of an object, which is true if a relocation of the object names
+/// the symbol. Allocates one byte a symbol, and makes one pass over the relocations.
 fn named_flags(alloc: Global, object: &Object<'_>) -> Result<Vec<bool>, AllocError>
     ensures { IfOk result (λ flags. FileFlags object.now flags.items) }
 {
@@ -33,7 +33,7 @@ fn named_flags(alloc: Global, object: &Object<'_>) -> Result<Vec<bool>, AllocErr
     Ok(flags)
 }
 
-/// The same for each of the objects.
+/// Returns the flags of all objects.
 pub(crate) fn all_flags(
     alloc: Global,
     objects: &PlacedOrder<'_>,

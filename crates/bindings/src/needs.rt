@@ -1,4 +1,4 @@
-// What an object needs.
+// The names that an object needs.
 
 ghost use Rattle.std.specs.Prelude.{OnOk};
 ghost use Rattle.std.specs.List.{flat_map};
@@ -11,7 +11,8 @@ use elf_dynamic::Object;
 use std::io::Write;
 use text_output::WriteFault;
 
-/// The line of each name that an object needs. One pass over its dynamic section.
+/// Writes a line for each name that an object needs. Makes one pass over the object's dynamic
+/// section.
 pub(crate) fn put_needs<W: Write>(
     out: &mut W,
     buffer: &mut TextBuffer,

@@ -1,4 +1,4 @@
-// What the symbols of an object are bound to.
+// The lines of an object's symbols.
 
 ghost use Rattle.std.specs.Prelude.{◌≡◌, ◌<◌, ◌||◌, [], length, not, is_some, is_none, IfOk, OnOk};
 ghost use Rattle.std.specs.Prelude.{if◌then◌else◌};
@@ -17,7 +17,8 @@ use scope::{Target, Undefined};
 use std::io::Write;
 use text_output::WriteFault;
 
-/// The line of a symbol of the object at a place. Gives whether it is bound to something.
+/// Writes the line of symbol number `i` of object number `own`. Returns whether the symbol is
+/// bound.
 #[tactic(auto, unfolding(crate::specs::Bindings::symbol_line))]
 fn put_symbol<W: Write>(
     out: &mut W,
@@ -55,7 +56,8 @@ fn put_symbol<W: Write>(
     }
 }
 
-/// The same where a relocation names the symbol, and else nothing.
+/// Writes the line of a symbol if a relocation names it, and returns whether the symbol is bound.
+/// Otherwise writes nothing, and returns true.
 fn put_if_named<W: Write>(
     out: &mut W,
     buffer: &mut TextBuffer,
@@ -79,8 +81,8 @@ fn put_if_named<W: Write>(
     }
 }
 
-/// The lines of the symbols of the object at a place that are flagged. Gives whether all of them
-/// are bound to something: a bind finds none that is undefined.
+/// Writes the lines of the symbols of object number `own` whose flags are true. Returns whether all
+/// of them are bound, so that a bind finds no undefined symbol.
 pub(crate) fn put_symbols<W: Write>(
     out: &mut W,
     buffer: &mut TextBuffer,

@@ -9,18 +9,19 @@ use std::os::unix::fs::{FileTypeExt, MetadataExt};
 use std::rt::Files;
 use std::{fs, io};
 
-/// The file systems that are mounted, one a line: the third field has the numbers of the device,
-/// and the second behind a lone `-` its path (proc(5)).
+/// The mounted file systems, one on each line. The third field has the numbers of the device, and
+/// the second field after a single `-` has the device's path (proc(5)).
 const MOUNTS: &str = "/proc/self/mountinfo";
 
-/// What is swapped to, one a line behind the first, each with its path in front (proc(5)).
+/// The swap areas, one on each line after the first line. Each line begins with the path of the
+/// area (proc(5)).
 const SWAPS: &str = "/proc/swaps";
 
 /// A block device.
 #[derive(Clone, Copy)]
 struct Device {
     numbers: Numbers,
-    /// The numbers of the disk that it is a partition of.
+    /// The numbers of the disk of which this device is a partition.
     whole: Option<Numbers>,
 }
 
@@ -31,7 +32,8 @@ impl Device {
         Ok(Device { numbers, whole })
     }
 
-    /// Whether it shares sectors with another: it is the same, or one is a partition of the other.
+    /// Returns whether the device shares sectors with another device: both are the same, or one is
+    /// a partition of the other.
     fn meets<R: Files>(self, rt: &R, alloc: Global, other: Numbers) -> io::Result<bool> {
         if other == self.numbers || self.whole == Some(other) {
             return Ok(true);
@@ -39,7 +41,7 @@ impl Device {
         Ok(whole_of(rt, alloc, other)? == Some(self.numbers))
     }
 
-    /// Whether it shares sectors with the block device that a path leads to.
+    /// Returns whether the device shares sectors with the block device to which `path` leads.
     fn meets_path<R: Files>(self, rt: &R, alloc: Global, path: &str) -> io::Result<bool> {
         match fs::metadata(rt, path) {
             Ok(found) if path.starts_with('/') && found.file_type().is_block_device() => {
@@ -49,7 +51,7 @@ impl Device {
         }
     }
 
-    /// Whether a line of the mounted file systems names it.
+    /// Returns whether a line of the mounted file systems names the device.
     fn is_mounted_by<R: Files>(self, rt: &R, alloc: Global, line: &str) -> io::Result<bool> {
         if let Some(numbers) = line.split(' ').nth(2).and_then(Numbers::parse) {
             if self.meets(rt, alloc, numbers)? {
@@ -65,7 +67,7 @@ impl Device {
         }
     }
 
-    /// Whether one of these file systems is on it.
+    /// Returns whether one of these file systems is on the device.
     fn has_mounted<R: Files>(self, rt: &R, alloc: Global, mounts: &str) -> io::Result<bool> {
         for line in mounts.lines() {
             if self.is_mounted_by(rt, alloc, line)? {
@@ -80,7 +82,7 @@ impl Device {
         self.has_mounted(rt, alloc, &mounts)
     }
 
-    /// Whether one of the lines begins with a path that leads to it.
+    /// Returns whether one of the lines begins with a path that leads to the device.
     fn has_swap<R: Files>(self, rt: &R, alloc: Global, swaps: &str) -> io::Result<bool> {
         for line in swaps.lines() {
             if let Some(path) = line.split(' ').next() {
@@ -100,16 +102,16 @@ impl Device {
         }
     }
 
-    /// Whether other devices stand on it, on its disk or on its partitions.
+    /// Returns whether other devices use the device, its disk or its partitions.
     fn is_held<R: Files>(self, rt: &R, alloc: Global) -> io::Result<bool> {
         let folder = self.numbers.folder(alloc)?;
         is_folder_held(rt, alloc, &folder, self.whole.is_some())
     }
 }
 
-/// Whether the block device with a number (`st_rdev` of stat(2)) is mounted, swapped to or held by
-/// another device; or its disk is, or one of its partitions. An error is that of a file or folder
-/// of /proc or /sys which can't be read, or want of memory.
+/// Returns whether the block device with the number `rdev` (`st_rdev` of stat(2)) is mounted,
+/// swapped to or held by another device. This is also true if its disk or one of its partitions is.
+/// An error means that a file or folder of /proc or /sys can't be read, or that memory was refused.
 pub fn is_in_use<R: Files<File = File>>(rt: &R, alloc: Global, rdev: u64) -> io::Result<bool> {
     let device = Device::new(rt, alloc, rdev)?;
     Ok(

@@ -1,4 +1,5 @@
-// What the files of /proc and the folders of sysfs tell of block devices (proc(5), sysfs(5)).
+// Reads the files of /proc and the folders of sysfs that describe block devices (proc(5),
+// sysfs(5)).
 
 use crate::numbers::Numbers;
 use std::alloc::Global;
@@ -6,14 +7,14 @@ use std::io::{ErrorKind, Read};
 use std::rt::Files;
 use std::{fs, io, str};
 
-/// The text of a file, with a mark in the place of bytes that are no UTF-8: a mount point may have
-/// such a name.
+/// Returns the text of a file, with a replacement character in place of bytes that aren't UTF-8. A
+/// mount point may have such a name.
 pub(crate) fn read_text<R: Files>(rt: &R, alloc: Global, path: &str) -> io::Result<String> {
     let bytes = fs::read(&(rt, alloc), path)?;
     Ok(String::from_utf8_lossy(alloc, &bytes)?)
 }
 
-/// The numbers that a file has, where there is one.
+/// Returns the device numbers in a file, if the file exists and has them.
 pub(crate) fn numbers_in<R: Files>(
     rt: &R,
     alloc: Global,
@@ -26,18 +27,18 @@ pub(crate) fn numbers_in<R: Files>(
     }
 }
 
-/// The path of a name in a folder.
+/// Returns the path of a name in a folder.
 fn path_in(alloc: Global, folder: &str, name: &str) -> io::Result<String> {
     Ok(format!(in alloc; "{folder}/{name}")?)
 }
 
-/// Whether the device of a folder of sysfs is a partition.
+/// Returns whether the device of a folder of sysfs is a partition.
 fn is_partition<R: Files>(rt: &R, alloc: Global, folder: &str) -> io::Result<bool> {
     let partition = path_in(alloc, folder, "partition")?;
     Ok(fs::metadata(rt, partition.as_str()).is_ok())
 }
 
-/// The numbers of the disk that a device is a partition of.
+/// Returns the numbers of the disk of which a device is a partition.
 pub(crate) fn whole_of<R: Files>(
     rt: &R,
     alloc: Global,
@@ -51,7 +52,8 @@ pub(crate) fn whole_of<R: Files>(
     numbers_in(rt, alloc, &disk)
 }
 
-/// The names in a folder, or in the one that a link leads to, each ended by a byte 0.
+/// Returns the names in a folder, or in the folder to which a link leads. Each name is ended by a
+/// byte 0.
 fn names_in<R: Files>(rt: &R, alloc: Global, folder: &str) -> io::Result<Vec<u8>> {
     let inside = path_in(alloc, folder, ".")?;
     let mut found = rt.open_dir(&inside)?;
@@ -60,8 +62,8 @@ fn names_in<R: Files>(rt: &R, alloc: Global, folder: &str) -> io::Result<Vec<u8>
     Ok(names)
 }
 
-/// Whether a folder with these names, each ended by a byte 0, has more than itself and the one
-/// above it.
+/// Returns whether a folder with these names contains more than itself and the folder above it.
+/// Each name is ended by a byte 0.
 fn has_others(names: &[u8]) -> bool {
     for name in names.split(|byte| *byte == 0) {
         if !matches!(name, b"" | b"." | b"..") {
@@ -71,14 +73,14 @@ fn has_others(names: &[u8]) -> bool {
     false
 }
 
-/// Whether other devices stand on the one of a folder of sysfs.
+/// Returns whether other devices use the device of a folder of sysfs.
 fn has_holders<R: Files>(rt: &R, alloc: Global, folder: &str) -> io::Result<bool> {
     let holders = path_in(alloc, folder, "holders")?;
     let names = names_in(rt, alloc, &holders)?;
     Ok(has_others(&names))
 }
 
-/// Whether a name in the folder of a disk is that of a partition on which other devices stand.
+/// Returns whether a name in the folder of a disk is that of a partition which other devices use.
 fn is_held_partition<R: Files>(
     rt: &R,
     alloc: Global,
@@ -92,8 +94,8 @@ fn is_held_partition<R: Files>(
     Ok(is_partition(rt, alloc, &inside)? && has_holders(rt, alloc, &inside)?)
 }
 
-/// Whether one of the names in the folder of a disk, each ended by a byte 0, is that of a partition
-/// on which other devices stand.
+/// Returns whether one of the names in the folder of a disk is that of a partition which other
+/// devices use. Each name is ended by a byte 0.
 fn has_held_partition<R: Files>(
     rt: &R,
     alloc: Global,
@@ -108,8 +110,8 @@ fn has_held_partition<R: Files>(
     Ok(false)
 }
 
-/// Whether other devices stand on the one of a folder of sysfs, on its disk if it is a partition,
-/// or else on its partitions.
+/// Returns whether other devices use the device of a folder of sysfs. If it is a partition, its
+/// disk counts too; otherwise its partitions do.
 pub(crate) fn is_folder_held<R: Files>(
     rt: &R,
     alloc: Global,

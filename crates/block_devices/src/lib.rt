@@ -1,4 +1,4 @@
-//! Whether a block device is in use, as Linux tells in /proc and /sys.
+//! Finds out whether a block device is in use, as Linux reports in /proc and /sys.
 #![tactic(auto)]
 
 mod device;

@@ -11,7 +11,7 @@ pub(crate) struct Numbers {
 }
 
 impl Numbers {
-    /// Those of which Linux makes one number (makedev(3)).
+    /// Returns the major and the minor number that `rdev` encodes (makedev(3)).
     pub(crate) fn new(rdev: u64) -> Numbers {
         Numbers {
             major: (rdev >> 8 & 0xfff) | (rdev >> 32 & 0xffff_f000),
@@ -19,7 +19,7 @@ impl Numbers {
         }
     }
 
-    /// Those that a text spells as the system does: `8:1`.
+    /// Returns the numbers that a text encodes in the form that the system uses: `8:1`.
     pub(crate) fn parse(text: &str) -> Option<Numbers> {
         let (major, minor) = text.split_once(':')?;
         Some(Numbers {
@@ -28,7 +28,7 @@ impl Numbers {
         })
     }
 
-    /// The device's folder of sysfs.
+    /// Returns the path of the device's folder of sysfs.
     pub(crate) fn folder(self, alloc: Global) -> io::Result<String> {
         Ok(format!(in alloc; "/sys/dev/block/{}:{}", self.major, self.minor)?)
     }

@@ -1,4 +1,4 @@
--- Finding the latest content of a sector.
+-- How the latest content of a sector is found.
 use Rattle.std.proofs.Common.{◌≡◌, ⊎_elim, ℕ, ◌<◌, List, [], length, get_or, All, sym, ◌∙◌, ap, subst, arith}
 use Rattle.std.proofs.lemmas.Bool.{cases_lt}
 use Rattle.std.proofs.lemmas.List.{length-map, get_or_past, get_or-map}
@@ -12,7 +12,7 @@ use Rattle.byte_disk.specs.Plan.{carried_out, writes_in, IsWriteOn}
 use Rattle.byte_disk.specs.inside.Latest.{plan_in, content_of, content_by}
 use Rattle.byte_disk.specs.inside.PlanLaws.{length-carried_out, carried_out_whole}
 
--- the place of a step that wrote a whole sector is one of a step
+-- if the content at a place has as many bytes as a sector, there is a step at this place
 pub place_in : (steps : List Step) (place : ℕ) (now : Sector) → length now ≡ sector_bytes → content_of (get_or steps place Sync) ≡ now → place < length steps
 place_in steps place now whole is = ⊎_elim
     (λ lt. lt)
@@ -20,18 +20,18 @@ place_in steps place now whole is = ⊎_elim
     ap (λ step. length (content_of step)) (get_or_past steps place Sync past) in absurd (omega (arith, empty, ap length is, whole)))
     (cases_lt place (length steps))
 
--- what reads give of a sector is whole
+-- what reads return of a sector is whole
 pub now_whole : (start : List Sector) (steps : List Step) (k : ℕ) → k < length start → All IsWhole start
     → All (IsWriteOn (length start)) (writes_in steps) → length (sector (carried_out start steps) k) ≡ sector_bytes
 now_whole start steps k lt whole writes =
     (All-get_or IsWhole (carried_out start steps) k [] (omega (arith, lt, length-carried_out start steps))
     (carried_out_whole (length start) start steps whole writes)).size
 
--- the step that is read
+-- the step that is read is the step of the plan at this place
 pub step_read : (planned : List PlannedStep) (place : ℕ) (p : PlannedStep) → place < length planned → p ≡ get_or planned place p → get_or (plan_in planned) place Sync ≡ p.step
 step_read planned place p lt is = get_or-map (λ (x : PlannedStep). x.step) planned place p Sync lt ∙ ap (λ (x : PlannedStep). x.step) (sym is)
 
--- what is found of sector k where its latest content was written at a place
+-- what is found of sector k, if its latest content was written by the step at a place
 module _ (start : List Sector) (planned : List PlannedStep) (k : ℕ) (place : ℕ) (lt : k < length start) (whole : All IsWhole start)
     (writes : All (IsWriteOn (length start)) (writes_in (plan_in planned))) (got : Option ℕ)
     (is_latest : content_by start (plan_in planned) k got ≡ sector (carried_out start (plan_in planned)) k) (found : Some place ≡ got) where

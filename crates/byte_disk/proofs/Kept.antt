@@ -1,4 +1,4 @@
--- A call of a disk of given bytes: what it keeps of the past, and what it adds to what may be left.
+-- The effect of a call of a disk over given bytes, on the past and on the contents that a stop may leave.
 use Rattle.std.proofs.Common.{◌≡◌, ◌↔◌, ◌⊎◌, inl, inr, ⊎_elim, ℕ, ◌+◌, ◌-◌, ◌<◌, ◌≤◌, List, [], ◌∷◌, ◌++◌, length, map, set, take, drop, All, Result, Ok, Err, refl, sym, ◌∙◌, ap, subst, arith}
 use Rattle.std.proofs.lemmas.Bool.{cases_lt, cases_eq, lt-ltb, le-ltb}
 use Rattle.std.proofs.lemmas.List.{length-map, length_push, map_push, take_all, take_at, drop_at, take-append-le, drop-append-le, get_or-set_same, get_or-set_other}
@@ -22,7 +22,7 @@ carried_out-append start [] ys = refl
 carried_out-append start (Write at content ∷ xs) ys = carried_out-append (set start at content) xs ys
 carried_out-append start (Sync ∷ xs) ys = carried_out-append start xs ys
 
--- the calls for one step more
+-- one more step adds one call, and those since the step before it, to the number of calls
 pub calls_for-push : (planned : List PlannedStep) (p : PlannedStep) → calls_for (planned ++ p ∷ []) ≡ calls_for planned + calls_made p.idle + 1
 calls_for-push [] p = omega arith
 calls_for-push (x ∷ planned) p = omega (arith, calls_for-push planned p)
@@ -40,7 +40,7 @@ steps_at-le (x ∷ planned) u = ⊎_elim
     (λ ge. let is : steps_at (x ∷ planned) u ≡ 0 = ap (λ b. if b then steps_at planned (u - (calls_made x.idle + 1)) + 1 else 0) (le-ltb (calls_made x.idle) u ge) in omega (arith, is))
     (cases_lt (calls_made x.idle) u)
 
--- a step more isn't made at a moment before it
+-- one more step isn't made at a moment before it
 pub steps_at-push : (planned : List PlannedStep) (p : PlannedStep) (u : ℕ) → u ≤ calls_for planned + calls_made p.idle → steps_at (planned ++ p ∷ []) u ≡ steps_at planned u
 steps_at-push [] p u le = ap (λ b. if b then 0 + 1 else 0) (le-ltb (calls_made p.idle) u (omega (arith, le)))
 steps_at-push (x ∷ planned) p u le = ⊎_elim
@@ -55,15 +55,15 @@ steps_at-push (x ∷ planned) p u le = ⊎_elim
     ∙ sym (ap (λ b. if b then steps_at planned rest + 1 else 0) (le-ltb (calls_made x.idle) u ge)))
     (cases_lt (calls_made x.idle) u)
 
--- the steps of one more
+-- a step that is added at the end comes last in the plan
 pub plan_push : (planned : List PlannedStep) (p : PlannedStep) → plan_in (planned ++ p ∷ []) ≡ plan_in planned ++ p.step ∷ []
 plan_push planned p = map_push (λ (x : PlannedStep). x.step) planned p
 
--- the log of one more
+-- a step that is added at the end comes last in the log
 longer_log : (planned planned' : List PlannedStep) (p : PlannedStep) → planned' ≡ planned ++ p ∷ [] → map logged (plan_in planned') ≡ map logged (plan_in planned) ++ logged p.step ∷ []
 longer_log planned planned' p items = ap (λ l. map logged (plan_in l)) items ∙ ap (map logged) (plan_push planned p) ∙ map_push logged (plan_in planned) p.step
 
--- what a stop now may leave, told by the plan alone
+-- what a stop now may leave, stated only in terms of the plan
 pub present : (start : List Sector) (planned : List PlannedStep) (idle : CallCount) (k : ℕ) (c : Sector) → MayLeave (facts_of start planned idle) k c ↔ MayBeLeft start (plan_in planned) k c
 present start planned idle k c = (
   λ left. subst (λ steps. MayBeLeft start steps k c) (plan_now planned (calls_made idle)) left,
@@ -85,12 +85,12 @@ module _ (start : List Sector) (planned : List PlannedStep) (idle idle' : CallCo
   pub keeps : calls_made idle' ≡ calls_made idle + 1 → KeepsPast (facts_of start planned idle) (facts_of start planned idle')
   keeps made = record { sectors = refl; later = omega (arith, made); marks = λ u le. refl; past = λ u k c le. (λ left. left, λ left. left) }
 
--- what is left by one step more
+-- what is left after one more step
 module _ (start : List Sector) (steps : List Step) (step : Step) where
   abbrev more : List Step
   more = steps ++ step ∷ []
 
-  -- at a place before the step, no sync came since
+  -- if only writes come after a place, and the new step after them, the new step is a write too
   before : (i : ℕ) → i ≤ length steps → All IsWriteStep (drop i more) → All IsWriteStep (drop i steps) × IsWriteStep step
   before i le all =
       let rest = drop i steps in
@@ -107,7 +107,7 @@ module _ (start : List Sector) (steps : List Step) (step : Step) where
       ap (λ front. sector (carried_out start front) k) (take_all i more (omega (arith, lt, length_push steps step)))
       ∙ ap (λ l. sector l k) (carried_out-append start steps (step ∷ []))
 
-  -- what was left before it, or what is there now
+  -- what may be left after the step: a content that could be left before it, or the present one
   pub left_more : (k : ℕ) (c : Sector) → MayBeLeft start more k c → (MayBeLeft start steps k c × IsWriteStep step) ⊎ (c ≡ sector (carried_out (carried_out start steps) (step ∷ [])) k)
   left_more k c left = ⊎_elim
       (λ lt. inr (left.3 ∙ at_end left.0 k lt))

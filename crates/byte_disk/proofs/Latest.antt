@@ -1,4 +1,4 @@
--- What is known of the latest contents after one step more.
+-- What is known of the latest contents after one more step.
 use Rattle.std.proofs.Common.{◌≡◌, ⊎_elim, ℕ, ◌<◌, List, [], ◌∷◌, ◌++◌, length, get_or, set, All, false, refl, sym, ◌∙◌, ap, subst, arith}
 use Rattle.std.proofs.lemmas.Bool.{cases_eq, ne_eqb}
 use Rattle.std.proofs.lemmas.List.{get_or_append_left, get_or_push, get_or-set_same, get_or-set_other}
@@ -23,7 +23,7 @@ writes_in-sync [] = refl
 writes_in-sync (Write a c ∷ steps) = ap (λ ws. (a, c) ∷ ws) (writes_in-sync steps)
 writes_in-sync (Sync ∷ steps) = writes_in-sync steps
 
--- a step more at the end, found only at its own place
+-- a step that is added at the end doesn't change the contents that are found at an earlier place
 found_before : (start : List Sector) (steps : List Step) (step : Step) (k : ℕ) (got : Option ℕ)
     → length (content_by start steps k got) ≡ sector_bytes → content_by start (steps ++ step ∷ []) k got ≡ content_by start steps k got
 found_before start steps step k None whole = refl

@@ -1,4 +1,4 @@
--- A plan and its disk: what callers need of what the disk said at its moments.
+-- For callers: a plan leaves exactly what its disk stated for its moments.
 use Rattle.std.proofs.Common.{◌≡◌, ℕ, zero, suc, ◌+◌, ◌-◌, ◌<◌, ◌≤◌, List, [], ◌∷◌, length, take, refl, sym, ◌∙◌, ap, subst, arith}
 use Rattle.std.proofs.lemmas.Bool.{lt-ltb, le-ltb}
 use Rattle.std.proofs.lemmas.List.{length-map, take_all, ext_get_or}
@@ -13,7 +13,7 @@ use Rattle.byte_disk.specs.ByteDisk.{plan_of, given_to, calls_for, steps_at, byt
 use Rattle.byte_disk.specs.inside.PlanLaws.{steps_at_end}
 use Rattle.byte_disk.proofs.Kept.{steps_at-le}
 
--- by the calls for the first n steps these are made, and no other
+-- exactly the first n steps are made by the calls for these steps
 steps_reached : (planned : List PlannedStep) (n : ℕ) → n ≤ length planned → steps_at planned (calls_for (take n planned)) ≡ n
 steps_reached [] n le = omega (arith, le)
 steps_reached (p ∷ planned) zero le = ap (λ b. if b then steps_at planned (0 - (calls_made p.idle + 1)) + 1 else 0) (le-ltb (calls_made p.idle) 0 (omega arith))
@@ -31,7 +31,7 @@ calls_taken [] (suc n) = omega arith
 calls_taken (p ∷ planned) (suc n) = omega (arith, calls_taken planned n)
 
 module _ (disk : ByteDisk) where
-  -- what is left at a moment is what is left after the steps that are made by then
+  -- what is left at a moment is what is left after the steps that are made by that moment
   left_at : (u n : ℕ) → steps_at disk.planned.items u ≡ n → LeavesAsAfter disk u n
   left_at u n made m = (
     λ mixture. record { size = mixture.size; each = λ k lt. subst (λ i. MayBeLeft (given_to disk) (take i (plan_of disk)) k (sector m k)) made (mixture.each k lt) },
@@ -54,7 +54,7 @@ module _ (disk : ByteDisk) where
     inside = All-weaker (IsWriteOn (length (given_to disk))) (λ (write : SectorWrite). write.0 < length (given_to disk)) (λ write is. is.inside) (writes_in (plan_of disk)) disk.writes;
   }
 
-  -- before its first call a stop leaves what was given
+  -- before its first call, a stop leaves what the disk was given
   at_first : steps_at disk.planned.items 0 ≡ 0
   at_first = elim disk.planned.items as (λ (planned : List PlannedStep). steps_at planned 0 ≡ 0) [
     | [] ↦ refl
@@ -69,19 +69,19 @@ module _ (disk : ByteDisk) where
       let here : MayBeLeft (given_to disk) [] k c = subst (λ n. MayBeLeft (given_to disk) (take n (plan_of disk)) k c) at_first left in
       here.3 ∙ ap (λ steps. sector (carried_out (given_to disk) steps) k) (take_all here.0 [] (omega arith))
 
--- What was given stays, whatever calls are made.
+-- The given sectors stay the same, whatever calls are made.
 pub same_given : (old new : ByteDisk) → KeepsPast (byte_facts old) (byte_facts new) → given_to new ≡ given_to old
 same_given old new keeps = ext_get_or [] (given_to new) (given_to old) keeps.sectors (λ k lt.
     left_given old k (sector (given_to new) k) ((keeps.past 0 k (sector (given_to new) k) (omega arith)).0 (given_left new k)))
 
--- What holds of all that a stop may leave since a disk was made, holds of each mixture after each prefix of its plan.
+-- Whatever holds of all that a stop may leave since a disk was made, holds of each mixture after each prefix of its plan.
 pub plan_leaves : (old new : ByteDisk) (P : List Sector → Type 0) → (byte_facts old).time ≡ 0 → LeavesOnly (byte_facts old) (byte_facts new) P
     → (n : ℕ) → n ≤ length (plan_of new) → (m : List Sector) → IsMixtureAfter (given_to old) (take n (plan_of new)) m → P m
 plan_leaves old new P fresh leaves n le m mixture =
     let reached = (is_plan new).prefixes n le in
     leaves.each m (reached.0, omega (arith, fresh), reached.1, (reached.2 m).1 (subst (λ start. IsMixtureAfter start (take n (plan_of new)) m) (sym (same_given old new leaves.past)) mixture))
 
--- What holds of all that a stop now may leave, holds of each mixture after the whole plan.
+-- Whatever holds of all that a stop now may leave, holds of each mixture after the whole plan.
 pub plan_ends : (old new : ByteDisk) (P : List Sector → Type 0) → KeepsPast (byte_facts old) (byte_facts new)
     → ((m : List Sector) → MixtureAt (byte_facts new) (byte_facts new).time m → P m) → (m : List Sector)
     → IsMixtureAfter (given_to old) (plan_of new) m → P m

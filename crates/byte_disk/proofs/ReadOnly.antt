@@ -1,11 +1,11 @@
--- What reading alone can't do to a disk that nothing changes: fail.
+-- Reading a disk that can't be changed never fails.
 use Rattle.std.proofs.Common.{◌≡◌, ⊎_elim, ℕ, zero, suc, ◌+◌, List, [], ◌∷◌, ◌++◌, refl, sym, ◌∙◌, ap, arith}
 use Rattle.std.specs.Prelude.{replicate}
 use Rattle.sector_disk.specs.Disk.{Logged, Wrote, Synced, MayAddSync}
 use Rattle.byte_disk.specs.declared.read_only.ReadOnlyDisk.{ReadOnlyDisk}
 use Rattle.byte_disk.specs.ReadOnlyDisk.{read_only_facts}
 
--- how many writes a log has
+-- the number of writes in a log
 abbrev writes : List Logged → ℕ
 writes [] = 0
 writes (Wrote ∷ log) = writes log + 1
@@ -20,7 +20,7 @@ writes_sync [] = refl
 writes_sync (Wrote ∷ log) = omega (arith, writes_sync log)
 writes_sync (Synced ∷ log) = writes_sync log
 
--- where it was told to write nothing, no call failed
+-- if the disk was asked to write nothing, no call failed
 pub no_failure : (old new : ReadOnlyDisk) → MayAddSync (read_only_facts old).log (read_only_facts new).log
     → (read_only_facts new).failures ≡ (read_only_facts old).failures
 no_failure old new may =

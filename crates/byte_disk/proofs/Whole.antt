@@ -5,14 +5,14 @@ use Rattle.std.proofs.lemmas.List.Elements.{All-nil, All-cons, All-take, All-dro
 use Rattle.std.specs.Simd.{first_chunks}
 use Rattle.sector_disk.specs.Disk.{Sector, sector_bytes, IsWhole}
 
--- a content of so many bytes
+-- a content of 512 bytes is whole
 pub is_whole : (content : Sector) → length content ≡ sector_bytes → ((i : ℕ) → get_or content i 0 < 256) → IsWhole content
 is_whole content size bytes = record { size = size; bytes = All-from_get_or (λ byte. byte < 256) content 0 (λ i lt. bytes i) }
 
 abbrev IsByte : ℕ → Type 0
 IsByte byte = byte < 256
 
--- the sectors that bytes are, are whole
+-- the sectors of bytes are whole, if there are enough bytes
 pub chunks_whole : (k : ℕ) (bytes : List ℕ) → sector_bytes * k ≤ length bytes → All IsByte bytes → All IsWhole (first_chunks sector_bytes k bytes)
 chunks_whole zero bytes le all = All-nil IsWhole
 chunks_whole (suc k) bytes le all =

@@ -1,4 +1,4 @@
--- What is said of a disk of given bytes (own).
+-- The facts of a disk over given bytes (own).
 use Rattle.std.specs.Prelude.{◌≡◌, ◌↔◌, ◌≤◌, ◌<◌, All, ◌+◌, ◌-◌, ℕ, List, [], ◌∷◌, length, map, take, true, nat_lt, if◌then◌else◌}
 use Rattle.std.specs.Prelude.{vec_len, vec_capacity}
 use Rattle.std.specs.HashMap.{spare}
@@ -12,43 +12,43 @@ use Rattle.byte_disk.specs.declared.step.Step.TheVariants.{Write, Sync}
 use Rattle.byte_disk.specs.Plan.{carried_out, MayBeLeft, IsMixtureAfter, writes_in}
 use Rattle.byte_disk.specs.inside.Latest.{plan_in}
 
--- the steps of its plan
+-- the steps of the disk's plan
 abbrev pub plan_of : ByteDisk → List Step
 plan_of disk = plan_in disk.planned.items
 
--- the sectors that it was given
+-- the sectors that the disk was given
 abbrev pub given_to : ByteDisk → List Sector
 given_to disk = disk.start.now
 
--- how many calls were made by the time that these steps were
+-- the number of calls that were made by the time that these steps were made
 abbrev pub calls_for : List PlannedStep → ℕ
 calls_for [] = 0
 calls_for (p ∷ planned) = calls_made p.idle + 1 + calls_for planned
 
--- how many of them failed: a call that makes a step succeeds
+-- the number of these calls that failed; a call that makes a step succeeds
 abbrev pub failures_for : List PlannedStep → ℕ
 failures_for [] = 0
 failures_for (p ∷ planned) = calls_failed p.idle + failures_for planned
 
--- how many of these steps are made at a moment, by so many calls
+-- the number of these steps that are made by moment u
 abbrev pub steps_at : List PlannedStep → ℕ → ℕ
 steps_at [] u = 0
 steps_at (p ∷ planned) u = if nat_lt (calls_made p.idle) u then steps_at planned (u - (calls_made p.idle + 1)) + 1 else 0
 
--- the memory of its plan has no room for a step more
+-- the memory of the disk's plan has no room for one more step
 abbrev pub HasFullPlan : ByteDisk → Type 0
 HasFullPlan disk = vec_capacity disk.planned ≤ vec_len disk.planned
 
--- that of the index, by which the latest content of a sector is found, has none for a sector more
+-- the memory of the disk's index has no room for one more sector; the index finds the latest content of a sector
 abbrev pub HasFullIndex : ByteDisk → Type 0
 HasFullIndex disk = spare disk.latest ≡ 0
 
--- a step, as a log has it
+-- a step, as a log records it
 abbrev pub logged : Step → Logged
 logged (Write at content) = Wrote
 logged Sync = Synced
 
--- a disk that was given these sectors, with these steps, and these calls since
+-- the facts of a disk that was given these sectors, with these steps, and these calls since the last step
 abbrev pub facts_of : List Sector → List PlannedStep → CallCount → DiskFacts
 facts_of start planned idle = record {
   honest = true;
@@ -62,18 +62,18 @@ facts_of start planned idle = record {
   may_leave = λ u k c. MayBeLeft start (take (steps_at planned u) (plan_in planned)) k c;
 }
 
--- what is said of a disk of given bytes
+-- the facts of a disk over given bytes
 abbrev pub byte_facts : ByteDisk → DiskFacts
 byte_facts disk = facts_of disk.start.now disk.planned.items disk.idle
 
--- a stop at this moment leaves exactly the mixtures after the first n steps of the plan
+-- a stop at moment u leaves exactly the mixtures after the first n steps of the plan
 abbrev pub LeavesAsAfter : ByteDisk → ℕ → ℕ → Type 0
 LeavesAsAfter disk u n = (m : List Sector) → MixtureAt (byte_facts disk) u m ↔ IsMixtureAfter (given_to disk) (take n (plan_of disk)) m
 
--- What a plan is to its disk: carried out in its order, it leaves at each of its steps what the
--- disk said of a moment, and no moment was without such a step.
+-- How a plan relates to its disk. If the plan is carried out in its order, each prefix of it leaves what the disk
+-- stated for some moment, and each moment has such a prefix.
 pub record IsPlanOf (disk : ByteDisk) : Type 0 where
   pub prefixes : (n : ℕ) → n ≤ length (plan_of disk) → (u : ℕ) × (u ≤ (byte_facts disk).time) × LeavesAsAfter disk u n
   pub moments : (u : ℕ) → u ≤ (byte_facts disk).time → (n : ℕ) × (n ≤ length (plan_of disk)) × LeavesAsAfter disk u n
-  -- no write leaves the disk
+  -- no write is outside the disk
   pub inside : All (λ write. write.0 < length (given_to disk)) (writes_in (plan_of disk))

@@ -1,10 +1,10 @@
--- A plan: steps to carry out on a disk in their order, and what a stop may leave meanwhile (own).
+-- A plan: steps to carry out on a disk in their order, and the contents that a stop may leave after each of them (own).
 use Rattle.std.specs.Prelude.{◌≡◌, ◌<◌, ◌≤◌, ℕ, List, [], ◌∷◌, length, set, take, drop, All}
 use Rattle.sector_disk.specs.Disk.{Sector, sector, IsWhole}
 use Rattle.byte_disk.specs.declared.step.Step.{Step}
 use Rattle.byte_disk.specs.declared.step.Step.TheVariants.{Write, Sync}
 
--- the sectors after these steps, the first of them first: what reads give then
+-- the sectors after these steps, made in their order: what reads return then
 abbrev pub carried_out : List Sector → List Step → List Sector
 carried_out start [] = start
 carried_out start (Write at content ∷ steps) = carried_out (set start at content) steps
@@ -15,17 +15,17 @@ abbrev pub IsWriteStep : Step → Type 0
 IsWriteStep (Write at content) = Unit {0}
 IsWriteStep Sync = ⊥
 
--- A stop after these steps may leave sector k with this content: with the one that it had when the
--- last sync was done, or after some step since. After i steps no sync came any more.
+-- A stop after these steps may leave sector k with this content: the content that it had at the last sync, or after
+-- some step since then. (No sync comes after the first i steps.)
 abbrev pub MayBeLeft : List Sector → List Step → ℕ → Sector → Type 0
 MayBeLeft start steps k c = (i : ℕ) × (i ≤ length steps) × All IsWriteStep (drop i steps) × (c ≡ sector (carried_out start (take i steps)) k)
 
--- A mixture after these steps: each sector, by itself, with a content that a stop may leave there.
+-- A mixture after these steps: each sector, by itself, has a content that a stop may leave there.
 pub record IsMixtureAfter (start : List Sector) (steps : List Step) (m : List Sector) : Type 0 where
   pub size : length m ≡ length start
   pub each : (k : ℕ) → k < length start → MayBeLeft start steps k (sector m k)
 
--- a sector's number, and what is written to it
+-- a sector's number, and the content that is written to it
 abbrev pub SectorWrite : Type 0
 SectorWrite = ℕ × Sector
 
@@ -35,7 +35,7 @@ writes_in [] = []
 writes_in (Write at content ∷ steps) = (at, content) ∷ writes_in steps
 writes_in (Sync ∷ steps) = writes_in steps
 
--- it writes a whole sector of a disk of so many
+-- the write writes a whole sector of a disk of `sectors` sectors
 pub record IsWriteOn (sectors : ℕ) (write : SectorWrite) : Type 0 where
   pub inside : write.0 < sectors
   pub whole : IsWhole write.1

@@ -1,10 +1,10 @@
--- What is said of a disk of given bytes that nothing changes (own).
+-- The facts of a disk over given bytes that can't be changed (own).
 use Rattle.std.specs.Prelude.{◌≡◌, true, length, replicate, []}
 use Rattle.sector_disk.specs.CallCount.{calls_made, calls_failed}
 use Rattle.sector_disk.specs.Disk.{DiskFacts, sector, Wrote}
 use Rattle.byte_disk.specs.declared.read_only.ReadOnlyDisk.{ReadOnlyDisk}
 
--- Reads give what it was given, and a stop leaves that. What fails is a write, and the log has each.
+-- Reads return what the disk was given, and a stop leaves that. Only writes fail, and the log records each of them.
 abbrev pub read_only_facts : ReadOnlyDisk → DiskFacts
 read_only_facts disk = record {
   honest = true;

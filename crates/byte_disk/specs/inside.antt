@@ -1,4 +1,4 @@
--- How a disk of given bytes is fast, and what follows. Nobody has to believe it.
+-- How a disk over given bytes finds contents fast, and what follows. A reader needn't believe these definitions.
 pub mod Latest
 pub mod PlanLaws
 pub mod Laws

@@ -1,4 +1,5 @@
-// A disk of bytes that were given, and the plan that would bring them to where it is now.
+// A disk over given bytes, and the plan that makes the given bytes equal to the disk's present
+// contents.
 
 ghost use Rattle.std.specs.Prelude.{◌≡◌, ◌⊎◌, ◌<◌, ◌≤◌, ◌^◌, ℕ, length, All, map, nat_eq};
 ghost use Rattle.std.specs.Prelude.{◌++◌, ◌∷◌, [], Some, OnOk, OnErr, vec_len, vec_capacity};
@@ -16,16 +17,16 @@ use std::alloc::{AllocError, Global};
 use std::collections::HashMap;
 use std::mem::replace;
 
-/// An honest disk whose sectors were given. It keeps its writes and syncs as steps, in their order:
-/// a plan. Its memory is that of the steps, so that reads alone take none. A read, a write and a
-/// sync take constant time.
+/// An honest disk whose sectors were given. It keeps its writes and syncs as the steps of a plan,
+/// in their order. It allocates memory only for the steps, so that reads allocate none. A read, a
+/// write and a sync take constant time.
 #[derive(Drop)]
 pub struct ByteDisk<'a> {
     start: &'a [[u8; SECTOR_BYTES]],
     planned: Vec<PlannedStep>,
-    // For each sector that was written, the place of the step that wrote it last.
+    // For each sector that was written, the position of the step that wrote it last.
     latest: HashMap<u32, usize>,
-    // The calls since the last step, which made none.
+    // The calls since the last step. None of them made a step.
     idle: CallCount,
     ghost few: { length start.now < 2 ^ 32 },
     ghost whole: { All IsWhole start.now },
@@ -41,8 +42,8 @@ impl<'a> ByteDisk<'a> {
     ghost use Rattle.byte_disk.specs.Bytes.{IsDiskLength, sectors_in};
     ghost use Rattle.byte_disk.specs.ByteDisk.{byte_facts, plan_of, given_to, IsPlanOf};
 
-    /// A disk of these bytes, where they are whole sectors, and fewer than 2^32. It takes no
-    /// memory.
+    /// Makes a disk over `bytes`, if they are whole sectors and fewer than 2^32 sectors. Allocates
+    /// no memory.
     pub fn over(alloc: Global, bytes: &'a [u8]) -> Option<ByteDisk<'a>>
         ensures some { IsSome result ↔ IsDiskLength (length bytes.now) }
         ensures starts { IfSome result (λ disk.
@@ -61,19 +62,19 @@ impl<'a> ByteDisk<'a> {
         })
     }
 
-    /// The steps of the plan, in their order.
+    /// Returns the steps of the plan, in their order.
     pub fn plan(&self) -> &[PlannedStep]
         ensures steps { map (λ planned. planned.step) result.now ≡ plan_of self.now }
         ensures plan { IsPlanOf self.now }
 
-        // Carried out, they make of the given sectors what reads give.
+        // If the steps are carried out, the given sectors become what reads return.
         ensures now { (byte_facts self.now).now
             ≡ carried_out (given_to self.now) (plan_of self.now) }
     {
         &self.planned
     }
 
-    /// What was written to a sector last, or else what was given for it.
+    /// Returns the content that was written to sector `at` last, or otherwise the given content.
     fn latest(&self, at: u32) -> &[u8; SECTOR_BYTES]
         requires { at < (byte_facts self.now).sectors }
         ensures { result.now ≡ sector (byte_facts self.now).now at }
@@ -88,8 +89,8 @@ impl<'a> ByteDisk<'a> {
     }
 }
 
-/// Takes the memory for a step more, and for the place of a sector's latest content: that of the
-/// next step.
+/// Allocates the memory for one more step. Also notes the position of that step as the place of the
+/// latest content of sector `at`.
 fn make_room(
     planned: &mut Vec<PlannedStep>,
     latest: &mut HashMap<u32, usize>,
@@ -108,7 +109,7 @@ fn make_room(
     Ok(())
 }
 
-/// Makes a step, for which there is memory: a call that succeeds.
+/// Adds a step, for which memory is reserved already. This is a successful call.
 fn make_step(planned: &mut Vec<PlannedStep>, idle: &mut CallCount, step: Step)
     requires room { vec_len planned.old < vec_capacity planned.old }
     ensures made { planned.new.items
@@ -153,7 +154,7 @@ impl<'a> Disk for ByteDisk<'a> {
         reply
     }
 
-    /// Fails only where it finds no memory, and then makes no step.
+    /// Fails only if memory is refused, and then adds no step.
     fn write(&mut self, at: u32, from: &[u8; SECTOR_BYTES]) -> Result<(), DiskFault>
         requires { at < (byte_facts self.old).sectors }
         ensures calls { IsCall (byte_facts self.old) (byte_facts self.new) result }
@@ -179,7 +180,7 @@ impl<'a> Disk for ByteDisk<'a> {
         }
     }
 
-    /// Fails only where it finds no memory, and then makes no step.
+    /// Fails only if memory is refused, and then adds no step.
     fn sync(&mut self) -> Result<(), DiskFault>
         ensures calls { IsCall (byte_facts self.old) (byte_facts self.new) result }
         ensures honest { IsTrue (byte_facts self.old).honest

@@ -1,11 +1,11 @@
-// The sectors of bytes that were given.
+// The sectors of given bytes.
 ghost use Rattle.std.specs.Prelude.{◌≡◌, ◌↔◌, ◌<◌, ◌^◌, IsSome, IfSome, All, length};
 ghost use Rattle.sector_disk.specs.Disk.{IsWhole};
 ghost use Rattle.byte_disk.specs.Bytes.{IsDiskLength, sectors_in};
 
 use sector_disk::SECTOR_BYTES;
 
-/// The sectors that these bytes are, where they are whole ones, and fewer than 2^32.
+/// Returns the sectors of `bytes`, if they are whole sectors and fewer than 2^32 sectors.
 pub(crate) fn sectors_of(bytes: &[u8]) -> Option<&[[u8; SECTOR_BYTES]]>
     ensures some { IsSome result ↔ IsDiskLength (length bytes.now) }
     ensures sectors { IfSome result (λ sectors. sectors.now ≡ sectors_in bytes.now) }

@@ -1,9 +1,9 @@
-//! A disk over bytes that were given, which keeps what is done to it as a plan.
+//! A disk over given bytes, which keeps all changes as a plan.
 //!
-//! `ByteDisk` is a `Disk` whose sectors are the bytes of a disk's file. It changes none of them:
-//! its writes and syncs are kept in their order, as the steps that whoever has the file carries
-//! out. It is honest, and what a stop leaves while the plan is carried out is what it said a stop
-//! may leave. `ReadOnlyDisk` is for who reads alone.
+//! `ByteDisk` is a `Disk` whose sectors are the bytes of a disk's file. It changes none of them. It
+//! keeps its writes and syncs in their order, as the steps that a caller with the file carries out.
+//! It is honest. While the plan is carried out, a stop leaves only what a stop of the `ByteDisk`
+//! may leave. `ReadOnlyDisk` is for callers that only read.
 #![tactic(auto)]
 
 mod disk;

@@ -1,10 +1,10 @@
-// A step of a plan, as a disk keeps it.
+// A step of a plan, in the form in which a disk keeps it.
 
 use crate::step::Step;
 use sector_disk::CallCount;
 
-/// A step of a plan, and, for clauses alone, how many calls made no step between the step before it
-/// and this one.
+/// A step of a plan. For clauses only, it also counts the calls between the step before it and this
+/// one, which made no step.
 #[derive(Drop)]
 pub struct PlannedStep {
     /// The step.

@@ -1,12 +1,12 @@
-// A disk of bytes that were given, which nothing changes.
+// A disk over given bytes that can't be changed.
 ghost use Rattle.std.specs.Prelude.{◌≡◌, ◌<◌, ◌^◌, All, length};
 ghost use Rattle.sector_disk.specs.Disk.{IsWhole};
 
 use crate::given::sectors_of;
 use sector_disk::{CallCount, Disk, DiskFault, SECTOR_BYTES};
 
-/// An honest disk whose sectors were given, to be read: reads and syncs succeed, and each write
-/// fails. It takes no memory, and each call constant time.
+/// An honest disk whose sectors were given, only for reading: reads and syncs succeed, and each
+/// write fails. It allocates no memory, and each call takes constant time.
 #[derive(Drop)]
 pub struct ReadOnlyDisk<'a> {
     start: &'a [[u8; SECTOR_BYTES]],
@@ -21,7 +21,7 @@ impl<'a> ReadOnlyDisk<'a> {
     ghost use Rattle.byte_disk.specs.Bytes.{IsDiskLength, sectors_in};
     ghost use Rattle.byte_disk.specs.ReadOnlyDisk.{read_only_facts};
 
-    /// A disk of these bytes, where they are whole sectors, and fewer than 2^32.
+    /// Makes a disk over `bytes`, if they are whole sectors and fewer than 2^32 sectors.
     pub fn over(bytes: &'a [u8]) -> Option<ReadOnlyDisk<'a>>
         ensures some { IsSome result ↔ IsDiskLength (length bytes.now) }
         ensures starts { IfSome result (λ disk.

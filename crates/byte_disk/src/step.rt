@@ -7,11 +7,11 @@ use sector_disk::SECTOR_BYTES;
 pub enum Step {
     /// A sector is written.
     Write {
-        /// Its number.
+        /// The number of the sector.
         at: u32,
-        /// What is written to it.
+        /// The content that is written to it.
         content: [u8; SECTOR_BYTES],
     },
-    /// All that was written is brought to the medium.
+    /// Everything that was written is brought to the medium.
     Sync,
 }

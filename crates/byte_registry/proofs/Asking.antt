@@ -1,4 +1,4 @@
--- From what a registry over given bytes is and does to what is said of the bytes and of the plan.
+-- Lemmas that lead from a registry on given bytes to clauses about the bytes and the plan.
 use Rattle.std.proofs.Common.{◌≡◌, ◌⊎◌, inl, inr, ⊎_elim, ℕ, ◌+◌, ◌<◌, ◌≤◌, List, length, take, All, false, refl, sym, ◌∙◌, ap, subst, arith}
 use Rattle.std.proofs.lemmas.Bool.{both_ways}
 use Rattle.sector_disk.specs.Disk.{Sector, Mixture, LeavesOnly, AreCallsExactly, MayAddSync}
@@ -41,7 +41,8 @@ use Rattle.byte_registry.specs.Replies.{phase_on, opened_on, IsReplyOn}
 use Rattle.byte_registry.proofs.Steps.{few_steps}
 use Rattle.byte_registry.proofs.Syncs.{begun_prefix, begun_whole, same_writes, plan_few}
 
--- What holds at every moment since a disk was made of bytes, and at the end, holds of its plan.
+-- If a fact holds at every moment since a disk was made from bytes, and another at the end, both hold
+-- for the disk's plan.
 pub leads_from : (bytes : List ℕ) (old new : ByteDisk) (Before After : List Sector → Type 0) → IsDiskOf bytes old
     → LeavesOnly (byte_facts old) (byte_facts new) (λ m. Before m ⊎ After m) → ((m : List Sector) → Mixture (byte_facts new) m → After m)
     → LeadsFrom (sectors_in bytes) Before After (synced_plan new)
@@ -58,7 +59,7 @@ leads_from bytes old new Before After is leaves found =
           (subst (λ given. All (λ (write : SectorWrite). write.0 < length given) (writes_in steps)) (same_given old new leaves.past ∙ is.given) (is_plan new).inside);
     }
 
--- a failed call is counted
+-- if a command is answered with S1, the number of failures has risen
 failed_risen : (p : Phase) (request : Request) (p' : Phase) → UntestedStep p request (Refused Device) p' → p.failures < p'.failures
 failed_risen p (install bytes) p' step = step.1.risen
 failed_risen p (replace bytes) p' step = step.1.risen
@@ -67,7 +68,7 @@ failed_risen p (set_preloads names) p' step = step.1.risen
 failed_risen p (bind program base) p' step = step.0.1.risen
 failed_risen p list p' step = absurd step.1
 
--- what a disk of bytes may leave before any call is its sectors
+-- before any call, a disk of bytes may leave only its sectors
 pub starts_with : (bytes : List ℕ) (disk : ByteDisk) → IsDiskOf bytes disk → (m : List Sector) → Mixture (byte_facts disk) m → m ≡ sectors_in bytes
 starts_with bytes disk is m mixture = (starts_synced (byte_holds disk) is.starts).each m mixture ∙ is.starts.now
 
@@ -88,12 +89,12 @@ module _ (bytes : List ℕ) (opened : Opened ByteDisk) (on : IsOpenedOn bytes op
   pub only : (other : State) → HoldStore bytes other → other ≡ s
   only other held = on.found.3 other (subst (λ m. sectors.Stands m other) (sym is.starts.now) held.stands)
 
-  -- its root and entries stand in the sectors that the bytes are
+  -- the root and the entries of the opened registry are in the sectors of the bytes
   pub stands_by : StandsBy Two start opened.root opened.entries s
   stands_by = on.found.2.stands start (subst (Mixture (byte_facts opened.disk)) (on.now ∙ is.starts.now) (byte_holds opened.disk))
 
-  -- A change to another state that a stop leaves before or behind, and that is there at the end: the
-  -- plan leads to it, in whatever words.
+  -- A change to another state is made, and a stop meanwhile leaves the state before or after it. Then
+  -- the plan leads to the other state, whichever definition determines the state that sectors hold.
   module _ (s' : State) (new : ByteDisk) (any_moment : LeavesOnly (byte_facts opened.disk) (byte_facts new) (λ m. sectors.Stands m s ⊎ sectors.Stands m s'))
       (ends : (m : List Sector) → Mixture (byte_facts new) m → sectors.Stands m s') where
     module _ (HoldsIt : List Sector → State → Type 0) (before_holds : (m : List Sector) → sectors.Stands m s → HoldsIt m s)
@@ -115,7 +116,7 @@ module _ (bytes : List ℕ) (opened : Opened ByteDisk) (on : IsOpenedOn bytes op
     leads_registry after held =
         leads Stands (λ m stands. record { stored = stands; libraries = held.stands.libraries }) (λ m stands. record { stored = stands; libraries = after })
 
-  -- the phase of the opened registry, in terms of the sectors
+  -- the number of sectors and the phase of the opened registry follow from the bytes
   same_sectors : (byte_facts opened.disk).sectors ≡ length start
   same_sectors = on.any_moment.past.sectors ∙ is.starts.sectors
 
@@ -186,7 +187,7 @@ module _ (bytes : List ℕ) (opened : Opened ByteDisk) (on : IsOpenedOn bytes op
       ends : (m : List Sector) → Mixture (byte_facts new.disk) m → sectors.Stands m (accepted s request)
       ends m mixture = subst (sectors.Stands m) same_state (new.root, new.entries, at_end.stands m mixture)
 
-      -- the opening kept a sync at most, and the change its calls
+      -- The plan has at most one sync of the opening, and the calls of the change.
       module _ (calls : IfAccepted reply (AreCallsExactly (calls_of s request) (byte_facts opened.disk) (byte_facts new.disk))) where
         few : length (synced_plan new.disk) ≤ calls_of s request + 1
         few =
@@ -220,7 +221,7 @@ module _ (bytes : List ℕ) (opened : Opened ByteDisk) (on : IsOpenedOn bytes op
         },
       )
 
-    -- S1 is answered where a call failed.
+    -- If the answer is S1, a call failed.
     pub failed : reply ≡ Refused Device → 0 < (byte_facts new.disk).failures
     failed e = omega (
       arith,

@@ -1,4 +1,4 @@
--- How many steps a change has at most, whatever is installed.
+-- The maximum number of steps of a change, whatever is installed.
 use Rattle.std.proofs.Common.{ℕ, ◌+◌, ◌-◌, ◌≤◌, [], ◌∷◌, length, arith}
 use Rattle.std.proofs.lemmas.List.{length-append}
 use Rattle.states.specs.Cost.{catalogues_for}
@@ -10,7 +10,7 @@ use Rattle.requests.specs.declared.reply.Reply.TheVariants.{Done}
 use Rattle.registry.specs.Calls.{calls_of}
 use Rattle.byte_registry.specs.Plans.{most_steps}
 
--- 2,048 libraries are listed by 32 catalogues
+-- up to 2,048 libraries need at most 32 catalogues
 few_catalogues : (libraries : ℕ) → libraries ≤ 2048 → catalogues_for libraries ≤ 32
 few_catalogues libraries few = omega (arith, few)
 

@@ -1,4 +1,4 @@
--- A plan that is begun with a sync.
+-- Lemmas about a plan that begins with a sync.
 use Rattle.std.proofs.Common.{◌≡◌, ◌⊎◌, inl, inr, ⊎_elim, ℕ, zero, suc, ◌+◌, ◌≤◌, List, [], ◌∷◌, ◌++◌, length, map, take, drop, refl, sym, ap, ◌∙◌, arith}
 use Rattle.std.proofs.lemmas.List.{length-map}
 use Rattle.std.proofs.lemmas.List.Elements.{All-head}
@@ -11,7 +11,7 @@ use Rattle.byte_disk.specs.Plan.{IsMixtureAfter, IsWriteStep, MayBeLeft, writes_
 use Rattle.byte_registry.specs.Plans.{behind_sync, synced_plan}
 
 module _ (start : List Sector) where
-  -- a sync in front leaves nothing more
+  -- a sync before the other steps doesn't add contents that a stop may leave
   behind_left : (steps : List Step) (k : ℕ) (c : Sector) → MayBeLeft start (Sync ∷ steps) k c → MayBeLeft start steps k c
   behind_left steps k c (zero, le, writes, is) = absurd (All-head IsWriteStep Sync steps writes)
   behind_left steps k c (suc i, le, writes, is) = (i, omega (arith, le), writes, is)
@@ -27,19 +27,20 @@ module _ (start : List Sector) where
     with_sync steps holds zero le m mixture = holds zero (omega arith) m mixture
     with_sync steps holds (suc n) le m mixture = holds n (omega (arith, le)) m (behind_mixture (take n steps) m mixture)
 
-    -- what holds of each mixture after each prefix of a plan still does,
+    -- If a fact holds for each mixture after each prefix of the steps, it still holds if a sync comes
+    -- first.
     pub begun_prefix : (steps : List Step) → HoldsWithin steps → HoldsWithin (Sync ∷ behind_sync steps)
     begun_prefix [] holds = with_sync [] holds
     begun_prefix (Sync ∷ steps) holds = holds
     begun_prefix (Write at content ∷ steps) holds = with_sync (Write at content ∷ steps) holds
 
-    -- and so does what holds of each after the whole.
+    -- If a fact holds for each mixture after all steps, it still holds if a sync comes first.
     pub begun_whole : (steps : List Step) → ((m : List Sector) → IsMixtureAfter start steps m → P m) → (m : List Sector) → IsMixtureAfter start (Sync ∷ behind_sync steps) m → P m
     begun_whole [] holds m mixture = holds m (behind_mixture [] m mixture)
     begun_whole (Sync ∷ steps) holds m mixture = holds m mixture
     begun_whole (Write at content ∷ steps) holds m mixture = holds m (behind_mixture (Write at content ∷ steps) m mixture)
 
--- it has the same writes
+-- a plan that begins with a sync has the same writes
 pub same_writes : (steps : List Step) → writes_in (Sync ∷ behind_sync steps) ≡ writes_in steps
 same_writes [] = refl
 same_writes (Sync ∷ steps) = refl
@@ -50,14 +51,14 @@ behind_few [] = omega arith
 behind_few (Sync ∷ steps) = omega arith
 behind_few (Write at content ∷ steps) = omega arith
 
--- where the log begins with a sync, so do the steps
+-- if the log begins with a sync, so do the steps
 first_synced : (steps : List Step) (more : List Logged) → map logged steps ≡ Synced ∷ more → length (behind_sync steps) ≡ length more
 first_synced [] more is = cc is
 first_synced (Sync ∷ steps) more is = sym (length-map steps logged) ∙ ap (λ l. length (drop 1 l)) is
 first_synced (Write at content ∷ steps) more is = cc is
 
--- Where a disk's log grew from nothing by a sync at most, and so many behind it, its plan has no
--- more steps behind its sync.
+-- If a disk's log grew from nothing by at most a sync and `most` more steps, its plan has at most `most`
+-- steps after the sync.
 pub plan_few : (disk : ByteDisk) (most : ℕ) → GrowsBehindSync most [] (byte_facts disk).log → length (synced_plan disk) ≤ most + 1
 plan_few disk most grows =
     let steps = plan_of disk in
@@ -67,7 +68,7 @@ plan_few disk most grows =
     (λ one. let all : map logged steps ≡ Synced ∷ more.more = more.grown ∙ ap (λ l. l ++ more.more) one in omega (arith, first_synced steps more.more all, more.few))
     grows.sync.either
 
--- Where its log got a sync at most, its plan is a sync at most.
+-- If a disk's log grew from nothing by at most a sync, its plan has at most a sync.
 pub few_synced : (steps : List Step) → MayAddSync [] (map logged steps) → (steps ≡ []) ⊎ (steps ≡ Sync ∷ [])
 few_synced [] may = inl refl
 few_synced (Sync ∷ []) may = inr refl

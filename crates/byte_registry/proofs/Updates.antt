@@ -1,4 +1,4 @@
--- From what an update of an opened registry does to what is said of the bytes and of the plan.
+-- Lemmas that lead from an update of an opened registry to clauses about the bytes and the plan.
 use Rattle.std.proofs.Common.{◌≡◌, ◌⊎◌, inl, inr, ⊎_elim, ℕ, ◌+◌, ◌<◌, List, [], ◌∷◌, ◌++◌, length, map, take, drop, get_or, Bool, false, Ok, Err, IsTrue, refl, sym, ◌∙◌, ap, subst, append_assoc, arith}
 use Rattle.std.specs.Prelude.{Result, MatchResult, IfErr, OnOk}
 use Rattle.std.specs.List.{list_any}
@@ -36,13 +36,13 @@ use Rattle.byte_registry.specs.inside.Planning.{MakesUpdate}
 use Rattle.byte_registry.proofs.Asking.{holds, only, stands_by, leads_stored, leads_registry}
 use Rattle.byte_registry.proofs.Syncs.{few_synced}
 
--- a reply that is a refusal
+-- if the reply to a request is a refusal, the draft answered the request with this refusal
 pub refused_in : (old new : Drafted ByteDisk) (request : Request) (answer : Reply) (result : Result (Unit {0}) Refusal) → DraftAnswers byte_facts old request answer new
     → MatchResult result (λ _. is_refusal answer ≡ false) (λ refusal. answer ≡ Refused refusal) → IfErr result (λ refusal. DraftAnswers byte_facts old request (Refused refusal) new)
 refused_in old new request answer (Ok done) did is = tt
 refused_in old new request answer (Err refusal) did is = subst (λ (a : Reply). DraftAnswers byte_facts old request a new) is did
 
--- Requests to a draft, one after the other.
+-- Lemmas about requests to a draft that are planned one after the other.
 pub plans_none : (u : Drafted ByteDisk) → Plans byte_facts u u [] []
 plans_none u = record { run = ([], tt, refl); accepted = All-nil (λ (a : Reply). is_refusal a ≡ false) }
 
@@ -53,7 +53,7 @@ plans_more old mid new requests answers request answer plans did is = record {
   accepted = All-push (λ (a : Reply). is_refusal a ≡ false) answers answer plans.accepted is;
 }
 
--- a list in front of an element, it, and the rest
+-- a list is the items before an item, the item, and the items after it
 split_at : (xs : List Command) (i : ℕ) (d : Command) → i < length xs → xs ≡ take i xs ++ get_or xs i d ∷ drop (i + 1) xs
 split_at xs i d lt =
     sym (take-append-drop (i + 1) xs) ∙ ap (λ l. l ++ drop (i + 1) xs) (take_more xs i d lt) ∙ append_assoc (take i xs) (get_or xs i d ∷ []) (drop (i + 1) xs)
@@ -80,7 +80,7 @@ module _ (xs : List Command) (i : ℕ) (d : Command) (lt : i < length xs) (old m
     refused = did;
   }
 
--- The draft of an opened registry at a state.
+-- The draft is one of an opened registry at a state.
 module _ (old : Opened ByteDisk) (s : State) (at : IsAt byte_facts old s) where
   starts : IsDraftedAt byte_facts (begun old) s s
   starts = begun_at byte_facts s old (λ honest. byte_holds old.disk) at
@@ -98,7 +98,7 @@ module _ (old : Opened ByteDisk) (s : State) (at : IsAt byte_facts old s) where
     abbrev to : State
     to = committed u.touched s (drafted_by s requests)
 
-    -- the commit led to another disk
+    -- The commit of the draft left another disk.
     module _ (new : Opened ByteDisk) (left : LeavesOnly (byte_facts u.store.disk) (byte_facts new.disk) (λ m. sectors.Stands m s ⊎ sectors.Stands m to)) where
       commit_leaves : LeavesOnly (byte_facts u.store.disk) (byte_facts new.disk) (λ m. sectors.Stands m s ⊎ sectors.Stands m (updated s requests))
       commit_leaves =
@@ -107,7 +107,7 @@ module _ (old : Opened ByteDisk) (s : State) (at : IsAt byte_facts old s) where
       is_committed : IsCommitted (begun old) s requests new.disk
       is_committed = record { after = u; planned = planned; any_moment = commit_leaves }
 
-      -- it was made
+      -- if the commit was made, the update was made
       pub is_made : IsAt byte_facts new to → MakesUpdate old new s requests (Ok tt)
       is_made ends = record {
         table = is_committed;
@@ -119,7 +119,7 @@ module _ (old : Opened ByteDisk) (s : State) (at : IsAt byte_facts old s) where
         device = tt;
       }
 
-      -- or a call of it failed
+      -- if a call of the commit failed, the update was answered with S1
       pub is_uncommitted : (most n : ℕ) (refusal : Refusal) → n ≡ length requests
           → Changed byte_facts Device Reopen u.store new most (λ e. (e ≡ Device) ⊎ (e ≡ Reopen)) (Err refusal) → MakesUpdate old new s requests (Err (n, refusal))
       is_uncommitted most n refusal count changed =
@@ -132,7 +132,7 @@ module _ (old : Opened ByteDisk) (s : State) (at : IsAt byte_facts old s) where
             device = λ is. omega (arith, (changed.device failed).0);
           }
 
-  -- a request was refused
+  -- if a request was refused, the update was answered with this refusal
   pub is_stopped : (requests : List Request) (last : Drafted ByteDisk) (refused : ℕ × Refusal) → StopsAt (begun old) last requests refused.0 refused.1
       → MakesUpdate old last.store s requests (Err refused)
   is_stopped requests last refused stops = record {
@@ -142,7 +142,7 @@ module _ (old : Opened ByteDisk) (s : State) (at : IsAt byte_facts old s) where
     device = λ is. omega (arith, stops.refused.on_any_disk.device (ap Refused is));
   }
 
-  -- or memory was, before any request
+  -- if memory was refused before any request, the update was answered with S11
   pub is_unbegun : (requests : List Request) (refusal : Refusal) → ((refusal ≡ Reopen) × IsTrue old.failed) ⊎ ((refusal ≡ OutOfMemory) × (old.failed ≡ false))
       → MakesUpdate old old s requests (Err (0, refusal))
   is_unbegun requests refusal why =
@@ -165,14 +165,14 @@ module _ (bytes : List ℕ) (opened : Opened ByteDisk) (on : IsOpenedOn bytes op
   abbrev given : List Sector
   given = sectors_in bytes
 
-  -- nothing was written to its disk
+  -- nothing was written to the disk of the opened registry
   is_unwritten : IsUnwritten bytes opened.disk
   is_unwritten = record {
     given = same_given on.disk opened.disk on.any_moment.past ∙ on.of_bytes.given;
     steps = few_synced (plan_of opened.disk) (subst (λ log. MayAddSync log (byte_facts opened.disk).log) on.of_bytes.starts.log on.log);
   }
 
-  -- it is what was opened, with nothing held
+  -- the opened registry, with these held byte strings and this failure flag
   abbrev opened_by : List HeldRow → Bool → Opened ByteDisk
   opened_by held failed = record { disk = opened.disk; root = opened.root; entries = opened.entries; held = held; failed = failed }
 

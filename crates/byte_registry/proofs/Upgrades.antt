@@ -1,4 +1,4 @@
--- Making and upgrading a registry on given bytes.
+-- Lemmas about registries that are made or upgraded on given bytes.
 use Rattle.std.proofs.Common.{◌≡◌, ◌⊎◌, inl, inr, ⊎_elim, ℕ, ◌+◌, ◌≤◌, List, ◌∷◌, length, Err, refl, sym, ◌∙◌, ap, subst, arith}
 use Rattle.std.proofs.lemmas.Bool.{both_ways}
 use Rattle.std.proofs.lemmas.List.{length-map}
@@ -33,11 +33,11 @@ use Rattle.byte_registry.specs.Plans.{behind_sync, synced_plan}
 use Rattle.byte_registry.proofs.Asking.{leads_from, starts_with}
 use Rattle.byte_registry.proofs.Syncs.{plan_few}
 
--- what a registry at a state leaves stands for it
+-- each mixture of a registry at a state holds that state
 found_at : (opened : Opened ByteDisk) (s : State) → IsAt byte_facts opened s → (m : List Sector) → Mixture (byte_facts opened.disk) m → Stands m s
 found_at opened s at m mixture = record { stored = (opened.root, opened.entries, at.stored.stands m mixture); libraries = at.libraries }
 
--- An empty registry that was made.
+-- If an empty registry was made on the bytes, its plan is that of an empty registry.
 pub formatted : (bytes : List ℕ) (old : ByteDisk) (opened : Opened ByteDisk) → IsDiskOf bytes old
     → LeavesOnly (byte_facts old) (byte_facts opened.disk) (λ m. Mixture (byte_facts old) m ⊎ Stands m empty_state)
     → IsAt byte_facts opened empty_state → (HasRootMagic (byte_facts old).now → ⊥)
@@ -55,7 +55,7 @@ formatted bytes old opened is leaves at unformatted log = record {
 two_not_one : Two ≡ One → ⊥
 two_not_one e = cc
 
--- No sectors stand for a state by both rules.
+-- Sectors that hold a state by the new rules hold none by the old rules.
 pub not_old : (m : List Sector) (s : State) → Stands m s → IsNotOld m
 not_old m s stands t old =
     let a = stands.stored in
@@ -63,7 +63,7 @@ not_old m s stands t old =
     let same = one_root_intact m a.0 b.0 a.1 b.1 a.2.intact b.2.intact in
     two_not_one (sym a.2.of_version ∙ ap version_of same ∙ b.2.of_version)
 
--- A registry of version 1 that was upgraded.
+-- A registry of version 1 on the bytes was upgraded.
 module _ (bytes : List ℕ) (old : ByteDisk) (is : IsDiskOf bytes old) (opened : Opened ByteDisk) (s : State) where
   pub upgraded_old : StandsOld (byte_facts old).now s → IsAt byte_facts opened (upgraded s)
       → LeavesOnly (byte_facts old) (byte_facts opened.disk) (λ m. Mixture (byte_facts old) m ⊎ StandsOld m s ⊎ Stands m (upgraded s))
@@ -88,7 +88,7 @@ module _ (bytes : List ℕ) (old : ByteDisk) (is : IsDiskOf bytes old) (opened :
             ));
       }
 
--- Of one of version 2 a disk to which no call was made has the plan: a sync.
+-- If the registry has version 2, the plan of a disk to which no call was made is one sync.
 module _ (bytes : List ℕ) (disk : ByteDisk) (is : IsDiskOf bytes disk) (s : State) (stands : Stands (sectors_in bytes) s) where
   still : (m : List Sector) → Mixture (byte_facts disk) m → Stands m s
   still m mixture = subst (λ n. Stands n s) (sym (starts_with bytes disk is m mixture)) stands
@@ -100,7 +100,7 @@ module _ (bytes : List ℕ) (disk : ByteDisk) (is : IsDiskOf bytes disk) (s : St
     ap (λ steps. Sync ∷ behind_sync steps) is.unplanned,
   )
 
--- The disk that is made anew then has that plan: of bytes that are a disk there is one.
+-- A disk that is made again from bytes of version 2 has this plan.
 pub upgraded_anew : (bytes : List ℕ) (made : Result ByteDisk (StoreRefusal × Option ByteDisk)) (s : State) → Stands (sectors_in bytes) s → IfOk made (IsDiskOf bytes)
     → IfOk made (λ disk. (x : State) × IsUpgraded bytes x (synced_plan disk))
 upgraded_anew bytes (Ok disk) s stands is = (s, upgraded_current bytes disk is s stands)
@@ -111,7 +111,7 @@ pub is_disk : (bytes : List ℕ) (made : Result ByteDisk (StoreRefusal × Option
 is_disk bytes (Ok disk) size bad = tt
 is_disk bytes (Err refused) size bad = absurd (bad.1 size)
 
--- Which rules sectors hold a state by is told by the version of their current root.
+-- The version of the current root determines by which rules the sectors hold a state.
 module _ (m : List Sector) (is_current : Bool)
     (tells : (version : Version) (root : Root) (entries : List PlacedEntry) (s : State) → StandsBy version m root entries s
     → IsTrue is_current ↔ (version ≡ Two)) (s : State) where
@@ -121,7 +121,7 @@ module _ (m : List Sector) (is_current : Bool)
   pub old_only : IsFalse is_current → Stands m s → ⊥
   old_only false_is current = both_ways is_current false_is ((tells Two current.stored.0 current.stored.1 s current.stored.2).1 refl)
 
--- No registry is upgraded.
+-- If an upgrade of the opened disk is refused, the bytes aren't upgraded, for the same reason.
 pub unupgraded : (bytes : List ℕ) (old : ByteDisk) → IsDiskOf bytes old → (refusal : StoreRefusal)
     → ((s : State) → StandsOld (byte_facts old).now s → IsUpgradeAnswer (refusal_of_upgrade (byte_facts old).sectors s) (Err refusal))
     → ((s : State) → Stands (byte_facts old).now s → (refusal ≡ Device) ⊎ (refusal ≡ OutOfMemory))
@@ -132,7 +132,7 @@ unupgraded bytes old is refusal answer stands refused = record {
   why = inr (is.size, λ not_old. subst (λ m. RefusesLook StandsEither m refusal) is.starts.now (refused (subst IsNotOld (sym is.starts.now) not_old)));
 }
 
--- Nothing is opened.
+-- If opening the disk is refused, nothing is opened on the bytes, for the same reason.
 pub unopened : (bytes : List ℕ) (old : ByteDisk) → IsDiskOf bytes old → (refusal : StoreRefusal)
     → ((s : State) → sectors.Stands (byte_facts old).now s → (refusal ≡ Device) ⊎ (refusal ≡ OutOfMemory))
     → RefusesOpen sectors.Stands (byte_facts old).now refusal → IsUnopened bytes refusal

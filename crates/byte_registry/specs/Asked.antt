@@ -1,4 +1,4 @@
--- What comes of asking the registry that bytes hold (own).
+-- How commands for the registry that bytes hold are answered (own).
 use Rattle.std.specs.Prelude.{◌≡◌, ◌⊎◌, ◌≤◌, ◌+◌, ℕ, List, [], ◌∷◌, length, Err, Option, None, Some}
 use Rattle.sector_disk.specs.Disk.{StartsWith}
 use Rattle.byte_disk.specs.declared.disk.ByteDisk.{ByteDisk}
@@ -26,77 +26,78 @@ use Rattle.registry.specs.Upgraded.{IsNotOld}
 use Rattle.byte_registry.specs.Plans.{Holds, LeadsFrom, LeadsTo, most_steps}
 use Rattle.byte_registry.specs.Replies.{IsReplyOn}
 
--- the disk of these bytes, before any call
+-- the disk with these bytes, before any call
 pub record IsDiskOf (bytes : List ℕ) (disk : ByteDisk) : Type 0 where
   pub size : IsDiskLength (length bytes)
   pub starts : StartsWith (byte_facts disk) (sectors_in bytes)
   pub given : given_to disk ≡ sectors_in bytes
   pub unplanned : plan_of disk ≡ []
 
--- how many calls of a disk failed, where there is one: each for want of memory
+-- the number of failed calls of a disk, or 0 if there is no disk; each of these calls failed because
+-- memory was refused
 abbrev pub failures_of : Option ByteDisk → ℕ
 failures_of None = 0
 failures_of (Some disk) = (byte_facts disk).failures
 
--- the length isn't that of a disk
+-- the bytes don't have the length of a disk, and the refusal is S6
 abbrev pub IsBadLength : List ℕ → StoreRefusal → Type 0
 IsBadLength bytes refusal = (refusal ≡ BadGeometry) × (IsDiskLength (length bytes) → ⊥)
 
--- Nothing is opened on these bytes, for this reason: where they hold a state, whatever its files are,
--- for want of memory alone.
+-- Nothing is opened on these bytes, for this reason. If they hold a state, whatever its files are, the
+-- reason is a failed call or that memory was refused.
 pub record IsUnopened (bytes : List ℕ) (refusal : StoreRefusal) : Type 0 where
   pub why : contents.IsUnopened bytes refusal
   pub held : (s : State) → HoldStore bytes s → (refusal ≡ Device) ⊎ (refusal ≡ OutOfMemory)
 
--- The bytes hold this state and no other, whatever its files are. The registry on them was asked
--- this and answered so, by the step table; and once it answered Done, these steps lead to the state
--- that acceptance gives. No file is read but those that a bind needs.
+-- The bytes hold state s and no other, whatever its files are. The registry on them answered the request
+-- by the step table. If the answer is Done, these steps lead to the state after the accepted request. No
+-- file is read, except those that a bind needs.
 pub record IsAsked (bytes : List ℕ) (s : State) (request : Request) (reply : Reply) (steps : List Step) : Type 0 where
   pub holds : HoldStore bytes s
   pub only : (other : State) → HoldStore bytes other → other ≡ s
   pub by_table : IsReplyOn (sectors_in bytes) s request reply
   pub leads : reply ≡ Done → LeadsTo sectors.Stands (sectors_in bytes) s (accepted s request) steps
-  -- and where it is the state of a registry, to such a one
+  -- if s is a state of a registry, the steps lead to a state of a registry
   pub registry : reply ≡ Done → Holds bytes s → LeadsTo Stands (sectors_in bytes) s (accepted s request) steps
-  -- no more steps than the change makes calls of its disk, and the sync before them
+  -- there are at most as many steps as calls that the change makes, and one sync before them
   pub few : reply ≡ Done → length steps ≤ calls_of s request + 1
   pub at_most : reply ≡ Done → length steps ≤ most_steps request
 
--- Made on these bytes, an empty registry: no root was ever written there, and the steps lead from
--- the sectors as they were to sectors that hold the empty state.
+-- An empty registry was made on these bytes. They had no root before, and the steps lead from these
+-- sectors to sectors that hold the empty state.
 pub record IsFormatted (bytes : List ℕ) (steps : List Step) : Type 0 where
   pub size : IsDiskLength (length bytes)
   pub unformatted : HasRootMagic (sectors_in bytes) → ⊥
   pub leads : LeadsFrom (sectors_in bytes) (λ m. m ≡ sectors_in bytes) (λ m. Stands m empty_state) steps
-  -- a sync, the root, a sync
+  -- a sync, the root, and a sync
   pub few : length steps ≤ 3
 
--- none is made, for this reason
+-- no registry is made, for this reason
 abbrev pub IsUnformatted : List ℕ → StoreRefusal → Type 0
 IsUnformatted bytes refusal = IsBadLength bytes refusal ⊎ IsDiskLength (length bytes) × RefusesFormat (sectors_in bytes) refusal
 
--- The bytes are those of a disk of version 1 that holds the state.
+-- The bytes are those of a disk of version 1 that holds state s.
 pub record HoldsOld (bytes : List ℕ) (s : State) : Type 0 where
   pub size : IsDiskLength (length bytes)
   pub stands : StandsOld (sectors_in bytes) s
 
--- The bytes hold the state by the rules of version 1, and the steps lead to the one after it.
+-- The bytes hold state s by the rules of version 1, and the steps lead to the upgraded state.
 pub record LeadsOver (bytes : List ℕ) (s : State) (steps : List Step) : Type 0 where
   pub holds : HoldsOld bytes s
   pub leads : LeadsFrom (sectors_in bytes) (λ m. StandsOld m s) (λ m. Stands m (upgraded s)) steps
-  -- a sync, the catalogues, a sync, the root, a sync
+  -- a sync, the catalogues, a sync, the root, and a sync
   pub few : length steps ≤ catalogues_for (length s.libraries) + 4
 
--- Made one of version 2: the bytes hold this state by the rules of version 1, and the steps lead to
--- the state after it; or they hold it by those of version 2, and the steps are a sync alone.
+-- The registry now has version 2. Either the bytes hold state s by the rules of version 1, and the steps
+-- lead to the upgraded state. Or they hold s by the rules of version 2, and the only step is a sync.
 abbrev pub IsUpgraded : List ℕ → State → List Step → Type 0
 IsUpgraded bytes s steps =
     LeadsOver bytes s steps
     ⊎ (Holds bytes s × LeadsTo Stands (sectors_in bytes) s s steps × (steps ≡ Sync ∷ []))
 
--- No registry is upgraded on these bytes, for this reason: where they hold a state of version 1,
--- the one of the tests of an upgrade or want of memory; where they hold one of version 2, want of
--- memory; else the one of a look at them.
+-- No registry is upgraded on these bytes, for this reason. If they hold a state of version 1, the reason
+-- is the refusal by the tests of an upgrade, or refused memory. If they hold a state of version 2, it is
+-- refused memory. Otherwise it is the refusal of a look at the bytes.
 pub record IsUnupgraded (bytes : List ℕ) (refusal : StoreRefusal) : Type 0 where
   pub old : (s : State) → HoldsOld bytes s → IsUpgradeAnswer (refusal_of_upgrade (length (sectors_in bytes)) s) (Err refusal)
   pub held : (s : State) → Holds bytes s → (refusal ≡ Device) ⊎ (refusal ≡ OutOfMemory)

@@ -1,4 +1,4 @@
--- What bytes hold, whatever their files are (own).
+-- The state that bytes hold, whatever its files are (own).
 use Rattle.std.specs.Prelude.{◌≡◌, ◌≢◌, ◌⊎◌, ℕ, List, length}
 use Rattle.byte_disk.specs.Bytes.{IsDiskLength, sectors_in}
 use Rattle.states.specs.State.{State}
@@ -7,23 +7,23 @@ use Rattle.store.specs.Stands.{Stands}
 use Rattle.store.specs.declared.refusal.StoreRefusal.{StoreRefusal}
 use Rattle.store.specs.declared.refusal.StoreRefusal.TheVariants.{BadGeometry, Device, OutOfMemory}
 
--- The bytes are those of a disk: whole sectors, and these hold the state.
+-- The bytes have whole sectors, as a disk has, and these sectors hold state s.
 pub record HoldStore (bytes : List ℕ) (s : State) : Type 0 where
   pub size : IsDiskLength (length bytes)
   pub stands : Stands (sectors_in bytes) s
 
--- the bytes hold no state but this one
+-- the bytes hold no state except s
 abbrev pub HoldNoOther : List ℕ → State → Type 0
 HoldNoOther bytes s = (other : State) → HoldStore bytes other → other ≡ s
 
--- Why nothing is opened: the bytes aren't whole sectors, or the store refuses these.
+-- The reason why nothing is opened: the bytes aren't whole sectors, or the store refuses the sectors.
 abbrev pub IsUnopened : List ℕ → StoreRefusal → Type 0
 IsUnopened bytes refusal =
     ((refusal ≡ BadGeometry) × (IsDiskLength (length bytes) → ⊥))
     ⊎ (IsDiskLength (length bytes) × RefusesOpen Stands (sectors_in bytes) refusal)
 
--- Why bytes have no contents: never since a call of their disk failed, and where they hold a state
--- for want of memory alone.
+-- The reason why bytes have no contents. It is never a failed call of their disk, and if the bytes hold
+-- a state, it is always that memory was refused.
 pub record HaveNoContents (bytes : List ℕ) (refusal : StoreRefusal) : Type 0 where
   pub why : IsUnopened bytes refusal
   pub no_failure : refusal ≢ Device

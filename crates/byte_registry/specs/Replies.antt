@@ -13,12 +13,11 @@ use Rattle.requests.specs.Request.{Request}
 use Rattle.requests.specs.declared.reply.Reply.{Reply}
 use Rattle.registry.specs.Untested.{UntestedStep}
 
--- a registry just opened on sectors, or on a disk of them, by this root and these entries: nobody
--- holds anything
+-- a registry that was just opened on a disk, with this root and these entries; no byte string is held
 abbrev pub opened_on : {D : Type 0} → D → Root → List PlacedEntry → Opened D
 opened_on disk root entries = record { disk = disk; root = root; entries = entries; held = []; failed = false }
 
--- where it stands, in the words of the step table, after so many failed calls
+-- the phase of a registry that was just opened, for the step table, after `failures` failed calls
 abbrev pub phase_on : List Sector → Root → List PlacedEntry → ℕ → State → Phase
 phase_on m root entries failures s = record {
   sectors = length m;
@@ -29,7 +28,7 @@ phase_on m root entries failures s = record {
   state = s;
 }
 
--- By the step table a command may be answered so, where the sectors hold the state.
+-- The step table allows this reply to the request, if the sectors hold state s.
 pub record IsReplyOn (m : List Sector) (s : State) (request : Request) (reply : Reply) : Type 0 where
   pub root : Root
   pub entries : List PlacedEntry

@@ -1,5 +1,5 @@
--- What comes of an update of the registry that bytes hold: several changes, of which all are made or
--- none (own).
+-- The result of an update of the registry that bytes hold: either all of its changes are made, or none
+-- (own).
 use Rattle.std.specs.Prelude.{◌≡◌, ◌⊎◌, ℕ, List, [], ◌∷◌, ◌++◌, length, Result, Ok, Err, OnOk}
 use Rattle.sector_disk.specs.Disk.{LeavesOnly}
 use Rattle.byte_disk.specs.declared.disk.ByteDisk.{ByteDisk}
@@ -24,19 +24,20 @@ use Rattle.byte_registry.specs.Bytes.{HoldStore}
 use Rattle.byte_registry.specs.Plans.{Holds, LeadsTo, synced_plan}
 use Rattle.byte_registry.specs.Replies.{opened_on}
 
--- The disk of these bytes, to which nothing was written: its plan has a sync at most.
+-- The disk has these bytes, and nothing was written to it: its plan has at most a sync.
 pub record IsUnwritten (bytes : List ℕ) (disk : ByteDisk) : Type 0 where
   pub given : given_to disk ≡ sectors_in bytes
   pub steps : (plan_of disk ≡ []) ⊎ (plan_of disk ≡ Sync ∷ [])
 
--- Requests to a draft of the state s were accepted one after the other: each was planned, over the
--- draft that those before it led to. This is the draft after all of them, and its state that after them.
+-- Requests to a draft of state s were accepted one after the other. Each was planned in the draft that
+-- the requests before it made. `new` is the draft after all of them, and its state is the state after
+-- them.
 pub record ArePlanned (old new : Drafted ByteDisk) (s : State) (requests : List Request) : Type 0 where
   pub answers : List Reply
   pub plans : Plans byte_facts old new requests answers
   pub update : IsUpdate byte_facts old new s requests answers
 
--- A draft refused one of the requests; so many before it were planned, and led to that draft.
+-- A draft refused one of the requests. The n requests before it were planned, and made this draft.
 pub record StopsAt (old last : Drafted ByteDisk) (requests : List Request) (n : ℕ) (refusal : Refusal) : Type 0 where
   pub before : List Request
   pub request : Request
@@ -48,24 +49,24 @@ pub record StopsAt (old last : Drafted ByteDisk) (requests : List Request) (n : 
   pub plans : Plans byte_facts old mid before answers
   pub refused : DraftAnswers byte_facts mid request (Refused refusal) last
 
--- The first request that is refused is so by the step table, at the state after those before it, and
--- over the draft that these led to. Then the update is given up, with this disk.
+-- The step table refuses the first refused request, in the state after the requests before it and with
+-- the draft that they made. Then the update is given up, with the disk `left`.
 pub record IsRefusedAt (old : Drafted ByteDisk) (s : State) (requests : List Request) (n : ℕ) (refusal : Refusal) (left : ByteDisk) : Type 0 where
   pub last : Drafted ByteDisk
   pub stops : StopsAt old last requests n refusal
   pub update : IsUpdate byte_facts old stops.mid s stops.before stops.answers
   pub back : left ≡ last.store.disk
 
--- All requests were planned, and the commit of their draft led to this disk: a stop meanwhile leaves
--- what stood, or the state after all of them.
+-- All requests were planned, and the commit of their draft left the disk `left`. A stop meanwhile leaves
+-- the state before the update, or the state after all requests.
 pub record IsCommitted (old : Drafted ByteDisk) (s : State) (requests : List Request) (left : ByteDisk) : Type 0 where
   pub after : Drafted ByteDisk
   pub planned : ArePlanned old after s requests
   pub any_moment : LeavesOnly (byte_facts after.store.disk) (byte_facts left) (λ m. sectors.Stands m s ⊎ sectors.Stands m (updated s requests))
 
--- What an update over a draft is answered: all requests were planned; or the first that is refused, and
--- how many are before it; or a call of the commit failed; or memory for the draft was refused, before any
--- request.
+-- The answer to an update with this draft. All requests were planned; or one was refused, with the
+-- number of requests before it; or a call of the commit failed; or memory for the draft was refused
+-- before any request.
 abbrev pub AnswersUpdate : Drafted ByteDisk → State → List Request → Result (Unit {0}) (ℕ × Refusal) → ByteDisk → Type 0
 AnswersUpdate old s requests (Ok done) left = IsCommitted old s requests left
 AnswersUpdate old s requests (Err refused) left =
@@ -73,8 +74,8 @@ AnswersUpdate old s requests (Err refused) left =
     ⊎ ((refused.0 ≡ length requests) × (refused.1 ≡ Device) × IsCommitted old s requests left)
     ⊎ ((refused.0 ≡ 0) × (refused.1 ≡ OutOfMemory) × (left ≡ old.store.disk))
 
--- By the step table an update of these requests may be answered so, and end with this disk, where the
--- bytes hold the state: its draft is begun on the registry that was just opened on their disk.
+-- If the bytes hold state s, the step table allows this answer to an update with these requests, which
+-- leaves the disk `left`. The draft is begun on a registry that was just opened on the bytes.
 pub record IsUpdateOn (bytes : List ℕ) (s : State) (requests : List Request) (answer : Result (Unit {0}) (ℕ × Refusal)) (left : ByteDisk) : Type 0 where
   pub root : Root
   pub entries : List PlacedEntry
@@ -83,13 +84,13 @@ pub record IsUpdateOn (bytes : List ℕ) (s : State) (requests : List Request) (
   pub unwritten : IsUnwritten bytes disk
   pub answers : AnswersUpdate (begun (opened_on disk root entries)) s requests answer left
 
--- The bytes hold this state and no other, whatever its files are. An update of these requests on them
--- was answered so, by the step table, and ended with this disk; and once that is Ok, the plan of the disk
--- leads, in one change, to the state after all of them.
+-- The bytes hold state s and no other, whatever its files are. An update with these requests was
+-- answered by the step table, and left the disk `left`. If the answer is Ok, the plan of this disk
+-- leads, in one change, to the state after all requests.
 pub record IsUpdateAsked (bytes : List ℕ) (s : State) (requests : List Request) (answer : Result (Unit {0}) (ℕ × Refusal)) (left : ByteDisk) : Type 0 where
   pub holds : HoldStore bytes s
   pub only : (other : State) → HoldStore bytes other → other ≡ s
   pub by_table : IsUpdateOn bytes s requests answer left
   pub leads : OnOk answer (LeadsTo sectors.Stands (sectors_in bytes) s (updated s requests) (synced_plan left))
-  -- and where it is the state of a registry, to such a one
+  -- if s is a state of a registry, the plan leads to a state of a registry
   pub registry : OnOk answer (Holds bytes s → LeadsTo Stands (sectors_in bytes) s (updated s requests) (synced_plan left))

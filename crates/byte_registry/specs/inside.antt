@@ -1,3 +1,3 @@
--- What the code keeps as it goes. Nobody has to believe it.
+-- Values that the code keeps while it runs. Nobody has to believe these definitions.
 pub mod Opening
 pub mod Planning

@@ -1,4 +1,4 @@
-// A registry on given bytes, asked.
+// Answers a command for the registry on given bytes.
 ghost use Rattle.std.specs.Prelude.{◌≡◌, ◌<◌, IfOk, IfErr, MatchResult};
 ghost use Rattle.byte_disk.specs.ByteDisk.{byte_facts};
 ghost use Rattle.states.specs.State.{State};
@@ -15,7 +15,8 @@ use requests::{Command, Reply};
 use std::alloc::Global;
 use store::StoreRefusal;
 
-/// The disk of these bytes, where they are whole sectors; else there is none.
+/// Returns the disk with the bytes `disk`. If they aren't whole sectors, refuses with S6
+/// (BadGeometry) and returns no disk.
 pub(crate) fn disk_of(
     alloc: Global,
     disk: &[u8],
@@ -29,8 +30,8 @@ pub(crate) fn disk_of(
     }
 }
 
-/// The registry on a disk of these bytes, of which no file is read; or why there is none, and the
-/// disk then, where they are one.
+/// Opens the registry on the bytes `disk`, and reads no file. If the opening is refused, returns
+/// the refusal, and the disk if the bytes are whole sectors.
 pub(crate) fn open_on(
     alloc: Global,
     disk: &[u8],
@@ -50,8 +51,9 @@ pub(crate) fn open_on(
     }
 }
 
-/// The reply of the registry on a disk to a command, and the disk then; or why there is none, and
-/// the disk then, where these bytes are one. No file is read but those that a bind needs.
+/// Opens the registry on the bytes `disk`, and returns its reply to a command, and the disk after
+/// the command. If the opening is refused, returns the refusal, and the disk if the bytes are whole
+/// sectors. Reads no file, except those that a bind needs.
 pub fn ask<'a>(
     alloc: Global,
     disk: &'a [u8],
@@ -60,7 +62,8 @@ pub fn ask<'a>(
     ensures ok { IfOk result (λ asked. (s : State)
         × IsAsked disk.now s (request_of command.now) asked.0 (synced_plan asked.1)) }
 
-    // S1 comes only where a call of the disk failed: a write or a sync, which found no memory.
+    // The answer is S1 only if a call of the disk failed: a write or a sync, because memory was
+    // refused.
     ensures device { MatchResult result
         (λ asked. asked.0 ≡ Refused Device → 0 < (byte_facts asked.1).failures)
         (λ refused. refused.0 ≡ StoreRefusal.Device → 0 < failures_of refused.1) }

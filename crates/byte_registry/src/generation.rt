@@ -1,4 +1,4 @@
-// The current root on a disk of given bytes, and the generation that it tells.
+// The current root on a disk of given bytes, and its generation.
 ghost use Rattle.std.specs.Prelude.{◌≡◌, List, Some};
 ghost use Rattle.byte_disk.specs.Bytes.{sectors_in};
 ghost use Rattle.roots.specs.declared.version.Version.{Version};
@@ -10,7 +10,7 @@ ghost use Rattle.byte_registry.specs.Bytes.{HoldStore};
 use roots::{Root, choose, decode_root};
 use sector_disk::SECTOR_BYTES;
 
-/// The current root on a disk of these bytes, where there is one.
+/// Returns the current root on the bytes `disk`, if there is one.
 pub(crate) fn current_root(disk: &[u8]) -> Option<Root>
     ensures { (version : Version) → (root : Root) → (entries : List PlacedEntry) → (s : State)
         → StandsBy version (sectors_in disk.now) root entries s → result ≡ Some root }
@@ -25,7 +25,7 @@ pub(crate) fn current_root(disk: &[u8]) -> Option<Root>
     }
 }
 
-/// The generation of the current root on a disk of these bytes; 0 where there is none.
+/// Returns the generation of the current root on the bytes `disk`, or 0 if there is none.
 pub fn generation_of(disk: &[u8]) -> u64
     ensures { (s : State) → HoldStore disk.now s → result ≡ s.generation }
 {

@@ -1,8 +1,9 @@
-//! A registry on given bytes: what comes of asking it, and the plan of what it changes.
+//! A registry on given bytes: the answers to commands, and the plans of its changes.
 //!
-//! Each call reads the bytes of a disk's file and changes none of them. What it would change is the
-//! plan of the disk that it gives: a sync, and `behind_sync` of it. Carried out, it leads from the
-//! state that the bytes hold to the next one, and a stop meanwhile leaves one of these two.
+//! Each call reads the bytes of a disk's file and changes none of them. The plan of its changes is
+//! a sync, followed by the steps that `behind_sync` returns for the disk that the call returns. If
+//! the plan is carried out, it leads from the state that the bytes hold to the next one, and a stop
+//! meanwhile leaves one of these two states.
 #![tactic(auto)]
 
 mod asked;

@@ -1,4 +1,4 @@
-// Making an empty registry on given bytes.
+// Makes an empty registry on given bytes.
 ghost use Rattle.std.specs.Prelude.{◌≡◌, ◌<◌, IfOk, IfErr};
 ghost use Rattle.byte_registry.specs.Asked.{IsFormatted, IsUnformatted, failures_of};
 ghost use Rattle.byte_registry.specs.Plans.{synced_plan};
@@ -9,15 +9,16 @@ use registry::Registry;
 use std::alloc::Global;
 use store::StoreRefusal;
 
-/// The disk on which a registry was made; or why none was, and the disk then, where these bytes are
-/// one.
+/// Makes an empty registry on the bytes `disk`, and returns the disk. If this is refused, returns
+/// the refusal, and the disk if the bytes are whole sectors.
 pub fn format(
     alloc: Global,
     disk: &[u8],
 ) -> Result<ByteDisk<'_>, (StoreRefusal, Option<ByteDisk<'_>>)>
     ensures ok { IfOk result (λ made. IsFormatted disk.now (synced_plan made)) }
 
-    // S1 comes only where a call of the disk failed: a write or a sync, which found no memory.
+    // The answer is S1 only if a call of the disk failed: a write or a sync, because memory was
+    // refused.
     ensures device { IfErr result (λ refused. refused.0 ≡ StoreRefusal.Device
         → 0 < failures_of refused.1) }
     ensures err { IfErr result (λ refused. IsUnformatted disk.now refused.0) }

@@ -1,4 +1,4 @@
-// What a disk of given bytes has, opened to be read.
+// Opens given bytes as a disk that is only read.
 ghost use Rattle.std.specs.Prelude.{◌≡◌, [], IfOk, IfErr, length};
 ghost use Rattle.byte_disk.specs.Bytes.{sectors_in};
 ghost use Rattle.byte_disk.specs.ReadOnlyDisk.{read_only_facts};
@@ -12,13 +12,14 @@ use registry::Registry;
 use std::alloc::Global;
 use store::StoreRefusal;
 
-/// The contents of a disk of these bytes, or why they aren't those of a disk of version 2: S6 also
-/// where they aren't whole sectors. No call of their disk fails, so S1 never comes.
+/// Opens the contents of the bytes `disk`, or returns why they aren't a disk of version 2. Also
+/// refuses with S6 (BadGeometry) if the bytes aren't whole sectors. No call of the disk fails, so
+/// the refusal is never S1 (Device).
 pub fn contents_of<'a>(
     alloc: Global,
     disk: &'a [u8],
 ) -> Result<Contents<ReadOnlyDisk<'a>>, StoreRefusal>
-    // They are those of the state that the bytes hold.
+    // The contents are those of the state that the bytes hold.
     ensures ok { IfOk result (λ contents. (s : State) × HoldStore disk.now s
         × IsAt read_only_facts contents s) }
     ensures held { (s : State) → HoldStore disk.now s
@@ -39,13 +40,13 @@ pub fn contents_of<'a>(
     }
 }
 
-/// The registry on a disk of these bytes, to be read alone: no file was read, and a write fails. Or
-/// why there is none, as `contents_of` says it.
+/// Opens the registry on the bytes `disk`, only for reading: no file is read, and every write
+/// fails. If there is no registry, refuses as `contents_of` does.
 pub fn registry_of<'a>(
     alloc: Global,
     disk: &'a [u8],
 ) -> Result<Registry<ReadOnlyDisk<'a>>, StoreRefusal>
-    // It is at the state that the bytes hold, and they hold no other.
+    // The registry is at the state that the bytes hold, and the bytes hold no other state.
     ensures ok { IfOk result (λ registry. (s : State) × HoldStore disk.now s
         × IsAt read_only_facts registry s × HoldNoOther disk.now s) }
     ensures held { (s : State) → HoldStore disk.now s

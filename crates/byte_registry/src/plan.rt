@@ -1,12 +1,12 @@
-// The plan of what was asked: the steps that its disk kept, begun with a sync.
+// The plan of a call: a sync, and then the steps that its disk kept.
 ghost use Rattle.std.specs.Prelude.{◌≡◌, map};
 ghost use Rattle.byte_disk.specs.ByteDisk.{plan_of};
 ghost use Rattle.byte_registry.specs.Plans.{behind_sync};
 
 use byte_disk::{ByteDisk, PlannedStep, Step};
 
-/// The steps behind the sync with which the plan of a disk begins. Where the disk kept no sync
-/// before its first write, these are all that it kept.
+/// Returns the steps of a disk's plan without the sync with which they begin. If the disk kept no
+/// sync before its first write, returns all steps that it kept.
 pub fn behind_sync<'d>(disk: &'d ByteDisk<'_>) -> &'d [PlannedStep]
     ensures { map (λ planned. planned.step) result.now ≡ behind_sync (plan_of disk.now) }
 {

@@ -1,4 +1,4 @@
-// An update of a registry on given bytes: several changes, of which all are planned or none.
+// An update of a registry on given bytes: either all of its changes are planned, or none.
 ghost use Rattle.std.specs.Prelude.{◌≡◌, ◌<◌, IfOk, IfErr, MatchResult, map, false};
 ghost use Rattle.byte_disk.specs.ByteDisk.{byte_facts};
 ghost use Rattle.states.specs.State.{State};
@@ -17,7 +17,7 @@ use requests::{Command, Refusal, Reply};
 use std::alloc::Global;
 use store::StoreRefusal;
 
-/// The refusal that a reply is, where it is one.
+/// Returns the refusal as an error, if the reply is a refusal.
 fn refusal_in(reply: Reply) -> Result<(), Refusal>
     ensures { MatchResult result (λ _. is_refusal reply ≡ false)
         (λ refusal. reply ≡ Reply.Refused refusal) }
@@ -28,7 +28,7 @@ fn refusal_in(reply: Reply) -> Result<(), Refusal>
     }
 }
 
-/// Plans a command behind those that an update has, or says why it is refused.
+/// Plans a command after those that `update` already has, or returns why the command is refused.
 fn plan_one(update: &mut Update<ByteDisk<'_>>, command: &Command<'_>) -> Result<(), Refusal>
     ensures ok { IfOk result (λ _. (answer : Reply)
         × DraftAnswers byte_facts update.old (request_of command.now) answer update.new
@@ -40,8 +40,8 @@ fn plan_one(update: &mut Update<ByteDisk<'_>>, command: &Command<'_>) -> Result<
     refusal_in(reply)
 }
 
-/// Plans commands one after the other, up to the first that is refused: how many come before it,
-/// and why.
+/// Plans `commands` one after the other, up to the first refused one. For that one, returns the
+/// number of commands before it, and the refusal.
 fn plan_all(
     update: &mut Update<ByteDisk<'_>>,
     commands: &[Command<'_>],
@@ -56,7 +56,8 @@ fn plan_all(
     Ok(())
 }
 
-/// Makes an update of commands, or says which is refused, and why: then the registry is as it was.
+/// Makes an update with `commands`. If one is refused, returns which one and why, and the registry
+/// is unchanged.
 fn make_update<'a>(
     registry: Registry<ByteDisk<'a>>,
     commands: &[Command<'_>],
@@ -80,10 +81,11 @@ fn make_update<'a>(
     }
 }
 
-/// What the registry on a disk answers to an update of commands, and the disk then; or why there
-/// is none, and the disk then, where these bytes are one. A refusal is told with how many commands
-/// come before the one that is refused; behind all of them only the commit is. No file is read but
-/// those that a bind needs.
+/// Opens the registry on the bytes `disk`, and returns its answer to an update with `commands`, and
+/// the disk after the update. If the opening is refused, returns the refusal, and the disk if the
+/// bytes are whole sectors. A refusal of the update comes with the number of commands before the
+/// refused one: 0 if memory for the draft is refused, and the number of all commands if the commit
+/// fails. Reads no file, except those that a bind needs.
 pub fn ask_update<'a>(
     alloc: Global,
     disk: &'a [u8],
@@ -92,7 +94,8 @@ pub fn ask_update<'a>(
     ensures ok { IfOk result (λ asked. (s : State) × IsUpdateAsked disk.now s
         (map request_of commands.now) asked.0 asked.1) }
 
-    // S1 comes only where a call of the disk failed: a write or a sync, which found no memory.
+    // The answer is S1 only if a call of the disk failed: a write or a sync, because memory was
+    // refused.
     ensures device { MatchResult result
         (λ asked. IfErr asked.0 (λ refused. refused.1 ≡ Refusal.Device
         → 0 < (byte_facts asked.1).failures))

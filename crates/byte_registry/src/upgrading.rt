@@ -1,4 +1,4 @@
-// Making a registry of version 1 on given bytes one of version 2.
+// Makes a registry of version 2 from one of version 1 on given bytes.
 ghost use Rattle.std.specs.Prelude.{◌≡◌, ◌<◌, ◌↔◌, IsTrue, List, IfOk, IfErr};
 ghost use Rattle.byte_disk.specs.Bytes.{sectors_in};
 ghost use Rattle.roots.specs.declared.version.Version.{Version as RootVersion};
@@ -17,7 +17,7 @@ use roots::{Root, Version};
 use std::alloc::Global;
 use store::StoreRefusal;
 
-/// Whether the current root on a disk of these bytes is of version 2.
+/// Returns whether the current root on the bytes `disk` has version 2.
 fn is_current(disk: &[u8]) -> bool
     ensures { (version : RootVersion) → (root : Root) → (entries : List PlacedEntry) → (s : State)
         → StandsBy version (sectors_in disk.now) root entries s
@@ -32,15 +32,17 @@ fn is_current(disk: &[u8]) -> bool
     }
 }
 
-/// The disk on which a registry of version 2 is; or why none is, and the disk then, where these
-/// bytes are one. Where it was one before, nothing is written.
+/// Upgrades the registry on the bytes `disk` to version 2, and returns the disk. If the registry
+/// already has version 2, writes nothing. If the upgrade is refused, returns the refusal, and the
+/// disk if the bytes are whole sectors.
 pub fn upgrade(
     alloc: Global,
     disk: &[u8],
 ) -> Result<ByteDisk<'_>, (StoreRefusal, Option<ByteDisk<'_>>)>
     ensures ok { IfOk result (λ made. (s : State) × IsUpgraded disk.now s (synced_plan made)) }
 
-    // S1 comes only where a call of the disk failed: a write or a sync, which found no memory.
+    // The answer is S1 only if a call of the disk failed: a write or a sync, because memory was
+    // refused.
     ensures device { IfErr result (λ refused. refused.0 ≡ StoreRefusal.Device
         → 0 < failures_of refused.1) }
     ensures err { IfErr result (λ refused. IsUnupgraded disk.now refused.0) }

@@ -1,4 +1,5 @@
--- What is told of a program: by what was found for it, by what is installed, and where it is given.
+-- The report about a program, as it follows from the libraries that were found or are installed, and its
+-- statuses.
 use Rattle.std.proofs.Common.{◌≡◌, ◌≢◌, ◌∙◌, ℕ, Option, Some, None, true, false, Bool, List, [], ◌∷◌, map, inl, inr, refl, sym, ap, subst, arith}
 use Rattle.std.specs.Prelude.{Err, IfErr, IfOk, Ok, Result, if◌then◌else◌, is_none, is_some, not}
 use Rattle.std.specs.Option.{option_map}
@@ -42,7 +43,7 @@ use Rattle.c_answers.specs.declared.answer.Answer.{Answer}
 use Rattle.c_answers.specs.declared.symbols.Told.{Told}
 use Rattle.c_answers.specs.inside.Bindings.{IsFoundText, IsPlacedText, IsUnfoundText, IsUnplaced, found_objects, found_text}
 
--- a refusal of symbols is that of an undefined one
+-- the refusal, if there is one, is that a symbol is undefined
 abbrev OnlyUndefined : Option BindRefusal → Type 0
 OnlyUndefined None = Unit
 OnlyUndefined (Some (bind.Undefined object symbol)) = Unit
@@ -73,7 +74,8 @@ only-undefined : (objects : List Placed) → OnlyUndefined (undefined_refusal ob
 unfolding undefined_refusal
 only-undefined objects = undefined-among objects _
 
--- by which number what the symbols are bound to is told
+-- if no symbol is undefined, the report of the bindings has the number 0; otherwise it has that of B5
+-- (Undefined)
 pub whole-number : (o : Option BindRefusal) → true ≡ is_none o → 0 ≡ bound_number o
 whole-number None h = refl
 whole-number (Some e) h = cc
@@ -94,7 +96,8 @@ pub symbols-number : (objects : List Placed) (bound : Bool) → bound ≡ is_non
 symbols-number objects true h = whole-number (undefined_refusal objects) h
 symbols-number objects false h = undefined-number objects h
 
--- what objects in their places are bound to, and why that isn't told
+-- a report of the bindings of placed objects is the text that `IsPlacedText` defines, and a refusal is
+-- one for which `IsUnplaced` holds
 pub placed-told : (objects others : List Placed) (r : Result Told Refusal) → others ≡ objects → lacks_room objects ≡ false
     → IfOk r (λ told. told.number ≡ bound_number (undefined_refusal others)) → IfOk r (λ told. told.text.items ≡ bindings_text others)
     → IfOk r (λ told. IsPlacedText objects told.number told.text.items)
@@ -106,12 +109,12 @@ pub placed-untold : (objects : List Placed) (r : Result Told Refusal) → IfErr 
 placed-untold objects (Ok told) h = tt
 placed-untold objects (Err why) h = inr h
 
--- objects that can't be placed, as a command is refused
+-- if objects can't be placed, the refusal is one for which `IsUnplaced` holds
 pub unplaced-as : (objects : List Placed) (e : BindRefusal) (why : Refusal) → IsPlaceAnswer objects e → why ≡ of_bind e → IsUnplaced objects why
 unplaced-as objects e why (inl (full, lacks)) is = inl (is ∙ ap of_bind full, lacks)
 unplaced-as objects e why (inr (memory, wants)) is = inr (is ∙ ap of_bind memory)
 
--- where no name is missing, and where one is
+-- an option that isn't `Some` is `None`, so no name is missing
 pub lacks-none : (o : Option Need) → is_some o ≡ false → o ≡ None
 lacks-none None none = refl
 lacks-none (Some need) none = absurd (let no : true ≡ false = none in cc)
@@ -120,7 +123,7 @@ pub lacks-some : (o : Option Need) → is_some o ≡ true → o ≢ None
 lacks-some None some = absurd (let no : false ≡ true = some in cc)
 lacks-some (Some need) some = λ none. cc
 
--- what is told by the libraries that were found
+-- A report about a program is made with the libraries that were found.
 module _ (program : List ℕ) (base : ℕ) (found : Found) (libraries : List Named) (r : Result Told Refusal) (same : libraries ≡ map object_of found.libraries) where
   pub whole-found : found.missing ≡ None → IfOk r (λ told. IsPlacedText (place base (available program libraries)) told.number told.text.items)
       → IfOk r (λ told. IsFoundText program base found told.number told.text.items)
@@ -151,7 +154,7 @@ pub lacking-unfound : (program : List ℕ) (base : ℕ) (found : Found) (r : Res
 lacking-unfound program base found (Ok told) h = tt
 lacking-unfound program base found (Err why) h = inr h
 
--- a program that is refused by itself isn't so for a library or a symbol
+-- a program that is refused by itself isn't refused for a missing library or an undefined symbol
 own-refusal : (program : List ℕ) (base : ℕ) (e : BindRefusal) → program_refusal program base ≡ Some e → ((a b : List ℕ) → e ≡ bind.Missing a b → ⊥) × ((a b : List ℕ) → e ≡ bind.Undefined a b → ⊥)
 unfolding program_refusal
 own-refusal program base e h = by (first_file_refusal program) (is_good_base program base) h
@@ -163,7 +166,7 @@ own-refusal program base e h = by (first_file_refusal program) (is_good_base pro
     by None true h = cc
 
 module _ (s : State) (program : List ℕ) (base : ℕ) where
-  -- what the symbols are bound to is told where nothing refuses, and where a symbol is undefined
+  -- if a bind isn't refused, or a symbol is undefined, the text states what the symbols are bound to
   told-of-symbols : (r : Option BindRefusal) → OnlyUndefined r → told_text s program base r ≡ Some (bindings_text (bound_objects s program base))
   told-of-symbols None only = refl
   told-of-symbols (Some (bind.Undefined object symbol)) only = refl
@@ -173,7 +176,7 @@ module _ (s : State) (program : List ℕ) (base : ℕ) where
   told-of-symbols (Some bind.NoRoom) only = absurd only
   told-of-symbols (Some bind.OutOfMemory) only = absurd only
 
-  -- where the program is taken by itself, and this was found for it
+  -- The program isn't refused by itself, and these libraries were found for it.
   module _ (found : Found) (taken : program_refusal program base ≡ None) (is : IsFoundFor s program found) where
     is-placed : found.missing ≡ None → binding_refusal s program base ≡ placed_refusal (bound_objects s program base)
     is-placed none = placed-is program base (objects s) (preload_numbers s) (program-taken program base taken) (program-based program base taken) (is.lacks ∙ none)
@@ -205,7 +208,7 @@ module _ (s : State) (program : List ℕ) (base : ℕ) where
           number_is = numbered ∙ ap bound_number (sym refused);
         }
 
-    -- what was found is told as what is installed
+    -- a report about the libraries that were found, or its refusal, is one about the installed libraries
     pub found-said : (number : ℕ) (said : List ℕ) → IsFoundText program base found number said → IsText s program base number said
     found-said number said (inl (none, placed)) = whole-said none number said (subst (λ os. IsPlacedText os number said) placed-objects placed)
     found-said number said (inr (some, numbered, text)) = by found.missing refl
@@ -223,7 +226,7 @@ module _ (s : State) (program : List ℕ) (base : ℕ) where
     found-untold why (inl (none, h)) = unplaced none why (subst (λ os. IsUnplaced os why) placed-objects h)
     found-untold why (inr memory) = subst (IsUntold s program base) (sym memory) tt
 
-  -- nothing is told of a program that is refused by itself
+  -- there is no text about a program that is refused by itself
   pub program-untold : (e : BindRefusal) → IsProgramAnswer program base e → IsUntold s program base (of_bind e)
   program-untold (bind.Program r) h = (program-answer program base (objects s) (preload_numbers s) (bind.Program r) h, refl)
   program-untold bind.BadBase h = (program-answer program base (objects s) (preload_numbers s) bind.BadBase h, refl)
@@ -232,7 +235,7 @@ module _ (s : State) (program : List ℕ) (base : ℕ) where
   program-untold (bind.Undefined object symbol) h = absurd ((own-refusal program base (bind.Undefined object symbol) h).1 object symbol refl)
   program-untold bind.OutOfMemory h = tt
 
-  -- why nothing was found: no call of a disk of bytes fails
+  -- if nothing was found, the reason isn't S1 (Device), because no call of a disk of bytes fails
   pub unfound : (old new : Opened ReadOnlyDisk) (why : Refusal) → program_refusal program base ≡ None → IsAt read_only_facts old s → IsRead read_only_facts old new
       → IsFindRefusal read_only_facts old new why → (why ≡ refusal.Damaged → ReadsLibraries s program → ⊥) → IsUntold s program base why
   unfound old new refusal.Device taken at read h damaged = absurd (omega (arith, h, no_failure old.disk new.disk (record { either = inl (read.unchanged refl).log })))
@@ -244,9 +247,9 @@ module _ (s : State) (program : List ℕ) (base : ℕ) where
   unfound old new refusal.OutOfMemory taken at read h damaged = tt
   unfound old new other taken at read h damaged = absurd h
 
--- ---- Where the text is given
+-- ---- The statuses with which there is a text
 
--- it is with no other status than these
+-- if there is a text, its status is 0, 103 or 105
 pub text-number : (s : State) (program : List ℕ) (base number : ℕ) (said : List ℕ) → IsText s program base number said → TellsText number
 text-number s program base number said is = subst TellsText (sym is.number_is) (by (binding_refusal s program base) is.text)
   where
@@ -259,13 +262,13 @@ text-number s program base number said is = subst TellsText (sym is.number_is) (
     by (Some bind.NoRoom) h = cc
     by (Some bind.OutOfMemory) h = cc
 
--- so another status is not its number
+-- a status other than 0, 103 and 105 isn't the number of a text
 pub another : (number status : ℕ) → TellsText number → status ≢ 0 → status ≢ 103 → status ≢ 105 → status ≢ number
 another number status (inl h) done missing undefined = λ e. done (e ∙ h)
 another number status (inr (inl h)) done missing undefined = λ e. missing (e ∙ h)
 another number status (inr (inr h)) done missing undefined = λ e. undefined (e ∙ h)
 
--- with no other status it is
+-- with a number other than 0, 103 and 105 there is no text
 no-text : (n : ℕ) → n ≢ 0 → n ≢ 103 → n ≢ 105 → TellsText n → ⊥
 no-text n done missing undefined (inl h) = done h
 no-text n done missing undefined (inr (inl h)) = missing h
@@ -287,7 +290,7 @@ store-not-undefined store.Device e = omega (arith, e)
 store-not-undefined why e = omega (arith, e)
 
 module _ (disk program : List ℕ) (base : ℕ) (bytes text : List ℕ) (answer : Answer) (status : ℕ) (tells : TellsText status) where
-  -- a refusal of which nothing is told has none of these numbers
+  -- a refusal without a text has a number other than 0, 103 and 105
   untold-number : (s : State) (why : Refusal) → IsUntold s program base why → TellsText (refusal_number why) → ⊥
   untold-number s (refusal.Bind (bind.Program r)) untold t = no-text 101 (λ e. omega (arith, e)) (λ e. omega (arith, e)) (λ e. omega (arith, e)) t
   untold-number s (refusal.Bind bind.BadBase) untold t = no-text 102 (λ e. omega (arith, e)) (λ e. omega (arith, e)) (λ e. omega (arith, e)) t

@@ -1,4 +1,4 @@
--- From how a call for what a disk has was answered to what it gave, where its status is 0.
+-- If the status of a call about a disk's contents is 0, the call returned what was asked for.
 use Rattle.std.proofs.Common.{◌≡◌, ◌≢◌, ◌⊎◌, ◌↔◌, ◌<◌, ℕ, List, All, inl, inr, length, take, ap, refl, arith}
 use Rattle.std.specs.Prelude.{Result, Err}
 use Rattle.states.specs.State.{State}
@@ -40,7 +40,8 @@ pub digest_given : (disk name digest text : List ℕ) (answer : Answer) (status 
 digest_given disk name digest text answer status zero (inl asked) = digest_told disk name digest text asked.0 answer status zero asked.1 asked.2
 digest_given disk name digest text answer status zero (inr refused) = absurd (turned_not_done refused.0 text answer status zero refused.2)
 
--- an answer that gives no bytes says C3 exactly where no library has the name, and never S1
+-- an answer without bytes is C3 (NotInstalled) exactly if no library has the name, and never S1
+-- (Device)
 pub unread_is : (s : State) (name : List ℕ) (why : Unread) → (why ≡ unread.NotInstalled) ↔ All (λ library. library.name ≢ name) s.libraries → why ≢ unread.Unreadable → IsUnread s name why
 unread_is s name unread.NotInstalled is read = is.0 refl
 unread_is s name unread.Unreadable is read = absurd (read refl)
@@ -49,7 +50,7 @@ unread_is s name unread.OutOfMemory is read = λ none. wants (is.1 none)
     wants : unread.OutOfMemory ≡ unread.NotInstalled → ⊥
     wants e = cc
 
--- the same of a result that is such an answer
+-- the same fact, if the answer is the error of a result
 pub unread_of : {X : Type 0} (s : State) (name : List ℕ) (why : Unread)
     → (◌≡◌ {A = Result X Unread} (Err why) (Err unread.NotInstalled)) ↔ All (λ library. library.name ≢ name) s.libraries → why ≢ unread.Unreadable
     → IsUnread s name why

@@ -1,4 +1,4 @@
--- No call over bytes is answered S1.
+-- No call over bytes returns S1 (Device).
 use Rattle.std.proofs.Common.{◌≡◌, ◌≢◌, inl, inr, ℕ, List, Option, Some, None, refl, sym, ◌∙◌, arith}
 use Rattle.byte_disk.specs.declared.step.Step.{Step}
 use Rattle.executable.specs.declared.refusal.ExecutableRefusal.{ExecutableRefusal}
@@ -28,7 +28,7 @@ use Rattle.c_answers.specs.Contents.{refusal_of, IsDigestAnswered, IsFileAnswere
 use Rattle.c_answers.specs.Executable.{IsBoundTold, IsExecutableAnswered, executable_number}
 use Rattle.c_answers.specs.Numbers.{store_number, bind_number, refusal_number, reply_number}
 
--- 301 is the number of S1 alone
+-- no refusal other than S1 has the number 301
 store_not_device : (why : StoreRefusal) → why ≢ store.Device → store_number why ≡ 301 → ⊥
 store_not_device store.Device other e = other refl
 store_not_device why other e = omega (arith, e)
@@ -54,7 +54,7 @@ reply_not_device : (r : Reply) → r ≢ reply.Refused refusal.Device → reply_
 reply_not_device (reply.Refused why) other e = refusal_not_device why other e
 reply_not_device r other e = omega (arith, e)
 
--- so what is told of a reply, of why there is no registry, and of a plan
+-- A reported reply, a reason why there is no registry, and a reported plan don't have the number 301.
 module _ (text : List ℕ) (answer : Answer) (status : ℕ) (is : status ≡ 301) where
   pub told : (r : Reply) → IsTold r text answer status → ⊥
   told r (inl tells) = reply_not_device r tells.device (sym tells.status ∙ is)

@@ -1,4 +1,4 @@
--- The entries of a listing, of which one more is put behind others.
+-- Lemmas about the entries of a listing, to which one entry is appended.
 use Rattle.std.proofs.Common.{◌≡◌, ◌⊎◌, inl, inr, ℕ, ◌+◌, ◌<◌, ◌≤◌, List, [], ◌∷◌, ◌++◌, length, get_or, take, sym, ◌∙◌, ap, arith, length-append, append_assoc}
 use Rattle.std.proofs.lemmas.List.{flat_map_more, take_more, map_more, take-map, length-map}
 use Rattle.requests.specs.Table.{Listed}
@@ -7,11 +7,11 @@ use Rattle.c_answers.specs.Listing.{Entry, entries_of, preload_entries, names_in
 use Rattle.c_answers.proofs.Places.{entries_more}
 use Rattle.c_answers.proofs.Rows.{rows_le}
 
--- the name of an entry in the row
+-- the bytes of an entry's name in the row
 abbrev pub row : Entry → List ℕ
 row e = e.0 ++ 0 ∷ []
 
--- The row begins here; there are these entries, and behind them this one.
+-- A row of names begins at the offset `from`, and the entry `e` is appended to the entries `all`.
 module _ (from : ℕ) (all : List Entry) (e : Entry) (next : List Entry) (more : next ≡ all ++ e ∷ []) where
   pub row_more : (front : List ℕ) → front ++ names_in_row next ≡ (front ++ names_in_row all) ++ row e
   row_more front = ap (λ (l : List Entry). front ++ names_in_row l) more ∙ sym (flat_map_more row front all e)
@@ -31,25 +31,26 @@ module _ (from : ℕ) (all : List Entry) (e : Entry) (next : List Entry) (more :
       ∙ ap (λ a. front ++ (places_of from all ++ place_of a e ∷ [])) at_is
       ∙ ap (λ l. front ++ l) (sym (entries_more from all (e ∷ [])) ∙ ap (places_of from) (sym more))
 
--- one library more
+-- the first i + 1 libraries are the first i libraries and library number i
 pub library_more : (xs : List Entry) (i : ℕ) (e : Entry) → i < length xs → e ≡ get_or xs i e → take (i + 1) xs ≡ take i xs ++ e ∷ []
 library_more xs i e lt is = take_more xs i e lt ∙ ap (λ (x : Entry). take i xs ++ x ∷ []) (sym is)
 
--- one preload more
+-- the entries of the first i + 1 preloads are those of the first i preloads and that of preload number i
 pub preload_more : (xs : List (List ℕ)) (i : ℕ) (name : List ℕ) → i < length xs → name ≡ get_or xs i name → preload_entries (take (i + 1) xs) ≡ preload_entries (take i xs) ++ (name, 0) ∷ []
 preload_more xs i name lt is = map_more (λ (n : List ℕ). (n, 0)) xs i name lt ∙ ap (λ (n : List ℕ). preload_entries (take i xs) ++ (n, 0) ∷ []) (sym is)
 
--- the names of the first preloads are no more bytes than those of all
+-- the names of the first `i` preloads have at most as many bytes as the names of all preloads
 pub preloads_le : (xs : List (List ℕ)) (i : ℕ) → length (names_in_row (preload_entries (take i xs))) ≤ length (names_in_row (preload_entries xs))
 preloads_le xs i = omega (arith, ap (λ (l : List Entry). length (names_in_row l)) (take-map (λ (n : List ℕ). (n, 0)) i xs), rows_le row (preload_entries xs) i)
 
--- Where one has no room in buffers that are as long as these, these have none for all.
+-- If the buffers have no room for one entry, they have no room for all entries.
 pub lacks : (entries names old_entries old_names index count at more size : ℕ) → old_entries ≡ entries → old_names ≡ names → index < count
     → at + more + 1 ≤ size → (entries ≤ index) ⊎ (names < at + more + 1) → (old_entries < count) ⊎ (old_names < size)
 lacks entries names old_entries old_names index count at more size e n lt le (inl few) = inl (omega (arith, e, lt, few))
 lacks entries names old_entries old_names index count at more size e n lt le (inr small) = inr (omega (arith, n, le, small))
 
--- The preloads are put behind the libraries.
+-- If the libraries' places and then the preloads' places are in the buffer, it has the places of all
+-- entries.
 pub places_both : (l : Listed) (libraries : List Entry) (preloads : List (List ℕ)) (between after : List EntryPlace) (at count : ℕ)
     → libraries ≡ l.libraries → preloads ≡ l.preloads → at ≡ length (names_in_row libraries) → count ≡ length libraries
     → take (length libraries) between ≡ places_of 0 libraries → take (count + length preloads) after ≡ take count between

@@ -1,4 +1,4 @@
--- From how a call for an executable file was answered to what it gave, where its status is 0.
+-- If the status of a call for an executable file is 0, the buffer has the file.
 use Rattle.std.proofs.Common.{◌≡◌, inl, inr, ℕ, List, sym, ◌∙◌, subst, arith}
 use Rattle.byte_disk.specs.declared.step.Step.{Step}
 use Rattle.executable.specs.Outcome.{IsExecutableOf}
@@ -18,7 +18,7 @@ use Rattle.c_answers.specs.Executable.{IsBoundTold, IsExecutableAnswered, IsExec
 use Rattle.c_answers.specs.declared.answer.Answer.{Answer}
 use Rattle.c_answers.proofs.Given.{none_mapped, refused_not_done, turned_not_done}
 
--- why there is no file has no number 0
+-- no refusal of an executable file has the number 0
 no_file_not_done : (why : ExecutableRefusal) → executable_number why ≡ 0 → ⊥
 no_file_not_done executable.NoEntry e = omega (arith, e)
 no_file_not_done why e = omega (arith, e)
@@ -30,7 +30,7 @@ module _ (disk program : List ℕ) (base : ℕ) (bytes text : List ℕ) (answer 
   not_listed : (l : Listed) (image : MemoryImage) → reply.Listing l ≡ reply.Bound image → ⊥
   not_listed l image e = cc
 
-  -- the state, and that its image has the file
+  -- if the bytes hold a registry whose bind has an image, the buffer has this image's file
   file_of : (s : State) (image : MemoryImage) (steps : List Step) → IsAsked disk s (request.bind program base) (reply.Bound image) steps
       → IsExecutableTold image bytes text answer status → IsExecutableFileOf disk program base bytes answer
   file_of s image steps asked (inl (file, of, (inl put, size, count, unlisted, unbound, silent))) =

@@ -1,4 +1,4 @@
--- What is found of libraries, of which one more is put behind others.
+-- Lemmas about the findings of libraries, to which one finding is appended.
 use Rattle.std.proofs.Common.{◌≡◌, ◌≢◌, inl, inr, ℕ, ◌+◌, ◌<◌, ◌≤◌, List, [], ◌∷◌, ◌++◌, length, get_or, set, take}
 use Rattle.std.proofs.Common.{sym, ◌∙◌, ap, subst, arith, below_more, get_or-set_other, get_or-set_same}
 use Rattle.std.proofs.lemmas.List.{length-append}
@@ -11,18 +11,18 @@ use Rattle.c_answers.specs.declared.finding.FindingPlace.{FindingPlace}
 use Rattle.c_answers.proofs.Given.{turned_not_done}
 use Rattle.c_answers.proofs.Rows.{rows_le, rows_more, size_more, rows_all}
 
--- the name of a library in the row
+-- the bytes of a library's name in the row
 abbrev pub row : Library → List ℕ
 row l = l.name ++ 0 ∷ []
 
--- The first ones, so many, are told of, and the next name goes here.
+-- The buffer has the places of the first `count` libraries, and the next name goes to the offset `end`.
 pub record TellFirst (libraries : List Library) (count : ℕ) (findings : List FindingPlace) (bytes : List ℕ) (end : ℕ) : Type 0 where
   pub each : (k : ℕ) → k < count → (d : FindingPlace)
       → IsFoundAt (name_start libraries k) (get_or libraries k no_library) (get_or findings k d)
   pub at : end ≡ name_start libraries count
   pub names : take end bytes ≡ library_names (take count libraries)
 
--- One library more: how many bytes the names take then, and what is told.
+-- The name and the finding of library number `i` are put into the buffers.
 module _ (libraries : List Library) (i : ℕ) where
   abbrev l : Library
   l = get_or libraries i no_library
@@ -30,11 +30,11 @@ module _ (libraries : List Library) (i : ℕ) where
   pub names_more : i < length libraries → name_start libraries (i + 1) ≡ name_start libraries i + length (get_or libraries i no_library).name + 1
   names_more lt = omega (arith, size_more row libraries i no_library lt, length-append l.name (0 ∷ []))
 
-  -- it has room where all have
+  -- if the names of all libraries have room, so does this name
   pub names_fit : i < length libraries → name_start libraries i + length (get_or libraries i no_library).name + 1 ≤ length (library_names libraries)
   names_fit lt = omega (arith, names_more lt, rows_le row libraries (i + 1))
 
-  -- what is told of those before doesn't change by the place of this one
+  -- putting this library's place doesn't change the places before
   before : (findings : List FindingPlace) (place : FindingPlace) (k : ℕ) → k < i
       → ((d : FindingPlace) → IsFoundAt (name_start libraries k) (get_or libraries k no_library) (get_or findings k d))
       → (d : FindingPlace) → IsFoundAt (name_start libraries k) (get_or libraries k no_library) (get_or (set findings i place) k d)
@@ -56,7 +56,7 @@ module _ (libraries : List Library) (i : ℕ) where
     names = put ∙ ap (λ r. r ++ row l) told.names ∙ sym (rows_more row libraries i no_library lt);
   }
 
--- all of them
+-- if the places of all libraries are in the buffer, it has the findings of all libraries
 pub tell_all : (libraries : List Library) (count : ℕ) (findings : List FindingPlace) (names : List ℕ) (at : ℕ)
     → length libraries ≤ count → TellFirst libraries count findings names at → AreFound libraries findings names at
 tell_all libraries count findings names at le told = record {
@@ -65,7 +65,7 @@ tell_all libraries count findings names at le told = record {
   names = told.names ∙ rows_all row libraries count le;
 }
 
--- A check whose status is 0 has what is found.
+-- If the status of a check is 0, the buffers have the findings.
 module _ (disk : List ℕ) (findings : List FindingPlace) (names text : List ℕ) (answer : Answer) (status : ℕ) (zero : status ≡ 0) where
   told : (s : State) → HoldStore disk s
       → IsCheckTold s.libraries findings names text answer status

@@ -1,4 +1,4 @@
--- From how a call was answered to what it gave, where its status is 0.
+-- If the status of a call is 0, the call returned what was asked for.
 use Rattle.std.proofs.Common.{◌≡◌, inl, inr, ℕ, List, refl, sym, ◌∙◌, subst, arith}
 use Rattle.byte_disk.specs.declared.step.Step.{Step}
 use Rattle.image.specs.declared.refusal.BindRefusal.{BindRefusal}
@@ -49,28 +49,28 @@ refusal_not_done : (why : Refusal) → refusal_number why ≡ 0 → ⊥
 refusal_not_done (refusal.Bind why) e = bind_not_done why e
 refusal_not_done why e = omega (arith, e)
 
--- where there is no registry the status isn't 0
+-- if there is no registry, the status isn't 0
 pub turned_not_done : (why : StoreRefusal) (text : List ℕ) (answer : Answer) (status : ℕ) → status ≡ 0 → IsTurnedAway why text answer status → ⊥
 turned_not_done why text answer status zero (inl turned, uncounted) = store_not_done why (sym turned.status ∙ zero)
 turned_not_done why text answer status zero (inr wants, uncounted) = omega (arith, zero, wants.status)
 
--- nor where a command is refused
+-- if a command is refused, the status isn't 0
 pub refused_not_done : (why : Refusal) (text : List ℕ) (answer : Answer) (status : ℕ) → status ≡ 0 → IsTold (reply.Refused why) text answer status → ⊥
 refused_not_done why text answer status zero (inl tells) = refusal_not_done why (sym tells.status ∙ zero)
 refused_not_done why text answer status zero (inr wants) = omega (arith, zero, wants.status)
 
--- where steps were given the buffer has them
+-- if the status is 0, the buffer has the steps
 pub planned_done : (steps : List Step) (plan text : List ℕ) (answer : Answer) (status : ℕ) → status ≡ 0 → IsPlanned steps plan text answer status → HasPlan steps plan answer.bytes answer.count
 planned_done steps plan text answer status zero (inl given, unlisted, unbound) = given.0
 planned_done steps plan text answer status zero (inr lacks, unlisted, unbound) = absurd (omega (arith, zero, lacks.0.status))
 
--- where it isn't said that they were, nor that there was no room or no memory, no steps were given
+-- unless the status is done, no_room or out_of_memory, the buffer is unchanged
 pub planned_left : (steps : List Step) (plan text old : List ℕ) (answer : Answer) (status : ℕ) → IsPlanned steps plan text answer status → IsLeft old plan status
 planned_left steps plan text old answer status (inl (has, inl tells), unlisted, unbound) not_done no_room no_memory = absurd (not_done tells.status)
 planned_left steps plan text old answer status (inl (has, inr wants), unlisted, unbound) not_done no_room no_memory = absurd (no_memory wants.status)
 planned_left steps plan text old answer status (inr lacks, unlisted, unbound) not_done no_room no_memory = absurd (no_room lacks.0.status)
 
--- A change whose status is 0 has its plan, where its request is one of a change.
+-- If the request is a change and the status is 0, the buffer has the plan of the change.
 module _ (bytes : List ℕ) (request : Request) (not_listing : (s : State) (l : Listed) → registry.IsReply s request (reply.Listing l) → ⊥)
     (not_bound : (s : State) (image : MemoryImage) → registry.IsReply s request (reply.Bound image) → ⊥) (plan text : List ℕ) (answer : Answer)
     (status : ℕ) (zero : status ≡ 0) where
@@ -98,14 +98,14 @@ module _ (bytes : List ℕ) (request : Request) (not_listing : (s : State) (l : 
   plan_given (inl asked) = given asked.0 asked.1 asked.2 asked.3 asked.4
   plan_given (inr unopened) = absurd (turned_not_done unopened.0 text answer status zero unopened.2)
 
--- what is told of a listing reads no generation
+-- the report of a listing doesn't depend on the generation
 listing_told : (l : Listed) (entries : List EntryPlace) (names text : List ℕ) (answer : Answer) (generation status : ℕ)
     → IsListGiven l entries names text answer status → IsListGiven l entries names text (record answer { generation = generation }) status
 listing_told l entries names text answer generation status ((counts, unbound), inl listed) = ((counts, record { objects = unbound.objects }), inl listed)
 listing_told l entries names text answer generation status ((counts, unbound), inr (full, lack, silent)) =
     ((counts, record { objects = unbound.objects }), inr (full, lack, record { text = silent.text; file = silent.file }))
 
--- a reply that is a listing is told with the generation
+-- a reply that is a listing is reported together with the generation
 pub list_told : (s : State) (r : Reply) (l : Listed) (entries : List EntryPlace) (names text : List ℕ) (answer : Answer) (generation status : ℕ)
     → r ≡ reply.Listing l → generation ≡ s.generation → IsListGiven l entries names text answer status
     → IsListTold s r entries names text (record answer { generation = generation }) status
@@ -113,7 +113,7 @@ list_told s r l entries names text answer generation status is same was =
     subst (λ x. IsListTold s x entries names text (record answer { generation = generation }) status) (sym is)
     (listing_told l entries names text answer generation status was, same)
 
--- a status, and nothing else
+-- the answer with this status, and 0 in all other fields
 abbrev pub status_alone : ℕ → Answer
 status_alone n = record {
   status = n;
@@ -132,7 +132,7 @@ nothing_said answer n is = subst (λ (a : Answer). IsUncounted a × IsSilent a) 
   record { text = refl; file = refl },
 )
 
--- a reply that isn't Done is told alone
+-- a reply other than Done is reported without a plan
 pub told_other : (r : Reply) (steps : List Step) (plan text : List ℕ) (answer : Answer) (status : ℕ) → (r ≡ reply.Done → ⊥)
     → IsToldAlone r text answer status → IsChangeTold r steps plan text answer status
 told_other reply.Done steps plan text answer status not said = absurd (not refl)
@@ -140,29 +140,29 @@ told_other (reply.Listing l) steps plan text answer status not said = said
 told_other (reply.Bound image) steps plan text answer status not said = said
 told_other (reply.Refused why) steps plan text answer status not said = said
 
--- a change is answered by no listing and no image
+-- neither a listing nor an image is the reply Done
 pub no_listing : (l : Listed) → reply.Listing l ≡ reply.Done → ⊥
 no_listing l e = cc
 
 pub no_image : (image : MemoryImage) → reply.Bound image ≡ reply.Done → ⊥
 no_image image e = cc
 
--- A registry that was made has its plan, where the status is 0,
+-- If the status of a call to format is 0, the buffer has the plan of an empty registry.
 pub format_given : (bytes plan text : List ℕ) (answer : Answer) (status : ℕ) → status ≡ 0 → IsFormatAnswered bytes plan text answer status → IsFormatPlan bytes plan answer
 format_given bytes plan text answer status zero (inl made) = record { steps = made.0; formatted = made.1; plan = planned_done made.0 plan text answer status zero made.2 }
 format_given bytes plan text answer status zero (inr refused) = absurd (turned_not_done refused.0 text answer status zero refused.2)
 
--- and so has one that was upgraded.
+-- If the status of an upgrade is 0, the buffer has the plan of the upgrade.
 pub upgrade_given : (bytes plan text : List ℕ) (answer : Answer) (status : ℕ) → status ≡ 0 → IsUpgradeAnswered bytes plan text answer status → IsUpgradePlan bytes plan answer
 upgrade_given bytes plan text answer status zero (inl made) = record { state = made.0; steps = made.1; upgraded = made.2; plan = planned_done made.1 plan text answer status zero made.3 }
 upgrade_given bytes plan text answer status zero (inr refused) = absurd (turned_not_done refused.0 text answer status zero refused.2)
 
--- no refusal
+-- an option that a function maps to `None` is `None`
 pub none_mapped : {A B : Type 0} (f : A → B) (o : Option A) → option_map f o ≡ None → o ≡ None
 none_mapped f None e = refl
 none_mapped f (Some x) e = cc
 
--- A bind whose status is 0 has its image.
+-- If the status of a bind is 0, the buffers have its image.
 module _ (disk program : List ℕ) (base : ℕ) (objects : List ObjectPlace) (segments : List SegmentPlace) (bytes text : List ℕ) (answer : Answer) (status : ℕ) (zero : status ≡ 0) where
   not_done : (image : MemoryImage) → reply.Done ≡ reply.Bound image → ⊥
   not_done image e = cc
@@ -196,7 +196,7 @@ module _ (disk program : List ℕ) (base : ℕ) (objects : List ObjectPlace) (se
   image_given (inl asked) = bound asked.0 asked.1 asked.2 asked.3 asked.4
   image_given (inr refused) = absurd (turned_not_done refused.0 text answer status zero refused.2)
 
--- A listing whose status is 0 is given.
+-- If the status of a listing is 0, the buffers have the listing.
 module _ (disk : List ℕ) (entries : List EntryPlace) (names text : List ℕ) (answer : Answer) (status : ℕ) (zero : status ≡ 0) where
   done_not_listing : (l : Listed) → reply.Done ≡ reply.Listing l → ⊥
   done_not_listing l e = cc
@@ -230,7 +230,7 @@ module _ (disk : List ℕ) (entries : List EntryPlace) (names text : List ℕ) (
   listing_given (inl asked) = told asked.0 asked.1 asked.2 asked.3 asked.4
   listing_given (inr refused) = absurd (turned_not_done refused.0 text answer status zero refused.2)
 
--- A choice of the preloads whose status is 0 has its plan.
+-- If the status of a call that sets preloads is 0, the buffer has the plan of this change.
 pub preload_given : (disk names plan text : List ℕ) (answer : Answer) (status : ℕ) → status ≡ 0
     → IsPreloadAnswered disk names plan text answer status → (l : List (List ℕ)) × AreNames l names × IsPlanOf disk (set_preloads l) plan answer
 preload_given disk names plan text answer status zero (inl asked) = (

@@ -1,4 +1,4 @@
--- Where the objects of an image, and their names, are put, one more at a time.
+-- Lemmas about the places of an image's objects, and about their names, to which one object is added.
 use Rattle.std.proofs.Common.{◌≡◌, ℕ, ◌+◌, ◌<◌, ◌≤◌, zero, suc, List, [], ◌∷◌, ◌++◌, length, get_or, take, sum_by, sym, ◌∙◌, ap, append_assoc, arith}
 use Rattle.std.proofs.lemmas.List.{take_more, length-append}
 use Rattle.std.proofs.lemmas.List.Sums.{sum_by-cons}
@@ -6,7 +6,7 @@ use Rattle.image.specs.declared.object.ImageObject.{ImageObject}
 use Rattle.c_answers.specs.Objects.{object_place, object_places, object_names}
 use Rattle.c_answers.proofs.Rows.{rows_more, size_more, size_within}
 
--- the name of an object in the row
+-- the bytes of an object's name in the row
 abbrev pub row : ImageObject → List ℕ
 row o = o.name ++ 0 ∷ []
 
@@ -16,7 +16,7 @@ segments_of objects = sum_by (λ o. o.segment_count) objects
 segments_first : (x : ImageObject) (objects : List ImageObject) → segments_of (x ∷ objects) ≡ x.segment_count + segments_of objects
 segments_first x objects = sum_by-cons (λ (o : ImageObject). o.segment_count) x objects
 
--- one object more behind others
+-- if one object is appended, its place is appended to the places of the others
 object_more : (name first : ℕ) (objects : List ImageObject) (o : ImageObject)
     → object_places name first (objects ++ o ∷ []) ≡ object_places name first objects
     ++ object_place (name + length (object_names objects)) (first + segments_of objects) o ∷ []
@@ -41,7 +41,8 @@ segments_le objects zero = omega arith
 segments_le [] (suc i) = omega arith
 segments_le (x ∷ objects) (suc i) = omega (arith, segments_first x (take i objects), segments_first x objects, segments_le objects i)
 
--- The names begin here; so many objects are put, and this is the next.
+-- The names begin at the offset `from`, the first `i` objects are in the buffers, and `o` is the next
+-- object.
 module _ (from : ℕ) (objects : List ImageObject) (i : ℕ) (o : ImageObject) (lt : i < length objects) (is : o ≡ get_or objects i o) (at : ℕ)
     (at_is : at ≡ from + length (object_names (take i objects))) where
   pub end_more : (at' : ℕ) → at' ≡ at + length o.name + 1 → at' ≡ from + length (object_names (take (i + 1) objects))

@@ -1,4 +1,4 @@
--- The bytes of a plan: of a sync, and of the first steps behind it.
+-- The bytes of a plan's sync and of the first steps after it.
 use Rattle.std.proofs.Common.{◌≡◌, ℕ, ◌+◌, ◌<◌, ◌≤◌, List, ◌∷◌, ◌++◌, map, length, take, get_or, ◌∙◌, sym, ap, arith, length-append, append_assoc}
 use Rattle.std.specs.List.{flat_map}
 use Rattle.byte_disk.specs.declared.planned.PlannedStep.{PlannedStep}
@@ -10,15 +10,15 @@ use Rattle.c_answers.proofs.Rows.{rows_of, rows_more, rows_all, size_within}
 abbrev pub row : PlannedStep → List ℕ
 row p = step_bytes p.step
 
--- those of a sync, and of the first steps behind it
+-- the bytes of a sync, and of the first `i` steps after it
 abbrev pub begun : List PlannedStep → ℕ → List ℕ
 begun planned i = step_bytes Sync ++ flat_map row (take i planned)
 
--- once all steps are there they are the plan's
+-- the bytes of a sync and of all steps are the bytes of the plan
 pub begun_all : (planned : List PlannedStep) (i : ℕ) → length planned ≤ i → begun planned i ≡ plan_bytes (Sync ∷ map (λ (p : PlannedStep). p.step) planned)
 begun_all planned i le = ap (λ l. step_bytes Sync ++ l) (rows_all row planned i le ∙ sym (rows_of step_bytes (λ (p : PlannedStep). p.step) planned))
 
--- One step more.
+-- One more step is encoded after the first `i` steps.
 module _ (planned : List PlannedStep) (i : ℕ) (p : PlannedStep) (lt : i < length planned) (is : p ≡ get_or planned i p) where
   pub begun_more : begun planned (i + 1) ≡ begun planned i ++ row p
   begun_more =
@@ -29,7 +29,7 @@ module _ (planned : List PlannedStep) (i : ℕ) (p : PlannedStep) (lt : i < leng
   pub begun_size : length (begun planned (i + 1)) ≡ length (begun planned i) + length (row p)
   begun_size = ap length begun_more ∙ length-append (begun planned i) (row p)
 
-  -- one that has no room leaves none for the plan
+  -- if the buffer has no room for a step, it has no room for the plan
   pub begun_lacks : (room at : ℕ) → at ≡ length (begun planned i) → room < at + length (row p) → room < length (plan_bytes (Sync ∷ map (λ (q : PlannedStep). q.step) planned))
   begun_lacks room at at_is small = omega (
     arith,

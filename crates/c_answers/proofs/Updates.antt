@@ -1,4 +1,4 @@
--- From how an update was answered to what it gave, where its status is 0; and that it is never S1.
+-- If the status of an update is 0, the buffer has its plan. No update returns S1 (Device).
 use Rattle.std.proofs.Common.{◌≡◌, inl, inr, ℕ, List, arith}
 use Rattle.std.specs.Prelude.{Result, Ok, Err}
 use Rattle.byte_disk.specs.declared.disk.ByteDisk.{ByteDisk}

@@ -1,4 +1,4 @@
--- Zeros in a row, some more at a time.
+-- Lemmas about zeros in a row, to which a page of zeros is added.
 use Rattle.std.proofs.Common.{◌≡◌, ◌∙◌, ℕ, List, ◌+◌, ◌-◌, ◌*◌, ◌<◌, ◌++◌, length, min, take, ap, sym, subst, arith}
 use Rattle.std.specs.Prelude.{replicate}
 use Rattle.std.proofs.lemmas.List.{take-replicate, length-replicate, replicate-append-replicate}
@@ -12,7 +12,7 @@ more old new at count zeros before are put =
     ∙ ap (λ l. replicate {A = ℕ} at 0 ++ l) are
     ∙ replicate-append-replicate {A = ℕ} at count 0
 
--- a page more
+-- if the pages before a page are zeros, and the page is filled with zeros, the pages up to it are zeros
 pub page_more : (old new : List ℕ) (page count : ℕ) → page * 4096 < length old → length new ≡ length old → count ≡ min 4096 (length old - page * 4096)
     → take (min (page * 4096) (length old)) old ≡ replicate (min (page * 4096) (length old)) 0
     → take (page * 4096 + length (take count (replicate {A = ℕ} 4096 0))) new ≡ take (page * 4096) old ++ take count (replicate {A = ℕ} 4096 0)

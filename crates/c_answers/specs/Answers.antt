@@ -1,4 +1,4 @@
--- What a call puts into its buffers and its answer (own).
+-- The contents of the buffers and the answer after each call (own).
 use Rattle.std.specs.Prelude.{◌≡◌, ◌≢◌, ◌⊎◌, ◌<◌, ◌^◌, ◌-◌, ℕ, List, length, take, min}
 use Rattle.byte_disk.specs.declared.step.Step.{Step}
 use Rattle.states.specs.State.{State}
@@ -30,71 +30,75 @@ use Rattle.byte_registry.specs.Plans.{Holds, LeadsTo}
 use Rattle.c_answers.specs.Spelling.{plan_bytes}
 use Rattle.c_answers.specs.Unsaid.{IsSilent, IsUnbound, IsUncounted, IsUnlisted}
 
--- The text's buffer has this: as much of it as has room; and its whole length is told.
+-- The buffer `text` has as many of the first bytes of `whole` as it has room for, and the length of
+-- `whole` is reported.
 pub record HasText (whole text : List ℕ) (told_size : ℕ) : Type 0 where
   pub size : told_size ≡ length whole
   pub begins : take (length whole) text ≡ take (length text) whole
 
--- memory was refused
+-- The call reports that memory was refused.
 pub record WantsMemory (text : List ℕ) (told_size told_file told : ℕ) : Type 0 where
   pub status : told ≡ out_of_memory
   pub file : told_file ≡ 0
   pub has_text : HasText memory_text text told_size
 
--- The reply is told: by its number, by that of the test that refuses a file, and by its text. S1 is
--- told of no disk of bytes: what a call of it fails for is memory.
+-- The call reports the reply: its number, the number of the test that refuses a file, and its text. S1
+-- (Device) is never reported, because a call of a disk of bytes fails only for lack of memory.
 pub record Tells (reply : Reply) (text : List ℕ) (told_size told_file told : ℕ) : Type 0 where
   pub status : told ≡ reply_number reply
   pub file : told_file ≡ file_number_in reply
   pub has_text : HasText (reply_text reply) text told_size
   pub device : reply ≢ Refused Device
 
--- It is told why there is no registry, and that is never S1.
+-- The call reports why there is no registry, and the reason is never S1 (Device).
 pub record TurnsAway (refusal : StoreRefusal) (text : List ℕ) (told_size told_file told : ℕ) : Type 0 where
   pub status : told ≡ store_number refusal
   pub file : told_file ≡ 0
   pub has_text : HasText (disk_refusal_text refusal) text told_size
   pub device : refusal ≢ store.Device
 
--- The buffer of the plan has these steps, which are so many bytes, and so many.
+-- The plan's buffer has these steps, and the answer has the number of steps and the number of their
+-- bytes.
 pub record HasPlan (steps : List Step) (buffer : List ℕ) (told_bytes told_count : ℕ) : Type 0 where
   pub bytes : told_bytes ≡ length (plan_bytes steps)
   pub spelled : take told_bytes buffer ≡ plan_bytes steps
   pub count : told_count ≡ length steps
 
--- The buffer of the plan is too small for these steps, which are so many bytes, and so many.
+-- The plan's buffer is too small for these steps, and the answer has the number of steps and the number
+-- of their bytes.
 pub record LacksRoom (steps : List Step) (buffer : List ℕ) (told_bytes told_count told : ℕ) : Type 0 where
   pub status : told ≡ no_room
   pub small : length buffer < length (plan_bytes steps)
   pub needed : told_bytes ≡ min (length (plan_bytes steps)) (2 ^ 64 - 1)
   pub count : told_count ≡ length steps
 
--- the reply is told, or memory for that was refused
+-- the reply is reported, or memory for the report was refused
 abbrev pub IsTold : Reply → List ℕ → Answer → ℕ → Type 0
 IsTold reply text answer status = Tells reply text answer.text answer.file_refusal status ⊎ WantsMemory text answer.text answer.file_refusal status
 
--- the same, and nothing is counted
+-- the reply is reported, or memory for the report was refused; all counts are 0
 abbrev pub IsToldAlone : Reply → List ℕ → Answer → ℕ → Type 0
 IsToldAlone reply text answer status = IsTold reply text answer status × IsUncounted answer
 
--- it is told why there is no registry, or memory for that was refused; nothing is counted
+-- the call reports why there is no registry, or memory for the report was refused; all counts are 0
 abbrev pub IsTurnedAway : StoreRefusal → List ℕ → Answer → ℕ → Type 0
 IsTurnedAway refusal text answer status =
     (TurnsAway refusal text answer.text answer.file_refusal status ⊎ WantsMemory text answer.text answer.file_refusal status) × IsUncounted answer
 
--- the steps are given, and that it is done is told; or their buffer is too small
+-- either the buffer has the steps and Done is reported, or the buffer is too small
 abbrev pub IsPlanned : List Step → List ℕ → List ℕ → Answer → ℕ → Type 0
 IsPlanned steps plan text answer status =
     ((HasPlan steps plan answer.bytes answer.count × IsTold reply.Done text answer status)
     ⊎ (LacksRoom steps plan answer.bytes answer.count status × IsSilent answer))
     × IsUnlisted answer × IsUnbound answer
 
--- with a status that says neither this nor that memory was refused, the buffer is as it was
+-- unless the status is done, no_room or out_of_memory, the buffer is unchanged
 abbrev pub IsLeft : List ℕ → List ℕ → ℕ → Type 0
 IsLeft old new status = status ≢ done → status ≢ no_room → status ≢ out_of_memory → new ≡ old
 
--- The plan of a change of what the bytes hold: it leads from their state, and they hold no other, to
--- the one that acceptance gives; and from one of a registry to such a one.
+-- The buffer has the plan of a change of the registry that the bytes hold. The plan leads from the
+-- registry's state to the state after the accepted change. If each file was a library before, each file
+-- is one after the plan. The bytes hold no other state.
 pub record IsPlanOf (bytes : List ℕ) (request : Request) (buffer : List ℕ) (answer : Answer) : Type 0 where
   pub state : State
   pub steps : List Step
@@ -104,75 +108,76 @@ pub record IsPlanOf (bytes : List ℕ) (request : Request) (buffer : List ℕ) (
   pub registry : Holds bytes state → LeadsTo Stands (sectors_in bytes) state (accepted state request) steps
   pub plan : HasPlan steps buffer answer.bytes answer.count
 
--- what a reply to a change is told by
+-- how a reply to a change is reported
 abbrev pub IsChangeTold : Reply → List Step → List ℕ → List ℕ → Answer → ℕ → Type 0
 IsChangeTold reply.Done steps plan text answer status = IsPlanned steps plan text answer status
 IsChangeTold other steps plan text answer status = IsToldAlone other text answer status
 
--- A change of the registry that the bytes hold was asked, and its reply is told;
--- or there is no registry, and it is told why.
+-- Either the registry that the bytes hold was asked for a change, and its reply is reported, or there is
+-- no registry, and the call reports why.
 abbrev pub IsChangeAnswered : List ℕ → Request → List ℕ → List ℕ → Answer → ℕ → Type 0
 IsChangeAnswered bytes request plan text answer status =
     ((s : State) × (reply : Reply) × (steps : List Step) × IsAsked bytes s request reply steps × IsChangeTold reply steps plan text answer status)
     ⊎ ((refusal : StoreRefusal) × IsUnopened bytes refusal × IsTurnedAway refusal text answer status)
 
--- what a reply to a bind is told by
+-- how a reply to a bind is reported
 abbrev pub IsBindTold : Reply → List ObjectPlace → List SegmentPlace → List ℕ → List ℕ → Answer → ℕ → Type 0
 IsBindTold (reply.Bound image) objects segments bytes text answer status = IsImageGiven image objects segments bytes answer status
 IsBindTold other objects segments bytes text answer status = IsToldAlone other text answer status
 
--- A bind with the registry that the bytes hold was asked, and its reply is told;
--- or there is no registry, and it is told why.
+-- Either the registry that the bytes hold was asked for a bind, and its reply is reported, or there is
+-- no registry, and the call reports why.
 abbrev pub IsBindAnswered : List ℕ → Request → List ObjectPlace → List SegmentPlace → List ℕ → List ℕ → Answer → ℕ → Type 0
 IsBindAnswered disk request objects segments bytes text answer status =
     ((s : State) × (reply : Reply) × (steps : List Step) × IsAsked disk s request reply steps × IsBindTold reply objects segments bytes text answer status)
     ⊎ ((refusal : StoreRefusal) × IsUnopened disk refusal × IsTurnedAway refusal text answer status)
 
--- The plan of an empty registry on a disk of these bytes.
+-- The buffer has the plan of an empty registry on a disk with these bytes.
 pub record IsFormatPlan (bytes buffer : List ℕ) (answer : Answer) : Type 0 where
   pub steps : List Step
   pub formatted : IsFormatted bytes steps
   pub plan : HasPlan steps buffer answer.bytes answer.count
 
--- a registry was made, and its plan is given; or none is made, and it is told why
+-- either an empty registry is planned, and the buffer has its plan, or the call reports why none is
+-- planned
 abbrev pub IsFormatAnswered : List ℕ → List ℕ → List ℕ → Answer → ℕ → Type 0
 IsFormatAnswered bytes plan text answer status =
     ((steps : List Step) × IsFormatted bytes steps × IsPlanned steps plan text answer status)
     ⊎ ((refusal : StoreRefusal) × IsUnformatted bytes refusal × IsTurnedAway refusal text answer status)
 
--- The plan of an upgrade of the registry that these bytes hold.
+-- The buffer has the plan of an upgrade of the registry that these bytes hold.
 pub record IsUpgradePlan (bytes buffer : List ℕ) (answer : Answer) : Type 0 where
   pub state : State
   pub steps : List Step
   pub upgraded : IsUpgraded bytes state steps
   pub plan : HasPlan steps buffer answer.bytes answer.count
 
--- a registry was upgraded, and its plan is given; or none is, and it is told why
+-- either an upgrade is planned, and the buffer has its plan, or the call reports why none is planned
 abbrev pub IsUpgradeAnswered : List ℕ → List ℕ → List ℕ → Answer → ℕ → Type 0
 IsUpgradeAnswered bytes plan text answer status =
     ((s : State) × (steps : List Step) × IsUpgraded bytes s steps × IsPlanned steps plan text answer status)
     ⊎ ((refusal : StoreRefusal) × IsUnupgraded bytes refusal × IsTurnedAway refusal text answer status)
 
--- a listing is given, and told; or a buffer is too small
+-- either the buffers have the listing, and it is reported, or a buffer is too small
 abbrev pub IsListGiven : Listed → List EntryPlace → List ℕ → List ℕ → Answer → ℕ → Type 0
 IsListGiven l entries names text answer status = (Counts l answer.count answer.preloads × IsUnbound answer)
     × ((AreListed (entries_of l) entries names answer.bytes × IsTold (reply.Listing l) text answer status)
     ⊎ ((status ≡ no_room) × LackSpace (entries_of l) entries names answer.bytes × IsSilent answer))
 
--- what a reply to a listing is told by; of one, the generation is told too
+-- how a reply to a listing is reported; if the reply is a listing, the generation is reported too
 abbrev pub IsListTold : State → Reply → List EntryPlace → List ℕ → List ℕ → Answer → ℕ → Type 0
 IsListTold s (reply.Listing l) entries names text answer status = IsListGiven l entries names text answer status × (answer.generation ≡ s.generation)
 IsListTold s other entries names text answer status = IsToldAlone other text answer status
 
--- A listing of the registry that the bytes hold was asked, and its reply is told;
--- or there is no registry, and it is told why.
+-- Either the registry that the bytes hold was asked for a listing, and its reply is reported, or there
+-- is no registry, and the call reports why.
 abbrev pub IsListAnswered : List ℕ → List EntryPlace → List ℕ → List ℕ → Answer → ℕ → Type 0
 IsListAnswered disk entries names text answer status =
     ((s : State) × (reply : Reply) × (steps : List Step) × IsAsked disk s list reply steps × IsListTold s reply entries names text answer status)
     ⊎ ((refusal : StoreRefusal) × IsUnopened disk refusal × IsTurnedAway refusal text answer status)
 
--- A choice of the preloads was asked, by names in a row, and is answered as a change;
--- or the bytes are no names in a row; or memory was refused.
+-- Either the argument has names in a row, and the answer is that of a change to these preloads, or it
+-- doesn't have this form, or memory was refused.
 abbrev pub IsPreloadAnswered : List ℕ → List ℕ → List ℕ → List ℕ → Answer → ℕ → Type 0
 IsPreloadAnswered disk names plan text answer status =
     ((list : List (List ℕ)) × AreNames list names × IsChangeAnswered disk (set_preloads list) plan text answer status)

@@ -1,4 +1,4 @@
--- What the symbols of a program and its libraries are bound to, as C gets it: a text (own).
+-- The text for C about the symbols of a program and its libraries, and what they are bound to (own).
 use Rattle.std.specs.Prelude.{◌≡◌, ◌⊎◌, ℕ, List, Option, Some, None, length, take}
 use Rattle.bindings.specs.Bindings.{bindings_text}
 use Rattle.bindings.specs.Dependencies.{dependencies_text}
@@ -19,52 +19,55 @@ use Rattle.c_answers.specs.Contents.{IsGiven}
 use Rattle.c_answers.specs.Numbers.{bind_number, done}
 use Rattle.c_answers.specs.declared.answer.Answer.{Answer}
 
--- the number of what a bind is refused by; 0 where it isn't
+-- the status of a bind's refusal, or 0 if the bind isn't refused
 abbrev pub bound_number : Option BindRefusal → ℕ
 bound_number None = done
 bound_number (Some why) = bind_number why
 
--- The text that is told of a program at a base, by what a bind of it is refused by: where nothing
--- refuses it, and where a symbol is undefined, what the symbols of the objects are bound to; where a
--- library is missing, what was found and what is missing; else there is none.
+-- The text about a program at the address `base`, which depends on the refusal of its bind. If there is
+-- no refusal, or a symbol is undefined, the text states what the symbols of the objects are bound to. If
+-- a library is missing, it states which libraries were found and which are missing. For any other
+-- refusal there is no text.
 abbrev pub told_text : State → (program : List ℕ) → (base : ℕ) → Option BindRefusal → Option (List ℕ)
 told_text s program base None = Some (bindings_text (bound_objects s program base))
 told_text s program base (Some (bind.Undefined object symbol)) = Some (bindings_text (bound_objects s program base))
 told_text s program base (Some (bind.Missing needer name)) = Some (dependencies_text (names_of (objects s)) (load_order program (objects s) (preload_numbers s)))
 told_text s program base (Some other) = None
 
--- This is told, and its number is that of the bind's refusal; each file that it needs is a library.
+-- `said` is the text about a program, and `number` is the status of its bind's refusal. Each file that
+-- the bind reads is a library.
 pub record IsText (s : State) (program : List ℕ) (base : ℕ) (number : ℕ) (said : List ℕ) : Type 0 where
   pub libraries : ReadsLibraries s program
   pub text : told_text s program base (binding_refusal s program base) ≡ Some said
   pub number_is : number ≡ bound_number (binding_refusal s program base)
 
--- why there is no text: the bind's refusal has none; S5, since a file that it needs is no library;
--- or want of memory
+-- the reason why there is no text: the bind's refusal has none; a file that the bind reads is no library
+-- (S5, Damaged); or memory was refused
 abbrev pub IsUntold : State → (program : List ℕ) → (base : ℕ) → Refusal → Type 0
 IsUntold s program base (refusal.Bind why) = (binding_refusal s program base ≡ Some why) × (told_text s program base (Some why) ≡ None)
 IsUntold s program base refusal.Damaged = (program_refusal program base ≡ None) × (ReadsLibraries s program → ⊥)
 IsUntold s program base refusal.OutOfMemory = Unit
 IsUntold s program base other = ⊥
 
--- the text is given, or it is told why there is none
+-- either the buffer has the text or is too small, or the call reports why there is no text
 abbrev pub IsBindingsTold : State → (program : List ℕ) → (base : ℕ) → (bytes text : List ℕ) → Answer → ℕ → Type 0
 IsBindingsTold s program base bytes text answer status =
     ((number : ℕ) × (said : List ℕ) × IsText s program base number said × IsGiven number 0 said bytes answer status)
     ⊎ ((why : Refusal) × IsUntold s program base why × IsToldAlone (Refused why) text answer status)
 
--- the text is given by the state that the bytes hold, or it is told why there is none; or there is no
--- registry, and it is told why
+-- `IsBindingsTold` holds for the state that the bytes hold; or there is no registry, and the call
+-- reports why
 abbrev pub IsBindingsAnswered : (disk program : List ℕ) → (base : ℕ) → (bytes text : List ℕ) → Answer → ℕ → Type 0
 IsBindingsAnswered disk program base bytes text answer status =
     ((s : State) × HoldStore disk s × HoldNoOther disk s × IsBindingsTold s program base bytes text answer status)
     ⊎ ((why : StoreRefusal) × HaveNoContents disk why × IsTurnedAway why text answer status)
 
--- a status with which the text is given: that of a bind that isn't refused, or by B3 or B5
+-- the statuses with which there is a text: those of a bind that isn't refused, or that is refused with
+-- B3 (Missing) or B5 (Undefined)
 abbrev pub TellsText : ℕ → Type 0
 TellsText status = (status ≡ done) ⊎ (status ≡ 103) ⊎ (status ≡ 105)
 
--- The buffer has the text, by the state that the bytes hold, and the status is that of a bind.
+-- The buffer has the text for the state that the bytes hold, and the status is that of the bind.
 pub record IsBindingsOf (disk program : List ℕ) (base : ℕ) (bytes : List ℕ) (answer : Answer) (status : ℕ) : Type 0 where
   pub state : State
   pub holds : HoldStore disk state

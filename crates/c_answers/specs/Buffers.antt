@@ -1,4 +1,4 @@
--- An image as C gets it: in three buffers (own).
+-- An image in three buffers of a caller in C (own).
 use Rattle.std.specs.Prelude.{◌≡◌, ◌⊎◌, ◌<◌, ◌+◌, ◌-◌, ◌^◌, ℕ, List, [], ◌∷◌, ◌++◌, length, take, min, None}
 use Rattle.std.specs.List.{flat_map}
 use Rattle.image.specs.Byte.{byte_of}
@@ -14,49 +14,49 @@ use Rattle.c_answers.specs.Unsaid.{IsSilent, IsUnlisted}
 use Rattle.byte_registry.specs.Bytes.{HoldStore}
 use Rattle.registry.specs.Untested.{ReadsLibraries}
 
--- the bytes of all segments, in a row
+-- the bytes of all segments, one after the other
 abbrev pub segment_bytes : List ImageSegment → List ℕ
 segment_bytes segments = flat_map (λ s. s.bytes) segments
 
--- where a segment lies whose bytes begin here in the row
+-- the place of a segment whose bytes begin at the offset `from` of the buffer
 abbrev pub place_of : ℕ → ImageSegment → SegmentPlace
 place_of from s = record { address = s.address; length = length s.bytes; from = from; permissions = s.permissions }
 
--- the same of each segment, of which the bytes of the first begin here
+-- the places of the segments, if the bytes of the first begin at the offset `from`
 abbrev pub places_of : ℕ → List ImageSegment → List SegmentPlace
 places_of from [] = []
 places_of from (s ∷ segments) = place_of from s ∷ places_of (from + length s.bytes) segments
 
--- the bytes of all segments, and behind them the names of all objects, each with a byte 0 behind it
+-- the bytes of all segments, followed by the names of all objects, each with a byte 0 after it
 abbrev pub image_row : MemoryImage → List ℕ
 image_row image = segment_bytes image.segments ++ object_names image.objects
 
--- So many objects and so many segments are told of.
+-- The answer has the number of the image's objects and of its segments.
 pub record CountsImage (image : MemoryImage) (answer : Answer) : Type 0 where
   pub objects : answer.objects ≡ length image.objects
   pub segments : answer.count ≡ length image.segments
 
--- The buffers have the image: its objects, its segments, and its bytes, which are so many.
+-- The buffers have the image: its objects, its segments, and its bytes. The number of bytes is reported.
 pub record IsLaidOut (image : MemoryImage) (objects : List ObjectPlace) (segments : List SegmentPlace) (row : List ℕ) (told_size : ℕ) : Type 0 where
   pub object_places : take (length image.objects) objects ≡ object_places (length (segment_bytes image.segments)) 0 image.objects
   pub segment_places : take (length image.segments) segments ≡ places_of 0 image.segments
   pub size : told_size ≡ length (image_row image)
   pub bytes : take told_size row ≡ image_row image
 
--- A buffer is too small for the image, whose bytes are so many.
+-- A buffer is too small for the image. The number of bytes of the image is reported.
 pub record LacksSpace (image : MemoryImage) (objects : List ObjectPlace) (segments : List SegmentPlace) (row : List ℕ) (told_size : ℕ) : Type 0 where
   pub small : (length objects < length image.objects) ⊎ (length segments < length image.segments) ⊎ (length row < length (image_row image))
   pub size : told_size ≡ min (length (image_row image)) (2 ^ 64 - 1)
 
--- the image is given, or a buffer is too small; no text is told
+-- either the buffers have the image, or a buffer is too small; no text is reported
 abbrev pub IsImageGiven : MemoryImage → List ObjectPlace → List SegmentPlace → List ℕ → Answer → ℕ → Type 0
 IsImageGiven image objects segments bytes answer status =
     (((status ≡ done) × IsLaidOut image objects segments bytes answer.bytes)
     ⊎ ((status ≡ no_room) × LacksSpace image objects segments bytes answer.bytes))
     × CountsImage image answer × IsUnlisted answer × IsSilent answer
 
--- The buffers have the image that is defined for a program at a base over the state that the bytes
--- hold, with the defined byte at each address. Each file that it needs is a library.
+-- The buffers have the image that is defined for a program at the address `base` in the state that the
+-- bytes hold, with the defined byte at each address. Each file that the bind reads is a library.
 pub record IsImageOf (disk program : List ℕ) (base : ℕ) (objects : List ObjectPlace) (segments : List SegmentPlace) (bytes : List ℕ) (answer : Answer) : Type 0 where
   pub state : State
   pub holds : HoldStore disk state

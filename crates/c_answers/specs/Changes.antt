@@ -1,4 +1,4 @@
--- What the changes of an update ask: each has its bytes at a place of a buffer (own).
+-- The requests of an update's changes. Each change has its bytes at an offset of a buffer (own).
 use Rattle.std.specs.Prelude.{◌≡◌, ◌⊎◌, ◌+◌, ◌≤◌, ℕ, List, [], ◌∷◌, drop, length, map, take}
 use Rattle.requests.specs.Request.{Request, install, replace, remove, set_preloads}
 use Rattle.c_answers.specs.Names.{AreNames}
@@ -6,12 +6,13 @@ use Rattle.c_answers.specs.declared.asked_change.AskedChange.{AskedChange}
 use Rattle.c_answers.specs.declared.asked_change.AskedChange.TheVariants as asked
 use Rattle.c_answers.specs.declared.change_place.ChangePlace.{ChangePlace}
 
--- the bytes of a change
+-- the bytes of a change within the buffer
 abbrev pub own_bytes : List ℕ → ChangePlace → List ℕ
 own_bytes bytes change = take change.length (drop change.from bytes)
 
--- Of the kind 1 it installs a library, of the kind 2 it replaces one, by the bytes of its file; of the
--- kind 3 it removes one, by its name; of the kind 4 it chooses the preloads, by names in a row.
+-- `request` is the request of a change with the bytes `own`. A change of kind 1 installs a library, and
+-- one of kind 2 replaces one; `own` is the library's file. One of kind 3 removes the library whose name
+-- is `own`. One of kind 4 sets the preloads to the names that `own` has in a row.
 abbrev pub Asks : ℕ → List ℕ → Request → Type 0
 Asks kind own request =
     ((kind ≡ 1) × (request ≡ install own))
@@ -19,18 +20,19 @@ Asks kind own request =
     ⊎ ((kind ≡ 3) × (request ≡ remove own))
     ⊎ ((kind ≡ 4) × ((names : List (List ℕ)) × AreNames names own × (request ≡ set_preloads names)))
 
--- A change asks this: its place is in the bytes, and they are as its kind has them.
+-- A change is valid and makes this request: its bytes lie within `bytes`, and have the form that its
+-- kind needs.
 pub record Means (bytes : List ℕ) (change : ChangePlace) (request : Request) : Type 0 where
   pub inside : change.from + change.length ≤ length bytes
   pub asks : Asks change.kind (own_bytes bytes change) request
 
--- changes ask these, one each, in their order
+-- the changes are valid and make these requests, one each, in their order
 abbrev pub Mean : List ℕ → List ChangePlace → List Request → Type 0
 Mean bytes [] [] = Unit {0}
 Mean bytes (change ∷ changes) (request ∷ requests) = Means bytes change request × Mean bytes changes requests
 Mean bytes changes requests = ⊥
 
--- what a change that was read asks
+-- the request of a change that was read
 abbrev pub request_asked : AskedChange → Request
 request_asked (asked.Install bytes) = install bytes.now
 request_asked (asked.Replace bytes) = replace bytes.now

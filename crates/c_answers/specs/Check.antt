@@ -1,4 +1,4 @@
--- What is found of the libraries of a registry, as C gets it: in two buffers (own).
+-- The findings of a registry's libraries in two buffers of a caller in C (own).
 use Rattle.std.specs.Prelude.{◌≡◌, ◌⊎◌, ◌<◌, ◌-◌, ◌^◌, ℕ, List, ◌∷◌, [], ◌++◌, length, min, slice_index_or, take}
 use Rattle.std.specs.List.{flat_map}
 use Rattle.states.specs.State.{Library, State}
@@ -14,74 +14,76 @@ use Rattle.c_answers.specs.Unsaid.{IsSilent, IsUnbound, IsUncounted, IsUnlisted}
 use Rattle.c_answers.specs.declared.answer.Answer.{Answer}
 use Rattle.c_answers.specs.declared.finding.FindingPlace.{FindingPlace}
 
--- the file is a library of its name
+-- the number of the finding that the file is a library with its entry's name
 abbrev pub sound : ℕ
 sound = 0
 
--- the file is a library of another name
+-- the number of the finding that the file is a library with another name
 abbrev pub other_name : ℕ
 other_name = 100
 
--- the number of a finding, between these n of the first test En that refuses the file; a library
--- that can't be read has none
+-- The number of a finding. For a file that is refused, it is the number n of the first test En that
+-- refuses the file, which lies between the other two numbers. A library that can't be read has no number.
 abbrev pub HasNumber : Finding → ℕ → Type 0
 HasNumber Sound number = number ≡ sound
 HasNumber (Refused why) number = number ≡ file_number why
 HasNumber OtherName number = number ≡ other_name
 HasNumber Unreadable number = ⊥
 
--- what is found of a library has this number
+-- the number is that of a true finding of the library
 abbrev pub IsFound : Library → ℕ → Type 0
 IsFound l number = (finding : Finding) × IsFinding l finding × HasNumber finding number
 
--- the names of libraries in a row, each with a byte 0 behind it
+-- the names of libraries in a row, each with a byte 0 after it
 abbrev pub library_names : List Library → List ℕ
 library_names libraries = flat_map (λ l. l.name ++ 0 ∷ []) libraries
 
--- where the name of the library at this position begins in the row
+-- the offset of the name of library number `i` in the row of names
 abbrev pub name_start : List Library → ℕ → ℕ
 name_start libraries i = length (library_names (take i libraries))
 
--- Of a library whose name begins here it is told where that is, how long it is, and what is found.
+-- The place of a library has the offset and the length of its name, and its finding.
 pub record IsFoundAt (from : ℕ) (l : Library) (place : FindingPlace) : Type 0 where
   pub name : place.name ≡ from
   pub name_length : place.name_length ≡ length l.name
   pub finding : IsFound l place.finding
 
--- The buffers have what is found of each of these libraries, whose names in a row are so many bytes.
+-- The buffers have the finding and the name of each of these libraries. The number of bytes of the
+-- names is reported.
 pub record AreFound (libraries : List Library) (findings : List FindingPlace) (row : List ℕ) (told_size : ℕ) : Type 0 where
   pub each : (i : ℕ) → i < length libraries → (d : FindingPlace)
       → IsFoundAt (name_start libraries i) (slice_index_or libraries i no_library) (slice_index_or findings i d)
   pub size : told_size ≡ length (library_names libraries)
   pub names : take told_size row ≡ library_names libraries
 
--- A buffer is too small for them.
+-- A buffer is too small for the findings or the names. The number of bytes of the names is
+-- reported.
 pub record LackPlaces (libraries : List Library) (findings : List FindingPlace) (row : List ℕ) (told_size : ℕ) : Type 0 where
   pub small : (length findings < length libraries) ⊎ (length row < length (library_names libraries))
   pub size : told_size ≡ min (length (library_names libraries)) (2 ^ 64 - 1)
 
--- what is found is given, or a buffer is too small; no text is told
+-- either the buffers have the findings, or a buffer is too small; no text is reported
 abbrev pub IsCheckGiven : List Library → List FindingPlace → List ℕ → Answer → ℕ → Type 0
 IsCheckGiven libraries findings names answer status =
     (((status ≡ done) × AreFound libraries findings names answer.bytes)
     ⊎ ((status ≡ no_room) × LackPlaces libraries findings names answer.bytes))
     × (answer.count ≡ length libraries) × IsUnlisted answer × IsUnbound answer × IsSilent answer
 
--- what is found is given, or memory was refused
+-- the buffers have the findings, or a buffer is too small, or memory was refused
 abbrev pub IsCheckTold : List Library → List FindingPlace → (names text : List ℕ) → Answer → ℕ → Type 0
 IsCheckTold libraries findings names text answer status =
     IsCheckGiven libraries findings names answer status
     ⊎ (WantsMemory text answer.text answer.file_refusal status × IsUncounted answer)
 
--- what is found of each library that the bytes hold is given, or memory was refused; or there is no
--- registry, and it is told why
+-- Either there is a registry, and the buffers have the finding of each library, or a buffer is too
+-- small, or memory was refused. Or there is no registry, and the call reports why.
 abbrev pub IsCheckAnswered : (disk : List ℕ) → List FindingPlace → (names text : List ℕ) → Answer → ℕ → Type 0
 IsCheckAnswered disk findings names text answer status =
     ((s : State) × HoldStore disk s
     × IsCheckTold s.libraries findings names text answer status)
     ⊎ ((why : StoreRefusal) × HaveNoContents disk why × IsTurnedAway why text answer status)
 
--- The buffers have what is found of each library of the state that the bytes hold, in their order.
+-- The buffers have the finding of each library of the state that the bytes hold, in their order.
 pub record IsCheckOf (disk : List ℕ) (findings : List FindingPlace) (names : List ℕ) (answer : Answer) : Type 0 where
   pub state : State
   pub holds : HoldStore disk state

@@ -1,4 +1,5 @@
--- What a disk has, as C gets it: a library's bytes, and what is told of the whole (own).
+-- The contents of a disk for a caller in C: a library's bytes, and the numbers of the whole registry
+-- (own).
 use Rattle.std.specs.Prelude.{◌≡◌, ◌≢◌, ◌⊎◌, ◌↔◌, ◌<◌, ◌≤◌, ℕ, List, [], All, None, length, take}
 use Rattle.byte_disk.specs.Bytes.{sectors_in}
 use Rattle.byte_disk.specs.ReadOnlyDisk.{read_only_facts}
@@ -27,43 +28,44 @@ use Rattle.c_answers.specs.Unsaid.{IsSilent, IsUnbound, IsUncounted, IsUnlisted}
 use Rattle.c_answers.specs.declared.answer.Answer.{Answer}
 use Rattle.c_answers.specs.declared.information.Information.{Information}
 
--- why a library's bytes aren't given, as a command is refused
+-- the reason why a library's bytes aren't returned, as the refusal of a command
 abbrev pub refusal_of : Unread → Refusal
 refusal_of unread.NotInstalled = refusal.NotInstalled
 refusal_of unread.Unreadable = refusal.Device
 refusal_of unread.OutOfMemory = refusal.OutOfMemory
 
--- the buffer has just this, of which so many are counted, and the status is this one; or the buffer
--- is too small; no text is told
+-- either the buffer has exactly the bytes `given`, with this status and this count, or the buffer is too
+-- small; no text is reported
 abbrev pub IsGiven : (given_status count : ℕ) → (given bytes : List ℕ) → Answer → ℕ → Type 0
 IsGiven given_status count given bytes answer status =
     (((status ≡ given_status) × (take answer.bytes bytes ≡ given)) ⊎ ((status ≡ no_room) × (length bytes < length given)))
     × (answer.bytes ≡ length given) × (answer.count ≡ count) × IsUnlisted answer × IsUnbound answer × IsSilent answer
 
--- the file is in the buffer, or that is too small; no text is told
+-- either the buffer has the file, or the buffer is too small; no text is reported
 abbrev pub IsFileGiven : List ℕ → List ℕ → Answer → ℕ → Type 0
 IsFileGiven file bytes answer status = IsGiven done 0 file bytes answer status
 
--- C3 is answered exactly where no library has the name, and S1 never, since no read of bytes fails
+-- The reason why a library's file isn't returned. It is C3 (NotInstalled) exactly if no library has the
+-- name, and never S1 (Device), because no read of bytes fails.
 abbrev pub IsUnread : State → List ℕ → Unread → Type 0
 IsUnread s name unread.NotInstalled = All (λ library. library.name ≢ name) s.libraries
 IsUnread s name unread.Unreadable = ⊥
 IsUnread s name unread.OutOfMemory = All (λ library. library.name ≢ name) s.libraries → ⊥
 
--- a library's file is given, or it is told why not
+-- either the buffer has a library's file or is too small, or the call reports why there is no file
 abbrev pub IsFileTold : State → (name bytes text : List ℕ) → Answer → ℕ → Type 0
 IsFileTold s name bytes text answer status =
     ((file : List ℕ) × HasFile s name file × IsFileGiven file bytes answer status)
     ⊎ ((why : Unread) × IsUnread s name why × IsToldAlone (Refused (refusal_of why)) text answer status)
 
--- a library's file of the state that the bytes hold is given, or it is told why not; or there is no
--- registry, and it is told why
+-- `IsFileTold` holds for the state that the bytes hold; or there is no registry, and the call reports
+-- why
 abbrev pub IsFileAnswered : (disk name bytes text : List ℕ) → Answer → ℕ → Type 0
 IsFileAnswered disk name bytes text answer status =
     ((s : State) × HoldStore disk s × IsFileTold s name bytes text answer status)
     ⊎ ((why : StoreRefusal) × HaveNoContents disk why × IsTurnedAway why text answer status)
 
--- The buffer has the file of the library of this name, which the state that the bytes hold has.
+-- The buffer has the file of the library with this name in the state that the bytes hold.
 pub record IsFileOf (disk name bytes : List ℕ) (answer : Answer) : Type 0 where
   pub state : State
   pub holds : HoldStore disk state
@@ -72,20 +74,20 @@ pub record IsFileOf (disk name bytes : List ℕ) (answer : Answer) : Type 0 wher
   pub size : answer.bytes ≡ length file
   pub given : take answer.bytes bytes ≡ file
 
--- the digest is that of a library's file, or it is told why there is none
+-- either the digest is that of a library's file, or the call reports why there is none
 abbrev pub IsDigestTold : State → (name digest text : List ℕ) → Answer → ℕ → Type 0
 IsDigestTold s name digest text answer status =
     ((file : List ℕ) × HasFile s name file × (digest ≡ sha256 file) × (status ≡ done) × IsUncounted answer × IsSilent answer)
     ⊎ ((why : Unread) × IsUnread s name why × IsToldAlone (Refused (refusal_of why)) text answer status)
 
--- the digest is that of a library's file of the state that the bytes hold, or it is told why there is
--- none; or there is no registry, and it is told why
+-- `IsDigestTold` holds for the state that the bytes hold; or there is no registry, and the call reports
+-- why
 abbrev pub IsDigestAnswered : (disk name digest text : List ℕ) → Answer → ℕ → Type 0
 IsDigestAnswered disk name digest text answer status =
     ((s : State) × HoldStore disk s × IsDigestTold s name digest text answer status)
     ⊎ ((why : StoreRefusal) × HaveNoContents disk why × IsTurnedAway why text answer status)
 
--- It is the SHA-256 of the file of the library of this name, which the state that the bytes hold has.
+-- The digest is the SHA-256 of the file of the library with this name in the state that the bytes hold.
 pub record IsDigestOf (disk name digest : List ℕ) : Type 0 where
   pub state : State
   pub holds : HoldStore disk state
@@ -93,7 +95,7 @@ pub record IsDigestOf (disk name digest : List ℕ) : Type 0 where
   pub has : HasFile state name file
   pub is : digest ≡ sha256 file
 
--- what is told, for C
+-- the numbers of `info` in the form for C
 abbrev pub information_of : Info → Information
 information_of info =
     record {
@@ -107,7 +109,8 @@ information_of info =
       largest = info.unused.largest;
     }
 
--- It is told of the state that the bytes hold, and of what is unused in them, by the step table.
+-- The numbers are those that the step table has for the state that the bytes hold, and those of the
+-- disk's unused sectors.
 pub record IsInfoOf (disk : List ℕ) (information : Information) : Type 0 where
   pub state : State
   pub holds : HoldStore disk state
@@ -124,7 +127,8 @@ pub record IsInfoOf (disk : List ℕ) (information : Information) : Type 0 where
       → (length file ≤ told.unused.largest) ↔ (refusal_of_new (length (sectors_in disk)) (longest_unused store) state file ≡ None)
   pub form : (told.unused.largest ≡ 0) ⊎ IsFileSize told.unused.largest
 
--- it is told of the registry that the bytes hold; or there is none, and it is told why
+-- either the numbers of the registry that the bytes hold are reported, or there is no registry, and the
+-- call reports why
 abbrev pub IsInfoAnswered : List ℕ → Information → List ℕ → Answer → ℕ → Type 0
 IsInfoAnswered disk information text answer status =
     ((status ≡ done) × IsInfoOf disk information × IsUncounted answer × IsSilent answer)

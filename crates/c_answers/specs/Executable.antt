@@ -1,4 +1,4 @@
--- The executable file of a bound program, as C gets it (own).
+-- The executable file of a bound program, for a caller in C (own).
 use Rattle.std.specs.Prelude.{◌≡◌, ◌⊎◌, ℕ, List, None, length, take}
 use Rattle.byte_disk.specs.declared.step.Step.{Step}
 use Rattle.elf_file.specs.Header.{header_count}
@@ -23,7 +23,7 @@ use Rattle.c_answers.specs.Numbers.{done, out_of_memory}
 use Rattle.c_answers.specs.Unsaid.{IsUncounted}
 use Rattle.c_answers.specs.declared.answer.Answer.{Answer}
 
--- the number of a refusal; 406 was a test that no image failed, and isn't used again
+-- the number of a refusal; 406 was the number of a test that no image failed, and isn't used again
 abbrev pub executable_number : ExecutableRefusal → ℕ
 executable_number refusal.NoEntry = 401
 executable_number refusal.StaticPie = 402
@@ -32,41 +32,44 @@ executable_number (refusal.Initializers name) = 404
 executable_number (refusal.Finalizers name) = 405
 executable_number refusal.TooManyHeaders = 407
 executable_number (refusal.WritableCode name) = 408
-executable_number refusal.NoRoom = 409
+executable_number refusal.NoPages = 409
 executable_number refusal.OutOfMemory = out_of_memory
 
--- It is told why there is no file: by its number and by its line.
+-- The call reports why there is no executable file, with the refusal's number and line.
 pub record TellsNoFile (refusal : ExecutableRefusal) (text : List ℕ) (told_size told_file told : ℕ) : Type 0 where
   pub status : told ≡ executable_number refusal
   pub file : told_file ≡ 0
   pub has_text : HasText (executable_refusal_text refusal) text told_size
 
--- the same, or memory for that was refused; nothing is counted
+-- the call reports why there is no executable file, or memory for the report was refused; all counts are
+-- 0
 abbrev pub IsNoFileTold : ExecutableRefusal → List ℕ → Answer → ℕ → Type 0
 IsNoFileTold refusal text answer status =
     (TellsNoFile refusal text answer.text answer.file_refusal status ⊎ WantsMemory text answer.text answer.file_refusal status) × IsUncounted answer
 
--- the file of an image is given, of which the program headers are counted, or memory for it was
--- refused; or there is none, by the first test that applies or for want of memory, and it is told why
+-- Either the buffer has the executable file of an image, with the number of its program headers, or is
+-- too small. Or there is no file, because a test refuses the image or memory was refused, and the call
+-- reports why.
 abbrev pub IsExecutableTold : MemoryImage → (bytes text : List ℕ) → Answer → ℕ → Type 0
 IsExecutableTold image bytes text answer status =
     ((file : List ℕ) × IsExecutableOf image file × IsGiven done (header_count file) file bytes answer status)
     ⊎ ((refusal : ExecutableRefusal) × IsAnswer image refusal × IsNoFileTold refusal text answer status)
 
--- what a reply to a bind is told by
+-- how a reply to a bind is reported by a call for an executable file
 abbrev pub IsBoundTold : Reply → (bytes text : List ℕ) → Answer → ℕ → Type 0
 IsBoundTold (reply.Bound image) bytes text answer status = IsExecutableTold image bytes text answer status
 IsBoundTold other bytes text answer status = IsToldAlone other text answer status
 
--- A bind with the registry that the bytes hold was asked, and its image's file is given, or it is told
--- why not; or there is no registry, and it is told why.
+-- Either the registry that the bytes hold was asked for a bind, and its image's file is returned or the
+-- call reports why there is none; or there is no registry, and the call reports why.
 abbrev pub IsExecutableAnswered : (disk : List ℕ) → Request → (bytes text : List ℕ) → Answer → ℕ → Type 0
 IsExecutableAnswered disk request bytes text answer status =
     ((s : State) × (reply : Reply) × (steps : List Step) × IsAsked disk s request reply steps × IsBoundTold reply bytes text answer status)
     ⊎ ((refusal : StoreRefusal) × IsUnopened disk refusal × IsTurnedAway refusal text answer status)
 
--- The buffer has the executable file of the image that is defined for a program at a base over the
--- state that the bytes hold, with the defined byte at each address. Each file that it needs is a library.
+-- The buffer has the executable file of a program's image at the address `base`. The image is the one
+-- that is defined in the state that the bytes hold, with the defined byte at each address. Each file
+-- that the bind reads is a library.
 pub record IsExecutableFileOf (disk program : List ℕ) (base : ℕ) (bytes : List ℕ) (answer : Answer) : Type 0 where
   pub state : State
   pub holds : HoldStore disk state

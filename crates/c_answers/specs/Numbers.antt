@@ -13,23 +13,24 @@ use Rattle.requests.specs.declared.refusal.Refusal.TheVariants as refusal
 use Rattle.requests.specs.declared.reply.Reply.{Reply}
 use Rattle.requests.specs.declared.reply.Reply.TheVariants as reply
 
--- done
+-- the status of a call that did its work
 abbrev pub done : ℕ
 done = 0
 
--- a buffer is too small
+-- the status if a buffer is too small
 abbrev pub no_room : ℕ
 no_room = 1
 
--- an argument isn't of its form
+-- the status if an argument doesn't have the form that the call needs
 abbrev pub bad_argument : ℕ
 bad_argument = 2
 
--- S11
+-- the status of S11 (OutOfMemory)
 abbrev pub out_of_memory : ℕ
 out_of_memory = 311
 
--- of a refusal to open, to format or to upgrade: 300 and its own; no call over bytes is answered 301
+-- The status of a refusal to open, format or upgrade: 300 plus the refusal's number. No call over bytes
+-- returns 301.
 abbrev pub store_number : StoreRefusal → ℕ
 store_number store.Device = 301
 store_number store.Reopen = 302
@@ -44,7 +45,7 @@ store_number store.GenerationEnd = 310
 store_number store.OutOfMemory = 311
 store_number store.OldFormat = 312
 
--- of a refusal to bind: 100 and its own; want of memory is S11
+-- the status of a refused bind: 100 plus the refusal's number, or that of S11 if memory was refused
 abbrev pub bind_number : BindRefusal → ℕ
 bind_number (bind.Program refusal) = 101
 bind_number bind.BadBase = 102
@@ -53,7 +54,8 @@ bind_number bind.NoRoom = 104
 bind_number (bind.Undefined object symbol) = 105
 bind_number bind.OutOfMemory = 311
 
--- of a refusal: of a command 200 and its own, of a bind or a disk as above
+-- The status of a refusal. For a refusal of a command it is 200 plus the refusal's number; for one of a
+-- bind or a disk it is the number above.
 abbrev pub refusal_number : Refusal → ℕ
 refusal_number (refusal.Object why) = 201
 refusal_number refusal.AlreadyInstalled = 202
@@ -73,12 +75,12 @@ refusal_number refusal.TooMany = 309
 refusal_number refusal.GenerationEnd = 310
 refusal_number refusal.OutOfMemory = 311
 
--- of a reply: 0, or that of the refusal
+-- the status of a reply: that of its refusal, or 0 if it is no refusal
 abbrev pub reply_number : Reply → ℕ
 reply_number (reply.Refused why) = refusal_number why
 reply_number other = done
 
--- the test that refuses an object: n of En
+-- the number n of the test En that refuses an object
 abbrev pub object_number : ObjectRefusal → ℕ
 object_number object.TooShort = 1
 object_number object.BadMagic = 2
@@ -112,19 +114,19 @@ object_number object.RelocationSymbol = 31
 object_number object.RelocationPlace = 32
 object_number object.BadSoname = 33
 
--- the test that refuses a file: n of En
+-- the number n of the test En that refuses a file
 abbrev pub file_number : FileRefusal → ℕ
 file_number (file.Object why) = object_number why
 file_number file.DuplicateDefinition = 28
 file_number file.BadHashTable = 29
 
--- the test that refuses the file of which a refusal tells; 0 where it tells of none
+-- the number n of the test En that refuses a file, if that is the reason of a refusal; otherwise 0
 abbrev pub file_number_of : Refusal → ℕ
 file_number_of (refusal.Object why) = file_number why
 file_number_of (refusal.Bind (bind.Program why)) = file_number why
 file_number_of other = 0
 
--- the same of a reply
+-- the number n of the test En that refuses a file, if that is the reason of a reply's refusal; otherwise 0
 abbrev pub file_number_in : Reply → ℕ
 file_number_in (reply.Refused why) = file_number_of why
 file_number_in other = 0

@@ -1,4 +1,4 @@
--- What a call that plans an update puts into its buffers and its answer (own).
+-- The contents of the buffers and the answer after a call that plans an update (own).
 use Rattle.std.specs.Prelude.{◌≡◌, ◌⊎◌, ℕ, List, Result, Ok, Err}
 use Rattle.byte_disk.specs.declared.disk.ByteDisk.{ByteDisk}
 use Rattle.byte_disk.specs.declared.step.Step.{Step}
@@ -22,8 +22,9 @@ use Rattle.c_answers.specs.Changes.{Mean}
 use Rattle.c_answers.specs.Numbers.{bad_argument}
 use Rattle.c_answers.specs.Unsaid.{IsSilent, IsUnbound, IsUncounted, IsUnlisted}
 
--- The plan of an update of what the bytes hold: it leads from their state, and they hold no other, to
--- the one after all requests; and from one of a registry to such a one.
+-- The buffer has the plan of an update of the registry that the bytes hold. The plan leads from the
+-- registry's state to the state after all requests. If each file was a library before, each file is one
+-- after the plan. The bytes hold no other state.
 pub record IsUpdatePlan (bytes : List ℕ) (requests : List Request) (buffer : List ℕ) (answer : Answer) : Type 0 where
   pub state : State
   pub steps : List Step
@@ -33,7 +34,8 @@ pub record IsUpdatePlan (bytes : List ℕ) (requests : List Request) (buffer : L
   pub registry : Holds bytes state → LeadsTo Stands (sectors_in bytes) state (updated state requests) steps
   pub plan : HasPlan steps buffer answer.bytes answer.count
 
--- A request is refused: that is told as of a single one, and how many come before it.
+-- A request of an update is refused. The answer reports the refusal like that of a single request, and
+-- the number of requests before it.
 pub record IsRefusedTold (before : ℕ) (refusal : Refusal) (text : List ℕ) (answer : Answer) (status : ℕ) : Type 0 where
   pub why : IsTold (Refused refusal) text answer status
   pub count : answer.count ≡ before
@@ -41,25 +43,26 @@ pub record IsRefusedTold (before : ℕ) (refusal : Refusal) (text : List ℕ) (a
   pub unlisted : IsUnlisted answer
   pub unbound : IsUnbound answer
 
--- what the answer to an update is told by
+-- how the answer to an update is reported
 abbrev pub IsUpdateTold : Result (Unit {0}) (ℕ × Refusal) → List Step → List ℕ → List ℕ → Answer → ℕ → Type 0
 IsUpdateTold (Ok done) steps plan text answer status = IsPlanned steps plan text answer status
 IsUpdateTold (Err refused) steps plan text answer status = IsRefusedTold refused.0 refused.1 text answer status
 
--- An update of the registry that the bytes hold was asked, on a disk of them, and what comes of it is
--- told, with the plan of the disk; or there is no registry, and it is told why.
+-- Either the registry on a disk with these bytes was asked for an update, and its answer is reported,
+-- with the plan of the disk. Or there is no registry, and the call reports why.
 abbrev pub IsAskedTold : List ℕ → List Request → List ℕ → List ℕ → Answer → ℕ → Type 0
 IsAskedTold disk requests plan text answer status =
     ((s : State) × (asked : Result (Unit {0}) (ℕ × Refusal)) × (left : ByteDisk) × IsUpdateAsked disk s requests asked left × IsUpdateTold asked (synced_plan left) plan text answer status)
     ⊎ ((refusal : StoreRefusal) × IsUnopened disk refusal × IsTurnedAway refusal text answer status)
 
--- the same, or memory for the requests was refused
+-- `IsAskedTold` holds, or memory for the requests was refused
 abbrev pub IsAskedOrMemory : List ℕ → List Request → List ℕ → List ℕ → Answer → ℕ → Type 0
 IsAskedOrMemory disk requests plan text answer status =
     IsAskedTold disk requests plan text answer status
     ⊎ (WantsMemory text answer.text answer.file_refusal status × IsUncounted answer)
 
--- An update of what the changes mean was asked; or one of them means nothing; or memory was refused.
+-- Either the registry was asked for an update with the requests of the changes, or a change isn't valid,
+-- or memory was refused.
 abbrev pub IsUpdateAnswered : List ℕ → List ChangePlace → List ℕ → List ℕ → List ℕ → Answer → ℕ → Type 0
 IsUpdateAnswered disk changes bytes plan text answer status =
     ((requests : List Request) × Mean bytes changes requests × IsAskedTold disk requests plan text answer status)

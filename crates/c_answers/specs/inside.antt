@@ -1,2 +1,2 @@
--- What stands between the parts of an answer: nothing here has to be believed.
+-- Definitions for the values between the parts of an answer. Nobody has to believe them.
 pub mod Bindings

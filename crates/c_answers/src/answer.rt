@@ -1,30 +1,32 @@
-// What a call is answered, beside its buffers.
+// The values that a call returns besides its buffers.
 ghost use Rattle.std.specs.Prelude.{◌≡◌};
 
-/// What a call is answered. What a call doesn't speak of is 0.
+/// The values that a call returns besides its buffers. Fields that a call doesn't use are 0.
 #[repr(C)]
 #[derive(Clone, Copy)]
 pub struct Answer {
-    /// 0, or why not.
+    /// The status: 0 if the call did its work, and otherwise the reason why it didn't.
     pub status: u32,
-    /// The number of the first test that refuses the file, where a file is refused: n of En.
+    /// The number n of the first test En that refuses the file, if a file is refused.
     pub file_refusal: u32,
-    /// How many segments, libraries or steps there are.
+    /// The number of segments, libraries, steps or program headers. If an update is refused, the
+    /// number of changes before the refused one.
     pub count: u64,
-    /// How many preloads there are.
+    /// The number of preloads.
     pub preloads: u64,
-    /// How many bytes there are: of an image with its names, of all names or of the plan.
+    /// The number of bytes of an image with its names, of all names, of a text, of a file or of the
+    /// plan.
     pub bytes: u64,
-    /// How many bytes the whole text has.
+    /// The length of the whole text, in bytes.
     pub text: u64,
-    /// How many changes the registry has taken.
+    /// The number of changes that were made to the registry.
     pub generation: u64,
-    /// How many objects an image has.
+    /// The number of objects of an image.
     pub objects: u64,
 }
 
 impl Answer {
-    /// A status, and nothing else.
+    /// Returns an answer with `status`, and 0 in all other fields.
     pub(crate) fn of(status: u32) -> Answer
         ensures { result ≡ record {
           status = status;

@@ -1,4 +1,4 @@
-// What a change of an update asks.
+// The command of a change of an update.
 ghost use Rattle.std.specs.Prelude.{◌≡◌, List, IfOk, MatchOption, map};
 ghost use Rattle.requests.specs.Request.{Request, request_of};
 ghost use Rattle.c_answers.specs.Changes.{Asks, Mean, Means, request_asked};
@@ -8,21 +8,21 @@ use crate::preload::names_in;
 use requests::Command;
 use std::alloc::{AllocError, Global};
 
-/// What a change asks, with the list of names that takes memory.
+/// The command of a change. The list of names is in allocated memory.
 #[derive(Drop)]
 pub(crate) enum AskedChange<'a> {
-    /// Installs a library: the bytes of its file.
+    /// Installs a library, whose file is given.
     Install(&'a [u8]),
-    /// Puts a file in the place of the one of the same name.
+    /// Replaces the library with the same name by the given file.
     Replace(&'a [u8]),
-    /// Removes the library of a name.
+    /// Removes the library with the given name.
     Remove(&'a [u8]),
-    /// Sets the names of the preloads, in their order.
+    /// Sets the preloads to these names, in their order.
     SetPreloads(Vec<&'a [u8]>),
 }
 
 impl<'a> AskedChange<'a> {
-    /// The command, as a registry takes it.
+    /// Returns this change as a command for a registry.
     fn as_command(&self) -> Command<'_>
         ensures { request_of result ≡ request_asked self.now }
     {
@@ -35,8 +35,8 @@ impl<'a> AskedChange<'a> {
     }
 }
 
-/// What a change of this kind asks, whose bytes these are; none of a kind that is none, or where
-/// they aren't as it has them.
+/// Returns the command of a change of the kind `kind` with the bytes `own`. Returns `None` if there
+/// is no such kind, or if the bytes don't have the form that the kind needs.
 fn asked_of(alloc: Global, kind: u64, own: &[u8]) -> Result<Option<AskedChange<'_>>, AllocError>
     ensures { IfOk result (λ read. MatchOption read
         ((request : Request) → Asks kind own.now request → ⊥)
@@ -54,7 +54,8 @@ fn asked_of(alloc: Global, kind: u64, own: &[u8]) -> Result<Option<AskedChange<'
     }
 }
 
-/// What a change asks, whose bytes stand in these; none where it means nothing.
+/// Returns the command of `change`, whose bytes are in `bytes`. Returns `None` if the change isn't
+/// valid.
 fn asked_change<'a>(
     alloc: Global,
     change: &ChangePlace,
@@ -70,7 +71,8 @@ fn asked_change<'a>(
     }
 }
 
-/// What changes ask, whose bytes stand in these; none where one of them means nothing.
+/// Returns the commands of `changes`, whose bytes are in `bytes`. Returns `None` if one of them
+/// isn't valid.
 pub(crate) fn asked_changes<'a>(
     alloc: Global,
     changes: &[ChangePlace],
@@ -90,7 +92,7 @@ pub(crate) fn asked_changes<'a>(
     Ok(Some(all))
 }
 
-/// The commands, as a registry takes them.
+/// Returns the changes `asked` as commands for a registry.
 pub(crate) fn commands_of<'a>(
     alloc: Global,
     asked: &'a [AskedChange<'_>],

@@ -1,4 +1,4 @@
-// A bind.
+// Binds a program.
 ghost use Rattle.requests.specs.Request.{request_of};
 ghost use Rattle.c_answers.specs.Answers.{IsBindAnswered, IsBindTold};
 
@@ -11,7 +11,7 @@ use byte_registry::ask;
 use requests::{Command, Reply};
 use std::alloc::Global;
 
-/// Gives the image that a reply is, or says the reply.
+/// If the reply has an image, puts the image into the buffers; otherwise reports the reply.
 fn tell_bind(
     alloc: Global,
     reply: &Reply,
@@ -31,7 +31,8 @@ fn tell_bind(
     }
 }
 
-/// Binds a program, and says how it ended.
+/// Binds a program with the registry on the disk `disk`, and puts the image into the buffers, or
+/// reports why it can't.
 pub fn bind_on(
     alloc: Global,
     disk: &[u8],

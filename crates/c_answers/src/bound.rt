@@ -19,8 +19,8 @@ use image::Image;
 use requests::{Command, Reply};
 use std::alloc::Global;
 
-/// Returns the number of `refusal`. They rise from 401 on in the order of the tests; 406 was a test
-/// that no image failed, and isn't used again.
+/// Returns the number of `refusal`. The numbers rise from 401 in the order of the tests. 406 was
+/// the number of a test that no image failed, and isn't used again.
 fn executable_status(refusal: &ExecutableRefusal) -> u32
     ensures { result ≡ executable_number refusal.now }
 {
@@ -32,12 +32,12 @@ fn executable_status(refusal: &ExecutableRefusal) -> u32
         ExecutableRefusal::Finalizers { name: _ } => 405,
         ExecutableRefusal::TooManyHeaders => 407,
         ExecutableRefusal::WritableCode { name: _ } => 408,
-        ExecutableRefusal::NoRoom => 409,
+        ExecutableRefusal::NoPages => 409,
         ExecutableRefusal::OutOfMemory => OUT_OF_MEMORY,
     }
 }
 
-/// Says why there is no executable file.
+/// Reports why there is no executable file.
 fn tell_no_file(alloc: Global, refusal: &ExecutableRefusal, text: &mut [u8]) -> Answer
     ensures { IsNoFileTold refusal.now text.new result result.status }
 {
@@ -51,7 +51,7 @@ fn tell_no_file(alloc: Global, refusal: &ExecutableRefusal, text: &mut [u8]) -> 
     }
 }
 
-/// Gives an executable file, or says that memory for it was refused.
+/// Puts an executable file into the buffer, or reports that memory for it was refused.
 fn give_file(alloc: Global, file: &Executable, bytes: &mut [u8], text: &mut [u8]) -> Answer
     ensures given { IsGiven 0 (header_count file.now) file.now bytes.new result result.status
         ⊎ (WantsMemory text.new result.text result.file_refusal result.status
@@ -65,7 +65,7 @@ fn give_file(alloc: Global, file: &Executable, bytes: &mut [u8], text: &mut [u8]
     }
 }
 
-/// Gives the executable file of an image, or says why there is none.
+/// Puts the executable file of an image into the buffer, or reports why there is none.
 fn give_image(alloc: Global, image: &Image, bytes: &mut [u8], text: &mut [u8]) -> Answer
     ensures told { IsExecutableTold image.now bytes.new text.new result result.status }
     ensures left { result.status ≢ 0 → bytes.new ≡ bytes.old }
@@ -76,7 +76,8 @@ fn give_image(alloc: Global, image: &Image, bytes: &mut [u8], text: &mut [u8]) -
     }
 }
 
-/// Gives the executable file of the image that a reply is, or says the reply.
+/// If the reply has an image, puts its executable file into the buffer; otherwise reports the
+/// reply.
 fn tell_bound(alloc: Global, reply: &Reply, bytes: &mut [u8], text: &mut [u8]) -> Answer
     ensures told { IsBoundTold reply.now bytes.new text.new result result.status }
     ensures left { result.status ≢ 0 → bytes.new ≡ bytes.old }
@@ -89,8 +90,8 @@ fn tell_bound(alloc: Global, reply: &Reply, bytes: &mut [u8], text: &mut [u8]) -
     }
 }
 
-/// Binds a program, and gives its executable file, or says why not. It takes up to six times the
-/// memory of the image.
+/// Binds a program, and puts its executable file into the buffer, or reports why it can't. Needs up
+/// to six times the memory of the image.
 pub fn executable_on(
     alloc: Global,
     disk: &[u8],

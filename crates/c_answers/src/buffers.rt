@@ -1,5 +1,5 @@
-// An image in three buffers: where its objects and its segments lie, and the bytes of all segments
-// in a row with the names of all objects behind them.
+// Puts an image into three buffers: the places of its objects, the places of its segments, and the
+// bytes of all segments, followed by the names of all objects.
 ghost use Rattle.std.specs.Prelude.{◌≡◌, ◌⊎◌, ◌+◌, ◌<◌, ◌-◌, ◌^◌, ◌++◌, length, take, min};
 ghost use Rattle.std.specs.Prelude.{IfSome, IfNone};
 ghost use Rattle.c_answers.specs.Buffers.{segment_bytes, places_of, image_row};
@@ -14,7 +14,7 @@ use crate::put::put_memory;
 use crate::status::{DONE, NO_ROOM};
 use image::Image;
 
-/// How many bytes all segments have.
+/// Returns the number of bytes of all segments, or 2^64 - 1 if the number is greater.
 fn segments_bytes(image: &Image) -> u64
     ensures { result ≡ min (length (segment_bytes image.now.segments)) (2 ^ 64 - 1) }
 {
@@ -25,7 +25,7 @@ fn segments_bytes(image: &Image) -> u64
     bytes
 }
 
-/// How many bytes the names of all objects take.
+/// Returns the number of bytes of the names of all objects, or 2^64 - 1 if the number is greater.
 fn objects_bytes(image: &Image) -> u64
     ensures { result ≡ min (length (object_names image.now.objects)) (2 ^ 64 - 1) }
 {
@@ -36,8 +36,8 @@ fn objects_bytes(image: &Image) -> u64
     bytes
 }
 
-/// Puts the segments of an image into two buffers, where they have room: the bytes of all of them
-/// stand in a row. Says how many bytes they are.
+/// Puts the segments of an image into two buffers, if they have room. The bytes of the segments lie
+/// one after the other. Returns the number of these bytes.
 fn put_segments(image: &Image, places: &mut [SegmentPlace], bytes: &mut [u8]) -> Option<usize>
     ensures end { IfSome result (λ end. end ≡ length (segment_bytes image.now.segments)) }
     ensures bytes { IfSome result (λ end.
@@ -59,8 +59,8 @@ fn put_segments(image: &Image, places: &mut [SegmentPlace], bytes: &mut [u8]) ->
     Some(at)
 }
 
-/// Puts the objects of an image into two buffers, where they have room: their names stand in a row
-/// behind so many bytes. Says which place is behind them.
+/// Puts the objects of an image into two buffers, if they have room. Their names lie one after the
+/// other and begin at the offset `from`. Returns the offset after the last name.
 fn put_objects(
     image: &Image,
     from: usize,
@@ -88,7 +88,8 @@ fn put_objects(
     Some(at)
 }
 
-/// Puts an image into the three buffers, where they have room. Says how many bytes it has there.
+/// Puts an image into the three buffers, if they have room. Returns the number of bytes that it has
+/// in the third buffer.
 fn lay_out(
     image: &Image,
     objects: &mut [ObjectPlace],
@@ -109,7 +110,8 @@ fn lay_out(
     put_objects(image, at, objects, bytes)
 }
 
-/// Puts an image into the three buffers. Where one is too small the answer has what all need.
+/// Puts an image into the three buffers. If one of them is too small, the answer has the sizes that
+/// all three need.
 pub(crate) fn put_image(
     image: &Image,
     objects: &mut [ObjectPlace],

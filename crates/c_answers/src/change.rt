@@ -1,4 +1,4 @@
-// Changes of the libraries: plans.
+// Plans changes of a registry's libraries.
 ghost use Rattle.requests.specs.Request.{request_of};
 ghost use Rattle.byte_registry.specs.Plans.{synced_plan};
 ghost use Rattle.c_answers.specs.Answers.{IsChangeAnswered, IsChangeTold, IsLeft};
@@ -11,7 +11,8 @@ use byte_registry::ask;
 use requests::{Command, Reply};
 use std::alloc::Global;
 
-/// Says what a change was answered, and gives its plan where that is Done.
+/// Reports the reply to a change. If the reply is Done, also puts the plan of the change into the
+/// buffer.
 fn tell_change(
     alloc: Global,
     reply: &Reply,
@@ -31,7 +32,7 @@ fn tell_change(
     }
 }
 
-/// The plan of a change, or why it is refused.
+/// Plans the change `command`: puts its plan into the buffer, or reports why the change is refused.
 pub fn plan_change(
     alloc: Global,
     disk: &[u8],

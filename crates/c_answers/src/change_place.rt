@@ -1,21 +1,22 @@
-// A change of an update, by a place in bytes.
+// A change of an update, whose bytes are at an offset of a buffer.
 ghost use Rattle.std.specs.Prelude.{◌≡◌, ◌+◌, ◌<◌, ◌≤◌, MatchOption, length};
 ghost use Rattle.c_answers.specs.Changes.{own_bytes};
 
-/// A change of an update. The bytes at its place are those of a file, a name, or names in a row.
+/// A change of an update. Its bytes are those of a file, of a name, or of names in a row.
 #[repr(C)]
 #[derive(Clone, Copy)]
 pub struct ChangePlace {
-    /// 1 installs a library, 2 replaces one, by the bytes of its file; 3 removes one, by its name;
-    /// 4 chooses the preloads, by their names, each with a byte 0 behind it.
+    /// The kind of change. Kind 1 installs a library, and kind 2 replaces one; the bytes are the
+    /// library's file. Kind 3 removes a library; the bytes are its name. Kind 4 sets the preloads;
+    /// the bytes are their names, each with a byte 0 after it.
     pub kind: u64,
-    /// The place in the buffer of bytes at which they begin.
+    /// The offset of the change's bytes in the buffer of bytes.
     pub from: u64,
-    /// How many there are.
+    /// The number of the change's bytes.
     pub length: u64,
 }
 
-/// The bytes at the place of a change, where it is in these.
+/// Returns the bytes of a change in `bytes`, or `None` if they don't lie within `bytes`.
 pub(crate) fn own_bytes<'a>(change: &ChangePlace, bytes: &'a [u8]) -> Option<&'a [u8]>
     ensures { MatchOption result (length bytes.now < change.now.from + change.now.length)
         (λ own. (change.now.from + change.now.length ≤ length bytes.now)

@@ -1,4 +1,4 @@
-// What is found of each library.
+// Tests each library, and reports the findings.
 ghost use Rattle.std.specs.Prelude.{◌≡◌, ◌-◌, ◌<◌, ◌≤◌, ◌^◌, ℕ, IfSome, IfNone, length};
 ghost use Rattle.std.specs.Prelude.{count_by, min, slice_index_or};
 ghost use Rattle.byte_disk.specs.ReadOnlyDisk.{read_only_facts};
@@ -22,7 +22,8 @@ use sector_disk::Disk;
 use std::alloc::Global;
 use store::Store;
 
-/// How many bytes the names of the libraries take, each with a byte 0 behind it.
+/// Returns the number of bytes of the libraries' names, each with a byte 0 after it, or 2^64 - 1 if
+/// the number is greater.
 fn names_bytes<D: Disk>(store: &Store<D>) -> u64
     ensures { (s : State) → IsAt D.facts store.now s
         → result ≡ min (length (library_names s.libraries)) (2 ^ 64 - 1) }
@@ -35,8 +36,8 @@ fn names_bytes<D: Disk>(store: &Store<D>) -> u64
     bytes
 }
 
-/// Puts what was found of the libraries into the two buffers, of which the first has room. Says how
-/// many bytes their names take; nothing where one couldn't be read, or its name has no room.
+/// Puts the findings of the libraries into the two buffers; the first of them has room. Returns the
+/// number of bytes of the names, or `None` if a library can't be read, or a name has no room.
 fn put_findings<D: Disk>(
     store: &Store<D>,
     found: &[Finding],
@@ -64,8 +65,8 @@ fn put_findings<D: Disk>(
     Some(at)
 }
 
-/// Looks at each library, and puts what is found into the two buffers, where they have room: where
-/// they haven't, no file is read.
+/// Tests each library, and puts the findings into the two buffers. If the buffers have no room,
+/// reads no file.
 fn look(
     alloc: Global,
     contents: &mut Contents<ReadOnlyDisk<'_>>,
@@ -98,7 +99,8 @@ fn look(
     }
 }
 
-/// Tells what is found of each library, or why that isn't told.
+/// Puts the finding of each library of the registry on `disk` into the buffers, or reports why it
+/// can't.
 pub fn check_on(
     alloc: Global,
     disk: &[u8],

@@ -1,4 +1,4 @@
-// The digest of a library's bytes.
+// Computes the digest of a library's bytes.
 ghost use Rattle.std.specs.Prelude.{◌≡◌, ◌≢◌};
 ghost use Rattle.c_answers.specs.Contents.{IsDigestAnswered};
 
@@ -10,7 +10,7 @@ use byte_registry::contents_of;
 use requests::Reply;
 use std::alloc::Global;
 
-/// Gives the SHA-256 of a library's bytes, or says why it isn't given.
+/// Puts the SHA-256 of the bytes of the library `name` into `digest`, or reports why it can't.
 pub fn digest_on(
     alloc: Global,
     disk: &[u8],

@@ -1,4 +1,4 @@
-// An entry of a listing in two buffers: what is known of it, and its name in a row of names.
+// Puts an entry of a listing into two buffers: one for its lengths, and one for its name.
 ghost use Rattle.std.specs.Prelude.{◌≡◌, ◌⊎◌, ◌+◌, ◌<◌, ◌≤◌, ◌-◌, ◌^◌, ◌++◌};
 ghost use Rattle.std.specs.Prelude.{◌∷◌, [], length, min, take};
 ghost use Rattle.std.specs.Prelude.{IfSome, IfNone};
@@ -7,19 +7,19 @@ ghost use Rattle.c_answers.specs.Listing.{place_of};
 use crate::put::put;
 use names::Name;
 
-/// A library or a preload that is listed.
+/// A library or a preload of a listing.
 #[repr(C)]
 #[derive(Clone, Copy)]
 pub struct EntryPlace {
-    /// The place in the buffer of names at which its name begins.
+    /// The offset of its name in the buffer of names.
     pub name: u64,
-    /// How many bytes its name has, without the byte 0 behind it.
+    /// The length of its name in bytes, without the byte 0 after it.
     pub name_length: u32,
-    /// How many bytes the file of a library has; of a preload 0.
+    /// The length of a library's file in bytes; 0 for a preload.
     pub file_length: u32,
 }
 
-/// What is known of an entry whose name begins here.
+/// Returns the place of an entry whose name is at the offset `at`.
 fn place_of(name: &Name, file_length: u32, at: usize) -> EntryPlace
     ensures { result ≡ place_of at (name.now, file_length) }
 {
@@ -30,14 +30,16 @@ fn place_of(name: &Name, file_length: u32, at: usize) -> EntryPlace
     }
 }
 
-/// How many bytes a name takes with the byte 0 behind it.
+/// Returns the number of bytes of a name with the byte 0 after it, or 2^64 - 1 if the number is
+/// greater.
 pub(crate) fn name_bytes(name: &Name) -> u64
     ensures { result ≡ min (length name.now + 1) (2 ^ 64 - 1) }
 {
     (name.as_bytes().len() as u64).saturating_add(1)
 }
 
-/// Puts a name with a byte 0 at a place of a buffer, where it has room. Says which place is behind.
+/// Puts a name and a byte 0 into a buffer at the offset `at`, if it has room. Returns the offset
+/// after them.
 pub(crate) fn put_name(name: &Name, at: usize, names: &mut [u8]) -> Option<usize>
     ensures end { IfSome result (λ end. end ≡ at + length name.now + 1) }
     ensures front { IfSome result (λ end. take end names.new
@@ -49,8 +51,8 @@ pub(crate) fn put_name(name: &Name, at: usize, names: &mut [u8]) -> Option<usize
     put(names, at, b"\0")
 }
 
-/// Puts an entry behind so many others into the two buffers, where they have room. Says where the
-/// next name goes.
+/// Puts entry number `index` into the two buffers, if they have room. Its name goes to the offset
+/// `at`. Returns the offset for the next name.
 pub(crate) fn put_entry(
     name: &Name,
     file_length: u32,

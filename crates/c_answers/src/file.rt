@@ -1,4 +1,4 @@
-// A library's bytes.
+// Returns a library's bytes.
 ghost use Rattle.std.specs.Prelude.{◌≡◌};
 ghost use Rattle.c_answers.specs.Contents.{refusal_of, IsFileAnswered};
 
@@ -11,7 +11,7 @@ use contents::Unread;
 use requests::{Refusal, Reply};
 use std::alloc::Global;
 
-/// Why a library's bytes aren't given, as a command is refused.
+/// Returns the reason why a library's bytes aren't returned, as the refusal of a command.
 pub(crate) fn refusal_of(unread: Unread) -> Refusal
     ensures { result ≡ refusal_of unread }
 {
@@ -22,7 +22,7 @@ pub(crate) fn refusal_of(unread: Unread) -> Refusal
     }
 }
 
-/// Gives a library's bytes, or says why they aren't given.
+/// Puts the bytes of the library `name` into the buffer, or reports why it can't.
 pub fn file_on(alloc: Global, disk: &[u8], name: &[u8], bytes: &mut [u8], text: &mut [u8]) -> Answer
     ensures { IsFileAnswered disk.now name.now bytes.new text.new result result.status }
 {

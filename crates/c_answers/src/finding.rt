@@ -1,4 +1,4 @@
-// What is found of a library, as a number and in a place of a buffer.
+// The finding of a library, as a number and as an entry of a buffer.
 ghost use Rattle.std.specs.Prelude.{◌≡◌, ◌<◌, ◌^◌, length, IfSome, IfNone};
 ghost use Rattle.contents.specs.declared.finding.Finding.{Finding};
 ghost use Rattle.c_answers.specs.Check.{HasNumber};
@@ -6,26 +6,26 @@ ghost use Rattle.c_answers.specs.Check.{HasNumber};
 use crate::status::file_number;
 use contents::Finding;
 
-/// The file is a library of its name.
+/// The number of the finding that the file is a library with its entry's name.
 const SOUND: u32 = 0;
 
-/// The file is a library of another name.
+/// The number of the finding that the file is a library with another name.
 const OTHER_NAME: u32 = 100;
 
-/// What is found of a library that was looked at.
+/// The finding of a library that was tested.
 #[repr(C)]
 #[derive(Clone, Copy)]
 pub struct FindingPlace {
-    /// The place in the buffer of names at which its name begins.
+    /// The offset of its name in the buffer of names.
     pub name: u64,
-    /// How many bytes its name has, without the byte 0 behind it.
+    /// The length of its name in bytes, without the byte 0 after it.
     pub name_length: u32,
-    /// 0 where its file is a library of its name; n where En is the first test that refuses the
-    /// file; 100 where it is a library of another name.
+    /// The finding: 0 if the file is a library with its entry's name; n if En is the first test
+    /// that refuses the file; 100 if the file is a library with another name.
     pub finding: u32,
 }
 
-/// The number of a finding; a library that can't be read has none.
+/// Returns the number of a finding, or `None` for a library that can't be read.
 pub(crate) fn finding_number(finding: Finding) -> Option<u32>
     ensures some { IfSome result (HasNumber finding) }
     ensures none { IfNone result (finding ≡ Finding.Unreadable) }
@@ -38,7 +38,7 @@ pub(crate) fn finding_number(finding: Finding) -> Option<u32>
     }
 }
 
-/// The place of a library whose name begins here, and of which this is found.
+/// Returns the place of a library with the finding `finding`, whose name is at the offset `at`.
 pub(crate) fn place_of(name: &[u8], finding: u32, at: usize) -> FindingPlace
     requires { length name.now < 2 ^ 32 }
     ensures { result ≡ record {

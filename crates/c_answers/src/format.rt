@@ -1,4 +1,4 @@
-// Making an empty registry: a plan.
+// Plans an empty registry.
 ghost use Rattle.c_answers.specs.Answers.{IsFormatAnswered, IsLeft};
 
 use crate::answer::Answer;
@@ -7,7 +7,7 @@ use crate::text::turn_away;
 use byte_registry::format;
 use std::alloc::Global;
 
-/// The plan, or why there is none.
+/// Puts the plan of an empty registry into the buffer, or reports why there is none.
 pub fn format_on(alloc: Global, disk: &[u8], plan: &mut [u8], text: &mut [u8]) -> Answer
     ensures answered { IsFormatAnswered disk.now plan.new text.new result result.status }
     ensures left { IsLeft plan.old plan.new result.status }

@@ -1,4 +1,4 @@
-// What is whole in one buffer: a file, or a text.
+// Puts a whole file or a whole text into one buffer.
 ghost use Rattle.std.specs.Prelude.{◌≡◌, ◌≢◌};
 ghost use Rattle.c_answers.specs.Contents.{IsGiven};
 
@@ -6,8 +6,8 @@ use crate::answer::Answer;
 use crate::put::put;
 use crate::status::NO_ROOM;
 
-/// Puts bytes into a buffer, and answers this status, and that so many things are counted. Where
-/// the buffer is too small it is left as it was, and the answer has what it needs.
+/// Puts the bytes `given` into a buffer, and returns an answer with `status` and `count`. If the
+/// buffer is too small, leaves it unchanged, and the answer has the size that it needs.
 pub(crate) fn give(status: u32, count: u64, given: &[u8], bytes: &mut [u8]) -> Answer
     ensures given { IsGiven status count given.now bytes.new result result.status }
     ensures left { result.status ≢ status → bytes.new ≡ bytes.old }

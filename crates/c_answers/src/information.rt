@@ -1,4 +1,4 @@
-// What is told of a registry as a whole.
+// The numbers of a whole registry.
 ghost use Rattle.std.specs.Prelude.{◌≡◌, ◌≢◌};
 ghost use Rattle.c_answers.specs.Contents.{information_of, IsInfoAnswered};
 
@@ -9,30 +9,30 @@ use byte_registry::contents_of;
 use contents::Info;
 use std::alloc::Global;
 
-/// What is told of a registry as a whole.
+/// The numbers of a whole registry.
 #[repr(C)]
 #[derive(Clone, Copy)]
 pub struct Information {
     /// The version of the disk's layout: 2.
     pub version: u64,
-    /// How many sectors the disk has.
+    /// The number of sectors of the disk.
     pub sectors: u64,
-    /// How many changes the registry has taken.
+    /// The number of changes that were made to the registry.
     pub generation: u64,
-    /// How many libraries are installed.
+    /// The number of libraries that are installed.
     pub libraries: u64,
-    /// How many preloads there are.
+    /// The number of preloads.
     pub preloads: u64,
-    /// How many sectors are unused.
+    /// The number of unused sectors.
     pub unused_sectors: u64,
-    /// In how many runs they are.
+    /// The number of runs of adjacent unused sectors.
     pub unused_runs: u64,
-    /// The greatest length in bytes of a file that an install of a new name would take now; 0 where
-    /// it would take none.
+    /// The length in bytes of the largest file that can be installed now under a new name, or 0 if
+    /// none can be installed.
     pub largest: u64,
 }
 
-/// What is told, for C.
+/// Returns the numbers of `info` in the form for C.
 fn information_of(info: Info) -> Information
     ensures { result ≡ information_of info }
 {
@@ -48,7 +48,7 @@ fn information_of(info: Info) -> Information
     }
 }
 
-/// Tells of the registry, or why there is none.
+/// Puts the numbers of the registry into `information`, or reports why there is no registry.
 pub fn info_on(alloc: Global, disk: &[u8], information: &mut Information, text: &mut [u8]) -> Answer
     ensures answered { IsInfoAnswered disk.now information.new text.new result result.status }
     ensures left { result.status ≢ 0 → information.new ≡ information.old }

@@ -1,4 +1,4 @@
-// A listing.
+// Lists the libraries and preloads.
 ghost use Rattle.std.specs.Prelude.{◌≡◌};
 ghost use Rattle.byte_registry.specs.Bytes.{HoldStore};
 ghost use Rattle.requests.specs.declared.reply.Reply.TheVariants as variant;
@@ -14,7 +14,7 @@ use byte_registry::{ask, generation_of};
 use requests::{Command, Listing, Reply};
 use std::alloc::Global;
 
-/// Gives a listing, which a reply is, and says it.
+/// If the reply has a listing, puts the listing into the buffers. Then reports the reply.
 fn give(
     alloc: Global,
     reply: &Reply,
@@ -38,7 +38,8 @@ fn give(
     }
 }
 
-/// Gives the listing that a reply on a disk is, and the generation, or says the reply.
+/// If the reply has a listing, puts the listing into the buffers, and the disk's generation into
+/// the answer. Otherwise reports the reply.
 fn tell_list(
     alloc: Global,
     disk: &[u8],
@@ -61,7 +62,8 @@ fn tell_list(
     }
 }
 
-/// Lists, and says how it ended.
+/// Puts the libraries and preloads of the registry on `disk` into the buffers, or reports why it
+/// can't.
 pub fn list_on(
     alloc: Global,
     disk: &[u8],

@@ -1,4 +1,5 @@
-// A listing in two buffers: what is known of each entry, and the names of all in a row.
+// Puts a listing into two buffers: one for the lengths of each entry, and one for the names of all
+// entries in a row.
 ghost use Rattle.std.specs.Prelude.{◌≡◌, ◌⊎◌, ◌+◌, ◌-◌, ◌<◌, ◌^◌, ◌++◌, length, min, take};
 ghost use Rattle.std.specs.Prelude.{IfSome, IfNone};
 ghost use Rattle.c_answers.specs.Listing.{entries_of, preload_entries, names_in_row, places_of};
@@ -10,7 +11,7 @@ use crate::status::{DONE, NO_ROOM};
 use names::Name;
 use requests::Listing;
 
-/// How many bytes the names of the libraries take.
+/// Returns the number of bytes of the libraries' names, or 2^64 - 1 if the number is greater.
 fn library_bytes(libraries: &[(Name, u32)]) -> u64
     ensures { result ≡ min (length (names_in_row libraries.now)) (2 ^ 64 - 1) }
 {
@@ -21,7 +22,7 @@ fn library_bytes(libraries: &[(Name, u32)]) -> u64
     bytes
 }
 
-/// How many bytes the names of the preloads take.
+/// Returns the number of bytes of the preloads' names, or 2^64 - 1 if the number is greater.
 fn preload_bytes(preloads: &[Name]) -> u64
     ensures { result
         ≡ min (length (names_in_row (preload_entries preloads.now))) (2 ^ 64 - 1) }
@@ -33,14 +34,15 @@ fn preload_bytes(preloads: &[Name]) -> u64
     bytes
 }
 
-/// How many bytes all names take.
+/// Returns the number of bytes of all names, or 2^64 - 1 if the number is greater.
 fn names_bytes(listing: &Listing) -> u64
     ensures { result ≡ min (length (names_in_row (entries_of listing.now))) (2 ^ 64 - 1) }
 {
     library_bytes(&listing.libraries).saturating_add(preload_bytes(&listing.preloads))
 }
 
-/// Puts the libraries into the two buffers, where they have room. Says where the next name goes.
+/// Puts the libraries into the two buffers, if they have room. Returns the offset for the next
+/// name.
 fn put_libraries(
     libraries: &[(Name, u32)],
     entries: &mut [EntryPlace],
@@ -61,8 +63,8 @@ fn put_libraries(
     Some(at)
 }
 
-/// Puts the preloads behind so many libraries, where they have room. Says which place is behind
-/// them.
+/// Puts the preloads after `libraries` libraries, if the buffers have room. Their names begin at
+/// the offset `from`. Returns the offset after the last name.
 fn put_preloads(
     preloads: &[Name],
     libraries: usize,
@@ -86,8 +88,8 @@ fn put_preloads(
     Some(at)
 }
 
-/// Puts the libraries, and behind them the preloads, where they have room. Says how many bytes
-/// their names take.
+/// Puts first the libraries and then the preloads into the buffers, if they have room. Returns the
+/// number of bytes of the names.
 fn put_entries(listing: &Listing, entries: &mut [EntryPlace], names: &mut [u8]) -> Option<usize>
     ensures end { IfSome result (λ end. end ≡ length (names_in_row (entries_of listing.now))) }
     ensures entries { IfSome result (λ _. take (length (entries_of listing.now)) entries.new
@@ -107,7 +109,8 @@ fn put_entries(listing: &Listing, entries: &mut [EntryPlace], names: &mut [u8]) 
     )
 }
 
-/// Puts a listing into the two buffers. Where one is too small the answer has what both need.
+/// Puts a listing into the two buffers. If one of them is too small, the answer has the sizes that
+/// both need.
 pub(crate) fn put_listing(listing: &Listing, entries: &mut [EntryPlace], names: &mut [u8]) -> Answer
     ensures { IsListingGiven listing.now entries.new names.new result result.status }
 {

@@ -1,34 +1,34 @@
-// Where an object of an image lies.
+// The place of an object of an image.
 ghost use Rattle.std.specs.Prelude.{◌≡◌};
 ghost use Rattle.c_answers.specs.Objects.{address_at, object_place};
 
 use image::ImageObject;
 
-/// Where an object of an image lies.
+/// The place of an object of an image.
 #[repr(C)]
 #[derive(Clone, Copy)]
 pub struct ObjectPlace {
-    /// What is added to the addresses of its file.
+    /// The number that is added to the addresses in the object's file.
     pub base: u64,
-    /// The place in the buffer of bytes at which its name begins.
+    /// The offset of the object's name in the buffer of bytes.
     pub name: u64,
-    /// How many bytes its name has, without the byte 0 behind it.
+    /// The length of the object's name in bytes, without the byte 0 after it.
     pub name_length: u64,
-    /// The number of its first segment in the image.
+    /// The number of the object's first segment in the image.
     pub first_segment: u64,
-    /// How many of the image's segments are its own.
+    /// The number of segments of the image that belong to the object.
     pub segments: u64,
-    /// The address of its program headers, or 0 where no segment has them.
+    /// The address of the object's program headers, or 0 if no segment has them.
     pub headers: u64,
-    /// How many program headers its file has.
+    /// The number of program headers in the object's file.
     pub header_count: u64,
-    /// The address of its dynamic section, or 0 where no segment has it.
+    /// The address of the object's dynamic section, or 0 if no segment has it.
     pub dynamic: u64,
-    /// Its base and `e_entry`, modulo 2^64.
+    /// The sum of the object's base and its file's `e_entry`, modulo 2^64.
     pub entry: u64,
 }
 
-/// An address of an object in memory; 0 where there is none.
+/// Returns the sum of `base` and `address` modulo 2^64, or 0 if there is no address.
 fn address_at(base: u64, address: Option<u64>) -> u64
     ensures { result ≡ address_at base address }
 {
@@ -38,7 +38,8 @@ fn address_at(base: u64, address: Option<u64>) -> u64
     }
 }
 
-/// The place of an object whose name and whose segments begin here.
+/// Returns the place of an object whose name is at the offset `name`, and whose first segment is
+/// number `first_segment` of the image.
 pub(crate) fn object_place(object: &ImageObject, name: usize, first_segment: usize) -> ObjectPlace
     ensures { result ≡ object_place name first_segment object.now }
 {

@@ -1,25 +1,25 @@
-// Where a segment lies.
+// The place of a segment.
 ghost use Rattle.std.specs.Prelude.{◌≡◌};
 ghost use Rattle.c_answers.specs.Buffers.{place_of};
 
 use bitflags::Flags;
 use image::Segment;
 
-/// Where a segment lies.
+/// The place of a segment.
 #[repr(C)]
 #[derive(Clone, Copy)]
 pub struct SegmentPlace {
-    /// Its first address.
+    /// The address of the segment's first byte.
     pub address: u64,
-    /// How many bytes it has.
+    /// The number of the segment's bytes.
     pub length: u64,
-    /// The place in the buffer of bytes at which they begin.
+    /// The offset of the segment's bytes in the buffer of bytes.
     pub from: u64,
-    /// 1 to execute, 2 to write, 4 to read, or a sum of these.
+    /// The permissions: the sum of 1 to execute, 2 to write and 4 to read.
     pub permissions: u64,
 }
 
-/// The place of a segment whose bytes begin here.
+/// Returns the place of a segment whose bytes are at the offset `from`.
 pub(crate) fn place_of(segment: &Segment, from: usize) -> SegmentPlace
     ensures { result ≡ place_of from segment.now }
 {

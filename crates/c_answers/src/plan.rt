@@ -1,4 +1,4 @@
-// A plan as bytes.
+// Encodes a plan as bytes.
 ghost use Rattle.std.specs.Prelude.{◌≡◌, ◌+◌, ◌-◌, ◌<◌, ◌≤◌, ◌^◌, ◌++◌, ◌∷◌};
 ghost use Rattle.std.specs.Prelude.{length, map, min, take};
 ghost use Rattle.std.specs.Prelude.{IfSome, IfNone};
@@ -16,10 +16,11 @@ use byte_registry::behind_sync;
 use requests::Reply;
 use std::alloc::Global;
 
-/// The number of a step that is a sync.
+/// The number that encodes a sync.
 const SYNC: u32 = u32::MAX;
 
-/// How many bytes a step takes: of each four, and of a write the sector.
+/// Returns the number of bytes that encode a step: 4 for the number, and for a write also those of
+/// the sector.
 fn step_bytes(step: &Step) -> u64
     ensures { result ≡ min (length (step_bytes step.now)) (2 ^ 64 - 1) }
 {
@@ -29,14 +30,15 @@ fn step_bytes(step: &Step) -> u64
     }
 }
 
-/// How many bytes there are.
+/// Returns the number of bytes as a `u64`.
 fn length_of(bytes: &[u8]) -> u64
     ensures { result ≡ length bytes.now }
 {
     bytes.len() as u64
 }
 
-/// How many bytes a plan takes: a sync, and these steps behind it.
+/// Returns the number of bytes that encode a plan, which is a sync followed by `steps`, or 2^64 - 1
+/// if the number is greater.
 fn plan_bytes(steps: &[PlannedStep]) -> u64
     ensures { result
         ≡ min (length (plan_bytes (Sync ∷ map (λ p. p.step) steps.now))) (2 ^ 64 - 1) }
@@ -48,7 +50,8 @@ fn plan_bytes(steps: &[PlannedStep]) -> u64
     bytes
 }
 
-/// Puts a step at a place of a buffer, where it has room. Says which place is behind it.
+/// Encodes a step in a buffer at the offset `at`, if it has room. Returns the offset after the
+/// step.
 fn put_step(step: &Step, at: usize, plan: &mut [u8]) -> Option<usize>
     ensures end { IfSome result (λ end. end ≡ at + length (step_bytes step.now)) }
     ensures front { IfSome result (λ end. take end plan.new
@@ -68,8 +71,8 @@ fn put_step(step: &Step, at: usize, plan: &mut [u8]) -> Option<usize>
     }
 }
 
-/// Puts a plan into a buffer, where it has room: a sync, and these steps behind it. Says how many
-/// bytes they are.
+/// Encodes a plan, which is a sync followed by `steps`, in a buffer, if it has room. Returns the
+/// number of bytes.
 fn put_steps(steps: &[PlannedStep], plan: &mut [u8]) -> Option<usize>
     ensures end { IfSome result (λ end.
         end ≡ length (plan_bytes (Sync ∷ map (λ p. p.step) steps.now))) }
@@ -85,8 +88,8 @@ fn put_steps(steps: &[PlannedStep], plan: &mut [u8]) -> Option<usize>
     Some(at)
 }
 
-/// Puts the plan of a change that was accepted into its buffer, and says so. Where the buffer is
-/// too small the answer has what it needs.
+/// Puts the plan of an accepted change into its buffer, and reports the reply Done. If the buffer
+/// is too small, the answer has the size that it needs.
 pub(crate) fn put_done(
     alloc: Global,
     disk: &ByteDisk<'_>,

@@ -1,4 +1,4 @@
-// A choice of the preloads: a plan.
+// Plans new preloads.
 ghost use Rattle.std.specs.Prelude.{◌≡◌, ◌==◌, ℕ, List, map, IfOk, MatchOption};
 ghost use Rattle.std.specs.List.{slice_split};
 ghost use Rattle.c_answers.specs.Answers.{IsLeft, IsPreloadAnswered};
@@ -11,7 +11,7 @@ use crate::text::tell_memory;
 use requests::Command;
 use std::alloc::{AllocError, Global};
 
-/// The parts between bytes 0.
+/// Returns the parts of `row` that the bytes 0 separate.
 fn parts_of(alloc: Global, row: &[u8]) -> Result<Vec<&[u8]>, AllocError>
     ensures { IfOk result (λ parts. map (λ part. part.now) parts.items
         ≡ slice_split (λ byte. byte == 0) row.now) }
@@ -19,7 +19,8 @@ fn parts_of(alloc: Global, row: &[u8]) -> Result<Vec<&[u8]>, AllocError>
     row.split(|byte| *byte == 0).collect(alloc)
 }
 
-/// The names that stand in bytes, each with a byte 0 behind it; none where the last has no 0.
+/// Returns the names in `bytes`, each of which has a byte 0 after it. Returns `None` if the last
+/// byte isn't 0.
 pub(crate) fn names_in(alloc: Global, bytes: &[u8]) -> Result<Option<Vec<&[u8]>>, AllocError>
     ensures { IfOk result (λ read. MatchOption read
         ((list : List (List ℕ)) → AreNames list bytes.now → ⊥)
@@ -34,7 +35,8 @@ pub(crate) fn names_in(alloc: Global, bytes: &[u8]) -> Result<Option<Vec<&[u8]>>
     Ok(Some(parts_of(alloc, row)?))
 }
 
-/// The plan of a choice of names in a row, or why it is refused.
+/// Plans new preloads, whose names are in a row in `names`: puts the plan into the buffer, or
+/// reports why the change is refused.
 pub fn plan_preloads(
     alloc: Global,
     disk: &[u8],

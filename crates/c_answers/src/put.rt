@@ -1,13 +1,13 @@
-// Bytes into a buffer.
+// Puts bytes into a buffer.
 ghost use Rattle.std.specs.Prelude.{◌≡◌, ◌+◌, ◌<◌, ◌≤◌, ◌++◌, take, length, IfSome, IfNone};
 ghost use Rattle.std.specs.Prelude.{replicate};
 
 use image::Memory;
 
-/// How many bytes are compared at once: those of a page.
+/// The number of bytes that are compared at once: the size of a page.
 const PAGE: usize = 4096;
 
-/// Puts bytes at a place of a buffer, where it has room. Says which place is behind them.
+/// Puts bytes into a buffer at the offset `at`, if it has room. Returns the offset after them.
 pub(crate) fn put(out: &mut [u8], at: usize, bytes: &[u8]) -> Option<usize>
     ensures end { IfSome result (λ end. end ≡ at + length bytes.now) }
     ensures inside { IfSome result (λ end. end ≤ length out.new) }
@@ -25,7 +25,7 @@ pub(crate) fn put(out: &mut [u8], at: usize, bytes: &[u8]) -> Option<usize>
     Some(end)
 }
 
-/// Puts bytes in the place of as many. What is there already isn't written.
+/// Writes `bytes` over a buffer of the same length, unless it has the same bytes already.
 fn put_over(out: &mut [u8], bytes: &[u8])
     requires { length out.old ≡ length bytes.now }
     ensures { out.new ≡ bytes.now }
@@ -35,7 +35,7 @@ fn put_over(out: &mut [u8], bytes: &[u8])
     }
 }
 
-/// Puts bytes over those at a place of a buffer.
+/// Writes `bytes` over those at the offset `at` of a buffer.
 fn put_at(out: &mut [u8], at: usize, bytes: &[u8])
     requires { at + length bytes.now ≤ length out.old }
     ensures front { take (at + length bytes.now) out.new ≡ take at out.old ++ bytes.now }
@@ -44,8 +44,8 @@ fn put_at(out: &mut [u8], at: usize, bytes: &[u8])
     put_over(&mut out[at..at + bytes.len()], bytes);
 }
 
-/// Makes zeros of all bytes. A page that is zeros isn't written: of what the system gives as zeros
-/// it takes no memory.
+/// Sets all bytes to 0. Doesn't write a page that has only zeros, so a page that the system
+/// provides as zeros needs no memory.
 fn clear(out: &mut [u8])
     ensures { out.new ≡ replicate (length out.old) 0 }
 {
@@ -57,7 +57,7 @@ fn clear(out: &mut [u8])
     }
 }
 
-/// Puts memory in the place of as many bytes.
+/// Writes the bytes of `memory` over a buffer of the same length.
 fn put_all(out: &mut [u8], memory: &Memory<'_>)
     requires { length out.old ≡ length memory.now }
     ensures { out.new ≡ memory.now }
@@ -68,8 +68,8 @@ fn put_all(out: &mut [u8], memory: &Memory<'_>)
     clear(zeros);
 }
 
-/// Puts the bytes of a segment at a place of a buffer, where it has room. Says which place is
-/// behind them.
+/// Puts the bytes of a segment into a buffer at the offset `at`, if it has room. Returns the offset
+/// after them.
 pub(crate) fn put_memory(out: &mut [u8], at: usize, memory: &Memory<'_>) -> Option<usize>
     ensures end { IfSome result (λ end. end ≡ at + length memory.now) }
     ensures inside { IfSome result (λ end. end ≤ length out.new) }

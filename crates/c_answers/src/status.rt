@@ -1,4 +1,4 @@
-// Statuses: 0, two of the library's own, and refusals by their numbers.
+// Statuses: 0, two statuses of the library's own, and the numbers of refusals.
 ghost use Rattle.std.specs.Prelude.{◌≡◌};
 ghost use Rattle.c_answers.specs.Numbers.{store_number, bind_number, refusal_number};
 ghost use Rattle.c_answers.specs.Numbers.{object_number, file_number, file_number_of};
@@ -9,25 +9,25 @@ use image::BindRefusal;
 use requests::Refusal;
 use store::StoreRefusal;
 
-/// Done.
+/// The call did its work.
 pub(crate) const DONE: u32 = 0;
 
 /// A buffer is too small.
 pub(crate) const NO_ROOM: u32 = 1;
 
-/// An argument isn't of its form.
+/// An argument doesn't have the form that the call needs.
 pub(crate) const BAD_ARGUMENT: u32 = 2;
 
 /// B3: a needed library isn't installed.
 pub(crate) const MISSING: u32 = 103;
 
-/// B5: a symbol is bound to nothing.
+/// B5: a symbol is undefined.
 pub(crate) const UNDEFINED: u32 = 105;
 
 /// S11: memory was refused.
 pub(crate) const OUT_OF_MEMORY: u32 = 311;
 
-/// The number of a refusal to open, to format or to upgrade: 300 and its own.
+/// Returns the status of a refusal to open, format or upgrade: 300 plus the refusal's number.
 pub(crate) fn store_status(refusal: StoreRefusal) -> u32
     ensures { result ≡ store_number refusal }
 {
@@ -47,7 +47,7 @@ pub(crate) fn store_status(refusal: StoreRefusal) -> u32
     }
 }
 
-/// The number of a refusal to bind: 100 and its own.
+/// Returns the status of a refused bind: 100 plus the refusal's number, or that of S11.
 fn bind_status(refusal: &BindRefusal) -> u32
     ensures { result ≡ bind_number refusal.now }
 {
@@ -61,7 +61,8 @@ fn bind_status(refusal: &BindRefusal) -> u32
     }
 }
 
-/// The number of a refusal: of a command 200 and its own, of a bind or a disk as above.
+/// Returns the status of a refusal. For a refusal of a command it is 200 plus the refusal's number;
+/// for one of a bind or a disk it is the number above.
 pub(crate) fn refusal_status(refusal: &Refusal) -> u32
     ensures { result ≡ refusal_number refusal.now }
 {
@@ -86,7 +87,7 @@ pub(crate) fn refusal_status(refusal: &Refusal) -> u32
     }
 }
 
-/// The number of the refusal of an object: n of En.
+/// Returns the number n of the test En that refuses an object.
 fn object_number(refusal: ObjectRefusal) -> u32
     ensures { result ≡ object_number refusal }
 {
@@ -125,7 +126,7 @@ fn object_number(refusal: ObjectRefusal) -> u32
     }
 }
 
-/// The number of the refusal of a file: n of En.
+/// Returns the number n of the test En that refuses a file.
 pub(crate) fn file_number(refusal: FileRefusal) -> u32
     ensures { result ≡ file_number refusal }
 {
@@ -136,7 +137,8 @@ pub(crate) fn file_number(refusal: FileRefusal) -> u32
     }
 }
 
-/// The number of the refusal of the file that a refusal tells of; 0 where it tells of none.
+/// Returns the number n of the test En that refuses a file, if that is the reason of `refusal`;
+/// otherwise 0.
 pub(crate) fn file_refusal_number(refusal: &Refusal) -> u32
     ensures { result ≡ file_number_of refusal.now }
 {

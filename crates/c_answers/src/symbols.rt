@@ -1,4 +1,4 @@
-// What the symbols of a program and its libraries are bound to.
+// Reports what the symbols of a program and its libraries are bound to.
 ghost use Rattle.std.specs.Prelude.{◌≡◌, ◌≢◌, IfOk, IfErr, None, true, if◌then◌else◌};
 ghost use Rattle.byte_disk.specs.ReadOnlyDisk.{read_only_facts};
 ghost use Rattle.bindings.specs.Bindings.{bindings_text};
@@ -28,21 +28,23 @@ use requests::{Refusal, Reply};
 use scope::{Library, Order};
 use std::alloc::Global;
 
-/// What is told of a program: the number of what a bind of it is refused by, and the text.
+/// A report about a program: its text, and the status of the bind's refusal, or 0 if the bind isn't
+/// refused.
 #[derive(Drop)]
 struct Told {
     number: u32,
     text: Vec<u8>,
 }
 
-/// The number of a text of what symbols are bound to, by whether each is bound to something.
+/// Returns the status of a report of bindings: 0 if each symbol is bound, and otherwise that of B5
+/// (Undefined).
 fn bound_status(bound: bool) -> u32
     ensures { result ≡ (if bound then 0 else 105) }
 {
     if bound { DONE } else { UNDEFINED }
 }
 
-/// What the symbols of objects in their places are bound to.
+/// Returns the report of what the symbols of placed objects are bound to.
 fn told_of_bindings(alloc: Global, bindings: &Bindings<'_>) -> Result<Told, Refusal>
     ensures number { IfOk result (λ told.
         told.number ≡ bound_number (undefined_refusal bindings.now)) }
@@ -59,7 +61,8 @@ fn told_of_bindings(alloc: Global, bindings: &Bindings<'_>) -> Result<Told, Refu
     }
 }
 
-/// The same of the objects of an order, the program at a base.
+/// Returns the report of what the symbols of an order's objects are bound to, with the program at
+/// the address `base`.
 fn told_of_order(alloc: Global, order: &Order<'_>, base: u64) -> Result<Told, Refusal>
     requires { is_good_base (file_at order.now 0) base ≡ true }
     ensures ok { IfOk result (λ told.
@@ -72,7 +75,8 @@ fn told_of_order(alloc: Global, order: &Order<'_>, base: u64) -> Result<Told, Re
     }
 }
 
-/// The same of a program and of all the libraries that it needs.
+/// Returns the report of what the symbols are bound to, for a program and all the libraries that it
+/// needs.
 fn told_of_whole(
     alloc: Global,
     program: &Admitted<'_>,
@@ -90,7 +94,7 @@ fn told_of_whole(
     }
 }
 
-/// What was found, and what is missing.
+/// Returns the report of which libraries were found and which are missing.
 fn told_of_dependencies(alloc: Global, dependencies: &Dependencies<'_>) -> Result<Told, Refusal>
     ensures number { IfOk result (λ told. told.number ≡ 103) }
     ensures text { IfOk result (λ told. told.text.items ≡ dependencies_text
@@ -108,7 +112,8 @@ fn told_of_dependencies(alloc: Global, dependencies: &Dependencies<'_>) -> Resul
     }
 }
 
-/// The same of a program that lacks libraries, and of those that it has.
+/// Returns the report of which libraries are missing, for a program and the libraries that were
+/// found for it.
 fn told_of_lacking(
     alloc: Global,
     program: &Admitted<'_>,
@@ -125,7 +130,7 @@ fn told_of_lacking(
     }
 }
 
-/// What is told of a program for which this was found.
+/// Returns the report about a program with the libraries in `found`.
 fn told_of_found(
     alloc: Global,
     program: &Admitted<'_>,
@@ -149,7 +154,7 @@ fn told_of_found(
     }
 }
 
-/// Finds the libraries of a program that is admitted, and gives what is told of it.
+/// Finds the libraries of an admitted program, and returns the report about it.
 fn told_of_admitted(
     registry: &mut Registry<ReadOnlyDisk<'_>>,
     alloc: Global,
@@ -168,7 +173,7 @@ fn told_of_admitted(
     }
 }
 
-/// What is told of a program at a base, or why nothing is.
+/// Returns the report about a program at the address `base`, or the reason why there is none.
 fn told_of_program(
     registry: &mut Registry<ReadOnlyDisk<'_>>,
     alloc: Global,
@@ -186,8 +191,9 @@ fn told_of_program(
     }
 }
 
-/// Gives what the symbols of a program and its libraries are bound to, or where libraries are
-/// missing what was found and what is missing; or says why neither is given.
+/// Puts into the buffer what the symbols of a program and its libraries are bound to. If libraries
+/// are missing, puts into it which were found and which are missing. If neither is possible,
+/// reports why.
 pub fn bindings_on(
     alloc: Global,
     disk: &[u8],

@@ -1,4 +1,4 @@
-// The text of what a call is answered: the line or the reply that the program prints.
+// The text of a call's answer, which is the line or the reply that the program prints.
 ghost use Rattle.std.specs.Prelude.{◌≡◌, ◌↔◌, IsTrue};
 ghost use Rattle.c_answers.specs.Answers.{HasText, WantsMemory, IsToldAlone, IsTurnedAway};
 ghost use Rattle.c_answers.specs.Numbers.{reply_number, file_number_in};
@@ -11,10 +11,11 @@ use requests::{Refusal, Reply};
 use std::alloc::Global;
 use store::StoreRefusal;
 
-/// The line of want of memory.
+/// The line for refused memory.
 const MEMORY_LINE: &[u8] = b"refused S11 OutOfMemory\n";
 
-/// Puts as much of a text into a buffer as has room there. Says how many bytes the whole has.
+/// Puts as many of the first bytes of `whole` into the buffer `text` as it has room for. Returns
+/// the length of `whole`.
 pub(crate) fn put_text(whole: &[u8], text: &mut [u8]) -> u64
     ensures { HasText whole.now text.new result }
 {
@@ -23,7 +24,7 @@ pub(crate) fn put_text(whole: &[u8], text: &mut [u8]) -> u64
     whole.len() as u64
 }
 
-/// Says that memory was refused. It takes none.
+/// Reports that memory was refused. Allocates nothing.
 pub(crate) fn tell_memory(text: &mut [u8]) -> Answer
     ensures told { WantsMemory text.new result.text result.file_refusal result.status }
     ensures uncounted { IsUncounted result }
@@ -34,7 +35,7 @@ pub(crate) fn tell_memory(text: &mut [u8]) -> Answer
     }
 }
 
-/// The status of a reply.
+/// Returns the status of a reply.
 fn reply_status(reply: &Reply) -> u32
     ensures { result ≡ reply_number reply.now }
 {
@@ -44,7 +45,8 @@ fn reply_status(reply: &Reply) -> u32
     }
 }
 
-/// The number of the refusal of a file in a reply; 0 where there is none.
+/// Returns the number n of the test En that refuses a file, if that is the reason of the reply's
+/// refusal; otherwise 0.
 fn reply_file_refusal(reply: &Reply) -> u32
     ensures { result ≡ file_number_in reply.now }
 {
@@ -54,15 +56,16 @@ fn reply_file_refusal(reply: &Reply) -> u32
     }
 }
 
-/// Whether a reply says that a call of the disk failed.
+/// Returns whether a reply is S1 (Device): a call of the disk failed.
 fn is_failure(reply: &Reply) -> bool
     ensures { IsTrue result ↔ (reply.now ≡ Reply.Refused Refusal.Device) }
 {
     matches!(reply, Reply::Refused(Refusal::Device))
 }
 
-/// Says what a command was answered. Where memory for the text is refused, or was for a step on a
-/// disk of bytes, whose calls fail for nothing else, that is the answer.
+/// Reports the reply to a command. If memory for the text is refused, or if a call of the disk
+/// failed, reports that memory was refused. A call of a disk of bytes fails only for lack of
+/// memory.
 pub(crate) fn tell(alloc: Global, reply: &Reply, text: &mut [u8]) -> Answer
     ensures { IsToldAlone reply.now text.new result result.status }
 {
@@ -80,14 +83,15 @@ pub(crate) fn tell(alloc: Global, reply: &Reply, text: &mut [u8]) -> Answer
     }
 }
 
-/// Whether a call of the disk failed.
+/// Returns whether a refusal is S1 (Device): a call of the disk failed.
 fn is_device(refusal: StoreRefusal) -> bool
     ensures { IsTrue result ↔ (refusal ≡ StoreRefusal.Device) }
 {
     matches!(refusal, StoreRefusal::Device)
 }
 
-/// Says why there is no registry on a disk of bytes: want of memory, where a call of it failed.
+/// Reports why there is no registry on a disk of bytes. If a call of the disk failed, reports that
+/// memory was refused.
 pub(crate) fn turn_away(alloc: Global, refusal: StoreRefusal, text: &mut [u8]) -> Answer
     ensures { IsTurnedAway refusal text.new result result.status }
 {

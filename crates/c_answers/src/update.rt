@@ -1,4 +1,4 @@
-// An update: several changes, one plan.
+// Plans an update: several changes in one plan.
 ghost use Rattle.std.specs.Prelude.{map};
 ghost use Rattle.requests.specs.Request.{request_of};
 ghost use Rattle.c_answers.specs.Answers.{IsLeft};
@@ -18,7 +18,8 @@ use byte_registry::ask_update;
 use requests::{Command, Refusal, Reply};
 use std::alloc::Global;
 
-/// Says which change is refused, and why.
+/// Reports which change is refused, and why. `before` is the number of changes before the refused
+/// one.
 fn tell_refusal(alloc: Global, before: usize, refusal: Refusal, text: &mut [u8]) -> Answer
     ensures { IsRefusedTold before refusal text.new result result.status }
 {
@@ -29,7 +30,8 @@ fn tell_refusal(alloc: Global, before: usize, refusal: Refusal, text: &mut [u8])
     }
 }
 
-/// Says what an update was answered, and gives its plan where that is Ok.
+/// Reports the answer to an update. If the answer is `Ok`, also puts the plan of the update into
+/// the buffer.
 fn tell_update(
     alloc: Global,
     made: Result<(), (usize, Refusal)>,
@@ -46,7 +48,7 @@ fn tell_update(
     }
 }
 
-/// The plan of an update of commands, or why it is refused.
+/// Plans an update with the changes `commands`, or reports why it is refused.
 fn plan_commands(
     alloc: Global,
     disk: &[u8],
@@ -64,7 +66,7 @@ fn plan_commands(
     }
 }
 
-/// The plan of an update of changes that were read, or why it is refused.
+/// Plans an update with the changes `asked`, which were read, or reports why it is refused.
 fn plan_asked(
     alloc: Global,
     disk: &[u8],
@@ -82,8 +84,8 @@ fn plan_asked(
     }
 }
 
-/// The plan of an update of these changes, whose bytes stand in a buffer, or which of them is
-/// refused, and why. Where one means nothing, nothing is asked.
+/// Plans an update with `changes`, whose bytes are in the buffer `bytes`, or reports which of them
+/// is refused, and why. If one of them isn't valid, no change is tested.
 pub fn plan_update(
     alloc: Global,
     disk: &[u8],

@@ -1,4 +1,4 @@
-// Making a disk of version 1 one of version 2: a plan.
+// Plans an upgrade of a disk from version 1 to version 2.
 ghost use Rattle.c_answers.specs.Answers.{IsLeft, IsUpgradeAnswered};
 
 use crate::answer::Answer;
@@ -7,7 +7,7 @@ use crate::text::turn_away;
 use byte_registry::upgrade;
 use std::alloc::Global;
 
-/// The plan, or why there is none.
+/// Puts the plan of an upgrade into the buffer, or reports why the disk can't be upgraded.
 pub fn upgrade_on(alloc: Global, disk: &[u8], plan: &mut [u8], text: &mut [u8]) -> Answer
     ensures answered { IsUpgradeAnswered disk.now plan.new text.new result result.status }
     ensures left { IsLeft plan.old plan.new result.status }

@@ -1,10 +1,10 @@
-// The answer of a case.
+// The answer to a case.
 
 use crate::file::changed_file;
 use anyhow::Result;
 
-/// Whether bytes are the answer that is wanted: `file FILE`, the bytes of a file; `nothing`; else
-/// a line.
+/// Returns whether `answer` is the expected one. `wanted` is `file FILE` for the bytes of a file,
+/// `nothing` for no bytes, or else a line.
 pub(crate) fn is_wanted(rt: &HostRuntime, answer: &[u8], wanted: &str) -> Result<bool> {
     if let Some(file) = wanted.strip_prefix("file ") {
         return Ok(answer == changed_file(rt, file)?.as_slice());

@@ -1,4 +1,4 @@
-// A program that is bound with libraries.
+// Binding a program with libraries.
 
 use crate::file::changed_file;
 use crate::number::{first_number, last_number};
@@ -12,18 +12,18 @@ use scope::Library;
 use std::alloc::Global;
 use std::io::Write;
 
-/// What is told of an image.
+/// The part of an image that a case asks for.
 #[derive(Clone, Copy)]
 pub(crate) enum Told {
     /// Its whole text.
     Text,
-    /// The bases and the names of its objects in one line.
+    /// The bases and the names of its objects, in one line.
     Order,
-    /// The eight bytes that it has from an address on, as a number, or `none`.
+    /// The number in the eight bytes at an address, or `none`.
     Word(u64),
 }
 
-/// Puts what stands behind `object` in the lines of a text into one line.
+/// Puts all that follows `object` in the lines of objects of an image's text, in one line.
 fn put_objects(text: &mut Vec<u8>, whole: &[u8]) -> Result<()> {
     text.extend_from_slice(b"objects")?;
     for line in whole.split(|byte| *byte == b'\n') {
@@ -35,7 +35,7 @@ fn put_objects(text: &mut Vec<u8>, whole: &[u8]) -> Result<()> {
     Ok(())
 }
 
-/// The eight bytes at an address as a number, where there are eight.
+/// Returns the number in the eight bytes at `address`, if the image has all eight.
 fn word_at(image: &Image, address: u64) -> Option<u64> {
     let mut word = [0; 8];
     for (i, byte) in word.iter_mut().enumerate() {
@@ -44,7 +44,7 @@ fn word_at(image: &Image, address: u64) -> Option<u64> {
     Some(u64::from_le_bytes(word))
 }
 
-/// Puts the bases and the names of the objects of an image in one line.
+/// Puts the bases and the names of an image's objects, in one line.
 fn put_order(alloc: Global, text: &mut Vec<u8>, image: &Image) -> Result<()> {
     let mut whole = Vec::new(alloc);
     image.write_text(&mut whole)?;
@@ -60,7 +60,7 @@ fn put_number(text: &mut Vec<u8>, word: Option<u64>) -> Result<()> {
     Ok(())
 }
 
-/// Puts what is told of an image.
+/// Puts the part of an image that a case asks for.
 fn put_image(alloc: Global, text: &mut Vec<u8>, image: &Image, told: Told) -> Result<()> {
     match told {
         Told::Text => Ok(image.write_text(text)?),
@@ -69,7 +69,8 @@ fn put_image(alloc: Global, text: &mut Vec<u8>, image: &Image, told: Told) -> Re
     }
 }
 
-/// Binds a program with libraries, and puts what is told of its image, or the refusal.
+/// Binds a program with libraries, and puts the part of its image that the case asks for, or the
+/// refusal.
 fn put_bound(
     alloc: Global,
     text: &mut Vec<u8>,
@@ -91,7 +92,7 @@ fn put_bound(
     }
 }
 
-/// Binds a program with the libraries in these files, of which those of these names are preloads.
+/// Binds a program with the libraries in `files`. `names` has the names of the preloads among them.
 fn put_with_files(
     alloc: Global,
     text: &mut Vec<u8>,
@@ -105,8 +106,8 @@ fn put_with_files(
     put_bound(alloc, text, program, &libraries, &preloads, told)
 }
 
-/// Binds the program `FILE BASE [preload NAME ..] [+ LIBRARY] ..`, and puts what is told of its
-/// image, or the refusal.
+/// Binds the program of `FILE BASE [preload NAME ..] [+ LIBRARY] ..`, and puts the part of its
+/// image that the case asks for, or the refusal.
 pub(crate) fn put_bind(
     rt: &HostRuntime,
     text: &mut Vec<u8>,
@@ -121,8 +122,8 @@ pub(crate) fn put_bind(
     put_with_files(rt.alloc(), text, (&bytes, base), &files, names, told)
 }
 
-/// `word ADDRESS FILE BASE ..`: the eight bytes that this image has from an address on, as a
-/// number, or `none`, or the refusal.
+/// Answers `word ADDRESS FILE BASE ..`: puts the number in the eight bytes of the image at an
+/// address, or `none`, or the refusal.
 pub(crate) fn put_word(rt: &HostRuntime, text: &mut Vec<u8>, words: &str) -> Result<()> {
     let (address, words) = first_number(words)?;
     put_bind(rt, text, words, Told::Word(address))

@@ -1,4 +1,4 @@
-// A case: a call, and its answer.
+// A case: a call and its expected answer.
 
 use crate::answer::is_wanted;
 use crate::bind::{Told, put_bind, put_word};
@@ -14,14 +14,14 @@ use image::bind_alone;
 use std::alloc::Global;
 use std::io::Write;
 
-/// `image FILE BASE`: the text of the image of a file, or of its refusal.
+/// Answers `image FILE BASE`: puts the text of the image of a file, or the line of its refusal.
 fn put_image(rt: &HostRuntime, text: &mut Vec<u8>, words: &str) -> Result<()> {
     let (file, base) = last_number(words)?;
     run_image(rt.alloc(), &changed_file(rt, file)?, base, text)?;
     Ok(())
 }
 
-/// The byte that the image of a file has at an address.
+/// Returns the byte of the image of a file at `address`, if it has one there.
 fn byte_of(alloc: Global, bytes: &[u8], base: u64, address: u64) -> Result<Option<u8>> {
     match bind_alone(alloc, bytes, base) {
         Ok(image) => Ok(image.byte(address)),
@@ -29,7 +29,7 @@ fn byte_of(alloc: Global, bytes: &[u8], base: u64, address: u64) -> Result<Optio
     }
 }
 
-/// Puts a byte in two digits, or `none`.
+/// Puts a byte in two hexadecimal digits, or `none`.
 fn put_digits(text: &mut Vec<u8>, byte: Option<u8>) -> Result<()> {
     match byte {
         Some(byte) => writeln!(text, "{byte:02x}")?,
@@ -38,8 +38,8 @@ fn put_digits(text: &mut Vec<u8>, byte: Option<u8>) -> Result<()> {
     Ok(())
 }
 
-/// `byte FILE BASE ADDRESS`: the byte that the image of a file has at an address, in two digits, or
-/// `none`.
+/// Answers `byte FILE BASE ADDRESS`: puts the byte of the image of a file at an address in two
+/// hexadecimal digits, or `none`.
 fn put_byte(rt: &HostRuntime, text: &mut Vec<u8>, words: &str) -> Result<()> {
     let (place, address) = last_number(words)?;
     let (file, base) = last_number(place)?;
@@ -47,7 +47,7 @@ fn put_byte(rt: &HostRuntime, text: &mut Vec<u8>, words: &str) -> Result<()> {
     put_digits(text, byte)
 }
 
-/// Puts what a call gives, which is a name with words behind it.
+/// Puts the answer to a call. The call is a name followed by words.
 fn put_answer(rt: &HostRuntime, text: &mut Vec<u8>, call: &str) -> Result<()> {
     let (name, words) = call.split_once(' ').context("a call without words")?;
     match name {
@@ -65,7 +65,7 @@ fn put_answer(rt: &HostRuntime, text: &mut Vec<u8>, call: &str) -> Result<()> {
     }
 }
 
-/// Whether a call gives an answer.
+/// Returns whether a call has the answer `wanted`.
 fn gives(rt: &HostRuntime, call: &str, wanted: &str) -> Result<bool> {
     if let Some(words) = call.strip_prefix("script ") {
         return runs_so(rt, words, wanted);
@@ -81,8 +81,8 @@ fn gives(rt: &HostRuntime, call: &str, wanted: &str) -> Result<bool> {
     is_wanted(rt, &text, wanted)
 }
 
-/// Whether a case stands: `CALL => ANSWER`, or `CALL =/> ANSWER` where the call gives another
-/// answer.
+/// Returns whether a case is right. It is `CALL => ANSWER`, or `CALL =/> ANSWER` if the call has to
+/// have another answer.
 pub(crate) fn stands(rt: &HostRuntime, case: &str) -> Result<bool> {
     if let Some((call, wanted)) = case.split_once(" => ") {
         return gives(rt, call, wanted);

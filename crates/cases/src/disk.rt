@@ -1,14 +1,14 @@
-// A command line over a disk: how it ends, and what the disk is after it.
+// Command lines over a disk: their output and status, and the disk afterwards.
 
 use crate::file::changed_file;
 use crate::words::{Program, ends_so};
 use anyhow::{Context, Result};
 use std::fs;
 
-/// The file that is the disk.
+/// The name of the file that is the disk.
 const DISK: &str = "disk";
 
-/// The disk that words say: `none` where there is none, else a file with its changes.
+/// Returns the disk that `words` describe: none for `none`, or else a file with its changes.
 fn disk_of(rt: &HostRuntime, words: &str) -> Result<Option<Vec<u8>>> {
     if words == "none" {
         return Ok(None);
@@ -16,7 +16,7 @@ fn disk_of(rt: &HostRuntime, words: &str) -> Result<Option<Vec<u8>>> {
     Ok(Some(changed_file(rt, words)?))
 }
 
-/// Takes the disk away, where there is one.
+/// Removes the disk, and returns its bytes, if there is one.
 fn take_disk(rt: &HostRuntime) -> Result<Option<Vec<u8>>> {
     if !fs::exists(rt, DISK)? {
         return Ok(None);
@@ -26,7 +26,7 @@ fn take_disk(rt: &HostRuntime) -> Result<Option<Vec<u8>>> {
     Ok(Some(bytes))
 }
 
-/// Puts this disk in the place of the one that is there.
+/// Replaces the disk with the one that `words` describe.
 fn put_disk(rt: &HostRuntime, words: &str) -> Result<()> {
     take_disk(rt)?;
     if let Some(bytes) = disk_of(rt, words)? {
@@ -35,7 +35,8 @@ fn put_disk(rt: &HostRuntime, words: &str) -> Result<()> {
     Ok(())
 }
 
-/// Whether `WORD .. [< INPUT]` ends as it is wanted. Without INPUT the input is empty.
+/// Returns whether the command line `WORD .. [< INPUT]` ends with the status and the output that
+/// `wanted` describes. Without INPUT the input is empty.
 fn runs_to(rt: &HostRuntime, program: Program, words: &str, wanted: &str) -> Result<bool> {
     match words.split_once(" < ") {
         Some((words, file)) => ends_so(rt, program, words, &changed_file(rt, file)?, wanted),
@@ -43,7 +44,8 @@ fn runs_to(rt: &HostRuntime, program: Program, words: &str, wanted: &str) -> Res
     }
 }
 
-/// What stands before `run` or `tool`, the program that this names, and its words.
+/// Splits words at `run` or `tool`. Returns the words before it, the program that it means, and the
+/// words of the program.
 fn split_words(words: &str) -> Option<(&str, Program, &str)> {
     if let Some((before, words)) = words.split_once(" run") {
         return Some((before, Program::Registry, words));
@@ -52,7 +54,8 @@ fn split_words(words: &str) -> Option<(&str, Program, &str)> {
     Some((before, Program::Tool, words))
 }
 
-/// The disk that is wanted: `same` is the one before, with the changes behind it.
+/// Returns the disk that has to be left. The word `same` means the disk before the command, with
+/// the changes that follow the word.
 fn wanted_disk(rt: &HostRuntime, before: &str, after: &str) -> Result<Option<Vec<u8>>> {
     match after.strip_prefix("same") {
         Some(changes) => disk_of(rt, &format!(in rt.alloc(); "{before}{changes}")?),
@@ -60,16 +63,17 @@ fn wanted_disk(rt: &HostRuntime, before: &str, after: &str) -> Result<Option<Vec
     }
 }
 
-/// Takes the disk away, and tells whether it was the one that is wanted.
+/// Removes the disk, and returns whether it was the expected one.
 fn is_left(rt: &HostRuntime, before: &str, after: &str) -> Result<bool> {
     let left = take_disk(rt)?;
     let wanted = wanted_disk(rt, before, after)?;
     Ok(left == wanted)
 }
 
-/// Whether a command line ends as it is wanted and leaves the disk so: `BEFORE run WORD ..
-/// [< INPUT]`, of `rlibreg-tool` with `tool` for `run`, wanted as `STATUS ANSWER then AFTER`. The
-/// file `disk` is the disk.
+/// Returns whether a command line ends as `wanted` says, and leaves the disk that `wanted`
+/// describes. `words` is `BEFORE run WORD .. [< INPUT]`; with `tool` in place of `run` it is a
+/// command line of `rlibreg-tool`. `wanted` is `STATUS ANSWER then AFTER`. The file `disk` is the
+/// disk.
 pub(crate) fn leaves_so(rt: &HostRuntime, words: &str, wanted: &str) -> Result<bool> {
     let (before, program, words) = split_words(words).context("a disk without words")?;
     let (ending, after) = wanted.rsplit_once(" then ").context("no disk after it")?;

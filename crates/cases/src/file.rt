@@ -1,26 +1,28 @@
-// The file of a case: one of the folder, spelt, or made as a text says, with what is changed in it.
+// The file of a case, and the changes to it. It is a file of the folder, or its bytes are written
+// in digits, or a text describes it.
 
 use crate::number::parse_number;
 use anyhow::{Context, Result, bail};
 use std::alloc::Global;
 use std::fs;
 
-/// The bytes that digits spell.
+/// Returns the bytes that the hexadecimal digits `digits` encode.
 pub(crate) fn spelt(alloc: Global, digits: &str) -> Result<Vec<u8>> {
     Ok(hex::decode(alloc, digits)?)
 }
 
-/// The bytes of a file of the folder.
+/// Returns the bytes of the file `name` of the folder.
 fn file_bytes(rt: &HostRuntime, name: &str) -> Result<Vec<u8>> {
     fs::read(rt, name).context(format_args!("the file {name}"))
 }
 
-/// The text of a file of the folder; it is said what the file is, where it can't be read.
+/// Returns the text of the file `name` of the folder. If it can't be read, the error has its name,
+/// and says `what` it is.
 pub(crate) fn text_of_file(rt: &HostRuntime, what: &str, name: &str) -> Result<String> {
     fs::read_to_string(rt, name).context(format_args!("{what} {name}"))
 }
 
-/// Writes bytes over those of a file.
+/// Writes `new` over the bytes of a file at offset `at`.
 fn put(bytes: &mut [u8], at: usize, new: &[u8]) -> Result<()> {
     for (i, byte) in new.iter().enumerate() {
         match bytes.get_mut(at.saturating_add(i)) {
@@ -31,7 +33,8 @@ fn put(bytes: &mut [u8], at: usize, new: &[u8]) -> Result<()> {
     Ok(())
 }
 
-/// Bytes that are spelt, or behind `@` those of a file of the folder.
+/// Returns the bytes that `value` encodes in digits, or, if it begins with `@`, the bytes of the
+/// file of the folder with the name after it.
 fn new_bytes(rt: &HostRuntime, value: &str) -> Result<Vec<u8>> {
     match value.strip_prefix('@') {
         Some(name) => file_bytes(rt, name),
@@ -39,7 +42,8 @@ fn new_bytes(rt: &HostRuntime, value: &str) -> Result<Vec<u8>> {
     }
 }
 
-/// Makes a change: `cut=LENGTH`, `pad=LENGTH` with zeros, `OFFSET=BYTES` or `OFFSET=@NAME`.
+/// Makes one change to a file: `cut=LENGTH`, `pad=LENGTH` with zeros, `OFFSET=BYTES` or
+/// `OFFSET=@NAME`.
 fn change(rt: &HostRuntime, bytes: &mut Vec<u8>, what: &str, value: &str) -> Result<()> {
     match what {
         "cut" => bytes.truncate(parse_number(value)? as usize),
@@ -49,7 +53,7 @@ fn change(rt: &HostRuntime, bytes: &mut Vec<u8>, what: &str, value: &str) -> Res
     Ok(())
 }
 
-/// A file of the folder, or the bytes that `bytes=BYTES` spells.
+/// Returns the bytes of a file of the folder, or the bytes that BYTES of `bytes=BYTES` encodes.
 fn plain_bytes(rt: &HostRuntime, name: &str) -> Result<Vec<u8>> {
     match name.strip_prefix("bytes=") {
         Some(digits) => spelt(rt.alloc(), digits),
@@ -57,7 +61,7 @@ fn plain_bytes(rt: &HostRuntime, name: &str) -> Result<Vec<u8>> {
     }
 }
 
-/// Bytes with the changes that words say, from left to right.
+/// Makes the changes that words describe, from left to right.
 fn with_changes(rt: &HostRuntime, bytes: Vec<u8>, changes: &str) -> Result<Vec<u8>> {
     let mut bytes = bytes;
     for word in changes.split_whitespace() {
@@ -69,16 +73,16 @@ fn with_changes(rt: &HostRuntime, bytes: Vec<u8>, changes: &str) -> Result<Vec<u
     Ok(bytes)
 }
 
-/// The bytes that a text says: its first line is a file of the folder or spelt, with changes, and
-/// each other line has changes.
+/// Returns the bytes that a text describes. Its first line has the name or the bytes of a file,
+/// followed by changes. All other lines have changes.
 fn made_bytes(rt: &HostRuntime, name: &str) -> Result<Vec<u8>> {
     let text = text_of_file(rt, "the text", name)?;
     let (first, changes) = text.split_once(' ').context("a text without changes")?;
     with_changes(rt, plain_bytes(rt, first)?, changes)
 }
 
-/// The bytes of a file before its changes: those that the text NAME of `made=NAME` says, or those
-/// of a file of the folder, or spelt ones.
+/// Returns the bytes of a file before its changes. For `made=NAME`, these are the bytes that the
+/// text NAME describes. Otherwise they are those of a file of the folder, or are written in digits.
 fn first_bytes(rt: &HostRuntime, name: &str) -> Result<Vec<u8>> {
     match name.strip_prefix("made=") {
         Some(text) => made_bytes(rt, text),
@@ -86,7 +90,7 @@ fn first_bytes(rt: &HostRuntime, name: &str) -> Result<Vec<u8>> {
     }
 }
 
-/// The bytes of a file after the changes that the words say.
+/// Returns the bytes of a file after its changes. `words` has the file, followed by the changes.
 pub(crate) fn changed_file(rt: &HostRuntime, words: &str) -> Result<Vec<u8>> {
     let (name, changes) = words.split_once(' ').unwrap_or((words, ""));
     with_changes(rt, first_bytes(rt, name)?, changes)

@@ -1,4 +1,4 @@
-// A file as an object that others may use: its admission, its name and its exports.
+// A file as an object that other objects may use: its admission, its name, and its exports.
 
 use crate::file::{changed_file, spelt};
 use crate::view::{put_named, put_view};
@@ -8,20 +8,20 @@ use program_parts::write_file_refusal;
 use std::alloc::Global;
 use std::io::Write;
 
-/// What is told of an admitted file.
+/// The question of a case about an admitted file.
 #[derive(Clone, Copy)]
 pub(crate) enum Seen<'a> {
-    /// That it is admitted.
+    /// Whether it is admitted.
     Admission,
     /// Its name as a library.
     Name,
-    /// What a reader sees of it.
+    /// Its names and symbols, as calls of the library report them.
     View,
-    /// The symbol that is exported under this name, and how many names a search compares.
+    /// The symbol that is exported under this name, and the number of names that a search compares.
     Export(&'a [u8]),
 }
 
-/// Puts the line of the refusal of a file.
+/// Puts the line of a file's refusal.
 fn put_refused(text: &mut Vec<u8>, refusal: FileRefusal) -> Result<()> {
     text.extend_from_slice(b"refused ")?;
     write_file_refusal(text, refusal)?;
@@ -29,7 +29,7 @@ fn put_refused(text: &mut Vec<u8>, refusal: FileRefusal) -> Result<()> {
     Ok(())
 }
 
-/// Puts the name of a library, or its refusal as a library.
+/// Puts the name of a library, or its refusal if it has no name that a library may have.
 fn put_library(text: &mut Vec<u8>, object: &Admitted) -> Result<()> {
     match object.library_name() {
         Ok(name) => put_named(text, b"library ", name),
@@ -37,7 +37,8 @@ fn put_library(text: &mut Vec<u8>, object: &Admitted) -> Result<()> {
     }
 }
 
-/// Puts the symbol that is exported under a name, and how many names a search compares.
+/// Puts the symbol that `object` exports under `name`, and the number of names that a search
+/// compares.
 fn put_export(text: &mut Vec<u8>, object: &Admitted, name: &[u8]) -> Result<()> {
     let found = object.find_hashed(name, elf_hash(name));
     if object.find(name) != found.symbol {
@@ -51,7 +52,7 @@ fn put_export(text: &mut Vec<u8>, object: &Admitted, name: &[u8]) -> Result<()> 
     Ok(())
 }
 
-/// Puts what is told of an admitted file.
+/// Puts the answer to the question `seen` about an admitted file.
 fn put_seen(text: &mut Vec<u8>, object: &Admitted, seen: Seen<'_>) -> Result<()> {
     match seen {
         Seen::Admission => Ok(text.extend_from_slice(b"admitted\n")?),
@@ -61,7 +62,7 @@ fn put_seen(text: &mut Vec<u8>, object: &Admitted, seen: Seen<'_>) -> Result<()>
     }
 }
 
-/// Puts what is told of a file that is admitted, or its refusal.
+/// Puts the answer to the question about the file in `words`, or the line of its refusal.
 pub(crate) fn put_file(
     rt: &HostRuntime,
     text: &mut Vec<u8>,
@@ -76,7 +77,7 @@ pub(crate) fn put_file(
     }
 }
 
-/// The bytes of a name: a word, or `bytes=BYTES`.
+/// Returns the bytes of a name. It is written as a word, or as `bytes=BYTES`.
 pub(crate) fn name_bytes(alloc: Global, word: &str) -> Result<Vec<u8>> {
     match word.strip_prefix("bytes=") {
         Some(digits) => spelt(alloc, digits),
@@ -84,15 +85,15 @@ pub(crate) fn name_bytes(alloc: Global, word: &str) -> Result<Vec<u8>> {
     }
 }
 
-/// `find FILE NAME`: the symbol that is exported under a name, and how many names a search
-/// compares.
+/// Answers `find FILE NAME`: puts the symbol that the file exports under a name, and the number of
+/// names that a search compares.
 pub(crate) fn put_find(rt: &HostRuntime, text: &mut Vec<u8>, words: &str) -> Result<()> {
     let (file, word) = words.rsplit_once(' ').context("a search without a name")?;
     let name = name_bytes(rt.alloc(), word)?;
     put_file(rt, text, file, Seen::Export(&name))
 }
 
-/// `hash NAME`: the hash of a name.
+/// Answers `hash NAME`: puts the hash of a name.
 pub(crate) fn put_hash(alloc: Global, text: &mut Vec<u8>, word: &str) -> Result<()> {
     let hash = elf_hash(&name_bytes(alloc, word)?);
     writeln!(text, "{hash:#x}")?;

@@ -5,14 +5,14 @@ use crate::file::text_of_file;
 use crate::number::parse_number;
 use anyhow::{Context, Result};
 
-/// How many cases were run, and how many of them differ.
+/// The number of cases that were run, and the number of cases with another answer than expected.
 #[derive(Default, Drop)]
 pub(crate) struct Tally {
     pub(crate) count: u64,
     pub(crate) differ: u64,
 }
 
-/// Runs a case, and prints it where it differs.
+/// Runs a case, and prints it if its answer isn't the expected one.
 fn run_case(rt: &HostRuntime, list: &str, case: &str, tally: &mut Tally) -> Result<()> {
     tally.count = tally.count.saturating_add(1);
     match stands(rt, case) {
@@ -26,7 +26,8 @@ fn run_case(rt: &HostRuntime, list: &str, case: &str, tally: &mut Tally) -> Resu
     }
 }
 
-/// Runs one case for each length of a cut: `CALL cut=FIRST` and, behind two dots, `LAST ANSWER`.
+/// Runs a case for each length of a cut file. `front` is `CALL cut=FIRST`, and `rest`, after two
+/// dots, is `LAST ANSWER`.
 fn run_cuts(
     rt: &HostRuntime,
     list: &str,
@@ -43,7 +44,8 @@ fn run_cuts(
     Ok(())
 }
 
-/// Runs the case of a line, or where it has `cut=FIRST..LAST` one for each length.
+/// Runs the case in a line. If the line has `cut=FIRST..LAST`, runs a case for each of these
+/// lengths.
 fn run_line(rt: &HostRuntime, list: &str, line: &str, tally: &mut Tally) -> Result<()> {
     match line.split_once("..") {
         Some((front, rest)) => run_cuts(rt, list, front, rest, tally),
@@ -51,7 +53,7 @@ fn run_line(rt: &HostRuntime, list: &str, line: &str, tally: &mut Tally) -> Resu
     }
 }
 
-/// Runs the cases of a list, one a line. Empty lines and those that begin with # are none.
+/// Runs the cases of a list, one in each line. Skips empty lines, and lines that begin with #.
 pub(crate) fn run_list(rt: &HostRuntime, name: &str, tally: &mut Tally) -> Result<()> {
     let text = text_of_file(rt, "the list", name)?;
     for line in text.lines() {

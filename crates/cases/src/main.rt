@@ -1,6 +1,8 @@
-//! The program `cases`: runs the cases of its lists, and prints each that differs.
+//! The program `cases`: runs the cases of its lists, and prints each case whose answer isn't the
+//! expected one.
 //!
-//! A list is a text file; docs/CASES.md has its form. The words of the command line name the lists.
+//! A list is a text file; docs/CASES.md has its format. The arguments of the command line are the
+//! names of the lists.
 #![tactic(auto)]
 
 mod answer;

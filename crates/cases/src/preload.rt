@@ -4,7 +4,7 @@ use anyhow::{Context, Result};
 use scope::Library;
 use std::alloc::Global;
 
-/// The number of the library that goes by a name.
+/// Returns the number of the library with this name.
 fn number_of(libraries: &[Library<'_>], name: &str) -> Option<usize> {
     for (number, library) in libraries.iter().enumerate() {
         if library.name() == name.as_bytes() {
@@ -14,7 +14,7 @@ fn number_of(libraries: &[Library<'_>], name: &str) -> Option<usize> {
     None
 }
 
-/// The numbers of the libraries of these names, between which a space stands.
+/// Returns the numbers of the libraries with these names, which are separated by spaces in `names`.
 pub(crate) fn preloads_of(
     alloc: Global,
     libraries: &[Library<'_>],

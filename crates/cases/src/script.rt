@@ -1,4 +1,4 @@
-// A script: what it writes, and its two numbers.
+// A script: its output, its number of lines, and its number of refused lines.
 
 use crate::answer::is_wanted;
 use crate::file::changed_file;
@@ -10,7 +10,7 @@ use registry::Registry;
 use sector_disk::Memory;
 use std::alloc::Global;
 
-/// What a script gives that runs on an empty registry, on a disk of so many sectors.
+/// Runs a script on an empty registry on a disk of `sectors` sectors.
 fn summary_of(alloc: Global, sectors: u64, script: &[u8], output: &mut Vec<u8>) -> Result<Summary> {
     let disk = Memory::new(alloc, u32::try_from(sectors)?)?;
     let Ok(registry) = Registry::format(alloc, disk) else {
@@ -23,7 +23,7 @@ fn summary_of(alloc: Global, sectors: u64, script: &[u8], output: &mut Vec<u8>) 
     Ok(ended?)
 }
 
-/// Whether a script gave what is wanted.
+/// Returns whether the numbers and the output of a script are those that `wanted` describes.
 fn is_ended(
     rt: &HostRuntime,
     lines: u64,
@@ -36,8 +36,8 @@ fn is_ended(
     Ok(wanted_lines == lines && wanted_refused == refused && is_wanted(rt, output, answer)?)
 }
 
-/// Whether a script ends as it is wanted: `SECTORS FILE` on an empty registry on a disk of so many
-/// sectors, wanted as `LINES REFUSED ANSWER`.
+/// Returns whether a script ends as `wanted` says. `words` is `SECTORS FILE`: the script in FILE
+/// runs on an empty registry on a disk of SECTORS sectors. `wanted` is `LINES REFUSED ANSWER`.
 pub(crate) fn runs_so(rt: &HostRuntime, words: &str, wanted: &str) -> Result<bool> {
     let (sectors, file) = first_number(words)?;
     let text = changed_file(rt, file)?;

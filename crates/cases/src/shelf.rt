@@ -7,14 +7,14 @@ use hash_check::{Admitted, ReadRefusal};
 use scope::Library;
 use std::alloc::Global;
 
-/// The file of a library, and the name that is given to it.
+/// The file of a library, and its name in the case.
 #[derive(Drop)]
 pub(crate) struct LibraryFile {
     name: Option<Vec<u8>>,
     bytes: Vec<u8>,
 }
 
-/// Reads `FILE`, which goes by its SONAME, or `FILE as NAME`.
+/// Reads a library from `FILE`, with its SONAME as its name, or from `FILE as NAME`.
 fn read_library(rt: &HostRuntime, words: &str) -> Result<LibraryFile> {
     let (file, name) = match words.rsplit_once(" as ") {
         Some((file, name)) => (file, Some(name_bytes(rt.alloc(), name)?)),
@@ -24,7 +24,7 @@ fn read_library(rt: &HostRuntime, words: &str) -> Result<LibraryFile> {
     Ok(LibraryFile { name, bytes })
 }
 
-/// Reads the libraries of a case, between which ` + ` stands.
+/// Reads the libraries of a case, which are separated by ` + `.
 pub(crate) fn read_libraries(rt: &HostRuntime, words: &str) -> Result<Vec<LibraryFile>> {
     let mut files = Vec::new(rt.alloc());
     if !words.is_empty() {
@@ -35,7 +35,7 @@ pub(crate) fn read_libraries(rt: &HostRuntime, words: &str) -> Result<Vec<Librar
     Ok(files)
 }
 
-/// A file as a library.
+/// Admits a file as a library.
 fn library_of<'a>(alloc: Global, file: &'a LibraryFile) -> Result<Library<'a>> {
     let object = match Admitted::read(alloc, &file.bytes) {
         Ok(object) => object,
@@ -52,7 +52,7 @@ fn library_of<'a>(alloc: Global, file: &'a LibraryFile) -> Result<Library<'a>> {
     Ok(Library { name, object })
 }
 
-/// Files as libraries.
+/// Admits files as libraries.
 pub(crate) fn libraries_of<'a>(
     alloc: Global,
     files: &'a [LibraryFile],

@@ -1,4 +1,4 @@
-// What a reader sees of an admitted file: its names and its symbols.
+// The names and the symbols of an admitted file, as calls of the library report them.
 
 use anyhow::Result;
 use elf_dynamic::{Object, Symbol};
@@ -6,7 +6,7 @@ use hash_check::Admitted;
 use std::io::Write;
 use text_output::write_name;
 
-/// Puts a line of these bytes and a name.
+/// Puts a line that begins with `front` and ends with a name.
 pub(crate) fn put_named(text: &mut Vec<u8>, front: &[u8], name: &[u8]) -> Result<()> {
     text.extend_from_slice(front)?;
     write_name(text, name)?;
@@ -14,7 +14,7 @@ pub(crate) fn put_named(text: &mut Vec<u8>, front: &[u8], name: &[u8]) -> Result
     Ok(())
 }
 
-/// Puts the line of the SONAME, and those of the needed libraries.
+/// Puts the line of the SONAME, and the lines of the needed libraries.
 fn put_names(text: &mut Vec<u8>, object: &Object) -> Result<()> {
     match object.soname() {
         Some(name) => put_named(text, b"soname ", name)?,
@@ -42,7 +42,7 @@ fn put_fields(text: &mut Vec<u8>, i: u32, symbol: Symbol) -> Result<()> {
     Ok(())
 }
 
-/// Puts the line of a symbol, and the number of the one that is exported under its name.
+/// Puts the line of symbol `i`, with the number of the symbol that is exported under its name.
 fn put_symbol(
     text: &mut Vec<u8>,
     i: u32,
@@ -59,7 +59,7 @@ fn put_symbol(
     Ok(())
 }
 
-/// Puts the SONAME, the needed names, and the lines of all symbols, that of index 0 too.
+/// Puts the SONAME, the needed names, and the lines of all symbols, including symbol 0.
 pub(crate) fn put_view(text: &mut Vec<u8>, admitted: &Admitted) -> Result<()> {
     let object = admitted.object();
     put_names(text, object)?;

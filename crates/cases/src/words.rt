@@ -1,11 +1,11 @@
-// A command line: what it writes, and its exit status.
+// A command line: its output and its exit status.
 
 use crate::answer::is_wanted;
 use crate::number::first_number;
 use anyhow::Result;
 use std::alloc::Global;
 
-/// A program that words are for.
+/// The program that a command line runs.
 #[derive(Clone, Copy)]
 pub(crate) enum Program {
     /// `rlibreg`.
@@ -14,7 +14,7 @@ pub(crate) enum Program {
     Tool,
 }
 
-/// Runs a program, and gives its exit status.
+/// Runs a program, and returns its exit status.
 fn run_words(
     rt: &HostRuntime,
     program: Program,
@@ -29,7 +29,7 @@ fn run_words(
     }
 }
 
-/// The words of a command line: each stands behind a space.
+/// Returns the words of a command line. In `words` a space comes before each of them.
 fn listed(alloc: Global, words: &str) -> Result<Vec<String>> {
     let mut list = Vec::new(alloc);
     for word in words.split(' ').skip(1) {
@@ -38,7 +38,7 @@ fn listed(alloc: Global, words: &str) -> Result<Vec<String>> {
     Ok(list)
 }
 
-/// Whether a status and what was written are those that are wanted.
+/// Returns whether the status and the output are the ones that `wanted` describes.
 fn is_ended(
     rt: &HostRuntime,
     status: u8,
@@ -56,9 +56,9 @@ fn is_ended(
     }
 }
 
-/// Whether a command line ends over an input as it is wanted: `STATUS ANSWER` where ANSWER goes to
-/// the output and nothing to standard error, `STATUS error ANSWER` where it goes to standard error
-/// alone.
+/// Returns whether a command line with this input ends as `wanted` says. With `STATUS ANSWER` it
+/// has to write ANSWER to the output, and nothing to standard error. With `STATUS error ANSWER` it
+/// has to write ANSWER to standard error only.
 pub(crate) fn ends_so(
     rt: &HostRuntime,
     program: Program,

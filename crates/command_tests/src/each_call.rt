@@ -1,6 +1,6 @@
-// Each call of a registry, of its binders, of an update and of the program, once by its
-// path and with ample memory. Some of them no program here makes: they are for those who ask without
-// a script.
+// Each call of a registry, of its binders, of an update and of the program, made once by its public
+// path, with ample memory. No program here makes some of these calls: they are for programs that
+// use a registry without a script.
 
 use crate::runs::words_of;
 use binders::{Binders, Event, EventReply};
@@ -17,10 +17,10 @@ use std::test::Fail;
 
 const BASE: u64 = 0x10000;
 
-// The address of the library's version in an image of a program that needs the library a.
+// The address of the library's version byte in the image of a program that needs the library a.
 const VERSION: u64 = 0x110dc;
 
-// The version of the library a in an image.
+// Returns the version of the library a in an image.
 fn version_in(reply: &Reply) -> Option<u8> {
     match reply {
         Reply::Bound(image) => image.byte(VERSION),
@@ -28,7 +28,7 @@ fn version_in(reply: &Reply) -> Option<u8> {
     }
 }
 
-// Whether a reply lists the library a, and nothing else.
+// Returns whether a reply lists the library a, and nothing else.
 fn lists_a(reply: &Reply) -> bool {
     match reply {
         Reply::Listing(listing) => match listing.libraries.as_slice() {
@@ -42,7 +42,8 @@ fn lists_a(reply: &Reply) -> bool {
     }
 }
 
-// Whether these are the replies to a list and to a bind, over the library a of a version.
+// Returns whether these are the replies to a listing and a bind on a registry that has only the
+// library a, in version `version`.
 fn are_of(replies: &[Reply], version: u8) -> bool {
     match replies {
         [listing, bound] => lists_a(listing) && version_in(bound) == Some(version),
@@ -50,7 +51,7 @@ fn are_of(replies: &[Reply], version: u8) -> bool {
     }
 }
 
-// The commands that ask for these replies.
+// Returns the two commands: a listing, and a bind of `program`.
 fn asks(program: &[u8]) -> [Command<'_>; 2] {
     [
         Command::List,
@@ -61,7 +62,7 @@ fn asks(program: &[u8]) -> [Command<'_>; 2] {
     ]
 }
 
-// Whether a registry has the library a in a version, and nothing else.
+// Returns whether a registry has only the library a, in version `version`.
 fn has(registry: &mut Registry<Memory>, version: u8) -> bool {
     match Registry::run(registry, &asks(&program(b'a'))) {
         Ok(replies) => are_of(&replies, version),
@@ -69,7 +70,7 @@ fn has(registry: &mut Registry<Memory>, version: u8) -> bool {
     }
 }
 
-// A new registry that has the library a in version 1.
+// Makes a new registry that has the library a in version 1.
 fn made(alloc: Global) -> Option<Registry<Memory>> {
     let Ok(mut registry) = Registry::format(alloc, Memory::new(alloc, 16).ok()?) else {
         return None;
@@ -82,7 +83,7 @@ fn made(alloc: Global) -> Option<Registry<Memory>> {
     None
 }
 
-// The same registry, opened by each call that opens one.
+// Makes such a registry, and opens its disk with each call that opens a registry.
 fn opened(alloc: Global) -> Option<Registry<Memory>> {
     let disk = Registry::into_disk(made(alloc)?);
     let Ok(registry) = Registry::upgrade(alloc, disk) else {
@@ -94,7 +95,7 @@ fn opened(alloc: Global) -> Option<Registry<Memory>> {
     Registry::open(alloc, Registry::into_disk(registry)).ok()
 }
 
-// Whether these are the library a alone, of whose name nothing is missing.
+// Returns whether a is the only library that was found, and none is missing.
 fn are_found(alloc: Global, found: &FoundLibraries) -> bool {
     let Ok(libraries) = FoundLibraries::libraries(found, alloc) else {
         return false;
@@ -106,7 +107,7 @@ fn are_found(alloc: Global, found: &FoundLibraries) -> bool {
     is_a && !FoundLibraries::lacks_some(found)
 }
 
-// Whether the libraries of a program that needs a are found.
+// Returns whether the libraries of a program that needs a are found.
 fn finds(alloc: Global, registry: &mut Registry<Memory>) -> bool {
     let needing = program(b'a');
     let Ok(object) = Object::read(&needing) else {
@@ -132,7 +133,8 @@ fn a_registry_is_made_opened_and_asked(rt: HostRuntime) {
     assert!(rt; is_whole && !has_failed);
 }
 
-// Whether a step of a binder is its last, and gives the image over version 1 of the library a.
+// Returns whether a step of a binder is its last one, and returns an image with version 1 of the
+// library a.
 fn is_bound(step: &Result<Step, Refusal>) -> bool {
     match step {
         Ok(Step::Final(reply)) => version_in(reply) == Some(1),
@@ -140,7 +142,8 @@ fn is_bound(step: &Result<Step, Refusal>) -> bool {
     }
 }
 
-// Whether a binder, behind which a replacement comes, binds for version 1 of the library a.
+// Returns whether a binder binds with version 1 of the library a, although a is replaced after the
+// binder begins.
 fn binds(registry: &mut Registry<Memory>) -> bool {
     let Ok(mut binder) = Registry::begin(registry, &program(b'a'), BASE) else {
         return false;
@@ -166,8 +169,8 @@ fn a_binder_of_a_registry_binds(rt: HostRuntime) {
     assert!(rt; is_right);
 }
 
-// Whether a program that needs the library a is bound by the binder in slot 0, after one that is
-// ended at once.
+// Returns whether the binder in slot 0 binds a program that needs the library a, after another
+// binder in slot 0 was cancelled.
 fn advances(binders: &mut Binders<Memory>) -> bool {
     let needing = program(b'a');
     let begun = Binders::begin(binders, &needing, BASE);
@@ -184,7 +187,7 @@ fn advances(binders: &mut Binders<Memory>) -> bool {
         && is_bound(&third)
 }
 
-// Whether these are the replies to the events of a bind, behind which its slot is free.
+// Returns whether these are the replies to the events of a bind, after which its slot is free.
 fn are_replies(replies: &[EventReply]) -> bool {
     match replies {
         [
@@ -198,7 +201,7 @@ fn are_replies(replies: &[EventReply]) -> bool {
     }
 }
 
-// Whether the same program is bound by events.
+// Returns whether events bind the same program.
 fn runs_events(binders: &mut Binders<Memory>) -> bool {
     let program = program(b'a');
     let events = [
@@ -230,8 +233,8 @@ fn binders_bind_in_steps_and_by_events(rt: HostRuntime) {
     assert!(rt; is_bound && lists_a(&listing) && !has_failed);
 }
 
-// Replaces the library a in an update that is committed or given up: returns whether each answer
-// was right, and the registry after it.
+// Replaces the library a in an update, and commits it if `commits` is true. Returns whether each
+// answer was right, and the registry after the update.
 fn updated(registry: Registry<Memory>, version: u8, commits: bool) -> (bool, Registry<Memory>) {
     let mut update = match Registry::update(registry) {
         Ok(update) => update,

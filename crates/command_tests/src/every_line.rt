@@ -1,16 +1,16 @@
-// A script with every form of line, for a registry of eight sectors that is empty or has the
-// library a, on a disk that gives no library b.
+// A script with every form of line. It is for a registry of eight sectors that is empty or has the
+// library a. On the disk of a liar, no library b can be read.
 use samples::{library, program};
 use std::alloc::{AllocError, Global};
 
-/// The script: the answers to its first three lines depend on what the registry has. The file of
-/// the library b is also bound as a program, which needs nothing.
+/// Returns the script. The answers to its first three lines depend on the registry. The file of the
+/// library b is also bound as a program, which needs no library.
 pub(crate) fn script(alloc: Global) -> Result<String, AllocError> {
     let a = hex::encode(alloc, library(b'a', 0).as_slice())?;
     let b = hex::encode(alloc, library(b'b', 0).as_slice())?;
     let needing = hex::encode(alloc, program(b'a').as_slice())?;
-    // Behind `replace` the disk is full. Then the preloads are read, and they aren't what was
-    // installed.
+    // After `replace` the disk is full. Then the preloads are read, and their bytes aren't the
+    // files that were installed.
     format!(in alloc;
         "list\nbind 0x10000 {needing}\ninstall {a}\n\
         replace {a}\ninstall {b}\npreload b a\n\
@@ -19,11 +19,11 @@ pub(crate) fn script(alloc: Global) -> Result<String, AllocError> {
     )
 }
 
-/// How many lines it has.
+/// The number of lines of the script.
 pub(crate) const LINES: u64 = 17;
 
-/// The answers to its lines, behind those to the first three. The image of the program is its file
-/// as it stands, since it has no relocations.
+/// The answers to the lines after the first three. The image of the program is the program's file
+/// without changes, because it has no relocations.
 const ANSWERS: &[u8] = b"ok\nok\nok\nrefused S5 Damaged\nrefused C4 InPreloads\nok\nok\n\
     refused C3 NotInstalled\nrefused B3 Missing /program a\nrefused B2 BadBase\n\
     object 0x0000000000010000 /program\nsegment 0x0000000000010000 344 rw-\n\
@@ -41,7 +41,8 @@ const ANSWERS: &[u8] = b"ok\nok\nok\nrefused S5 Damaged\nrefused C4 InPreloads\n
     0000000000000000\nend\n\
     library b 344\nend\nrefused L1 BadLine\nrefused L2 CutLine\n";
 
-/// Whether these are all answers to its lines.
+/// Returns whether these are the answers to all lines of the script. `first` has the answers to its
+/// first three lines.
 pub(crate) fn are_answers(output: &[u8], first: &str) -> bool {
     output.strip_prefix(first.as_bytes()) == Some(ANSWERS)
 }

@@ -1,4 +1,4 @@
-// A registry on a disk that lies: which numbered refusal each call has, or what it answers.
+// A registry on a disk that lies, and the results of opening it and of running a script over it.
 ghost use Rattle.std.specs.Prelude.{◌<◌};
 
 use crate::every_line::{LINES, are_answers, script};
@@ -12,8 +12,8 @@ use sector_disk::Liar;
 use std::alloc::Global;
 use store::StoreRefusal;
 
-// A disk of eight sectors that gives these answers in turn, whatever is read, where those with the
-// numbers 2 and this one are exchanged. Behind an opening they are zeros.
+// Makes a disk of eight sectors that returns these sectors in turn, whichever sector is read, with
+// sectors number 2 and `other` exchanged. After the opening it returns zeros.
 fn liar(alloc: Global, sectors: &Sectors, other: usize) -> Option<Liar>
     requires { other < 8 }
 {
@@ -23,10 +23,10 @@ fn liar(alloc: Global, sectors: &Sectors, other: usize) -> Option<Liar>
     Some(Liar::new(8, Vec::from_slice(alloc, &answers).ok()?))
 }
 
-// A registry on such a disk, or how this was refused.
+// The registry on a disk that lies, or the refusal.
 type Made = Result<Registry<Liar>, (StoreRefusal, Liar)>;
 
-// The registry that a disk has: of version 2, or of version 1, which is upgraded.
+// Opens the registry of version 2 on a disk, or upgrades the registry of version 1.
 fn found(alloc: Global, version: u8, disk: Liar) -> Made {
     if version == 1 {
         Registry::upgrade(alloc, disk)
@@ -35,7 +35,7 @@ fn found(alloc: Global, version: u8, disk: Liar) -> Made {
     }
 }
 
-// Runs a script over a registry.
+// Runs a script over a registry, and returns its summary and its output.
 fn run(
     alloc: Global,
     registry: Registry<Liar>,
@@ -49,7 +49,7 @@ fn run(
     ended
 }
 
-// Whether the whole text of the script's answers over a registry is this one.
+// Returns whether a script over this registry has exactly the expected answers.
 fn is_answered_so(alloc: Global, registry: Registry<Liar>, script: &[u8], wanted: Wanted) -> bool {
     let mut output = Vec::new(alloc);
     let ended = run(alloc, registry, script, &mut output);
@@ -59,7 +59,7 @@ fn is_answered_so(alloc: Global, registry: Registry<Liar>, script: &[u8], wanted
     }
 }
 
-// Whether the disk is refused so, or the script is answered so.
+// Returns whether the disk is refused as expected, or the script is answered as expected.
 fn ends(alloc: Global, made: Made, script: &[u8], wanted: Wanted) -> bool {
     match made {
         Ok(registry) => is_answered_so(alloc, registry, script, wanted),
@@ -67,8 +67,9 @@ fn ends(alloc: Global, made: Made, script: &[u8], wanted: Wanted) -> bool {
     }
 }
 
-// Whether the three liars with these sectors end so. An opening reads the catalogue third, where a
-// disk of version 2 has it in sector 4, and an upgrade of version 1 the entry, in sector 3.
+// Returns whether the three liars with these sectors end as expected. The third read of an opening
+// of version 2 is the catalogue, which is in sector 4. The third read of an upgrade of version 1 is
+// the entry, which is in sector 3.
 fn lies(
     alloc: Global,
     version: u8,
@@ -85,7 +86,7 @@ fn lies(
     Some(ends(alloc, fresh, script, wanted[2]) && is_cut && is_read)
 }
 
-// Whether all rows of a version end so.
+// Returns whether all rows of a version end as expected.
 fn all_lie(alloc: Global, version: u8, rows: &[Row]) -> Option<bool> {
     let script = script(alloc).ok()?;
     let sectors = one_library(version);

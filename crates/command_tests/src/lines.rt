@@ -1,4 +1,4 @@
-// Lines of refusals: each goes out whole, with one write.
+// Lines of refusals, each of which is written completely with one write.
 
 use crate::streams::Full;
 use elf_dynamic::ObjectRefusal;
@@ -9,7 +9,7 @@ use program_parts::{write_file_refusal, write_refusal};
 use std::alloc::{AllocError, Global};
 use std::test::Fail;
 
-/// The refusal of a library that isn't there, with copies of the names.
+/// Returns the refusal for a missing library, with copies of the names.
 fn missing(alloc: Global, needer: &[u8], name: &[u8]) -> Result<BindRefusal, AllocError> {
     Ok(BindRefusal::Missing {
         needer: Name::copy_of(alloc, needer)?,
@@ -17,7 +17,7 @@ fn missing(alloc: Global, needer: &[u8], name: &[u8]) -> Result<BindRefusal, All
     })
 }
 
-/// How many calls of a writer a line takes that is written, and how many bytes it has.
+/// Returns how many calls of a writer the line of `refusal` takes, and the line's length in bytes.
 fn calls_of(refusal: &BindRefusal) -> Option<(u64, usize)> {
     let mut out = Full::with_room(4096);
     match write_refusal(&mut out, refusal) {
@@ -56,7 +56,7 @@ fn a_line_with_names_is_one_write(rt: HostRuntime) -> Result<(), Fail> {
     let long = calls_of(&missing(alloc, b"/program", &name)?);
     let zeros = calls_of(&missing(alloc, &[0; 240], b"")?);
     let undefined = calls_of(&BindRefusal::undefined(alloc, &name, &[0xff; 240]));
-    // A byte that isn't visible has four in the text.
+    // A byte that isn't visible takes four bytes of text.
     let wanted = [Some((1, 269)), Some((1, 983)), Some((1, 1223))];
     assert!(rt; [long, zeros, undefined] == wanted);
     Ok(())

@@ -1,4 +1,4 @@
-// Reading to the end, or not.
+// Reading until the end of the input, or until a failure.
 
 use crate::streams::Turn::{Fails, Gives};
 use crate::streams::{Turn, Turns};
@@ -8,26 +8,26 @@ use std::io::ErrorKind;
 
 const CANNOT: Result<usize, FileFault> = Err(FileFault::CannotRead);
 
-/// What a reader does, the limit, and how many bytes are read.
+/// The turns of a reader, the limit, and the number of bytes that are read or the fault.
 static ROWS: [(&[Turn], usize, Result<usize, FileFault>); 11] = [
     (&[], 1, Ok(0)),
     (&[Gives(9)], 10, Ok(9)),
-    // A read that is interrupted is made again.
+    // An interrupted read is repeated.
     (
         &[Gives(4), Fails(ErrorKind::Interrupted), Gives(5)],
         10,
         Ok(9),
     ),
-    // As many bytes as the limit, at once and one after the other.
+    // The input has as many bytes as the limit, in one read and in two.
     (&[Gives(10)], 10, CANNOT),
     (&[Gives(9), Gives(1)], 10, CANNOT),
     (&[Gives(9), Gives(100_000)], 10, CANNOT),
-    // Reads that fail at once, in mid-stream and for want of the system's memory.
+    // A read fails at once, or after another read, or because the system has no memory.
     (&[Fails(ErrorKind::Other)], 10, CANNOT),
     (&[Gives(9), Fails(ErrorKind::Other)], 10, CANNOT),
     (&[Fails(ErrorKind::OutOfMemory)], 10, CANNOT),
     (&[Gives(9), Fails(ErrorKind::OutOfMemory)], 10, CANNOT),
-    // A long file, page by page.
+    // A long file, which is read page by page.
     (
         &[Gives(100_000), Gives(100_000), Gives(3)],
         200_000,
@@ -35,7 +35,7 @@ static ROWS: [(&[Turn], usize, Result<usize, FileFault>); 11] = [
     ),
 ];
 
-/// How many bytes are read.
+/// Returns the number of bytes that are read from a reader with these turns.
 fn length_read(alloc: Global, turns: &[Turn], limit: usize) -> Result<usize, FileFault> {
     match read_all(alloc, &mut Turns(turns), limit) {
         Ok(bytes) => Ok(bytes.len()),

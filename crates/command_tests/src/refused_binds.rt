@@ -1,5 +1,5 @@
-// How many sectors a bind reads that is refused because a library isn't there: each of those in its
-// load order, once.
+// The number of sectors that a bind reads before it is refused because a library is missing. It
+// reads each library in its load order once.
 use image::BindRefusal;
 use registry::Registry;
 use requests::{Command, Refusal, Reply};
@@ -7,16 +7,16 @@ use samples::{named, needing_file};
 use sector_disk::{Fuse, Memory};
 use std::alloc::Global;
 
-// The tag of a library's own name.
+// The tag, in `d_tag`, of a library's own name.
 const SONAME: u64 = 14;
 
-// A library: its name, what it needs, and how many sectors its file takes.
+// A library: its name, the libraries that it needs, and the number of sectors of its file.
 type Made = (u8, &'static [u8], usize);
 
-// A registry: its libraries and its preloads; what a program needs, and which of that isn't there;
-// how many calls of the disk an opening makes, and how many sectors the program's bind reads. An
-// opening makes a sync and reads two roots, the catalogue, and the entry and the sectors of each
-// file.
+// A registry: its libraries and its preloads; the libraries that a program needs, and the one of
+// them that is missing; the number of the disk's calls that an opening makes, and the number of
+// sectors that the program's bind reads. An opening makes a sync and reads two roots, the
+// catalogue, and the entry and the sectors of each file.
 struct Case {
     libraries: &'static [Made],
     preloads: &'static [&'static [u8]],
@@ -35,7 +35,7 @@ static CASES: [Case; 2] = [
         opening: 9,
         reads: 3,
     },
-    // A preload that lacks what it needs, behind one that has it.
+    // A preload whose needed library is missing, after a preload whose needed library isn't.
     Case {
         libraries: &[(b'a', b"z", 1), (b'b', b"a", 1)],
         preloads: &[b"b", b"a"],
@@ -46,7 +46,7 @@ static CASES: [Case; 2] = [
     },
 ];
 
-// Whether a library of a case is installed.
+// Installs a library of a case. Returns whether that succeeds.
 fn install(alloc: Global, kept: &mut Registry<Memory>, made: &Made) -> bool {
     let (name, needs, sectors) = made;
     match needing_file(
@@ -60,7 +60,7 @@ fn install(alloc: Global, kept: &mut Registry<Memory>, made: &Made) -> bool {
     }
 }
 
-// A disk with the registry of a case.
+// Makes a disk with the registry of a case.
 fn on_disk(alloc: Global, case: &Case) -> Option<Memory> {
     let Ok(mut kept) = Registry::format(alloc, Memory::new(alloc, 64).ok()?) else {
         return None;
@@ -77,8 +77,7 @@ fn on_disk(alloc: Global, case: &Case) -> Option<Memory> {
     if done { Some(disk) } else { None }
 }
 
-// What two binds of a case's program are answered, over a disk of which the call with this number
-// fails.
+// Returns the replies to two binds of a case's program, on a disk whose call number `call` fails.
 fn told(alloc: Global, case: &Case, call: u64) -> Option<(Reply, Reply)> {
     let program = needing_file(alloc, case.needs, b"", 0).ok()?;
     let disk = Fuse::new(on_disk(alloc, case)?, call, false, false);
@@ -94,7 +93,7 @@ fn told(alloc: Global, case: &Case, call: u64) -> Option<(Reply, Reply)> {
     Some(replies)
 }
 
-// Whether a bind was refused since the program needs this library.
+// Returns whether a bind was refused because the program needs `library`, which isn't installed.
 fn lacks(reply: &Reply, library: u8) -> bool {
     match reply {
         Reply::Refused(Refusal::Bind(BindRefusal::Missing { needer, name })) => {
@@ -104,8 +103,8 @@ fn lacks(reply: &Reply, library: u8) -> bool {
     }
 }
 
-// Whether the first of two binds is answered S1. The second then is answered B3, and so is a first
-// one that isn't answered S1.
+// Returns whether the first of two binds returns S1 (Device). If it does, the second has to return
+// B3 (Missing); otherwise the first has to return B3.
 fn is_failed(first: &Reply, again: &Reply, missing: u8) -> Option<bool> {
     if lacks(first, missing) {
         return Some(false);
@@ -114,13 +113,13 @@ fn is_failed(first: &Reply, again: &Reply, missing: u8) -> Option<bool> {
     (is_told && lacks(again, missing)).then_some(true)
 }
 
-// Whether a bind is answered S1 over a disk of which this call behind the opening fails.
+// Returns whether a bind returns S1 on a disk whose call number `call` after the opening fails.
 fn fails(alloc: Global, case: &Case, call: u64) -> Option<bool> {
     let (first, again) = told(alloc, case, case.opening.wrapping_add(call))?;
     is_failed(&first, &again, case.missing)
 }
 
-// Whether a bind reads as many sectors as a case says, none of them twice.
+// Returns whether a bind reads exactly as many sectors as a case says.
 fn reads(alloc: Global, case: &Case) -> bool {
     let mut same = true;
     for call in 1..10 {

@@ -1,4 +1,4 @@
-// Command lines, each with its status and what it writes.
+// Command lines, with the status and the output of each.
 
 use commands::run_arguments;
 use std::fs::File;
@@ -6,7 +6,7 @@ use std::io::ErrorKind;
 use std::test::Fail;
 use std::{fs, io};
 
-/// The words of a command line, each in a string of its own.
+/// Returns the words of a command line, each in a string of its own.
 pub(crate) fn words_of(rt: &HostRuntime, words: &[&str]) -> io::Result<Vec<String>> {
     let mut list = Vec::new(rt.alloc());
     for word in words {
@@ -15,10 +15,11 @@ pub(crate) fn words_of(rt: &HostRuntime, words: &[&str]) -> io::Result<Vec<Strin
     Ok(list)
 }
 
-/// A status, and what stands on the output and on standard error.
+/// A status, the output, and the text on standard error.
 type Wanted = (u8, &'static str, &'static str);
 
-/// Whether words that were read, or not, end so. Only a script would read the input.
+/// Returns whether a command line ends as expected. `words` are its words, or the error of reading
+/// them. The input is for scripts only.
 pub(crate) fn ends(rt: &HostRuntime, words: io::Result<Vec<String>>, wanted: Wanted) -> bool {
     let mut input = b"list\n".as_slice();
     let mut output = Vec::new(rt.alloc());
@@ -29,18 +30,18 @@ pub(crate) fn ends(rt: &HostRuntime, words: io::Result<Vec<String>>, wanted: Wan
         && errors.as_slice() == wanted.2.as_bytes()
 }
 
-/// A command line, and what it ends with.
+/// A command line and its results.
 type Row = (&'static [&'static str], Wanted);
 
-/// Nothing is said where it would be written into the disk.
+/// The result if nothing is reported, because the text would be written into the disk.
 const UNTOLD: Wanted = (3, "", "");
 
 const NO_DISK: Wanted = (1, "refused S6 BadGeometry\n", "");
 
 const BAD_BASE: Wanted = (2, "", "rlibreg: bad base\n");
 
-/// A base with blanks; the file behind standard error; a file of a sector too many for a disk, and
-/// a device.
+/// Command lines with blanks in a base, with a DISK that is also standard error, with a file that
+/// is one sector too long, and with a device.
 static ROWS: [Row; 19] = [
     (&["image", "no such file", " 0x10"], BAD_BASE),
     (&["image", "no such file", "0x10 "], BAD_BASE),
@@ -76,7 +77,7 @@ fn command_lines_end_so(rt: HostRuntime) -> Result<(), Fail> {
     Ok(())
 }
 
-/// A line that says that memory was refused.
+/// The line that reports that memory was refused.
 const MEMORY: &str = "refused S11 OutOfMemory\n";
 
 #[test]

@@ -1,4 +1,4 @@
-// Scripts over streams that fail, and each form of line once.
+// Scripts over streams that fail, and a script with each form of line.
 
 ghost use Rattle.std.specs.Prelude.{⊤};
 
@@ -14,10 +14,10 @@ use std::alloc::Global;
 use std::io::ErrorKind;
 use std::test::Fail;
 
-/// Done to every event, and what was asked.
+/// Replies Done to every event, and notes a letter for each.
 #[derive(Drop)]
 struct Asked {
-    /// A letter for each event.
+    /// The letters of the events.
     letters: Vec<u8>,
 }
 
@@ -41,23 +41,23 @@ impl TakesEvents for Asked {
     }
 }
 
-/// What a script ends with.
+/// The result of a script.
 type Ended = Result<Summary, ScriptFault>;
 
-/// So many lines, of which so many were refused.
+/// Returns the summary of `lines` lines, of which `refused` were refused.
 pub(crate) fn summary(lines: u64, refused: u64) -> Summary {
     Summary { lines, refused }
 }
 
-/// The same before the first event.
+/// Returns an `Asked` without events.
 fn nothing_asked(alloc: Global) -> Asked {
     Asked {
         letters: Vec::new(alloc),
     }
 }
 
-/// What a script does over a reader that takes these turns: what it ends with, the letters of its
-/// events, and what it writes.
+/// Runs a script over a reader with these turns. Returns the script's result, the letters of its
+/// events, and its output.
 fn run_turns(alloc: Global, turns: &[Turn]) -> (Ended, Vec<u8>, Vec<u8>) {
     let mut asked = nothing_asked(alloc);
     let mut output = Vec::new(alloc);
@@ -65,7 +65,7 @@ fn run_turns(alloc: Global, turns: &[Turn]) -> (Ended, Vec<u8>, Vec<u8>) {
     (ended, asked.letters, output)
 }
 
-/// Each form of line, cut anywhere.
+/// A script with each form of line, split at arbitrary places.
 static FORMS: [Turn; 6] = [
     Says("install 0aF"),
     Says("F\nrepl"),
@@ -91,10 +91,10 @@ const READ: ScriptFault = ScriptFault::Read;
 
 const MEMORY: ScriptFault = ScriptFault::OutOfMemory;
 
-/// What a reader does, the letters of the events that happened, each of which is answered `ok`, and
-/// what the script ends with.
+/// The turns of a reader, the letters of the events, and the script's result. Each event is
+/// answered `ok`.
 static CUT: [(&[Turn], &str, ScriptFault); 6] = [
-    // It fails at once, in the middle of a line, and between lines.
+    // The reader fails at once, in the middle of a line, and between two lines.
     (&[FAILS], "", READ),
     (&[Says("li"), FAILS], "", READ),
     (&[Says("list\npreload"), FAILS], "l", READ),
@@ -107,7 +107,7 @@ static CUT: [(&[Turn], &str, ScriptFault); 6] = [
     ),
 ];
 
-/// Whether a script is cut off so.
+/// Returns whether a script ends with the fault after the events `asked`.
 fn is_cut(alloc: Global, turns: &[Turn], asked: &str, fault: ScriptFault) -> bool {
     let (ended, letters, output) = run_turns(alloc, turns);
     ended == Err(fault)
@@ -122,7 +122,7 @@ fn a_reader_fails_after_these_lines(rt: HostRuntime) {
     }
 }
 
-/// What a script ends with whose writer takes so many bytes, and how many events happened.
+/// Runs a script whose writer accepts `room` bytes. Returns its result, and the number of events.
 fn run_full(alloc: Global, text: &str, room: usize) -> (Ended, usize) {
     let mut asked = nothing_asked(alloc);
     let mut out = Full::with_room(room);
@@ -136,15 +136,15 @@ const UNWRITTEN: Ended = Err(ScriptFault::Write);
 fn a_writer_fails_at_each_write(rt: HostRuntime) {
     let done = summary(7, 2);
     for (room, events, wanted) in [
-        // The first change was made, and its answer is behind the three before it.
+        // The first change was made. Its answer comes after the answers to three other lines.
         (0, 3, UNWRITTEN),
         (24, 3, UNWRITTEN),
         (25, 3, UNWRITTEN),
         (27, 3, UNWRITTEN),
-        // So of the second one.
+        // The second change was made. Its answer comes after the answer to one other line.
         (28, 5, UNWRITTEN),
         (33, 5, UNWRITTEN),
-        // The last answer.
+        // The last answer doesn't fit, and then it does.
         (34, 5, UNWRITTEN),
         (52, 5, UNWRITTEN),
         (53, 5, Ok(done)),
@@ -155,8 +155,8 @@ fn a_writer_fails_at_each_write(rt: HostRuntime) {
     }
 }
 
-/// What a script ends with over an empty registry, whose writer takes so many writes, each of at
-/// most so many bytes, and what is written.
+/// Runs a script over an empty registry. The writer accepts `writes` writes of at most `most` bytes
+/// each. Returns the script's result, and the bytes that are written.
 fn run_stopped(
     alloc: Global,
     script: &[u8],
@@ -177,13 +177,15 @@ fn run_stopped(
     Ok((ended, out.taken))
 }
 
-/// Whether a script ends with the fault, and a front of its text alone is written.
+/// Returns whether a script ends with the fault of its writer, and only the beginning of its text
+/// is written. `room` has the numbers of `run_stopped`.
 fn is_front(alloc: Global, script: &[u8], text: &[u8], room: (usize, usize)) -> Result<bool, Fail> {
     let (ended, taken) = run_stopped(alloc, script, room)?;
     Ok(ended == UNWRITTEN && text.starts_with(&taken) && taken.len() < text.len())
 }
 
-/// Whether it is written whole with so many writes, and with each number below that a front.
+/// Returns whether the text is written completely if the writer accepts `writes` writes, and only
+/// its beginning if it accepts fewer.
 fn takes_writes(
     alloc: Global,
     script: &[u8],
@@ -198,7 +200,7 @@ fn takes_writes(
     Ok(holds && last == *ended && taken == *text)
 }
 
-/// Where a file has the size of its segment in memory.
+/// The offset in a file of `p_memsz` of its segment.
 const MEMORY_SIZE_AT: usize = 104;
 
 #[test]
@@ -209,7 +211,8 @@ fn a_writer_fails_within_an_image(rt: HostRuntime) -> Result<(), Fail> {
     let program = hex::encode(alloc, program.as_slice())?;
     let script = format!(in alloc; "list\nbind 0x0 {program}\nlist\n")?;
     let whole = run_stopped(alloc, script.as_bytes(), (usize::MAX, usize::MAX))?;
-    // A line, two pieces of the image, a line; and the same where no write takes more than 8 KiB.
+    // The writes are a line, two pieces of the image, and a line. The test is repeated with a
+    // writer that accepts at most 8 KiB at a time.
     let at_once = takes_writes(alloc, script.as_bytes(), &whole, (4, usize::MAX))?;
     let in_pieces = takes_writes(alloc, script.as_bytes(), &whole, (11, 8192))?;
     let is_long = whole.1.len() > 68_000;

@@ -1,22 +1,22 @@
-// A disk of eight sectors, and what becomes of them.
+// The sectors of a disk of eight sectors, and changes to the sectors.
 use samples::{library, put};
 use sector_disk::SECTOR_BYTES;
 
-/// What a disk of eight sectors holds.
+/// The contents of a disk of eight sectors.
 pub(crate) type Sectors = [[u8; SECTOR_BYTES]; 8];
 
-/// What is changed of a disk.
+/// A change to a disk.
 #[derive(Clone, Copy)]
 pub(crate) enum Harm {
-    /// This sector is all zeros.
+    /// All bytes of the sector with this number become zeros.
     Zeros(usize),
-    /// In this sector the byte at this place is this one.
+    /// The fields are the number of a sector, an offset in it, and the new value of the byte there.
     Byte(usize, usize, u8),
 }
 
-/// The sectors of a disk of version 1 or 2 that was made a registry and has the library a: its
-/// bytes in sector 2, its entry in 3, of version 2 its catalogue in 4, the root of generation 1 in
-/// 1.
+/// Returns the sectors of a disk of version 1 or 2 whose registry has the library a. The library's
+/// bytes are in sector 2, its entry in sector 3, the catalogue of version 2 in sector 4, and the
+/// root of generation 1 in sector 1.
 pub(crate) fn one_library(version: u8) -> Sectors {
     let mut sectors = [[0; SECTOR_BYTES]; 8];
     put(&mut sectors[0], 0, b"RLIBREG1\0\0\0\0\0\0\0\0\x08");
@@ -39,7 +39,7 @@ pub(crate) fn one_library(version: u8) -> Sectors {
     sectors
 }
 
-/// The sectors after these changes.
+/// Returns the sectors after these changes.
 pub(crate) fn harmed(sectors: &Sectors, harms: &[Harm]) -> Sectors {
     let mut sectors = *sectors;
     for harm in harms {

@@ -1,4 +1,4 @@
-// The status where a stream takes or gives fewer bytes than there are.
+// The status of a command line whose streams accept or return fewer bytes than there are.
 
 use crate::runs::{ends, words_of};
 use crate::streams::{Full, Turn, Turns};
@@ -8,7 +8,7 @@ use std::io::ErrorKind;
 use std::test::Fail;
 use std::{fs, io};
 
-/// The words of a command line, or none where memory was refused for them.
+/// Returns the words of a command line. If there are none, returns the error of refused memory.
 fn words_or(rt: &HostRuntime, words: &[&str]) -> io::Result<Vec<String>> {
     if words.is_empty() {
         return Err(io::Error::from(ErrorKind::OutOfMemory));
@@ -16,8 +16,9 @@ fn words_or(rt: &HostRuntime, words: &[&str]) -> io::Result<Vec<String>> {
     words_of(rt, words)
 }
 
-/// How a command line ends whose output and standard error have room for so many bytes: the status,
-/// the room that is left of the output, and the calls and the room that is left of standard error.
+/// Runs a command line whose output and standard error have room for `rooms` bytes. Returns the
+/// status, the room that is left in the output, the number of calls of standard error, and the room
+/// that is left there.
 fn told(rt: &HostRuntime, words: &[&str], rooms: (usize, usize)) -> (u8, usize, u64, usize) {
     let words = words_or(rt, words);
     let mut input = b"list\n".as_slice();
@@ -27,14 +28,14 @@ fn told(rt: &HostRuntime, words: &[&str], rooms: (usize, usize)) -> (u8, usize, 
     (status, output.room, errors.calls, errors.room)
 }
 
-/// A file that isn't there, words that are no command, and a base that isn't read.
+/// Three command lines: with a file that doesn't exist, with no command, and with a bad base.
 const UNREAD: &[&str] = &["image", "no such file", "0x0"];
 
 const NO_COMMAND: &[&str] = &["help"];
 
 const BAD_BASE: &[&str] = &["image", "no such file", "10"];
 
-/// Command lines, the rooms of output and standard error, and what is told of them.
+/// Command lines, the rooms of output and standard error, and the results.
 static MESSAGES: [(&[&str], (usize, usize), (u8, usize, u64, usize)); 9] = [
     (UNREAD, (100, 100), (3, 100, 1, 66)),
     (UNREAD, (0, 100), (3, 0, 1, 66)),
@@ -43,7 +44,7 @@ static MESSAGES: [(&[&str], (usize, usize), (u8, usize, u64, usize)); 9] = [
     (NO_COMMAND, (100, 0), (2, 100, 1, 0)),
     (BAD_BASE, (100, 100), (2, 100, 1, 82)),
     (BAD_BASE, (100, 0), (2, 100, 1, 0)),
-    // No memory for the words: that is said on the output.
+    // Memory was refused for the words. This is reported on the output.
     (&[], (24, 100), (4, 0, 0, 100)),
     (&[], (23, 100), (3, 23, 0, 100)),
 ];
@@ -55,8 +56,9 @@ fn a_message_is_one_write_that_changes_no_status(rt: HostRuntime) {
     }
 }
 
-/// Whether the status of these words is 3 for each room below the length of their text, and this
-/// one for that length and one byte more. Nothing is said on standard error.
+/// Returns whether the status of these words is 3 if the output has room for fewer than `length`
+/// bytes, and `status` for `length` bytes and one more. `length` is the length of the text.
+/// Standard error has to stay empty.
 fn needs_room(rt: &HostRuntime, words: &[&str], length: usize, status: u8) -> bool {
     let mut holds = true;
     for room in 0..length.saturating_add(2) {
@@ -67,8 +69,8 @@ fn needs_room(rt: &HostRuntime, words: &[&str], length: usize, status: u8) -> bo
     holds
 }
 
-/// Command lines with the lengths of their texts, and their statuses: an image, a refusal of one, a
-/// listing of nothing, a refusal of a command, and a script of one listing.
+/// Command lines with the lengths of their texts and their statuses: an image, a refusal of an
+/// image, an empty listing, a refusal of a command, and a script with one listing.
 static TEXTS: [(&[&str], usize, u8); 5] = [
     (&["image", "small.so", "0x0"], 784, 0),
     (&["image", "small.so", "0x1"], 19, 1),
@@ -77,7 +79,7 @@ static TEXTS: [(&[&str], usize, u8); 5] = [
     (&["script", "empty.disk"], 4, 0),
 ];
 
-/// Whether a disk of eight sectors is formatted.
+/// Formats a disk of eight sectors. Returns whether that succeeds.
 fn formats(rt: &HostRuntime, disk: &str) -> bool {
     ends(rt, words_of(rt, &["format", disk, "8"]), (0, "ok\n", ""))
 }
@@ -94,7 +96,7 @@ fn output_that_fails_is_status_3(rt: HostRuntime) -> Result<(), Fail> {
     Ok(())
 }
 
-/// The status of a script over a disk whose input takes these turns.
+/// Returns the status of a script over a disk, if the script's input has these turns.
 fn script_status(rt: &HostRuntime, disk: &str, turns: &[Turn]) -> u8 {
     let words = words_of(rt, &["script", disk]);
     let mut input = Turns(turns);
@@ -103,10 +105,10 @@ fn script_status(rt: &HostRuntime, disk: &str, turns: &[Turn]) -> u8 {
     run_arguments(rt, rt.alloc(), words, &mut input, &mut output, &mut errors)
 }
 
-/// What the input of a script does, and its status.
+/// The turns of a script's input, and the status.
 static INPUTS: [(&[Turn], u8); 4] = [
     (&[], 0),
-    // A line that isn't whole.
+    // The last line has no newline.
     (&[Turn::Gives(9)], 1),
     (&[Turn::Fails(ErrorKind::Other)], 3),
     (&[Turn::Fails(ErrorKind::OutOfMemory)], 4),

@@ -3,18 +3,18 @@
 use std::io;
 use std::io::{ErrorKind, Read, Write};
 
-/// What a reader does when it is asked.
+/// The effect of one call of a reader.
 #[derive(Clone, Copy)]
 pub(crate) enum Turn {
-    /// It gives so many bytes, or as many as are wanted.
+    /// It returns this number of bytes, or fewer if fewer are requested.
     Gives(usize),
-    /// It gives this text.
+    /// It returns this text.
     Says(&'static str),
-    /// It fails.
+    /// It fails with an error of this kind.
     Fails(ErrorKind),
 }
 
-/// A reader that takes its turns, and then is at its end.
+/// A reader that has an effect for each call, and then reports the end of its input.
 #[derive(Drop)]
 pub(crate) struct Turns<'a>(pub(crate) &'a [Turn]);
 
@@ -40,7 +40,7 @@ impl Read for Turns<'_> {
     }
 }
 
-/// A writer that takes so many bytes, and then fails; it counts its calls.
+/// A writer that accepts `room` bytes, and then fails. Counts its calls.
 #[derive(Drop)]
 pub(crate) struct Full {
     pub(crate) room: usize,
@@ -68,7 +68,7 @@ impl Write for Full {
     }
 }
 
-/// A writer that takes so many writes, of each at most so many bytes, and then fails.
+/// A writer that accepts a number of writes, of at most `most` bytes each, and then fails.
 #[derive(Drop)]
 pub(crate) struct Stops {
     pub(crate) writes: usize,

@@ -1,4 +1,5 @@
-// When the answers of a script are written, seen by a reader and a writer that watch each other.
+// The times at which the answers of a script are written, observed by a reader and a writer that
+// share a counter.
 
 ghost use Rattle.std.specs.Prelude.{⊤};
 
@@ -11,12 +12,13 @@ use std::cell::Cell;
 use std::io;
 use std::io::{ErrorKind, Read, Write};
 
-/// A reader that gives these texts, and fails where an answer to a line that it gave is missing.
+/// A reader that returns these texts. It fails if a line that it has returned hasn't been answered
+/// when it is called again.
 #[derive(Drop)]
 struct Asking<'a> {
-    /// Each with the number of lines that end in the texts before it.
+    /// The texts, each with the number of lines that end in the texts before it.
     texts: &'a [(&'a str, usize)],
-    /// How many of them were given.
+    /// The number of texts that have been returned.
     given: usize,
     answered: &'a Cell<usize>,
 }
@@ -36,7 +38,7 @@ impl Read for Asking<'_> {
     }
 }
 
-/// A writer that counts its calls, and the lines that it is given.
+/// A writer that counts its calls, and the lines that are written to it.
 #[derive(Drop)]
 struct Answers<'a> {
     calls: usize,
@@ -61,12 +63,13 @@ impl Write for Answers<'_> {
     }
 }
 
-/// Refuses to remove `a`, fails to remove `b`, and else answers done; it notes an event that
-/// happens while the answer to a change that was made, or that failed, is missing.
+/// Refuses to remove `a`, fails to remove `b`, and answers everything else with Done. Notes whether
+/// an event happens before the answer to an earlier change is written, if that change was made or
+/// failed.
 #[derive(Drop)]
 struct Watching<'a> {
     asked: usize,
-    /// How many answers have to be there.
+    /// The number of answers that have to be written by now.
     due: usize,
     is_early: bool,
     answered: &'a Cell<usize>,
@@ -91,10 +94,10 @@ impl TakesEvents for Watching<'_> {
     }
 }
 
-/// What is read, each text with the number of lines that end before it: one line, and three that
-/// are answered with one write; a change that is refused among listings and one that is made, with
-/// one write, and so a change that fails with what waits before it; the rest of a line, two lines
-/// more, and one without a newline.
+/// The texts that are read, each with the number of lines that end before it: one line; three
+/// lines, which are answered with one write; a change that is refused, between listings, and a
+/// change that is made, with one write, and then a change that fails, with the answer that waits
+/// before it; the rest of a line, two more lines, and one without a newline.
 static TEXTS: [(&str, usize); 4] = [
     ("list\n", 0),
     ("list\nlist\nlist\n", 1),
@@ -102,8 +105,8 @@ static TEXTS: [(&str, usize); 4] = [
     ("st\nlist\nno line\nlist", 10),
 ];
 
-/// What a script over these texts ends with, how many calls of its writer it takes, and whether an
-/// answer came too late.
+/// Runs a script over these texts. Returns its result, the number of calls of its writer, and
+/// whether an answer was written too late.
 fn watched(alloc: Global, answered: &Cell<usize>) -> (Result<Summary, ScriptFault>, usize, bool) {
     let mut reader = Asking {
         texts: &TEXTS,
@@ -126,6 +129,7 @@ fn no_answer_is_missing_when_more_is_read_or_a_change_was_made(rt: HostRuntime) 
     let answered = Cell::new(0usize);
     let found = watched(rt.alloc(), &answered);
     let wanted = summary(14, 5);
-    // The line without a newline is answered by itself, since the reader was asked for its end.
+    // The line without a newline is answered by itself, because the reader first has to report the
+    // end of its input.
     assert!(rt; (found, answered.get()) == ((Ok(wanted), 6, false), 14));
 }

@@ -1,4 +1,4 @@
-// Updates through their calls: on a disk of which a call fails, and on one with just enough room.
+// Updates, made by their calls: on a disk whose calls fail, and on a disk with just enough room.
 
 use crate::update_streams::{held, one};
 use registry::Registry;
@@ -8,15 +8,16 @@ use sector_disk::{Fuse, Memory};
 use std::alloc::Global;
 use std::test::Fail;
 
-// How many calls the opening of that disk makes: a sync, and reads of two roots, the catalogue, an
-// entry and a file.
+// The number of calls that the opening of that disk makes: a sync, and reads of two roots, the
+// catalogue, an entry and a file.
 const OPENING: u64 = 6;
 
-// What is told of an update: why its line is refused, why its commit is; and how many libraries the
-// disk holds then.
+// The results of an update: the refusal of its line, the refusal of its commit, and the number of
+// libraries on the disk afterwards.
 type Told = (Option<Refusal>, Option<Refusal>, usize);
 
-// An update installs the library b, and this call of it fails.
+// Installs the library b in an update whose call number `call` fails. Returns the results of the
+// update.
 fn cut(alloc: Global, call: u64, forever: bool, late: bool) -> Option<Told> {
     let fuse = Fuse::new(one(alloc)?, OPENING.saturating_add(call), forever, late);
     let Ok(registry) = Registry::open(alloc, fuse) else {
@@ -38,8 +39,8 @@ fn cut(alloc: Global, call: u64, forever: bool, late: bool) -> Option<Told> {
     }
 }
 
-// What has to be told. The calls are writes of the file, the entry and the catalogue, a sync, the
-// write of the root, and a sync.
+// Returns the expected results. The calls are the writes of the file, the entry and the catalogue,
+// a sync, the write of the root, and a sync.
 fn wanted(call: u64, late: bool) -> Told {
     match call {
         1 | 2 => (Some(Refusal::Device), Some(Refusal::Reopen), 1),
@@ -60,7 +61,8 @@ fn each_call_of_an_update_fails(rt: HostRuntime) {
     }
 }
 
-// Whether an update replaces the library a, and is committed or given up.
+// Replaces the library a in an update, which is committed or given up. Returns whether that
+// succeeds, and the registry after the update.
 fn replaced(
     registry: Registry<Memory>,
     version: u8,
@@ -82,7 +84,7 @@ fn replaced(
 
 #[test]
 fn what_an_update_replaced_is_free_behind_it(rt: HostRuntime) -> Result<(), Fail> {
-    // Beside the library two sectors are free: as many as another version of it takes.
+    // Besides the library a, two sectors are free: as many as another version of it needs.
     let Ok(mut registry) = Registry::format(rt.alloc(), Memory::new(rt.alloc(), 8)?) else {
         panic!(rt; "no registry")
     };

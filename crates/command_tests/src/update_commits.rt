@@ -1,4 +1,4 @@
-// Updates over a disk of which a call fails within the commit: the status, and what is written.
+// Updates on a disk whose calls fail during the commit: the status, and the output.
 
 use crate::update_streams::one;
 use samples::library;
@@ -14,14 +14,15 @@ const OPENING: u64 = 5;
 #[derive(Drop)]
 struct Lines {
     text: String,
-    // The number of calls that its lines make, and of those that its commit makes.
+    // The number of calls that the update's lines make, and the number of calls that its commit
+    // makes.
     planning: u64,
     commit: u64,
 }
 
-// A commit writes the catalogue, unless only preloads change or no library is left, makes a sync,
-// unless only preloads change, writes the root, and makes a sync. A line that installs writes the
-// file and its entry.
+// Returns the updates. A commit writes the catalogue, unless only preloads change or no library is
+// left. It makes a sync, unless only preloads change; then it writes the root, and makes a sync. A
+// line that installs writes the file and its entry.
 fn updates(alloc: Global) -> Result<[Lines; 3], AllocError> {
     let file = hex::encode(alloc, library(b'b', 0).as_slice())?;
     let lines = |text, planning, commit| Lines {
@@ -36,12 +37,12 @@ fn updates(alloc: Global) -> Result<[Lines; 3], AllocError> {
     ])
 }
 
-// Which call of a commit fails, counted from 1, whether all later ones do, and whether it reaches
-// the disk first.
+// The call of a commit that fails, counted from 1; whether all later calls fail; and whether the
+// call reaches the disk before it fails.
 type Failure = (u64, bool, bool);
 
-// Whether an update whose commit fails so ends with this status and this output, and reports
-// nothing on standard error.
+// Returns whether an update whose commit fails in this way ends with this status and this output,
+// and writes nothing to standard error.
 fn ends(alloc: Global, lines: &Lines, failure: Failure, wanted: (u8, &[u8])) -> Option<bool> {
     let (call, forever, late) = failure;
     let call = OPENING.saturating_add(lines.planning).saturating_add(call);
@@ -65,7 +66,7 @@ fn no_ok_is_written_if_a_call_of_the_commit_fails(rt: HostRuntime) -> Result<(),
                 assert!(rt; ends(rt.alloc(), lines, failure, refused) == Some(true));
             }
         }
-        // There is no call after these.
+        // The failing call would be the one after the last call of the commit.
         let failure = (lines.commit.saturating_add(1), true, false);
         assert!(rt; ends(rt.alloc(), lines, failure, done) == Some(true));
     }

@@ -1,4 +1,4 @@
-// Updates over streams that fail: the status, what is told, and what the disk holds.
+// Updates over streams that fail: the status, the output, and the disk afterwards.
 
 use crate::streams::Turn::{Fails, Says};
 use crate::streams::{Full, Turn, Turns};
@@ -10,7 +10,7 @@ use std::alloc::Global;
 use std::io::ErrorKind;
 use updates::run_update;
 
-/// A disk that holds the library a.
+/// Makes a disk whose registry has the library a.
 pub(crate) fn one(alloc: Global) -> Option<Memory> {
     let Ok(mut registry) = Registry::format(alloc, Memory::new(alloc, 16).ok()?) else {
         return None;
@@ -20,7 +20,7 @@ pub(crate) fn one(alloc: Global) -> Option<Memory> {
     matches!(made, Reply::Done).then_some(disk)
 }
 
-/// How many libraries a disk holds.
+/// Returns the number of libraries of the registry on a disk.
 pub(crate) fn held(alloc: Global, disk: Memory) -> Option<usize> {
     let Ok(mut registry) = Registry::open(alloc, disk) else {
         return None;
@@ -39,10 +39,10 @@ const NO_MEMORY: &str = "rlibreg-tool: refused S11 OutOfMemory\n";
 
 const CANNOT_WRITE: &[u8] = b"rlibreg-tool: cannot write\n";
 
-// The status of an update, its output and standard error, and how many libraries there are then.
+// The status of an update, its output, its standard error, and the number of libraries after it.
 type Wanted = (u8, &'static str, &'static str, usize);
 
-// What a reader gives of an update, up to its failure, and how that ends.
+// The lines that a reader returns before it fails or ends, and the results.
 static CUT: [(&[Turn], Wanted); 6] = [
     (&[Fails(ErrorKind::Other)], (3, "", CANNOT_READ, 1)),
     (
@@ -57,19 +57,19 @@ static CUT: [(&[Turn], Wanted); 6] = [
         &[Says("remove a\n"), Fails(ErrorKind::OutOfMemory)],
         (4, "planned\n", NO_MEMORY, 1),
     ),
-    // The input ends.
+    // The input ends without a newline.
     (
         &[Says("remove a\ncommit")],
         (1, "planned\nrefused L2 CutLine\n", "", 1),
     ),
-    // What stands behind the commit isn't read.
+    // The reader fails after the commit, but isn't called there.
     (
         &[Says("remove a\ncommit\n"), Fails(ErrorKind::Other)],
         (0, "planned\nok\n", "", 0),
     ),
 ];
 
-// Whether an update of the lines that a reader gives ends so.
+// Returns whether an update whose reader has these turns ends as expected.
 fn ends(alloc: Global, turns: &[Turn], wanted: Wanted) -> Option<bool> {
     let mut output = Vec::new(alloc);
     let mut errors = Vec::new(alloc);
@@ -87,8 +87,8 @@ fn a_reader_fails_in_an_update(rt: HostRuntime) {
     }
 }
 
-// The status of an update whose output has room for so many bytes, whether its failure is said, and
-// how many libraries there are then.
+// Runs an update whose output has room for `room` bytes. Returns the status, whether the failure is
+// reported, and the number of libraries after it.
 fn full(alloc: Global, room: usize) -> Option<(u8, bool, usize)> {
     let mut output = Full::with_room(room);
     let mut errors = Vec::new(alloc);
@@ -100,7 +100,7 @@ fn full(alloc: Global, room: usize) -> Option<(u8, bool, usize)> {
 
 #[test]
 fn a_writer_fails_before_a_commit_and_behind_it(rt: HostRuntime) {
-    // All answers but the last, in 30 bytes, are sent before the commit.
+    // The answers have 30 bytes without the last one, and are sent before the commit.
     for (room, wanted) in [
         (0, (3, true, 1)),
         (29, (3, true, 1)),

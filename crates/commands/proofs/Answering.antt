@@ -1,4 +1,4 @@
--- A request to the registry on a disk.
+-- Lemmas about a request to the registry on a disk.
 use Rattle.std.proofs.Common.{◌≡◌, ◌⊎◌, List, Ok, inl, inr, sym, subst}
 use Rattle.sector_disk.specs.Disk.{Sector, DiskFacts, Mixture, LeavesOnly}
 use Rattle.sector_disk.proofs.Moments.{goes_on, weaken}
@@ -13,11 +13,11 @@ use Rattle.registry.specs.Opening.{EndsOpening}
 use Rattle.commands.specs.OnDisk.{IsAnswered}
 
 module _ {D : Type 0} (facts : D → DiskFacts) (disk left : D) (old new : Opened D) (request : Request) (reply : Reply) where
-  -- what a stop may leave from the opening to the end
+  -- a stop at any moment from the opening to the end may leave the sectors m
   abbrev MayBeLeft : State → State → List Sector → Type 0
   MayBeLeft s s' m = Mixture (facts disk) m ⊎ MayLeaveWithin (phase_of facts old s) request reply s' m
 
-  -- a registry that was opened and then answered
+  -- if a registry was opened and then answered a request, `IsAnswered` holds
   pub answered : EndsOpening facts disk (Ok old) → DiskStep facts old request reply new → left ≡ new.disk → IsAnswered facts disk request reply left
   answered opened step back = record {
     old = old;

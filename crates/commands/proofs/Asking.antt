@@ -1,4 +1,4 @@
--- What a command of a registry on a disk ends with.
+-- Lemmas about how a command of a registry on a disk ends.
 use Rattle.std.proofs.Common.{◌≡◌, ℕ, List, Option, Some, Result, Ok, Err, ap, refl, sym, subst, inl, inr}
 use Rattle.std.specs.Prelude.{is_some, false, ◌⊎◌, codes, OnOk}
 use Rattle.std.specs.Io.KnownBytes.{Appends}
@@ -37,7 +37,7 @@ use Rattle.commands.specs.inside.WithFile.{AsksWith}
 use Rattle.commands.specs.inside.Ends.{BindEnds, IsFormatted, IsNoRegistry, IsNotRead, IsTurnedAway, IsWritten, Replied, IsUpgradedOver}
 use Rattle.commands.proofs.Ending.{reply_answers}
 
--- a refusal that is want of memory has its line
+-- a refusal whose status is NoMemory has the line for refused memory
 memory_refusal : (r : Refusal) → refusal_status r ≡ NoMemory → command_refusal_text r ≡ memory_text
 memory_refusal refusal.OutOfMemory h = refl
 memory_refusal (refusal.Bind bind_refusal.OutOfMemory) h = refl
@@ -68,7 +68,7 @@ memory_reply reply.Done h = cc
 memory_reply (reply.Listing listing) h = cc
 memory_reply (reply.Bound bound) h = cc
 
--- no other status is that of a failure
+-- the statuses Done, Refused, BadWords and NoMemory differ from Failed
 done_fails : Done ≡ Failed → ⊥
 done_fails h = cc
 
@@ -81,7 +81,8 @@ words_fail h = cc
 memory_fails : NoMemory ≡ Failed → ⊥
 memory_fails h = cc
 
--- a refusal of a disk is neither done nor about words, and want of memory has its line
+-- the status of a disk's refusal is neither Done nor that of bad arguments; if it is NoMemory, the line
+-- is the one for refused memory
 disk_done : (r : StoreRefusal) → disk_status r ≡ Done → ⊥
 disk_done store.Device h = cc
 disk_done store.Reopen h = cc
@@ -124,7 +125,7 @@ disk_memory store.GenerationEnd h = cc
 disk_memory store.OutOfMemory h = refl
 disk_memory store.OldFormat h = cc
 
--- what was done ends with no other status than that or a failure
+-- the statuses Refused, BadWords and NoMemory differ from Done
 done_refuses : Refused ≡ Done → ⊥
 done_refuses h = cc
 
@@ -135,7 +136,7 @@ done_memory : NoMemory ≡ Done → ⊥
 done_memory h = cc
 
 module _ (before after : Option (List ℕ)) where
-  -- the line of the refusal of a disk was told
+  -- if the line of a disk's refusal was written, `IsTurnedAway` holds for the end of the command
   pub told_away : (May : StoreRefusal → Type 0) (r : StoreRefusal) (status : Status) → May r → IsTold (disk_status r) (disk_refusal_text r) before after status → IsTurnedAway May before after status
   told_away May r Done may (inl h) = absurd (disk_done r (sym h.0))
   told_away May r Done may (inr h) = absurd (done_fails h)
@@ -147,7 +148,7 @@ module _ (before after : Option (List ℕ)) where
   told_away May r NoMemory may (inl h) = subst (Appends before after) (disk_memory r (sym h.0)) h.1
   told_away May r NoMemory may (inr h) = absurd (memory_fails h)
 
-  -- a reply was written, or the output failed
+  -- if a reply was written, or the output failed, `Replied` holds for the end of the command
   written_as : (q : Request) (r : Reply) (made : (t : Status) → reply_status r ≡ t → Appends before after (reply_text r) → Replies (λ asked. asked ≡ q) t before after)
       → (status : Status) → IsWritten r before after status → Replied (λ asked. asked ≡ q) before after status
   written_as q r made Done (inl h) = made Done (sym h.0) h.1
@@ -160,7 +161,7 @@ module _ (before after : Option (List ℕ)) where
   written_as q r made NoMemory (inl h) = subst (Appends before after) (memory_reply r (sym h.0)) h.1
   written_as q r made NoMemory (inr h) = absurd (memory_fails h)
 
-  -- the disk was refused
+  -- if the disk was refused, `Replied` holds for the end of the command
   away_told : (IsAsked : Request → Type 0) (status : Status) → IsTurnedAway IsOpenRefusal before after status → Replied IsAsked before after status
   away_told IsAsked Done h = absurd h
   away_told IsAsked Refused h = inr h
@@ -168,7 +169,7 @@ module _ (before after : Option (List ℕ)) where
   away_told IsAsked Failed h = tt
   away_told IsAsked NoMemory h = h
 
-  -- so of a request over a new disk
+  -- if a request over a new disk has ended, `Replied` holds for the end of the command
   pub request_replied : (disk left : SystemDisk) (q : Request) (status : Status) → IsNew disk
       → RequestEnds file_facts disk q before after status left → Replied (λ asked. asked ≡ q) before after status
   request_replied disk left q status new (inl h) =
@@ -188,7 +189,7 @@ module _ (before after : Option (List ℕ)) where
   request_replied disk left q status new (inr h) =
       away_told (λ asked. asked ≡ q) status (told_away IsOpenRefusal h.0 status ((file_facts disk).sectors, h.1.on_any_disk.ends.refusals) h.2)
 
-  -- a registry was made, and that was told
+  -- if a registry was made, and `ok` was written, `IsFormatted` holds for the end of the command
   pub made_told : (n : ℕ) (disk : SystemDisk) (registry : Opened SystemDisk) (status : Status) → IsMade n disk registry
       → IsTold Done (codes "ok\n") before after status → IsFormatted n before after status
   made_told n disk registry Done made (inl h) = record { disk = disk; new = registry; made = made; written = h.1 }
@@ -201,7 +202,7 @@ module _ (before after : Option (List ℕ)) where
   made_told n disk registry NoMemory made (inl h) = absurd (done_memory h.0)
   made_told n disk registry NoMemory made (inr h) = absurd (memory_fails h)
 
-  -- so of an upgrade of a new disk
+  -- if an upgrade of a new disk has ended, `IsUpgradedOver` holds for the end of the command
   ends_upgraded : (disk : SystemDisk) (registry : Opened SystemDisk) (status : Status) → IsUpgraded disk registry
       → IsTold Done (codes "ok\n") before after status → IsUpgradedOver before after status
   ends_upgraded disk registry Done is (inl h) = record { disk = disk; new = registry; upgraded = is; written = h.1 }
@@ -229,7 +230,7 @@ module _ (before after : Option (List ℕ)) where
   pub upgrade_told : (disk left : SystemDisk) (status : Status) → IsNew disk → UpgradeEnds file_facts disk before after status left → IsUpgradedOver before after status
   upgrade_told disk left status new h = ends_upgrading disk h.0 status new h.1 h.3
 
-  -- the registry was not opened
+  -- if the registry can't be opened, `Replied` holds for the end of the command
   pub away_replied : (IsAsked : Request → Type 0) (why : NoRegistry) (status : Status) → IsNoRegistry IsOpenRefusal why → IsTurnedAway (λ r. why ≡ no.Refused r) before after status
       → Replied IsAsked before after status
   away_replied IsAsked why Done is h = absurd h
@@ -238,7 +239,7 @@ module _ (before after : Option (List ℕ)) where
   away_replied IsAsked why Failed is h = tt
   away_replied IsAsked why NoMemory is h = h
 
-  -- what asks one thing asks another
+  -- if A implies B, a reply to a request for which A holds is a reply to one for which B holds
   also : (A B : Request → Type 0) → ((q : Request) → A q → B q) → (status : Status) → Replies A status before after → Replies B status before after
   also A B other status h = record {
     asked = h.asked;
@@ -260,11 +261,12 @@ module _ (before after : Option (List ℕ)) where
   replied_also A B other Failed h = tt
   replied_also A B other NoMemory h = h
 
-  -- a request that was asked is such a request
+  -- if `IsAsked` holds for a request, a reply to this request is a reply to one for which `IsAsked`
+  -- holds
   pub replied_as : (IsAsked : Request → Type 0) (q : Request) (status : Status) → IsAsked q → Replied (λ asked. asked ≡ q) before after status → Replied IsAsked before after status
   replied_as IsAsked q status is h = replied_also (λ asked. asked ≡ q) IsAsked (λ asked e. subst IsAsked (sym e) is) status h
 
-  -- a file was not read, or memory for names was refused
+  -- if a file can't be read, or memory is refused, `Replied` holds for the end of the command
   pub memory_replied : (IsAsked : Request → Type 0) (status : Status) → IsTold NoMemory memory_text before after status → Replied IsAsked before after status
   memory_replied IsAsked status h = away_told IsAsked status (told_away IsOpenRefusal store.OutOfMemory status (8, refl) h)
 
@@ -279,7 +281,7 @@ module _ (before after : Option (List ℕ)) where
   unread_replied IsAsked CannotRead status h = failed_replied IsAsked status h.0
   unread_replied IsAsked OutOfMemory status h = memory_replied IsAsked status h
 
-  -- a registry was not made
+  -- if a registry can't be made, `IsFormatted` holds for the end of the command
   pub away_formatted : (n : ℕ) (why : NoRegistry) (status : Status) → IsNoRegistry IsFormatRefusal why
       → IsTurnedAway (λ r. why ≡ no.Refused r) before after status → IsFormatted n before after status
   away_formatted n why Done is h = absurd h
@@ -288,7 +290,7 @@ module _ (before after : Option (List ℕ)) where
   away_formatted n why Failed is h = tt
   away_formatted n why NoMemory is h = h
 
-  -- a registry was not upgraded
+  -- if a registry can't be upgraded, `IsUpgradedOver` holds for the end of the command
   pub away_upgraded : (why : NoRegistry) (status : Status) → IsNoRegistry IsUpgradeRefusal why → IsTurnedAway (λ r. why ≡ no.Refused r) before after status → IsUpgradedOver before after status
   away_upgraded why Done is h = absurd h
   away_upgraded why Refused is h = (h.0, subst (IsNoRegistry IsUpgradeRefusal) h.1 is, h.2, h.3)
@@ -296,7 +298,7 @@ module _ (before after : Option (List ℕ)) where
   away_upgraded why Failed is h = tt
   away_upgraded why NoMemory is h = h
 
-  -- a bind whose base was read
+  -- if the base of a bind could be read, `BindEnds` holds for the end of the command
   pub bind_ends : (at : ℕ) (asked : Option ℕ) (IsAsked : Request → Type 0) (status : Status) → asked ≡ Some at → Replied IsAsked before after status → BindEnds asked IsAsked before after status
   bind_ends at asked IsAsked Done e h = (ap is_some e, h)
   bind_ends at asked IsAsked Refused e h = (ap is_some e, h)
@@ -305,7 +307,7 @@ module _ (before after : Option (List ℕ)) where
   bind_ends at asked IsAsked NoMemory e h = (ap is_some e, h)
 
 module _ (io : Streams) where
-  -- a command that asks so ends as the words say
+  -- if a command's request is the one of its arguments, `CommandEnds` holds for the end of the command
   ends_as : (line : CommandLine) → are_bad (Some line) ≡ false → (Replies (Asks line) Done io.before io.after → IsDone (Some line) io)
       → (Replies (Asks line) Refused io.before io.after ⊎ TurnsAway IsOpenRefusal Refused io.before io.after → IsRefused (Some line) io)
       → (Appends io.before io.after memory_text → LacksMemory (Some line) io) → (status : Status) → Replied (Asks line) io.before io.after status → CommandEnds (Some line) io status
@@ -330,7 +332,7 @@ module _ (io : Streams) where
   pub list_ends : (disk : List ℕ) (status : Status) → Replied (λ asked. asked ≡ request.list) io.before io.after status → CommandEnds (Some (list disk)) io status
   list_ends disk status h = ends_as (list disk) refl (λ k. k) (λ k. k) (λ k. k) status h
 
--- for a command whose words are paths alone
+-- the rules for commands whose arguments are only paths
 pub ruleset commands_end = (install_ends, replace_ends, list_ends)
 
 module _ (n : ℕ) (disk : SystemDisk) where
@@ -339,7 +341,7 @@ module _ (n : ℕ) (disk : SystemDisk) where
   made_as (Ok registry) new sectors is = (disk, registry, record { new = new; sectors = sectors; making = is })
   made_as (Err e) new sectors is = tt
 
-  -- what making a registry on a new disk of so many sectors answers
+  -- if the answer to making a registry on a new disk of n sectors is Ok, a registry was made
   pub format_made : (answer : Result (Unit {0}) StoreRefusal) (left : SystemDisk) → IsNew disk → (file_facts disk).sectors ≡ n → FormatEnds file_facts disk answer left
       → OnOk answer ((d : SystemDisk) × (registry : Opened SystemDisk) × IsMade n d registry)
   format_made answer left new sectors h =

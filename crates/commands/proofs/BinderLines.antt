@@ -1,4 +1,4 @@
--- What a line asks of a binder, by its front.
+-- The event of a binder that a line asks for, depending on how the line begins.
 use Rattle.std.proofs.Common.{◌≡◌, ◌∙◌, ℕ, List, drop, codes, Bool, true, false, cond, Option, Some, None, refl, ap}
 use Rattle.std.specs.Prelude.{MatchOption, IsSomeAnd}
 use Rattle.std.specs.Option.{option_map}
@@ -16,7 +16,7 @@ passed : {A : Type 0} (b : Bool) (x y : A) → b ≡ false → y ≡ cond b x y
 passed false x y is = refl
 passed true x y is = cc
 
--- what a slot is asked, where one is read
+-- the event of a form with a slot, if the slot can be read
 pub asked_of : (form : ℕ → Asked) (Asks : ℕ → Asked → Type 0) → ((k : ℕ) (a : Asked) → Asks k a → a ≡ form k)
     → (slot : Option ℕ) (asked : Option Asked) → MatchOption slot (asked ≡ None) (λ k. IsSomeAnd asked (Asks k))
     → option_map happening_asked asked ≡ option_map (λ k. happening_asked (form k)) slot

@@ -15,7 +15,7 @@ decimal c h = grind (arith, nat_tests)
 decimal_sign : (c : ℕ) → is_ascii_digit c ≡ true → nat_eq c 43 ≡ false
 decimal_sign c h = grind (arith, nat_tests)
 
--- where 1 to 7 decimal digits are parsed, they are read
+-- if 1 to 7 decimal digits are parsed, the result is their number
 pub parsed_decimal : {E : Type 0} (cs : List ℕ) (r : Result ℕ E) → is_decimal cs ≡ true → ParsesUnsigned 32 10 cs r
     → result_ok r ≡ Some (digits_value 10 cs)
 parsed_decimal cs r h p =

@@ -1,4 +1,4 @@
--- What a command ends with.
+-- Lemmas about how a command ends.
 use Rattle.std.proofs.Common.{◌≡◌, ◌≢◌, ◌<◌, ℕ, List, [], length, append-nil, Option, Some, None, Result, Ok, Err, ap, sym, subst, inl, inr, ⊎_elim, ◌∙◌}
 use Rattle.std.specs.Prelude.{IfErr, IfOk, MatchResult, is_some}
 use Rattle.std.specs.Io.KnownBytes.{Appends}
@@ -22,7 +22,7 @@ use Rattle.commands.specs.declared.show.Shown.{Shown}
 use Rattle.commands.specs.declared.show.Shown.TheVariants as shown
 use Rattle.commands.specs.inside.Ends.{ImageEnds, IsShown, IsNotRead, IsSaid}
 
--- what was shown ends so
+-- if a command showed an image, `IsShown` holds for its end
 pub image_shown : (file : List ℕ) (base : ℕ) (before after : Option (List ℕ)) (r : Result Shown ScriptFault) → IfOk r (Shows file base before after)
     → IfErr r (λ why. why ≡ fault.Write) → IsShown file base before after (status_of r)
 image_shown file base before after (Ok shown.Image) ok err = ok
@@ -57,7 +57,7 @@ unread_ends OutOfMemory base asked before after Refused e (inr h) = let no = h i
 unread_ends OutOfMemory base asked before after BadWords e (inl h) = let no = h.0 in cc
 unread_ends OutOfMemory base asked before after BadWords e (inr h) = let no = h in cc
 
--- what was shown of a file that was read, or said of one that wasn't, is an end of a command
+-- if a file was read and shown, or couldn't be read, `ImageEnds` holds for the end of the command
 pub read_ends : {V : Type 0} (items : V → List ℕ) (read : Result V FileFault) (base : ℕ) (asked : Option ℕ) (before after : Option (List ℕ)) (status : Status)
     → asked ≡ Some base → IfOk read (λ v. length (items v) < read_limit)
     → MatchResult read (λ v. IsShown (items v) base before after status) (λ f. IsNotRead f before after status)
@@ -65,7 +65,7 @@ pub read_ends : {V : Type 0} (items : V → List ℕ) (read : Result V FileFault
 read_ends items (Ok v) base asked before after status e short h = shown_ends (items v) base asked before after status e short h
 read_ends items (Err f) base asked before after status e short h = unread_ends f base asked before after status e h
 
--- of words that are turned away nothing but a front of the one line was said
+-- a stream to which nothing is written holds the same bytes as before
 nothing_said : (known : Option (List ℕ)) → Appends known known []
 nothing_said None = tt
 nothing_said (Some bytes) = sym (append-nil bytes)
@@ -75,7 +75,7 @@ pub said_front : (text : List ℕ) (before after errors errors' : Option (List �
 said_front text before after errors errors' status (inl same) is = (0, subst (λ k. Appends errors k []) (sym same) (nothing_said errors))
 said_front text before after errors errors' status (inr said) is = ⊎_elim (λ front. front.1) (λ failed. absurd (cc (sym is ∙ failed))) said.1
 
--- no reply is about words
+-- the status of a refusal or of a reply isn't that of bad arguments
 refusal_answers : (r : Refusal) → refusal_status r ≢ BadWords
 refusal_answers refusal.OutOfMemory h = cc
 refusal_answers (refusal.Bind bind_refusal.OutOfMemory) h = cc

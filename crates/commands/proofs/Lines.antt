@@ -1,4 +1,4 @@
--- Lists of answers that grow by one.
+-- Lemmas about lists of answers that grow by one.
 use Rattle.std.proofs.Common.{◌≡◌, ℕ, ◌+◌, Bool, if◌then◌else◌, List, [], ◌∷◌, ◌++◌, length, length-append, append-nil, sym, ap, ◌∙◌, arith}
 use Rattle.std.specs.Prelude.{count_by}
 use Rattle.std.specs.List.{flat_map}
@@ -27,7 +27,7 @@ refused_more m l answers answer refused is before more =
     ∙ saturated_more (count_by is_refused answers) (if is_refused answer then 1 else 0)
     ∙ ap u64_saturate (sym (sum_by_push (λ answer. if is_refused answer then 1 else 0) answers answer))
 
--- one answer more is counted
+-- if the counts of the answers are right, they are right after one more answer is counted
 pub counts_more : (m n : Summary) (answers : List Answer) (answer : Answer) (refused : Bool) → refused ≡ is_refused answer → Counts m answers
     → n.lines ≡ u64_saturate (m.lines + 1) → n.refused ≡ u64_saturate (m.refused + (if refused then 1 else 0)) → Counts n (answers ++ answer ∷ [])
 counts_more m n answers answer refused is before lines refusals = record {

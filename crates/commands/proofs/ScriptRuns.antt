@@ -21,7 +21,7 @@ use Rattle.program_parts.specs.declared.status.Status.TheVariants.{Done}
 use Rattle.commands.specs.declared.summary.Summary.{Summary}
 use Rattle.commands.proofs.Seen.{run_seen}
 
--- a line that asks something has one event more, any other line none
+-- a line that asks for an event adds one event to the list, and any other line adds none
 asks : {X Y : Type 0} (f : X → Option Y) (x : X) (xs : List X) (y : Y) → f x ≡ Some y → filter_map f (x ∷ xs) ≡ y ∷ filter_map f xs
 asks f x xs y e = rw e refl
 
@@ -29,7 +29,7 @@ asks_none : {X Y : Type 0} (f : X → Option Y) (x : X) (xs : List X) → f x �
 asks_none f x xs e = rw e refl
 
 module _ {D : Type 0} (facts : D → DiskFacts) where
-  -- what lines ask happened, one after the other
+  -- the events of the lines happened, one after the other
   happened : (mid : Slotted D) (lines : List (List ℕ)) (answers : List Answer) (states : List (Slotted D))
       → Steps (LineStep (EventStep facts)) mid lines answers states → Run (EventStep facts) mid (happenings lines) (replied answers) (last_of mid states)
   happened mid [] [] [] h = ([], tt, refl)
@@ -46,28 +46,28 @@ module _ {D : Type 0} (facts : D → DiskFacts) where
   happened mid (line ∷ lines) [] ts h = absurd h
   happened mid (line ∷ lines) (y ∷ answers) [] h = absurd h
 
-  -- so what the lines ask is a run
+  -- the events of the lines are a run
   pub lines_ran : (old new : Slotted D) (lines : List (List ℕ)) (answers : List Answer) → Run (LineStep (EventStep facts)) old lines answers new → LinesRan facts old new lines answers
   lines_ran old new lines answers run =
       events_ran facts old new (happenings lines) (replied answers)
       (subst (λ (k : Slotted D). Run (EventStep facts) old (happenings lines) (replied answers) k) (sym run.2) (happened old lines answers run.0 run.1))
 
   module _ (io : Streams) (old new : Slotted D) where
-    -- so of a script that was read to its end
+    -- if a script was read to its end, its events are a run
     pub finishes_on_disk : (summary : Summary) → Finishes (EventStep facts) io old new summary → FinishesOnDisk facts io old new summary
     finishes_on_disk summary h = (h.0, h.1, h.2, h.3, lines_ran old new h.0 h.2 h.3.run)
 
-    -- and of one that ended early
+    -- if a script ended early, the events of the answered lines are a run
     pub stops_on_disk : (fault : ScriptFault) → Stops (EventStep facts) io old new fault → StopsOnDisk facts io old new fault
     stops_on_disk fault h = (h.0, h.1, h.2, h.3, lines_ran old new h.0 h.2 h.3.run)
 
 module _ {D : Type 0} (facts : D → DiskFacts) (io : Streams) (old new : Slotted D) (worst status : Status) where
-  -- the steps of a script whose replies are watched are those of its lines
+  -- if the greatest status is kept during a script, the events of its lines are still a run
   lines_seen : (lines : List (List ℕ)) (answers : List Answer) → Run (LineStep (Worsens (EventStep facts))) (old, Done) lines answers (new, worst) → LinesRan facts old new lines answers
   lines_seen lines answers run =
       lines_ran facts old new lines answers (run_seen (λ (p : Slotted D × Status). p.0) (Worsens (EventStep facts)) (EventStep facts) (λ s s' q r k. k.0) (old, Done) (new, worst) lines answers run)
 
-  -- so of a script whose status is told
+  -- a script with a status, which was read to its end or ended early, is a run
   pub runs_on_disk : (summary : Summary) → Finishes (Worsens (EventStep facts)) io (old, Done) (new, worst) summary → status ≡ greatest worst (lines_status summary.refused)
       → RunsOnDisk facts io old new status
   runs_on_disk summary e is = (worst, summary, e.0, e.1, e.2, e.3, lines_seen e.0 e.2 e.3.run, is)

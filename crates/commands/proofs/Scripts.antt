@@ -1,4 +1,4 @@
--- Scripts go on.
+-- Lemmas about scripts that go on, line by line.
 use Rattle.std.proofs.Common.{◌≡◌, ◌≢◌, ℕ, ◌+◌, ◌<◌, Bool, true, if◌then◌else◌, List, [], ◌∷◌, ◌++◌, length, append-nil, Option, refl, sym, subst, ◌∙◌, arith}
 use Rattle.std.specs.List.{flat_map}
 use Rattle.std.specs.Io.{StopsAt}
@@ -22,12 +22,12 @@ use Rattle.commands.specs.declared.summary.Summary.{Summary}
 use Rattle.scripts.proofs.Lines.{rest_known, front_known, stops_ended}
 use Rattle.commands.proofs.Lines.{flat_more, counts_more}
 
--- what the streams of a script are from one place to another
+-- the streams of a script from one place to another
 abbrev pub streams : Place → Place → Streams
 streams p q = record { unread = p.unread; before = p.written; after = q.written }
 
 module _ {S : Type 0} (step : S → Happening → EventReply → S → Type 0) where
-  -- nothing was read yet
+  -- if no line was read yet, no line was answered
   pub answered_none : (p : Place) (s : S) (m : Summary) → m.lines ≡ 0 → m.refused ≡ 0 → Answered step p p s s m [] []
   answered_none p s m lines refused = record {
     read = Consumes-nil p.unread;
@@ -38,7 +38,7 @@ module _ {S : Type 0} (step : S → Happening → EventReply → S → Type 0) w
   }
 
   module _ (p q : Place) (s t : S) (m : Summary) (whole : List (List ℕ)) (answers : List Answer) (so_far : Answered step p q s t m whole answers) where
-    -- one more whole line
+    -- if some lines were answered, and then one more whole line, all of them were answered
     pub answered_more : (r : Place) (u : S) (n : Summary) (line : List ℕ) (answer : Answer) (refused : Bool) → Consumes q.unread r.unread (ended line) → IsLine line → LineStep step t line answer u
         → Appends q.written r.written (answer_text answer) → refused ≡ is_refused answer → n.lines ≡ u64_saturate (m.lines + 1) → n.refused ≡ u64_saturate (m.refused + (if refused then 1 else 0))
         → Answered step p r s u n (whole ++ line ∷ []) (answers ++ answer ∷ [])
@@ -51,7 +51,7 @@ module _ {S : Type 0} (step : S → Happening → EventReply → S → Type 0) w
       counts = counts_more m n answers answer refused is so_far.counts counted refusals;
     }
 
-    -- nothing is left
+    -- if nothing is left to read, the script was read to its end
     pub ends_here : IsAll q.unread [] → Ends step (streams p q) s t m whole [] answers
     ends_here all = record {
       read = rest_known p.unread q.unread (flat_map ended whole) [] so_far.read all;
@@ -62,7 +62,8 @@ module _ {S : Type 0} (step : S → Happening → EventReply → S → Type 0) w
       counts = subst (Counts m) (sym (append-nil answers)) so_far.counts;
     }
 
-    -- a line without a newline is left
+    -- if only a line without a newline is left, and its answer is written, the script was read to its
+    -- end
     pub ends_cut : (now : Option (List ℕ)) (n : Summary) (cut : List ℕ) → IsAll q.unread cut → IsLine cut → 0 < length cut → Appends q.written now (answer_text CutLine)
         → n.lines ≡ u64_saturate (m.lines + 1) → n.refused ≡ u64_saturate (m.refused + 1) → Ends step (record { unread = p.unread; before = p.written; after = now }) s t n whole cut answers
     ends_cut now n (b ∷ cut) all is_line some written counted refusals = record {
@@ -75,7 +76,7 @@ module _ {S : Type 0} (step : S → Happening → EventReply → S → Type 0) w
     }
     ends_cut now n [] all is_line some written counted refusals = absurd (omega arith)
 
-    -- part of a line was read, and not answered
+    -- if only a part of a line was read, and nothing was answered, the script ended early
     pub breaks_reading : (r : Place) (fault : ScriptFault) (part : List ℕ) → Consumes q.unread r.unread part → StopsAt part 10
         → Appends q.written r.written [] → Breaks step (streams p r) s t fault whole part answers
     breaks_reading r fault part read stops written = record {
@@ -86,7 +87,7 @@ module _ {S : Type 0} (step : S → Happening → EventReply → S → Type 0) w
       written = λ _. subst (Appends p.written r.written) (append-nil (output answers)) (Appends-trans p.written q.written r.written (output answers) [] so_far.written written);
     }
 
-    -- the answer to the last line was not written
+    -- if the answer to the cut last line couldn't be written, the script ended early
     pub breaks_cut : (r : Place) (fault : ScriptFault) (part : List ℕ) → fault ≡ Write → Consumes q.unread r.unread part → StopsAt part 10 → Breaks step (streams p r) s t fault whole part answers
     breaks_cut r fault part is read stops = record {
       read = front_known p.unread r.unread (flat_map ended whole) part (Consumes-trans p.unread q.unread r.unread (flat_map ended whole) part so_far.read read);
@@ -96,7 +97,8 @@ module _ {S : Type 0} (step : S → Happening → EventReply → S → Type 0) w
       written = λ h. absurd (h is);
     }
 
-    -- what was done but for a line that was read and not applied, or of a line that was applied
+    -- if a whole line was read and not applied, or applied and its answer not written, the script ended
+    -- early
     pub breaks_unapplied : (r : Place) (u : S) (line : List ℕ) (fault : ScriptFault) → Consumes q.unread r.unread (ended line) → IsLine line → u ≡ t
         → (fault ≢ Write → Appends q.written r.written []) → Breaks step (streams p r) s u fault whole (ended line) answers
     breaks_unapplied r u line fault read is_line same written =
@@ -120,11 +122,11 @@ module _ {S : Type 0} (step : S → Happening → EventReply → S → Type 0) w
       written = λ h. absurd (h refl);
     }
 
-    -- nothing more was read
+    -- if nothing more was read, the script ended early
     pub breaks_here : (fault : ScriptFault) → Breaks step (streams p q) s t fault whole [] answers
     breaks_here fault = breaks_reading q fault [] (Consumes-nil q.unread) (All-nil (λ b. b ≢ 10)) (Appends-nil q.written)
 
-  -- nothing was read at all
+  -- if nothing at all was read, the script ended early
   pub breaks_none : (p : Place) (s : S) (fault : ScriptFault) → Stops step (streams p p) s s fault
   breaks_none p s fault =
       ([], [], [], breaks_here p p s s (record { lines = 0; refused = 0 }) [] [] (answered_none p s (record { lines = 0; refused = 0 }) refl refl) fault)

@@ -1,4 +1,4 @@
--- A script over something that is seen in part.
+-- Lemmas about a script over a value of which only a part is observed.
 use Rattle.std.proofs.Common.{◌≡◌, ℕ, List, [], ◌∷◌, map, ap, refl, subst, ◌∙◌}
 use Rattle.requests.specs.Runs.{last_of, Steps, Run}
 use Rattle.binders.specs.Events.{Happening}
@@ -69,11 +69,12 @@ module _ {S T : Type 0} (f : S → T) (step : S → Happening → EventReply →
       )
 
 module _ {G : Type 0} (step : G → Happening → EventReply → G → Type 0) (io : Streams) (w w' : Watched G) where
-  -- of what is watched its own steps and the greatest status are seen
+  -- the observed part of a watched value: its registry and the greatest status
   abbrev seen_of : Watched G → G × Status
   seen_of v = (v.binders, v.worst)
 
-  -- a script that was run to its end, or ended early, where no reply was watched before
+  -- a script that starts with the status Done is a script over the observed part, if it is read to its
+  -- end or ends early
   pub runs_through : (summary : Summary) → w.worst ≡ Done → Finishes (WatchedStep step) io w w' summary → Finishes (Worsens step) io (w.binders, Done) (seen_of w') summary
   runs_through summary e h =
       subst (λ s. Finishes (Worsens step) io (w.binders, s) (seen_of w') summary) e (finishes_seen seen_of (WatchedStep step) (Worsens step) (λ s s' q r k. k) io w w' summary h)

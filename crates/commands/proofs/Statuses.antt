@@ -1,4 +1,4 @@
--- The greatest of statuses.
+-- Lemmas about the greater of two statuses.
 use Rattle.std.proofs.Common.{◌≡◌, ◌≢◌, ℕ, Bool, true, false, cond, nat_lt, refl, subst, inl, inr}
 use Rattle.binders.specs.declared.event.EventReply.{EventReply}
 use Rattle.binders.specs.declared.event.EventReply.TheVariants as event
@@ -24,7 +24,7 @@ either : (b : Bool) (s t : Status) → s ≢ BadWords → t ≢ BadWords → con
 either true s t hs ht = ht
 either false s t hs ht = hs
 
--- the greatest of two that aren't about words isn't either
+-- if neither of two statuses is that of bad arguments, nor is the greater one
 greatest_answers : (s t : Status) → s ≢ BadWords → t ≢ BadWords → greatest s t ≢ BadWords
 greatest_answers s t hs ht = either (nat_lt (status_number s) (status_number t)) s t hs ht
 
@@ -48,14 +48,14 @@ fault_answers fault.Read h = cc
 fault_answers fault.Write h = cc
 fault_answers fault.OutOfMemory h = cc
 
--- what was seen and what the lines, or a fault, end with
+-- the greater of a status and that of the lines, or of a fault, isn't that of bad arguments
 pub after_lines : (s : Status) (n : ℕ) → s ≢ BadWords → greatest s (lines_status n) ≢ BadWords
 after_lines s n h = greatest_answers s (lines_status n) h (lines_answers n)
 
 pub after_fault : (s : Status) (f : ScriptFault) → s ≢ BadWords → greatest s (fault_status f) ≢ BadWords
 after_fault s f h = greatest_answers s (fault_status f) h (fault_answers f)
 
--- a script was run over a disk
+-- if a script was run over a disk, `ScriptEnds` holds for the end of the command
 run_ends : (io : Streams) (status : Status) → status ≢ BadWords → Runs io status → ScriptEnds io status
 run_ends io Done words h = h
 run_ends io Refused words h = inl h
@@ -63,7 +63,7 @@ run_ends io BadWords words h = absurd (words refl)
 run_ends io Failed words h = tt
 run_ends io NoMemory words h = inl h
 
--- the disk was refused, and that was told
+-- if the disk was refused, and the refusal was written, `ScriptEnds` holds for the end of the command
 away_ends : (io : Streams) (status : Status) → IsTurnedAway IsOpenRefusal io.before io.after status → ScriptEnds io status
 away_ends io Done h = absurd h
 away_ends io Refused h = inr h
@@ -71,7 +71,7 @@ away_ends io BadWords h = absurd h
 away_ends io Failed h = tt
 away_ends io NoMemory h = inr h
 
--- so of a script over a new disk
+-- if a script over a new disk has ended, `ScriptEnds` holds for the end of the command
 pub disk_script_ends : (disk left : SystemDisk) (io : Streams) (status : Status) → IsNew disk → status ≢ BadWords → DiskScriptEnds file_facts disk io status left → ScriptEnds io status
 disk_script_ends disk left io status new words (inl h) = run_ends io status words (record { disk = disk; new = new; left = left; run = h })
 disk_script_ends disk left io status new words (inr h) =

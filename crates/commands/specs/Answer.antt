@@ -13,38 +13,40 @@ use Rattle.commands.specs.Line.{is_no_change, meaning}
 use Rattle.commands.specs.declared.answer.Answer.{Answer}
 use Rattle.commands.specs.declared.answer.Answer.TheVariants.{Replied, BadLine, CutLine}
 
--- a line is answered by the step that it asks for; one that asks nothing is bad and changes nothing
+-- The answer to a line is the reply to what the line asks for. A line that asks for nothing is answered
+-- with BadLine, and changes nothing.
 abbrev pub LineStep : {S : Type 0} → (S → Happening → EventReply → S → Type 0) → S → List ℕ → Answer → S → Type 0
 LineStep step s line (Replied reply) s' = (happening : Happening) × (meaning line ≡ Some happening) × step s happening reply s'
 LineStep step s line BadLine s' = (meaning line ≡ None) × (s' ≡ s)
 LineStep step s line CutLine s' = ⊥
 
--- the text of an answer
+-- the text that is written for an answer
 abbrev pub answer_text : Answer → List ℕ
 answer_text (Replied reply) = event_text reply
 answer_text BadLine = line_refusal_text refusal.BadLine
 answer_text CutLine = line_refusal_text refusal.CutLine
 
--- an answer counts as refused
+-- whether an answer counts as a refusal
 abbrev pub is_refused : Answer → Bool
 is_refused (Replied (event_reply.Replied (Refused refusal))) = true
 is_refused (Replied reply) = false
 is_refused answer = true
 
--- S1 or S2: a call of the disk failed, now or before
+-- whether an answer refuses with S1 or S2: a call of the disk failed, now or before
 abbrev pub is_failure : Answer → Bool
 is_failure (Replied (event_reply.Replied (Refused Device))) = true
 is_failure (Replied (event_reply.Replied (Refused Reopen))) = true
 is_failure answer = false
 
--- the answer to a line may wait: it is neither S1 nor S2, and the line was refused or asks for no change
+-- whether the answer to a line may be sent later: the answer is neither S1 nor S2, and the line was
+-- refused or asks for no change
 abbrev pub may_wait : List ℕ → Answer → Bool
 may_wait line answer = not (is_failure answer) && (is_refused answer || is_no_change (meaning line))
 
--- the answer to a line may wait
+-- the answer to a line may be sent later, together with others
 abbrev pub MayWait : List ℕ → Answer → Type 0
 MayWait line answer = may_wait line answer ≡ true
 
--- what is written for answers
+-- the text that is written for answers
 abbrev pub output : List Answer → List ℕ
 output answers = flat_map answer_text answers

@@ -1,4 +1,4 @@
--- What a script does to a registry on a disk, with its binders (own).
+-- The effect of a script on a registry with binders on a disk (own).
 use Rattle.std.specs.Prelude.{ℕ, List, Option, Some, None}
 use Rattle.std.specs.List.{filter_map}
 use Rattle.sector_disk.specs.Disk.{DiskFacts}
@@ -13,30 +13,30 @@ use Rattle.commands.specs.declared.answer.Answer.TheVariants.{Replied}
 use Rattle.scripts.specs.declared.fault.ScriptFault.{ScriptFault}
 use Rattle.commands.specs.declared.summary.Summary.{Summary}
 
--- what lines ask, in their order: a line of no form asks nothing
+-- the events that lines ask for, in their order; a line that has none of the forms asks for nothing
 abbrev pub happenings : List (List ℕ) → List Happening
 happenings lines = filter_map meaning lines
 
--- what was replied to a line: one of no form gets no reply
+-- the reply to the event of a line, if the line asks for one
 abbrev pub event_reply_of : Answer → Option EventReply
 event_reply_of (Replied reply) = Some reply
 event_reply_of answer = None
 
--- what was replied to lines, in their order
+-- the replies to the events of lines, in their order
 abbrev pub replied : List Answer → List EventReply
 replied answers = filter_map event_reply_of answers
 
--- What these lines ask happened over a disk, one after the other, one reply each;
--- and what a stop leaves of it at any moment.
+-- The events that the lines ask for happened over a disk, one after the other, with one reply each.
+-- `EventsRan` also states which state a stop at any moment leaves.
 abbrev pub LinesRan : {D : Type 0} → (D → DiskFacts) → Slotted D → Slotted D → List (List ℕ) → List Answer → Type 0
 LinesRan facts old new lines answers = EventsRan facts old new (happenings lines) (replied answers)
 
--- a script over a registry on a disk was read to its end, and what its lines ask happened
+-- a script over a registry on a disk was read to its end, and the events of its lines happened
 abbrev pub FinishesOnDisk : {D : Type 0} → (D → DiskFacts) → Streams → Slotted D → Slotted D → Summary → Type 0
 FinishesOnDisk facts io old new summary = (whole : List (List ℕ)) × (cut : List ℕ) × (answers : List Answer)
     × Ends (EventStep facts) io old new summary whole cut answers × LinesRan facts old new whole answers
 
--- it ended early, and what the lines ask happened that were read and answered by then
+-- a script ended early, and the events of the lines that were answered by then happened
 abbrev pub StopsOnDisk : {D : Type 0} → (D → DiskFacts) → Streams → Slotted D → Slotted D → ScriptFault → Type 0
 StopsOnDisk facts io old new fault = (whole : List (List ℕ)) × (part : List ℕ) × (answers : List Answer)
     × Breaks (EventStep facts) io old new fault whole part answers × LinesRan facts old new whole answers

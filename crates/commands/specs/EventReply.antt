@@ -1,15 +1,15 @@
--- The text of what an event is answered (own).
+-- The text of the reply to an event (own).
 use Rattle.std.specs.Prelude.{ℕ, List, ◌++◌, codes}
 use Rattle.std.specs.Fmt.{decimal}
 use Rattle.binders.specs.declared.event.EventReply.{EventReply}
 use Rattle.binders.specs.declared.event.EventReply.TheVariants.{Replied, Slot, Going}
 use Rattle.program_parts.specs.Reply.{reply_text}
 
--- the line of a slot in which a binder was begun
+-- the line that names the slot in which a binder was begun
 abbrev pub slot_text : ℕ → List ℕ
 slot_text slot = codes "slot " ++ decimal slot ++ codes "\n"
 
--- the text of what an event is answered
+-- the text of the reply to an event
 abbrev pub event_text : EventReply → List ℕ
 event_text (Replied reply) = reply_text reply
 event_text (Slot slot) = slot_text slot

@@ -1,4 +1,4 @@
--- What a line of a script asks (own).
+-- The event that a line of a script asks for (own).
 use Rattle.std.specs.Prelude.{ℕ, ◌-◌, Bool, true, false, not, if◌then◌else◌}
 use Rattle.std.specs.Prelude.{List, [], ◌∷◌, drop, codes, Option, Some, None}
 use Rattle.std.specs.Char.{is_ascii_digit}
@@ -8,12 +8,12 @@ use Rattle.binders.specs.Events.{Happening, apply, begin, advance, cancel}
 use Rattle.scripts.specs.Asked.{request_meaning}
 use Rattle.scripts.specs.Words.{has_front, program_behind}
 
--- SLOT: exactly one decimal digit, and the slot that it is
+-- the slot that the word SLOT names, which is exactly one decimal digit
 abbrev pub slot_of : List ℕ → Option ℕ
 slot_of (digit ∷ []) = if is_ascii_digit digit then Some (digit - 48) else None
 slot_of word = None
 
--- what a line asks of a binder
+-- the event of a binder that a line asks for
 abbrev pub binder_meaning : List ℕ → Option Happening
 binder_meaning line =
     if has_front (codes "begin ") line then option_map (λ p. begin p.0 p.1) (program_behind (drop 6 line))
@@ -21,22 +21,22 @@ binder_meaning line =
     else if has_front (codes "cancel ") line then option_map cancel (slot_of (drop 7 line))
     else None
 
--- a command, or else what is asked of a binder
+-- the event of a line: its command or, if it has none, its event of a binder
 abbrev pub first_of : Option Request → Option Happening → Option Happening
 first_of (Some request) other = Some (apply request)
 first_of None other = other
 
--- what a line without its newline asks: none of these forms asks nothing
+-- the event that a line without its newline asks for; a line that has none of the forms asks for nothing
 abbrev pub meaning : List ℕ → Option Happening
 meaning line = first_of (request_meaning line) (binder_meaning line)
 
--- what may happen is a change, of the registry or of a binder
+-- whether an event is a change of the registry or of a binder
 abbrev pub is_change : Happening → Bool
 is_change (apply list) = false
 is_change (apply (bind program base)) = false
 is_change happening = true
 
--- what is asked is no change: a listing, a bind, or nothing
+-- whether a line asks for no change: it asks for a listing, a bind, or nothing
 abbrev pub is_no_change : Option Happening → Bool
 is_no_change (Some happening) = not (is_change happening)
 is_no_change None = true

@@ -1,4 +1,5 @@
--- What a command ends with on the disk that it is given: what it did there, and what it told (own).
+-- How a command ends on the disk that it is given: its effect on the disk, and the text that it writes
+-- (own).
 use Rattle.std.specs.Prelude.{◌≡◌, ◌⊎◌, ℕ, List, replicate, Option, None, Result, Ok, Err, IsTrue}
 use Rattle.sector_disk.specs.Disk.{DiskFacts, Mixture, LeavesOnly}
 use Rattle.requests.specs.Request.{Request}
@@ -30,54 +31,58 @@ use Rattle.program_parts.specs.declared.status.Status.{Status}
 use Rattle.program_parts.specs.declared.status.Status.TheVariants.{Done}
 use Rattle.commands.specs.declared.summary.Summary.{Summary}
 
--- The registry on a disk was opened, a request was applied to it, and the disk is left so.
+-- The registry on a disk was opened, and a request was applied to it. `left` is the disk after that.
 pub record IsAnswered {D : Type 0} (facts : D → DiskFacts) (disk : D) (request : Request) (reply : Reply) (left : D) : Type 0 where
   pub old : Opened D
   pub opened : EndsOpening facts disk (Ok old)
   pub new : Opened D
   pub step : DiskStep facts old request reply new
-  -- where an honest disk holds a state, it was a step of the table from there; and a stop at any
-  -- moment leaves what it could leave before, the state before, the one after, or the change in flight
+  -- If an honest disk holds a state, the answer was a step of the table from this state. A stop at any
+  -- moment leaves what a stop could leave before the opening, or what `MayLeaveWithin` allows.
   pub applied : IsTrue (facts disk).honest → (s : State) → Stands (facts disk).now s → (s' : State) × Applied facts old new s s' request reply
       × LeavesOnly (facts disk) (facts left) (λ m. Mixture (facts disk) m ⊎ MayLeaveWithin (phase_of facts old s) request reply s' m)
   pub back : left ≡ new.disk
 
--- a request was answered and exactly its reply was told, or the disk was refused and that was told
+-- either a request was answered and exactly its reply was written, or the disk was refused and exactly
+-- the refusal was written
 abbrev pub RequestEnds : {D : Type 0} → (D → DiskFacts) → D → Request → Option (List ℕ) → Option (List ℕ) → Status → D → Type 0
 RequestEnds facts disk request before after status left =
     ((reply : Reply) × IsAnswered facts disk request reply left × IsTold (reply_status reply) (reply_text reply) before after status)
     ⊎ ((refusal : StoreRefusal) × EndsOpening facts disk (Err (refusal, left)) × IsTold (disk_status refusal) (disk_refusal_text refusal) before after status)
 
--- an empty registry was made on the disk, or the disk was refused; so it is left
+-- an empty registry was made on the disk, or the disk was refused; `left` is the disk after that
 abbrev pub FormatEnds : {D : Type 0} → (D → DiskFacts) → D → Result (Unit {0}) StoreRefusal → D → Type 0
 FormatEnds facts disk answer left = (making : Result (Opened _) (StoreRefusal × _)) × EndsMaking facts disk making
     × (answer ≡ answer_of making) × (left ≡ disk_after making)
 
--- the registry was upgraded and exactly `ok` was told, or the disk was refused and that was told
+-- either the registry was upgraded and exactly `ok` was written, or the disk was refused and exactly the
+-- refusal was written
 abbrev pub UpgradeEnds : {D : Type 0} → (D → DiskFacts) → D → Option (List ℕ) → Option (List ℕ) → Status → D → Type 0
 UpgradeEnds facts disk before after status left = (upgrading : Result (Opened _) (StoreRefusal × _)) × EndsUpgrading facts disk upgrading
     × (left ≡ disk_after upgrading) × IsTold (disk_answer_status (answer_of upgrading)) (disk_answer_text (answer_of upgrading)) before after status
 
--- a step of a registry with binders, and the greatest status of a script's replies before and after
+-- a step of a registry with binders, paired with the greatest status of a script's replies before and
+-- after the step
 abbrev pub Worsens : {S : Type 0} → (S → Happening → EventReply → S → Type 0) → S × Status → Happening → EventReply → S × Status → Type 0
 Worsens step old happening reply new = step old.0 happening reply new.0 × (new.1 ≡ greatest old.1 (event_status reply))
 
 module _ {D : Type 0} (facts : D → DiskFacts) (io : Streams) (old new : Slotted D) (status : Status) where
-  -- A script ran to its end, and what its lines ask happened; the status is the greatest of its
-  -- replies', 1 at least where one refuses.
+  -- A script was run to its end, and the events of its lines happened. The status is the greatest status
+  -- of its replies, and at least 1 if one of them is a refusal.
   abbrev pub RunsOnDisk : Type 0
   RunsOnDisk = (worst : Status) × (summary : Summary) × (whole : List (List ℕ)) × (cut : List ℕ) × (answers : List Answer)
       × Ends (Worsens (EventStep facts)) io (old, Done) (new, worst) summary whole cut answers
       × LinesRan facts old new whole answers × (status ≡ greatest worst (lines_status summary.refused))
 
-  -- The same of one that ended early: the status is the greatest of its replies' and of what ended it.
+  -- A script ended early, and the events of the answered lines happened. The status is the greater one
+  -- of the replies' statuses and of the status of the fault that ended the script.
   abbrev pub BreaksOnDisk : Type 0
   BreaksOnDisk = (worst : Status) × (fault : ScriptFault) × (whole : List (List ℕ)) × (part : List ℕ) × (answers : List Answer)
       × Breaks (Worsens (EventStep facts)) io (old, Done) (new, worst) fault whole part answers
       × LinesRan facts old new whole answers × (status ≡ greatest worst (fault_status fault))
 
--- The registry on a disk was opened, without binders and with nothing held, a script was run over
--- it, and the disk is left so.
+-- The registry on a disk was opened, without binders and without held byte strings. Then a script was
+-- run over it. `left` is the disk after that.
 pub record IsScripted {D : Type 0} (facts : D → DiskFacts) (disk : D) (io : Streams) (status : Status) (left : D) : Type 0 where
   pub old : Slotted D
   pub opened : EndsOpening facts disk (Ok old.registry)
@@ -87,7 +92,7 @@ pub record IsScripted {D : Type 0} (facts : D → DiskFacts) (disk : D) (io : St
   pub run : RunsOnDisk facts io old new status ⊎ BreaksOnDisk facts io old new status
   pub back : left ≡ new.registry.disk
 
--- a script was run over a disk, or the disk was refused and that was told
+-- either a script was run over a disk, or the disk was refused and exactly the refusal was written
 abbrev pub DiskScriptEnds : {D : Type 0} → (D → DiskFacts) → D → Streams → Status → D → Type 0
 DiskScriptEnds facts disk io status left =
     IsScripted facts disk io status left

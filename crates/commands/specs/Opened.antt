@@ -1,4 +1,4 @@
--- A registry on a disk over a file, as it is once it was made or upgraded (own).
+-- A registry on a disk over a file, right after it was made or upgraded (own).
 use Rattle.std.specs.Prelude.{◌≡◌, ℕ, Ok}
 use Rattle.store.specs.Opened.{Opened}
 use Rattle.file_disk.specs.FileDisk.{file_facts, IsNew}
@@ -11,15 +11,15 @@ use Rattle.registry.specs.Opening.{EndsMaking, EndsUpgrading}
 abbrev pub SystemDisk : Type 0
 SystemDisk = FileDisk DiskFile ghosts
 
--- it was made on a new disk of so many sectors: without failure, by exactly the calls of making,
--- and nothing is held
+-- a registry was made on a new disk of n sectors, without a failure and by exactly the calls of making;
+-- no byte string is held
 pub record IsMade (n : ℕ) (disk : SystemDisk) (registry : Opened SystemDisk) : Type 0 where
   pub new : IsNew disk
   pub sectors : (file_facts disk).sectors ≡ n
   pub making : EndsMaking file_facts disk (Ok registry)
 
--- it was opened or upgraded on a new disk: of a good size, without failure, by calls of that disk,
--- and nothing is held
+-- a registry was opened or upgraded on a new disk with a valid number of sectors, without a failure and
+-- by calls of that disk; no byte string is held
 pub record IsUpgraded (disk : SystemDisk) (registry : Opened SystemDisk) : Type 0 where
   pub new : IsNew disk
   pub upgrading : EndsUpgrading file_facts disk (Ok registry)

@@ -1,4 +1,4 @@
--- What the program's statuses say of what the words asked (own).
+-- The meaning of the program's statuses for a command line (own).
 use Rattle.std.specs.Prelude.{◌≡◌, ◌≢◌, ◌⊎◌, ◌<◌, ℕ, List, length, Option, Some, None, Bool, true, false, is_none, codes}
 use Rattle.std.specs.Io.KnownBytes.{Appends}
 use Rattle.std.specs.declared.io.ErrorKind.{ErrorKind}
@@ -27,19 +27,21 @@ use Rattle.commands.specs.Said.{bad_text}
 use Rattle.commands.specs.Script as work
 use Rattle.commands.specs.Words.{CommandLine, image, format, upgrade, install, replace, remove, preload, list, bind, script}
 
--- words that are turned away before any file is opened: they are no command, or BASE isn't read
+-- whether arguments are refused with status 2, before any file is opened: they are no command, or BASE
+-- can't be read
 abbrev pub are_bad : Option CommandLine → Bool
 are_bad (Some (image program base)) = is_none (base_of base)
 are_bad (Some (bind disk program base)) = is_none (base_of base)
 are_bad (Some line) = false
 are_bad None = true
 
--- the words are the command that reads the input
+-- whether the arguments are the command that reads standard input
 abbrev pub reads_input : Option CommandLine → Bool
 reads_input (Some (script disk)) = true
 reads_input line = false
 
--- what a command asks of a registry on a disk: with its NAMEs and BASE, and some bytes for a file
+-- the request that a command makes of a registry on a disk; it has the NAMEs and the BASE of the
+-- command, and some bytes as its file
 abbrev pub Asks : CommandLine → Request → Type 0
 Asks (install disk file) asked = (bytes : List ℕ) × (length bytes < read_limit) × (asked ≡ request.install bytes)
 Asks (replace disk file) asked = (bytes : List ℕ) × (length bytes < read_limit) × (asked ≡ request.replace bytes)
@@ -50,7 +52,8 @@ Asks (bind disk program base) asked = (bytes : List ℕ) × (at : ℕ) × (lengt
     × (base_of base ≡ Some at) × (asked ≡ request.bind bytes at)
 Asks line asked = ⊥
 
--- a registry, opened on a new disk over a file, got such a request; exactly its reply was appended
+-- A registry that was opened on a new disk over a file got a request for which `IsAsked` holds, and
+-- exactly its reply was appended.
 pub record Replies (IsAsked : Request → Type 0) (status : Status) (before after : Option (List ℕ)) : Type 0 where
   pub asked : Request
   pub is_asked : IsAsked asked
@@ -62,7 +65,7 @@ pub record Replies (IsAsked : Request → Type 0) (status : Status) (before afte
   pub ends : reply_status reply ≡ status
   pub written : Appends before after (reply_text reply)
 
--- A registry of so many sectors was made on a disk over a file, and exactly `ok` was appended.
+-- A registry of `sectors` sectors was made on a disk over a file, and exactly `ok` was appended.
 pub record Makes (sectors : ℕ) (before after : Option (List ℕ)) : Type 0 where
   pub disk : SystemDisk
   pub new : Opened SystemDisk
@@ -76,19 +79,19 @@ pub record Upgrades (before after : Option (List ℕ)) : Type 0 where
   pub upgraded : IsUpgraded disk new
   pub written : Appends before after (codes "ok\n")
 
--- exactly the line was appended that tells why a disk isn't made a registry, or isn't opened as one
+-- exactly the line was appended that reports why the registry can't be made or opened on a disk
 abbrev pub TurnsAway : (StoreRefusal → Type 0) → Status → Option (List ℕ) → Option (List ℕ) → Type 0
 TurnsAway MayRefuse status before after = (refusal : StoreRefusal) × MayRefuse refusal
     × (disk_status refusal ≡ status) × Appends before after (disk_refusal_text refusal)
 
--- a script was run over a new disk over a file: with 0 and 1 to its end
+-- a script was run over a new disk over a file; if the status is 0 or 1, the script was run to its end
 pub record Runs (io : work.Streams) (status : Status) : Type 0 where
   pub disk : SystemDisk
   pub new : IsNew disk
   pub left : SystemDisk
   pub run : IsScripted file_facts disk io status left
 
--- 0: what the words ask was done
+-- status 0: the command of the arguments was carried out
 abbrev pub IsDone : Option CommandLine → work.Streams → Type 0
 IsDone (Some (image program base)) io = (b : ℕ) × (base_of base ≡ Some b) × PrintsImage b io.before io.after
 IsDone (Some (format disk sectors)) io = Makes sectors io.before io.after
@@ -97,7 +100,7 @@ IsDone (Some (script disk)) io = Runs io Done
 IsDone (Some line) io = Replies (Asks line) Done io.before io.after
 IsDone None io = ⊥
 
--- 1: it was refused
+-- status 1: the command of the arguments was refused
 abbrev pub IsRefused : Option CommandLine → work.Streams → Type 0
 IsRefused (Some (image program base)) io = (b : ℕ) × (base_of base ≡ Some b) × PrintsRefusal b io.before io.after
 IsRefused (Some (format disk sectors)) io = TurnsAway IsFormatRefusal Refused io.before io.after
@@ -106,14 +109,14 @@ IsRefused (Some (script disk)) io = Runs io Refused ⊎ TurnsAway IsOpenRefusal 
 IsRefused (Some line) io = Replies (Asks line) Refused io.before io.after ⊎ TurnsAway IsOpenRefusal Refused io.before io.after
 IsRefused None io = ⊥
 
--- 4: memory was refused, for a line of a script or for a reply to one too
+-- status 4: memory was refused, perhaps for a line of a script or for a reply to a line
 abbrev pub LacksMemory : Option CommandLine → work.Streams → Type 0
 LacksMemory (Some (script disk)) io = Runs io NoMemory ⊎ Appends io.before io.after memory_text
 LacksMemory (Some line) io = Appends io.before io.after memory_text
 LacksMemory None io = ⊥
 
--- What a status says: 0 that what the words ask was done, 1 that it was refused, 2 that they are turned
--- away, 3 that the disk, a file or a stream failed, and 4 that memory was refused.
+-- The meaning of a status. With 0, the command was carried out. With 1, it was refused. With 2, the
+-- arguments were refused. With 3, the disk, a file or a stream failed. With 4, memory was refused.
 abbrev pub CommandEnds : Option CommandLine → work.Streams → Status → Type 0
 CommandEnds line io Done = (are_bad line ≡ false) × IsDone line io
 CommandEnds line io Refused = (are_bad line ≡ false) × IsRefused line io
@@ -121,21 +124,23 @@ CommandEnds line io BadWords = (are_bad line ≡ true) × (io.after ≡ io.befor
 CommandEnds line io Failed = are_bad line ≡ false
 CommandEnds line io NoMemory = (are_bad line ≡ false) × LacksMemory line io
 
--- the input and the output
+-- the standard input and the standard output
 abbrev pub work_of : Streams → work.Streams
 work_of io = record { unread = io.unread; before = io.before; after = io.after }
 
--- words end so; and of words that are turned away nothing but a front of the one line is said
+-- The command of the arguments ends with this status. With status 2, at most a prefix of one line is
+-- written to standard error.
 abbrev pub IsEnd : Option CommandLine → Streams → Status → Type 0
 IsEnd line io status = CommandEnds line (work_of io) status
     × (status ≡ BadWords → AppendsFront io.errors_before io.errors_after (bad_text line))
 
--- with the number that the process exits with
+-- the command of the arguments ends with the status of this number, with which the process exits
 abbrev pub LineEnds : Option CommandLine → Streams → ℕ → Type 0
 LineEnds line io number = (status : Status) × IsEnd line io status × (number ≡ status_number status)
 
--- Words that weren't read, by why not: where memory was refused just that is told, or the output
--- failed; and any others end as words that are no command.
+-- The end of the program if its arguments couldn't be read. If memory was refused, exactly the line for
+-- refused memory is written, or the output failed. After any other error, the program ends as if the
+-- arguments were no command.
 abbrev pub UnreadEnds : ErrorKind → Streams → ℕ → Type 0
 UnreadEnds why io number =
     (why ≡ OutOfMemory → (status : Status) × IsTold NoMemory memory_text io.before io.after status × (number ≡ status_number status))

@@ -1,4 +1,4 @@
--- What a run prints.
+-- The text that a command prints.
 use Rattle.std.specs.Prelude.{ℕ, List, length, Option, ◌<◌}
 use Rattle.commands.specs.declared.show.Shown.TheVariants as shown
 use Rattle.program_parts.specs.File.{read_limit}

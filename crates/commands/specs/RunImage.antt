@@ -1,4 +1,4 @@
--- What showing the image of a program writes.
+-- What is written when the image of a program is shown.
 use Rattle.std.specs.Prelude.{ℕ, List, Option, Some, None, ◌≡◌}
 use Rattle.std.specs.Io.KnownBytes.{Appends}
 use Rattle.image.specs.declared.refusal.BindRefusal.{BindRefusal}
@@ -10,7 +10,7 @@ use Rattle.commands.specs.declared.show.Shown.{Shown}
 use Rattle.commands.specs.declared.show.Shown.TheVariants as shown
 use Rattle.program_parts.specs.Refusal.{refusal_text, memory_text}
 
--- exactly this was appended: the text of the image, or of the refusal, or of want of memory
+-- exactly one of these texts was appended: the image, its refusal, or the line for refused memory
 abbrev pub Shows : List ℕ → ℕ → Option (List ℕ) → Option (List ℕ) → Shown → Type 0
 Shows program base before after shown.Image = (alone_refusal program base ≡ None) × Appends before after (image_text (image_of (alone program base)))
 Shows program base before after shown.Refused = (refusal : BindRefusal)

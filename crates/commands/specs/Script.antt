@@ -1,4 +1,4 @@
--- What a script does (own).
+-- The effect of a script, and the text that it writes (own).
 use Rattle.std.specs.Prelude.{◌≡◌, ◌≢◌, ◌-◌, ℕ, List, [], ◌∷◌, ◌++◌, length, take, count_by, All, Option, IfSome}
 use Rattle.std.specs.List.{flat_map, AllZip}
 use Rattle.std.specs.Io.{StopsAt}
@@ -15,23 +15,26 @@ use Rattle.scripts.specs.declared.fault.ScriptFault.TheVariants.{Write}
 use Rattle.scripts.specs.Line.{IsLine, ended}
 use Rattle.commands.specs.declared.summary.Summary.{Summary}
 
--- what is answered to the bytes behind the last newline: nothing where there are none
+-- the answer to the bytes after the last newline, if there are any
 abbrev pub cut_answer : List ℕ → List Answer
 cut_answer [] = []
 cut_answer (byte ∷ bytes) = CutLine ∷ []
 
--- a summary counts all answers, and those that are refusals, each up to the greatest u64
+-- a summary has the number of all answers and the number of refusals among them, each limited to the
+-- greatest u64
 pub record Counts (summary : Summary) (answers : List Answer) : Type 0 where
   pub lines : summary.lines ≡ u64_saturate (length answers)
   pub refused : summary.refused ≡ u64_saturate (count_by is_refused answers)
 
--- what the reader has yet to give, and what the writer holds before and after, where they tell it
+-- the bytes that the reader has left, and the bytes that the writer holds before and after; each is none
+-- if the contract of the reader or the writer doesn't define it
 pub record Streams : Type 0 where
   pub unread : Option (List ℕ)
   pub before : Option (List ℕ)
   pub after : Option (List ℕ)
 
--- A writer held exactly the answers to the first lines; each of the others but the last may wait.
+-- The writer holds exactly the answers to the first lines. Each of the other answers, except the last,
+-- may be sent later.
 pub record IsHeldBack (before held : Option (List ℕ)) (whole : List (List ℕ)) (answers : List Answer) : Type 0 where
   pub told : List (List ℕ)
   pub untold : List (List ℕ)
@@ -44,9 +47,10 @@ pub record IsHeldBack (before held : Option (List ℕ)) (whole : List (List ℕ)
   pub little : AllZip MayWait (take (length missing - 1) untold) (take (length missing - 1) missing)
 
 module _ {S : Type 0} (step : S → Happening → EventReply → S → Type 0) where
-  -- All was read, and each line answered by a step from what the one before it left.
+  -- The script was read to its end, and each line was answered by a step from the state that the line
+  -- before it left.
   pub record Ends (io : Streams) (s s' : S) (summary : Summary) (whole : List (List ℕ)) (cut : List ℕ) (answers : List Answer) : Type 0 where
-    -- lines, each with its newline, and what comes after the last one
+    -- the text consists of whole lines, each with its newline, and of the bytes after the last newline
     pub read : IfSome io.unread (λ text. text ≡ flat_map ended whole ++ cut)
     pub lines : All IsLine whole
     pub rest : IsLine cut
@@ -54,24 +58,25 @@ module _ {S : Type 0} (step : S → Happening → EventReply → S → Type 0) w
     pub written : Appends io.before io.after (output (answers ++ cut_answer cut))
     pub counts : Counts summary (answers ++ cut_answer cut)
 
-  -- These lines were read and answered; of the rest one line at most was read, and wasn't applied.
+  -- These lines were read and answered. At most one more line was read, and it wasn't applied.
   pub record Breaks (io : Streams) (s s' : S) (fault : ScriptFault) (whole : List (List ℕ)) (part : List ℕ) (answers : List Answer) : Type 0 where
     pub read : IfSome io.unread (λ text. (others : List ℕ) × (text ≡ flat_map ended whole ++ part ++ others))
     pub lines : All IsLine whole
     pub one_at_most : StopsAt part 10
     pub run : Run (LineStep step) s whole answers s'
-    -- unless it is the writer that failed
+    -- the answers were written, unless the writer failed
     pub written : fault ≢ Write → Appends io.before io.after (output answers)
 
-  -- there are such lines and answers
+  -- a script was read to its end, with some lines and answers
   abbrev pub Finishes : Streams → S → S → Summary → Type 0
   Finishes io s s' summary = (whole : List (List ℕ)) × (cut : List ℕ) × (answers : List Answer) × Ends io s s' summary whole cut answers
 
-  -- the same of a script that ended early
+  -- a script ended early, with some lines and answers
   abbrev pub Stops : Streams → S → S → ScriptFault → Type 0
   Stops io s s' fault = (whole : List (List ℕ)) × (part : List ℕ) × (answers : List Answer) × Breaks io s s' fault whole part answers
 
-  -- the writer failed, and held the answers before; the rest is open
+  -- the writer failed, and held the answers to the earlier lines before that; what it holds now is
+  -- unspecified
   abbrev pub StopsWriting : Streams → S → S → Option (List ℕ) → Type 0
   StopsWriting io s s' held = (whole : List (List ℕ)) × (part : List ℕ) × (answers : List Answer)
       × Breaks io s s' Write whole part answers × IsHeldBack io.before held whole answers

@@ -11,11 +11,11 @@ use Rattle.program_parts.specs.Status.{disk_status, reply_status, status_number}
 use Rattle.program_parts.specs.declared.status.Status.{Status}
 use Rattle.program_parts.specs.declared.status.Status.TheVariants.{Done, Refused, Failed, NoMemory}
 
--- the one of the greater number
+-- the status with the greater number
 abbrev pub greatest : Status → Status → Status
 greatest a b = if nat_lt (status_number a) (status_number b) then b else a
 
--- what showing an image ends with
+-- the status after an attempt to show an image
 abbrev pub status_of : Result Shown ScriptFault → Status
 status_of (Ok shown.Image) = Done
 status_of (Ok shown.Refused) = Refused
@@ -23,21 +23,21 @@ status_of (Ok shown.NoMemory) = NoMemory
 status_of (Err fault.OutOfMemory) = NoMemory
 status_of (Err other) = Failed
 
--- what an event ends with that is answered so
+-- the status after an event with this reply
 abbrev pub event_status : EventReply → Status
 event_status (event.Replied reply) = reply_status reply
 event_status other = Done
 
--- what making or upgrading one ends with
+-- the status after an attempt to make or upgrade a registry
 abbrev pub disk_answer_status : Result (Unit {0}) StoreRefusal → Status
 disk_answer_status (Ok done) = Done
 disk_answer_status (Err refusal) = disk_status refusal
 
--- what a script that ended early ends with
+-- the status of a script that ended early
 abbrev pub fault_status : ScriptFault → Status
 fault_status fault.OutOfMemory = NoMemory
 fault_status other = Failed
 
--- what lines end with of which so many were refused
+-- the status of a script whose number of refused lines is `refused`
 abbrev pub lines_status : ℕ → Status
 lines_status refused = if refused == 0 then Done else Refused

@@ -1,11 +1,11 @@
--- Which command the words of a command line are (own).
+-- Which command the arguments of a command line ask for (own).
 use Rattle.std.specs.Prelude.{ℕ, List, [], ◌∷◌, Option, Some, None, map, string_bytes, if◌then◌else◌, bytes_eq, codes}
 use Rattle.std.specs.Option.{option_map}
 use Rattle.commands.specs.Sectors.{sectors_of}
 use Rattle.commands.specs.declared.action.Action.{Action}
 use Rattle.commands.specs.declared.action.Action.TheVariants as action
 
--- a command of the program and its words in their order, SECTORS as a number
+-- a command of the program and its arguments in their order, with SECTORS as a number
 pub data CommandLine : Type 0 where
   image : List ℕ → List ℕ → CommandLine
   format : List ℕ → ℕ → CommandLine
@@ -18,32 +18,32 @@ pub data CommandLine : Type 0 where
   bind : List ℕ → List ℕ → List ℕ → CommandLine
   script : List ℕ → CommandLine
 
--- a command of one word: any word will do, and neither one more nor one fewer
+-- a command with exactly one argument, which may be any word
 abbrev pub of_one : (List ℕ → CommandLine) → List (List ℕ) → Option CommandLine
 of_one command (a ∷ []) = Some (command a)
 of_one command words = None
 
--- the same of two words
+-- a command with exactly two arguments, which may be any words
 abbrev pub of_two : (List ℕ → List ℕ → CommandLine) → List (List ℕ) → Option CommandLine
 of_two command (a ∷ b ∷ []) = Some (command a b)
 of_two command words = None
 
--- the same of three words
+-- a command with exactly three arguments, which may be any words
 abbrev pub of_three : (List ℕ → List ℕ → List ℕ → CommandLine) → List (List ℕ) → Option CommandLine
 of_three command (a ∷ b ∷ c ∷ []) = Some (command a b c)
 of_three command words = None
 
--- DISK SECTORS
+-- the command `format` with the arguments DISK SECTORS
 abbrev pub format_behind : List (List ℕ) → Option CommandLine
 format_behind (disk ∷ sectors ∷ []) = option_map (format disk) (sectors_of sectors)
 format_behind words = None
 
--- DISK, and any number of NAMEs
+-- the command `preload` with the arguments DISK and any number of NAMEs
 abbrev pub preload_behind : List (List ℕ) → Option CommandLine
 preload_behind (disk ∷ names) = Some (preload disk names)
 preload_behind [] = None
 
--- the command that words are: the first is its name, and the others are its words
+-- the command that arguments ask for: the first is the command's name, and the others are its own arguments
 abbrev pub command_line : List (List ℕ) → Option CommandLine
 command_line (name ∷ words) =
     if bytes_eq name (codes "image") then of_two image words
@@ -59,7 +59,7 @@ command_line (name ∷ words) =
     else None
 command_line [] = None
 
--- the command that the code reads
+-- the command line for a command that the code has read
 abbrev pub line_of : Action → CommandLine
 line_of (action.Image program base) = image program.now base.now
 line_of (action.Format disk sectors) = format disk.now sectors

@@ -1,4 +1,4 @@
-// What a command opens its disk for.
+// The access to the disk that a command needs.
 
 ghost use Rattle.std.specs.Prelude.{◌≡◌};
 ghost use Rattle.requests.specs.Request.{request_of};
@@ -7,7 +7,7 @@ ghost use Rattle.commands.specs.inside.Access.{access_of};
 use file_disk::Access;
 use requests::Command;
 
-/// What a command opens its disk for: a listing and a bind write nothing.
+/// Returns the access that a command needs: a listing and a bind write nothing.
 pub(crate) fn access_of(command: &Command<'_>) -> Access
     ensures { result ≡ access_of (request_of command.now) }
 {

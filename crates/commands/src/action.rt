@@ -1,4 +1,4 @@
-// The commands of the program, and which of them words are.
+// The commands of the program, and how they are read from arguments.
 
 ghost use Rattle.std.specs.Prelude.{◌≡◌, map, string_bytes};
 ghost use Rattle.std.specs.Option.{option_map};
@@ -7,25 +7,26 @@ ghost use Rattle.commands.specs.inside.Access.{disk_of};
 
 use crate::form::read_form;
 
-/// A command of the program with its words in their order, each as it stands in the command line.
-/// The first word of all but one is the path of the file that is the disk.
+/// A command of the program with its arguments in their order, each as it was given
+/// on the command line. The first argument of every command except `image` is the
+/// path of the file that is the disk.
 #[derive(Clone, Copy)]
 pub enum Action<'a> {
     /// Prints the image of a program that needs no library.
     Image {
         /// The path of the program's file.
         program: &'a str,
-        /// The word BASE, which may be none that is read.
+        /// The argument BASE, which may not be readable as an address.
         base: &'a str,
     },
-    /// Makes a disk, where no such file stands, and an empty registry on it.
+    /// Makes an empty registry on a disk. If the file doesn't exist, makes it too.
     Format {
         /// The path of the disk.
         disk: &'a str,
-        /// How many sectors the disk has: from 8 to 4,194,304.
+        /// The number of sectors of the disk, from 8 to 4,194,304.
         sectors: u32,
     },
-    /// Makes the registry of a disk of version 1 one of version 2.
+    /// Makes a registry of version 2 from the registry on a disk of version 1.
     Upgrade {
         /// The path of the disk.
         disk: &'a str,
@@ -37,7 +38,7 @@ pub enum Action<'a> {
         /// The path of the library's file.
         file: &'a str,
     },
-    /// Puts a file in the place of the library of the same name.
+    /// Replaces the file of the library with the same name.
     Replace {
         /// The path of the disk.
         disk: &'a str,
@@ -69,7 +70,7 @@ pub enum Action<'a> {
         disk: &'a str,
         /// The path of the program's file.
         program: &'a str,
-        /// The word BASE, which may be none that is read.
+        /// The argument BASE, which may not be readable as an address.
         base: &'a str,
     },
     /// Runs a script.
@@ -80,7 +81,7 @@ pub enum Action<'a> {
 }
 
 impl<'a> Action<'a> {
-    /// The path of the disk, of a command that has one.
+    /// Returns the path of the disk, if the command has one.
     pub(crate) fn disk(&self) -> Option<&'a str>
         ensures { option_map (λ disk. disk.now) result ≡ disk_of (line_of self.now) }
     {
@@ -99,9 +100,10 @@ impl<'a> Action<'a> {
     }
 }
 
-/// The command that the words after the program's name are: by its name, by their number, and for
-/// `format` by SECTORS, 1 to 7 decimal digits of a value from 8 to 4,194,304. Any other word may
-/// be any. It takes no memory.
+/// Returns the command that the arguments after the program's name ask for, or `None`. The name of
+/// the command and the number of its arguments decide, and for `format` also SECTORS: 1 to 7
+/// decimal digits with a value from 8 to 4,194,304. Every other argument may be any string.
+/// Allocates no memory.
 pub fn read_words(words: &[String]) -> Option<Action<'_>>
     ensures { option_map line_of result
         ≡ command_line (map (λ word. string_bytes word) words.now) }

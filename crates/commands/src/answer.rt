@@ -1,4 +1,4 @@
-// The answer to a line.
+// The answer to a line of a script.
 
 ghost use Rattle.std.specs.Prelude.{◌≡◌, ℕ, List, not, IfErr, OnOk};
 ghost use Rattle.std.specs.Option.{option_map};
@@ -16,18 +16,18 @@ use requests::{Refusal, Reply};
 use scripts::{AskedCommand, LineRefusal, ScriptFault, put_line_refusal};
 use std::io::Write;
 
-/// The answer to a line.
+/// The answer to a line of a script.
 #[derive(Drop)]
 pub enum Answer {
-    /// What the event is answered that the line asks.
+    /// The reply to the event that the line asks for.
     Replied(EventReply),
-    /// L1: the line asks nothing.
+    /// L1 (BadLine): the line has none of the forms.
     BadLine,
-    /// L2: the last line has no newline, so it isn't run.
+    /// L2 (CutLine): the last line has no newline, so it isn't run.
     CutLine,
 }
 
-/// Lets happen what a line asks.
+/// Carries out the event that a line asks for, and returns the reply.
 fn happen<G: TakesEvents>(binders: &mut G, asked: &Asked<'_>) -> EventReply
     ensures { G.step binders.old (happening_asked asked.now) result binders.new }
 {
@@ -42,7 +42,7 @@ fn happen<G: TakesEvents>(binders: &mut G, asked: &Asked<'_>) -> EventReply
     }
 }
 
-/// Whether what a line asks is a change: of the registry, or of a binder.
+/// Returns whether a line asks for a change of the registry or of a binder.
 fn asks_change(asked: &Option<Asked<'_>>) -> bool
     ensures { not result ≡ is_no_change (option_map happening_asked asked.now) }
 {
@@ -52,7 +52,7 @@ fn asks_change(asked: &Option<Asked<'_>>) -> bool
     }
 }
 
-/// Answers what a line asks.
+/// Answers a line: carries out the event that it asks for, or returns L1 (BadLine).
 pub(crate) fn answer_asked<G: TakesEvents>(binders: &mut G, asked: &Option<Asked<'_>>) -> Answer
     ensures { (line : List ℕ) → option_map happening_asked asked.now ≡ meaning line
         → LineStep G.step binders.old line result binders.new }
@@ -63,7 +63,7 @@ pub(crate) fn answer_asked<G: TakesEvents>(binders: &mut G, asked: &Option<Asked
     }
 }
 
-/// Whether an answer counts as refused.
+/// Returns whether an answer counts as a refusal.
 pub(crate) fn is_refused(answer: &Answer) -> bool
     ensures { result ≡ is_refused answer.now }
 {
@@ -74,7 +74,7 @@ pub(crate) fn is_refused(answer: &Answer) -> bool
     }
 }
 
-/// Whether an answer is S1 or S2.
+/// Returns whether an answer refuses with S1 (Device) or S2 (Reopen).
 fn is_failure(answer: &Answer) -> bool
     ensures { result ≡ is_failure answer.now }
 {
@@ -86,8 +86,8 @@ fn is_failure(answer: &Answer) -> bool
     }
 }
 
-/// Whether the answer to what a line asks may wait for others: it changed nothing, which S1 leaves
-/// open, and tells no failure.
+/// Returns whether the answer to a line may be sent later, together with others: if nothing was
+/// changed, and the answer reports no failure. After S1 (Device) a change may have been made.
 pub(crate) fn may_wait(asked: &Option<Asked<'_>>, answer: &Answer) -> bool
     ensures { (line : List ℕ) → option_map happening_asked asked.now ≡ meaning line
         → result ≡ may_wait line answer.now }
@@ -95,7 +95,7 @@ pub(crate) fn may_wait(asked: &Option<Asked<'_>>, answer: &Answer) -> bool
     !is_failure(answer) && (is_refused(answer) || !asks_change(asked))
 }
 
-/// Puts the text of an answer behind what waits.
+/// Appends the text of an answer to the answers that aren't sent yet.
 pub(crate) fn put_answer<W: Write>(
     waiting: &mut Line,
     out: &mut W,

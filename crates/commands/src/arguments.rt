@@ -1,4 +1,4 @@
-// The words of the process.
+// The arguments of the process.
 
 ghost use Rattle.std.specs.Prelude.{◌≡◌, ◌≢◌, ◌≤◌, ◌⊎◌, IfOk, IfErr, MatchResult, false};
 ghost use Rattle.std.specs.Prelude.{map, string_bytes};
@@ -15,8 +15,8 @@ use std::io;
 use std::io::{ErrorKind, Read, Write};
 use std::rt::{Clock, Files};
 
-/// Does what `run_words` does with words that were read. Where they weren't, want of memory is
-/// answered as want of memory, and anything else as a bad command line.
+/// Does the same as `run_words` if the arguments could be read. If memory for them was refused,
+/// reports S11 (OutOfMemory). After any other error, reports a bad command line.
 pub fn run_arguments<R: Files<File = File> + Clock, I: Read, O: Write, E: Write>(
     rt: &R,
     alloc: Global,
@@ -27,7 +27,7 @@ pub fn run_arguments<R: Files<File = File> + Clock, I: Read, O: Write, E: Write>
 ) -> u8
     ensures most { result ≤ 4 }
 
-    // Words that were read end as they do in `run_words`.
+    // If the arguments could be read, the command ends as `run_words` would end.
     ensures ends { IfOk words (λ list.
         LineEnds (command_line (map (λ word. string_bytes word) list.items)) (record {
           unread = I.remaining input.old;
@@ -37,7 +37,7 @@ pub fn run_arguments<R: Files<File = File> + Clock, I: Read, O: Write, E: Write>
           errors_after = E.contents errors.new;
         }) result) }
 
-    // Words that weren't: by why not.
+    // If the arguments couldn't be read, the end depends on the error.
     ensures not_read { IfErr words (λ e. UnreadEnds (error_kind e) (record {
       unread = I.remaining input.old;
       before = O.contents output.old;
@@ -46,7 +46,7 @@ pub fn run_arguments<R: Files<File = File> + Clock, I: Read, O: Write, E: Write>
       errors_after = E.contents errors.new;
     }) result) }
 
-    // Only `script` reads the input.
+    // Only `script` reads standard input.
     ensures unread { MatchResult words (λ list.
         reads_input (command_line (map (λ word. string_bytes word) list.items)) ≡ false
         → input.new ≡ input.old) (λ _. input.new ≡ input.old) }

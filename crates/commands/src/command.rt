@@ -1,4 +1,4 @@
-// A command line.
+// Carries out a command line.
 
 ghost use Rattle.std.specs.Prelude.{◌≡◌, ◌≢◌, ◌≤◌, ◌⊎◌, true, false};
 ghost use Rattle.std.specs.Prelude.{Some, None, MatchResult, map, string_bytes};
@@ -24,7 +24,7 @@ use std::fs::File;
 use std::io::{Read, Write};
 use std::rt::{Clock, Files};
 
-/// Shows what was read of a file, or says why nothing was read.
+/// Shows the image of a file that was read, or reports why it wasn't read.
 pub(crate) fn show_read<O: Write, E: Write>(
     alloc: Global,
     read: Result<Vec<u8>, FileFault>,
@@ -45,7 +45,7 @@ pub(crate) fn show_read<O: Write, E: Write>(
     }
 }
 
-/// `image PROGRAM BASE`.
+/// Carries out `image PROGRAM BASE`.
 fn image<R: Files, O: Write, E: Write>(
     rt: &R,
     alloc: Global,
@@ -68,7 +68,7 @@ fn image<R: Files, O: Write, E: Write>(
     }
 }
 
-/// Does a command.
+/// Carries out a command.
 #[tactic(auto, using(crate::proofs::Asking::commands_end))]
 fn run_action<R: Files<File = File> + Clock, I: Read, O: Write, E: Write>(
     rt: &R,
@@ -112,7 +112,7 @@ fn run_action<R: Files<File = File> + Clock, I: Read, O: Write, E: Write>(
     }
 }
 
-/// Whether the BASE of a command isn't read.
+/// Returns whether the command has a BASE that can't be read.
 fn has_bad_base(action: &Action<'_>) -> bool
     ensures { result ≡ are_bad (Some (line_of action.now)) }
 {
@@ -122,8 +122,8 @@ fn has_bad_base(action: &Action<'_>) -> bool
     }
 }
 
-/// Turns a command away whose disk is the file behind a standard stream, and says so, but where the
-/// message would be written into that file.
+/// Refuses a command if a standard stream is open to its disk's file, and reports this on standard
+/// error. If standard error is open to this file, reports nothing.
 fn keep_away<E: Write>(action: &Action<'_>, disk: &str, behind: Behind, errors: &mut E) -> Status
     ensures ends { ((result ≡ BadWords) × (are_bad (Some (line_of action.now)) ≡ true))
         ⊎ ((result ≡ Failed) × (are_bad (Some (line_of action.now)) ≡ false)) }
@@ -138,7 +138,8 @@ fn keep_away<E: Write>(action: &Action<'_>, disk: &str, behind: Behind, errors: 
     }
 }
 
-/// The disk of a command, where it is the file behind a standard stream, and what stands there.
+/// If a standard stream is open to the file of a command's disk, returns the path of the disk and
+/// the stream.
 fn disk_behind<'a, R: Files>(rt: &R, action: &Action<'a>) -> Option<(&'a str, Behind)> {
     let disk = action.disk()?;
     let reads_input = matches!(action, Action::Script { .. });
@@ -148,7 +149,8 @@ fn disk_behind<'a, R: Files>(rt: &R, action: &Action<'a>) -> Option<(&'a str, Be
     }
 }
 
-/// Does the command that the words are, unless what it says would be written into its disk.
+/// Carries out the command that the arguments ask for, unless a standard stream is open to its
+/// disk's file.
 fn run_command<R: Files<File = File> + Clock, I: Read, O: Write, E: Write>(
     rt: &R,
     alloc: Global,
@@ -178,10 +180,11 @@ fn run_command<R: Files<File = File> + Clock, I: Read, O: Write, E: Write>(
     }
 }
 
-/// Does what the program does with these words after its name, and gives its exit status: 0 done,
-/// 1 refused, 2 the words aren't a command or BASE isn't read, 3 the disk, a file or a stream
-/// failed, 4 memory was refused. Of a script the greatest stands. Only `script` reads the input.
-/// The file FILE or PROGRAM is read before DISK is opened.
+/// Does what the program does with `words`, the arguments after its name, and returns its exit
+/// status. The status is 0 if the command was carried out, 1 if it was refused, and 2 if the
+/// arguments aren't a command or BASE can't be read. It is 3 if the disk, a file or a stream
+/// failed, and 4 if memory was refused. The status of a script is the greatest that occurred. Only
+/// `script` reads standard input. The file FILE or PROGRAM is read before DISK is opened.
 pub fn run_words<R: Files<File = File> + Clock, I: Read, O: Write, E: Write>(
     rt: &R,
     alloc: Global,
@@ -192,7 +195,8 @@ pub fn run_words<R: Files<File = File> + Clock, I: Read, O: Write, E: Write>(
 ) -> u8
     ensures most { result ≤ 4 }
 
-    // What the status says of what was asked, of what was told, and, at 2, of what was said.
+    // The status determines what was done, what was written to standard output and, if it is 2,
+    // what was written to standard error.
     ensures ends { LineEnds (command_line (map (λ word. string_bytes word) words.now)) (record {
       unread = I.remaining input.old;
       before = O.contents output.old;
@@ -201,15 +205,16 @@ pub fn run_words<R: Files<File = File> + Clock, I: Read, O: Write, E: Write>(
       errors_after = E.contents errors.new;
     }) result }
 
-    // Only `script` reads the input.
+    // Only `script` reads standard input.
     ensures unread { reads_input (command_line (map (λ word. string_bytes word) words.now)) ≡ false
         → input.new ≡ input.old }
 
-    // What is said on standard error, as of a file that can't be read, isn't on the output too.
+    // If a message goes to standard error, such as one about a file that can't be read, nothing
+    // goes to standard output.
     ensures apart { (E.contents errors.new ≡ E.contents errors.old)
         ⊎ (O.contents output.new ≡ O.contents output.old) }
 
-    // Nothing was given to standard error but with 2 and 3.
+    // Something is written to standard error only if the status is 2 or 3.
     ensures silent { result ≢ 2 → result ≢ 3
         → E.contents errors.new ≡ E.contents errors.old }
 {

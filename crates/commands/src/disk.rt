@@ -1,4 +1,4 @@
-// The disk of a command: made over a file, or why there is none.
+// Opens or makes the disk of a command over a file, or returns the reason why this isn't possible.
 
 ghost use Rattle.std.specs.Prelude.{◌≡◌, false, OnOk, IfErr};
 ghost use Rattle.store.specs.Opened.{Opened};
@@ -10,7 +10,7 @@ ghost use Rattle.commands.specs.inside.Ends.{IsNoRegistry, IsTurnedAway, IsSaid}
 use crate::disk_answer::write_disk_answer;
 use crate::making::run_format;
 use crate::message::cannot_read;
-use file_disk::{FileDisk, Made, NameFault, NewName, OpenFault};
+use file_disk::{FileDisk, Made, NameFault, OpenFault, UnnamedFile};
 use program_parts::Status;
 use std::alloc::Global;
 use std::fs::File;
@@ -18,7 +18,7 @@ use std::io::Write;
 use std::rt::{Clock, Files};
 use store::StoreRefusal;
 
-/// Why there is no registry to ask.
+/// Why there is no registry for a command.
 #[derive(Clone, Copy)]
 pub(crate) enum NoRegistry {
     /// The file can't be opened or made.
@@ -27,8 +27,8 @@ pub(crate) enum NoRegistry {
     Refused(StoreRefusal),
 }
 
-/// Why a file is no disk, in these words: a length that isn't that of whole sectors, or not of
-/// those that were asked for, is S6.
+/// Returns the reason why a file isn't a disk. S6 (BadGeometry) means that the length isn't one of
+/// whole sectors, or isn't that of the requested number of sectors.
 pub(crate) fn no_disk(fault: OpenFault) -> NoRegistry
     ensures open { IsNoRegistry IsOpenRefusal result }
     ensures format { IsNoRegistry IsFormatRefusal result }
@@ -36,31 +36,32 @@ pub(crate) fn no_disk(fault: OpenFault) -> NoRegistry
 {
     match fault {
         OpenFault::CannotOpen => NoRegistry::CannotOpen,
-        OpenFault::BadLength => NoRegistry::Refused(StoreRefusal::BadGeometry),
+        OpenFault::BadLength(_) => NoRegistry::Refused(StoreRefusal::BadGeometry),
         OpenFault::OutOfMemory => NoRegistry::Refused(StoreRefusal::OutOfMemory),
     }
 }
 
-/// Gives a registry's file its name, where it was made.
-fn name_file<R: Files<File = File>>(rt: &R, name: Option<NewName<'_>>) -> Result<(), NoRegistry>
+/// Gives a registry's file its final name, if the file was newly made.
+fn name_file<R: Files<File = File>>(rt: &R, name: Option<UnnamedFile<'_>>) -> Result<(), NoRegistry>
     ensures refused { IfErr result (IsNoRegistry IsFormatRefusal) }
 {
-    match name.map_or(Ok(()), |name| name.give(rt)) {
+    match name.map_or(Ok(()), |name| name.publish(rt)) {
         Ok(()) => Ok(()),
         Err(NameFault::NotGiven) => Err(NoRegistry::CannotOpen),
         Err(NameFault::NotSynced) => Err(NoRegistry::Refused(StoreRefusal::Device)),
     }
 }
 
-/// Takes away what was made of a registry's file.
-fn take_away<R: Files<File = File>>(rt: &R, name: Option<NewName<'_>>) {
+/// Deletes a registry's file, if the file was newly made.
+fn take_away<R: Files<File = File>>(rt: &R, name: Option<UnnamedFile<'_>>) {
     if let Some(name) = name {
         name.take_away(rt);
     }
 }
 
-/// Makes an empty registry on the disk of so many sectors that a file is, and makes the file where
-/// none stands: it has its name once all of it is on the medium.
+/// Makes an empty registry on a disk of `sectors` sectors, which is the file at `path`. If the file
+/// doesn't exist, makes it under another name, and gives it its final name once all of it is on the
+/// medium.
 pub(crate) fn make_registry<R: Files<File = File> + Clock>(
     rt: &R,
     alloc: Global,
@@ -86,7 +87,7 @@ pub(crate) fn make_registry<R: Files<File = File> + Clock>(
     }
 }
 
-/// Says why there is no registry.
+/// Reports why there is no registry.
 pub(crate) fn turn_away<O: Write, E: Write>(
     why: NoRegistry,
     path: &str,

@@ -1,4 +1,4 @@
-// What is told of a disk on which a registry was to be opened, made or upgraded.
+// The answer for a disk on which a registry was opened, made or upgraded.
 
 ghost use Rattle.commands.specs.Disk.{disk_answer_text};
 ghost use Rattle.program_parts.specs.Told.{IsTold};
@@ -9,8 +9,8 @@ use requests::Reply;
 use std::io::Write;
 use store::StoreRefusal;
 
-/// Writes `ok`, or the line of the refusal, and gives the status that goes with it: `Failed` where
-/// the output fails.
+/// Writes `ok`, or the line of the refusal, and returns the answer's status. If the output fails,
+/// returns `Failed`.
 pub fn write_disk_answer<O: Write>(answer: Result<(), StoreRefusal>, output: &mut O) -> Status
     ensures { IsTold (disk_answer_status answer) (disk_answer_text answer)
         (O.contents output.old) (O.contents output.new) result }

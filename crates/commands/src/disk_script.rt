@@ -13,17 +13,17 @@ use sector_disk::Disk;
 use std::alloc::Global;
 use std::io::{Read, Write};
 
-/// Runs a script over a registry on a disk, as `run_script` does over whatever applies commands,
-/// and says what that is to the disk: the commands of the lines that were answered are a run. On an
+/// Runs a script over a registry on a disk, as `run_script` does over any type that takes events.
+/// Its contract adds the effect on the disk: the commands of the answered lines are a run. On an
 /// honest disk, wherever the script ends, a stop at any moment leaves the state after a prefix of
-/// the accepted commands that holds every one acknowledged by then.
+/// the accepted commands. The prefix contains every command acknowledged by then.
 pub fn run_script_on_disk<R: Read, W: Write, D: Disk>(
     alloc: Global,
     reader: &mut R,
     writer: &mut W,
     binders: &mut Binders<D>,
 ) -> Result<Summary, ScriptFault>
-    // All was read, and the commands of the lines are a run.
+    // The whole script was read, and the commands of its lines are a run.
     ensures ok { IfOk result (FinishesOnDisk D.facts (record {
       unread = R.remaining reader.old;
       before = W.contents writer.old;
@@ -31,8 +31,8 @@ pub fn run_script_on_disk<R: Read, W: Write, D: Disk>(
     })
         binders.old binders.new) }
 
-    // It ended early: the commands of the lines that were answered are a run, and no other was
-    // applied.
+    // The script ended early. The commands of the answered lines are a run, and
+    // no other command was applied.
     ensures err { IfErr result (StopsOnDisk D.facts (record {
       unread = R.remaining reader.old;
       before = W.contents writer.old;
@@ -40,7 +40,7 @@ pub fn run_script_on_disk<R: Read, W: Write, D: Disk>(
     })
         binders.old binders.new) }
 
-    // After a failed write: what the writer held before it.
+    // The text that the writer held before a write failed.
     ensures sent { IfErr result (λ fault. fault ≡ ScriptFault.Write
         → (held : W) × StopsWriting (EventStep D.facts) (record {
           unread = R.remaining reader.old;

@@ -1,4 +1,4 @@
-// The text of what an event is answered.
+// The text of the reply to an event.
 
 ghost use Rattle.std.specs.Prelude.{◌≡◌, ◌++◌, codes, true, OnOk, OnErr, IfErr};
 ghost use Rattle.std.specs.Fmt.{decimal};
@@ -11,7 +11,7 @@ use scripts::ScriptFault;
 use std::io::Write;
 use text_output::WriteFault;
 
-/// The line of a slot in which a binder was begun.
+/// Appends the line that names the slot in which a binder was begun.
 fn put_slot<W: Write>(line: &mut Line, out: &mut W, slot: usize) -> Result<(), WriteFault>
     ensures ok { OnOk result (Sends (W.contents out.old) line.old (W.contents out.new) line.new
         (slot_text slot)) }
@@ -23,7 +23,7 @@ fn put_slot<W: Write>(line: &mut Line, out: &mut W, slot: usize) -> Result<(), W
     Ok(())
 }
 
-/// Puts the text of what an event is answered behind what waits. It takes no memory.
+/// Appends the text of the reply to an event to the text that isn't sent yet. Allocates no memory.
 pub(crate) fn put_event_reply<W: Write>(
     line: &mut Line,
     out: &mut W,

@@ -1,4 +1,4 @@
-// The forms of the commands: which words stand behind each name.
+// The forms of the commands: each name and the arguments that follow it.
 
 ghost use Rattle.std.specs.Prelude.{◌≡◌, ◌∷◌, ℕ, List, map, string_bytes};
 ghost use Rattle.std.specs.Option.{option_map};
@@ -9,7 +9,7 @@ ghost use Rattle.commands.specs.Words.{bind, format_behind, preload_behind};
 use crate::action::Action;
 use crate::sectors::parse_sectors;
 
-/// The word, where it is one.
+/// Returns the argument, if there is exactly one.
 fn one_word(words: &[String]) -> Option<&str>
     ensures { (command : List ℕ → CommandLine) → option_map (λ a. command a.now) result
         ≡ of_one command (map (λ word. string_bytes word) words.now) }
@@ -20,7 +20,7 @@ fn one_word(words: &[String]) -> Option<&str>
     }
 }
 
-/// The words, where they are two.
+/// Returns the arguments, if there are exactly two.
 fn two_words(words: &[String]) -> Option<(&str, &str)>
     ensures { (command : List ℕ → List ℕ → CommandLine)
         → option_map (λ w. command w.0.now w.1.now) result
@@ -32,7 +32,7 @@ fn two_words(words: &[String]) -> Option<(&str, &str)>
     }
 }
 
-/// `format` of DISK SECTORS.
+/// Reads the arguments DISK SECTORS of `format`.
 fn read_format(words: &[String]) -> Option<Action<'_>>
     ensures { option_map line_of result
         ≡ format_behind (map (λ word. string_bytes word) words.now) }
@@ -46,7 +46,7 @@ fn read_format(words: &[String]) -> Option<Action<'_>>
     }
 }
 
-/// `bind` of DISK PROGRAM BASE.
+/// Reads the arguments DISK PROGRAM BASE of `bind`.
 fn read_bind(words: &[String]) -> Option<Action<'_>>
     ensures { option_map line_of result
         ≡ of_three bind (map (λ word. string_bytes word) words.now) }
@@ -61,7 +61,7 @@ fn read_bind(words: &[String]) -> Option<Action<'_>>
     }
 }
 
-/// `preload` of DISK and any number of NAMEs.
+/// Reads the arguments of `preload`: DISK and any number of NAMEs.
 fn read_preload(words: &[String]) -> Option<Action<'_>>
     ensures { option_map line_of result
         ≡ preload_behind (map (λ word. string_bytes word) words.now) }
@@ -70,7 +70,7 @@ fn read_preload(words: &[String]) -> Option<Action<'_>>
     Some(Action::Preload { disk, names })
 }
 
-/// The command of this name and these words.
+/// Returns the command with the name `name` and the arguments `words`.
 pub(crate) fn read_form<'a>(name: &str, words: &'a [String]) -> Option<Action<'a>>
     ensures { option_map line_of result
         ≡ command_line (name.now ∷ map (λ word. string_bytes word) words.now) }

@@ -1,10 +1,10 @@
-//! What the program `rlibreg` does with words, lines and files, for whoever links it.
+//! What the program `rlibreg` does with arguments, lines and files, as a library.
 //!
-//! `run_image` and `run_script` are the work over bytes, readers and writers, and have their texts
-//! as their contracts. `run_request`, `run_format`, `run_upgrade` and `run_disk_script` are the
-//! work over a disk, whatever it is. `run_words` reads the words of a command line, opens files,
-//! gives them to these calls and has the exit status; `run_arguments` does the same with the words
-//! of the process.
+//! `run_image` and `run_script` work on bytes, readers and writers, and their contracts give
+//! the texts that they write. `run_request`, `run_format`, `run_upgrade` and
+//! `run_disk_script` work on any disk. `run_words` reads the arguments of a command line,
+//! opens files, passes them to these calls and returns the exit status. `run_arguments` does
+//! the same with the arguments of the process.
 #![tactic(auto)]
 
 mod access;

@@ -1,4 +1,4 @@
-// Making and upgrading the registry on a disk, whatever the disk is.
+// Makes and upgrades the registry on any disk.
 
 ghost use Rattle.commands.specs.OnDisk.{FormatEnds, UpgradeEnds};
 
@@ -10,8 +10,9 @@ use std::alloc::Global;
 use std::io::Write;
 use store::StoreRefusal;
 
-/// Makes an empty registry on a disk, and hands the disk back. `write_disk_answer` tells the
-/// answer; a file that was made for the disk gets its name before that.
+/// Makes an empty registry on `disk`, and hands the disk back. `write_disk_answer` reports the
+/// answer. If a file was made for the disk, the caller gives it its final name before it reports
+/// the answer.
 pub fn run_format<D: Disk>(alloc: Global, disk: D) -> (Result<(), StoreRefusal>, D)
     ensures { FormatEnds D.facts disk result.0 result.1 }
 {
@@ -21,9 +22,9 @@ pub fn run_format<D: Disk>(alloc: Global, disk: D) -> (Result<(), StoreRefusal>,
     }
 }
 
-/// Makes the registry on a disk of either version one of version 2, and writes `ok`, or the line of
-/// the refusal of the disk. Gives the status, and hands the disk back. Where the output fails the
-/// status is `Failed`, and the registry was upgraded all the same.
+/// Makes a registry of version 2 from the registry on a disk of either version, and writes `ok`, or
+/// the line of the refusal. Returns the status and the disk. If the output fails, the status is
+/// `Failed`, although the registry was upgraded.
 pub fn run_upgrade<D: Disk, O: Write>(alloc: Global, disk: D, output: &mut O) -> (Status, D)
     ensures { UpgradeEnds D.facts disk (O.contents output.old) (O.contents output.new)
         result.0 result.1 }

@@ -1,4 +1,4 @@
-// What is said on standard error. A stream that doesn't take it changes no status.
+// Messages on standard error. If a write to standard error fails, the status stays the same.
 
 ghost use Rattle.std.specs.Prelude.{◌≡◌};
 ghost use Rattle.commands.specs.Said.{base_text, words_text};
@@ -7,14 +7,14 @@ ghost use Rattle.program_parts.specs.Said.{AppendsFront};
 use program_parts::{Status, say};
 use std::io::Write;
 
-/// Says that a file can't be read.
+/// Reports that a file can't be read.
 pub(crate) fn cannot_read<E: Write>(errors: &mut E, path: &str) -> Status
     ensures { result ≡ Status.Failed }
 {
     program_parts::cannot_read(errors, "rlibreg", path)
 }
 
-/// Says that the words aren't a command.
+/// Reports that the arguments aren't a command.
 pub(crate) fn bad_command_line<E: Write>(errors: &mut E) -> Status
     ensures status { result ≡ Status.BadWords }
     ensures said { AppendsFront (E.contents errors.old) (E.contents errors.new) words_text }
@@ -23,7 +23,7 @@ pub(crate) fn bad_command_line<E: Write>(errors: &mut E) -> Status
     Status::BadWords
 }
 
-/// Says that BASE isn't read.
+/// Reports that BASE can't be read.
 pub(crate) fn bad_base<E: Write>(errors: &mut E) -> Status
     ensures status { result ≡ Status.BadWords }
     ensures said { AppendsFront (E.contents errors.old) (E.contents errors.new) base_text }

@@ -50,7 +50,7 @@ pub(crate) fn ask<R: Files<File = File> + Clock, O: Write, E: Write>(
     }
 }
 
-/// `format DISK SECTORS`.
+/// Carries out `format DISK SECTORS`.
 #[tactic(auto, using(crate::proofs::Asking::away_formatted))]
 pub(crate) fn format<R: Files<File = File> + Clock, O: Write, E: Write>(
     rt: &R,
@@ -71,7 +71,7 @@ pub(crate) fn format<R: Files<File = File> + Clock, O: Write, E: Write>(
     }
 }
 
-/// `upgrade DISK`.
+/// Carries out `upgrade DISK`.
 #[tactic(auto, using(crate::proofs::Asking::away_upgraded))]
 pub(crate) fn upgrade<R: Files<File = File> + Clock, O: Write, E: Write>(
     rt: &R,
@@ -94,7 +94,7 @@ pub(crate) fn upgrade<R: Files<File = File> + Clock, O: Write, E: Write>(
     }
 }
 
-/// The bytes of names.
+/// Returns the names as bytes.
 fn bytes_of(alloc: Global, names: &[String]) -> Result<Vec<&[u8]>, AllocError>
     ensures { IfOk result (λ list. map (λ name. name.now) list.items
         ≡ map (λ name. string_bytes name) names.now) }
@@ -102,7 +102,7 @@ fn bytes_of(alloc: Global, names: &[String]) -> Result<Vec<&[u8]>, AllocError>
     names.iter().map(|name| name.as_bytes()).collect(alloc)
 }
 
-/// `preload DISK [NAME]..`.
+/// Carries out `preload DISK [NAME]..`.
 #[tactic(auto, using(crate::proofs::Asking::memory_replied))]
 pub(crate) fn preload<R: Files<File = File> + Clock, O: Write, E: Write>(
     rt: &R,
@@ -131,8 +131,8 @@ pub(crate) fn preload<R: Files<File = File> + Clock, O: Write, E: Write>(
     }
 }
 
-/// `bind DISK PROGRAM BASE`. BASE is read before any file is opened, and the program before the
-/// disk is.
+/// Carries out `bind DISK PROGRAM BASE`. Reads BASE before it opens any file, and the program
+/// before it opens the disk.
 #[tactic(auto, using(crate::proofs::Asking::bind_ends))]
 pub(crate) fn bind<R: Files<File = File> + Clock, O: Write, E: Write>(
     rt: &R,

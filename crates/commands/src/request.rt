@@ -1,4 +1,4 @@
-// A command to the registry on a disk, whatever the disk is.
+// Applies a command to the registry on any disk.
 
 ghost use Rattle.requests.specs.Request.{request_of};
 ghost use Rattle.requests.specs.declared.reply.Reply.{Reply};
@@ -14,7 +14,7 @@ use sector_disk::Disk;
 use std::alloc::Global;
 use std::io::Write;
 
-/// Writes a reply.
+/// Writes `reply`, and returns the status.
 fn tell<O: Write>(reply: &Reply, output: &mut O) -> Status
     ensures { IsWritten reply.now (O.contents output.old) (O.contents output.new) result }
 {
@@ -24,7 +24,7 @@ fn tell<O: Write>(reply: &Reply, output: &mut O) -> Status
     }
 }
 
-/// Applies a command to a registry, and writes the reply.
+/// Applies `command` to `registry`, and writes the reply.
 fn answer<D: Disk, O: Write>(
     registry: &mut Registry<D>,
     command: &Command<'_>,
@@ -37,9 +37,9 @@ fn answer<D: Disk, O: Write>(
     tell(&reply, output)
 }
 
-/// Opens the registry on a disk, applies a command, and writes the reply, or the line of the
-/// refusal of the disk. Gives the status, and hands the disk back. Where the output fails the
-/// status is `Failed`, and the command was applied all the same.
+/// Opens the registry on `disk`, applies `command`, and writes the reply. If the disk is refused,
+/// writes the line of the refusal. Returns the status and the disk. If the output fails, the status
+/// is `Failed`, although the command was applied.
 pub fn run_request<D: Disk, O: Write>(
     alloc: Global,
     disk: D,

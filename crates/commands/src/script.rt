@@ -1,4 +1,4 @@
-// Running a script.
+// Runs a script.
 
 ghost use Rattle.std.specs.Prelude.{◌≡◌, ◌⊎◌, [], List, ℕ, IfOk, IfErr, OnOk};
 ghost use Rattle.std.specs.Option.{option_map};
@@ -21,11 +21,11 @@ use scripts::{Got, ScriptFault, next_line};
 use std::alloc::Global;
 use std::io::{BufReader, Read, Write};
 
-/// How many bytes are read at once.
+/// The number of bytes that are read from the script at once.
 const PAGE: usize = 0x10000;
 
-/// Tells the answer to what a line asks. It waits behind those that wait already, where it may;
-/// otherwise all of them are sent.
+/// Appends the answer to a line to the buffered answers. If this answer may not be sent later,
+/// sends all of them.
 fn tell_answer<W: Write>(
     waiting: &mut Line,
     writer: &mut W,
@@ -48,7 +48,7 @@ fn tell_answer<W: Write>(
     Ok(())
 }
 
-/// Answers a whole line, and says whether it was refused.
+/// Answers a whole line, and returns whether it was refused.
 fn answer_whole<W: Write, G: TakesEvents>(
     alloc: Global,
     line: &[u8],
@@ -75,7 +75,7 @@ fn answer_whole<W: Write, G: TakesEvents>(
     Ok(is_refused(&answer))
 }
 
-/// Answers the lines of a script; some of the answers may wait at the end.
+/// Answers the lines of a script. Some of the answers may not be sent yet at the end.
 fn run_lines<R: Read, W: Write, G: TakesEvents>(
     alloc: Global,
     pages: &mut BufReader<&mut R>,
@@ -125,19 +125,19 @@ fn run_lines<R: Read, W: Write, G: TakesEvents>(
     Err(ScriptFault::Read)
 }
 
-/// Runs a script: each line that has a newline gets its reply's text, or `refused L1 BadLine`
-/// where it asks nothing; a last line without a newline isn't run and gets `refused L2 CutLine`.
-/// The script goes on after every refusal. After a fault of the reader, or for want of memory for a
-/// line, the replies to all whole lines before were written, and of the next line nothing was
-/// applied. It reads through a buffer of its own, so that after a fault more may have been taken
-/// from the reader than lines were answered.
+/// Runs a script. Each line that has a newline gets the text of its reply, or `refused L1 BadLine`
+/// if it asks for nothing. A last line without a newline isn't run, and gets `refused L2 CutLine`.
+/// The script goes on after every refusal. If the reader fails, or memory for a line is refused,
+/// the replies to all whole lines before it were written, and nothing of the next line was applied.
+/// The script is read through a buffer, so more bytes may have been taken from the reader than were
+/// answered.
 ///
-/// The answer to a change that was made is written at once, behind those that wait, and so is S1,
-/// which leaves open what was done, and S2. Other refusals, and answers to listings, binds and
-/// lines that ask nothing, are written together, up to 2 KiB, as long as whole lines are left of
-/// what was read; all of them are written before the reader is asked again, and at the end. So
-/// after a fault of the writer the lines whose answers are open changed nothing, but for the line
-/// in work, which was applied.
+/// The answer to a change that was made is written at once, after the buffered answers. So is a
+/// refusal with S2 (Reopen), or with S1 (Device), after which it is unspecified whether the change
+/// was made. Other refusals, and answers to listings, binds and lines that ask for nothing, are
+/// buffered, up to 2 KiB, as long as whole lines are left in the reader's buffer. All of them are
+/// written before the reader is asked again, and at the end. So if the writer fails, the lines
+/// whose answers may be missing changed nothing, except the last line, which was applied.
 pub fn run_script<R: Read, W: Write, G: TakesEvents>(
     alloc: Global,
     reader: &mut R,
@@ -157,7 +157,7 @@ pub fn run_script<R: Read, W: Write, G: TakesEvents>(
     })
         binders.old binders.new) }
 
-    // After a failed write: what the writer held before it.
+    // The text that the writer held before a write failed.
     ensures sent { IfErr result (λ fault. fault ≡ ScriptFault.Write
         → (held : W) × StopsWriting G.step (record {
           unread = R.remaining reader.old;

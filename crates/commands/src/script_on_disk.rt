@@ -1,4 +1,4 @@
-// `script DISK`.
+// Carries out `script DISK`.
 
 ghost use Rattle.std.specs.Prelude.{◌≡◌, ◌≢◌, false};
 ghost use Rattle.commands.specs.OnDisk.{DiskScriptEnds};
@@ -21,8 +21,8 @@ use std::fs::File;
 use std::io::{Read, Write};
 use std::rt::{Clock, Files};
 
-/// Runs a script over a registry with binders none of whose replies was watched yet, and gives the
-/// greatest status of all that happened.
+/// Runs a script over a registry with binders, and keeps the greatest status of its replies, which
+/// is `Done` before the first reply. Returns the greatest status that occurred.
 #[tactic(auto, using(crate::proofs::Statuses::after_lines, crate::proofs::Statuses::after_fault))]
 pub(crate) fn run_watched<I: Read, O: Write, D: Disk>(
     alloc: Global,
@@ -44,9 +44,9 @@ pub(crate) fn run_watched<I: Read, O: Write, D: Disk>(
     }
 }
 
-/// Opens the registry on a disk and runs a script over it, from the input to the output; where the
-/// disk is refused the line of that is written, and nothing is read. Gives the greatest status of
-/// all that happened, and hands the disk back.
+/// Opens the registry on `disk`, and runs the script in the input over it. If the disk is refused,
+/// writes the line of the refusal, and reads nothing. Returns the greatest status that occurred,
+/// and the disk.
 pub fn run_disk_script<D: Disk, I: Read, O: Write>(
     alloc: Global,
     disk: D,
@@ -74,7 +74,7 @@ pub fn run_disk_script<D: Disk, I: Read, O: Write>(
     }
 }
 
-/// `script DISK`: from the input to the output.
+/// Carries out `script DISK`: the script is in the input, and the answers go to the output.
 #[tactic(auto, using(crate::proofs::Statuses::away_script))]
 pub(crate) fn script<R: Files<File = File> + Clock, I: Read, O: Write, E: Write>(
     rt: &R,

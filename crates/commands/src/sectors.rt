@@ -1,4 +1,4 @@
-// The word SECTORS of a command line.
+// The argument SECTORS of a command line.
 
 ghost use Rattle.std.specs.Prelude.{◌≡◌, Some, None, if◌then◌else◌};
 ghost use Rattle.std.specs.List.{list_all};
@@ -8,24 +8,24 @@ ghost use Rattle.commands.specs.Sectors.{is_decimal, sectors_of};
 
 use states::is_geometry;
 
-/// The longest spelling of a number of sectors.
+/// The maximum number of digits of a number of sectors.
 const MOST_DIGITS: usize = 7;
 
-/// Whether all bytes are decimal digits.
+/// Returns whether all bytes are decimal digits.
 fn are_digits(bytes: &[u8]) -> bool
     ensures { result ≡ list_all is_ascii_digit bytes.now }
 {
     bytes.iter().all(|b| b.is_ascii_digit())
 }
 
-/// Whether a word is 1 to 7 decimal digits.
+/// Returns whether a word is 1 to 7 decimal digits.
 fn is_decimal(word: &str) -> bool
     ensures { result ≡ is_decimal word.now }
 {
     !word.is_empty() && word.len() <= MOST_DIGITS && are_digits(word.as_bytes())
 }
 
-/// The number that decimal digits spell.
+/// Returns the number that 1 to 7 decimal digits encode, or `None` if the word has another form.
 fn number_of(word: &str) -> Option<u32>
     ensures { result ≡ (if is_decimal word.now then Some (digits_value 10 word.now) else None) }
 {
@@ -36,7 +36,8 @@ fn number_of(word: &str) -> Option<u32>
     }
 }
 
-/// Reads SECTORS: 1 to 7 decimal digits of a value from 8 to 4,194,304.
+/// Returns the number that SECTORS encodes, which is 1 to 7 decimal digits with a value from 8 to
+/// 4,194,304, or `None`.
 pub(crate) fn parse_sectors(word: &str) -> Option<u32>
     ensures { result ≡ sectors_of word.now }
 {

@@ -1,4 +1,4 @@
-// Showing the image of a program.
+// Shows the image of a program.
 
 ghost use Rattle.std.specs.Prelude.{◌≡◌, IfOk, IfErr};
 ghost use Rattle.commands.specs.RunImage.{Shows};
@@ -10,19 +10,19 @@ use std::alloc::Global;
 use std::io::Write;
 use store::StoreRefusal;
 
-/// What was shown.
+/// The kind of text that was shown.
 #[derive(Clone, Copy, PartialEq, Eq)]
 pub enum Shown {
     /// The image.
     Image,
-    /// Why there is none.
+    /// The reason why there is no image.
     Refused,
-    /// That memory was refused.
+    /// The line for refused memory.
     NoMemory,
 }
 
-/// Writes the text of the image of a program that needs no library, bound at a base, or of the
-/// refusal. After a fault it is open what the writer holds.
+/// Binds a program without libraries at `base`, and writes the text of its image, or of the
+/// refusal. After a fault it is unspecified what the writer holds.
 pub fn run_image<W: Write>(
     alloc: Global,
     program: &[u8],

@@ -1,4 +1,4 @@
-// How a run of the program ends.
+// The exit status of the program.
 
 ghost use Rattle.std.specs.Prelude.{◌≡◌};
 ghost use Rattle.commands.specs.Status.{greatest, status_of, event_status, fault_status};
@@ -9,7 +9,7 @@ use binders::EventReply;
 use program_parts::Status;
 use scripts::ScriptFault;
 
-/// The one of the greater number.
+/// Returns the status with the greater number.
 pub(crate) fn greatest(status: Status, other: Status) -> Status
     ensures { result ≡ greatest status other }
 {
@@ -20,7 +20,7 @@ pub(crate) fn greatest(status: Status, other: Status) -> Status
     }
 }
 
-/// What showing an image ends with.
+/// Returns the status after an image was shown.
 pub(crate) fn status_of(shown: Result<Shown, ScriptFault>) -> Status
     ensures { result ≡ status_of shown }
 {
@@ -32,7 +32,7 @@ pub(crate) fn status_of(shown: Result<Shown, ScriptFault>) -> Status
     }
 }
 
-/// What an event ends with that is answered so.
+/// Returns the status after an event with this reply.
 pub(crate) fn event_status(reply: &EventReply) -> Status
     ensures { result ≡ event_status reply.now }
 {
@@ -42,7 +42,7 @@ pub(crate) fn event_status(reply: &EventReply) -> Status
     }
 }
 
-/// What a script that ended early ends with.
+/// Returns the status of a script that ended early.
 pub(crate) fn fault_status(fault: ScriptFault) -> Status
     ensures { result ≡ fault_status fault }
 {
@@ -52,7 +52,7 @@ pub(crate) fn fault_status(fault: ScriptFault) -> Status
     }
 }
 
-/// What lines end with of which so many were refused.
+/// Returns the status of a script with `refused` refused lines.
 pub(crate) fn lines_status(refused: u64) -> Status
     ensures { result ≡ lines_status refused }
 {

@@ -1,20 +1,20 @@
-// What a script did.
+// The numbers of lines of a script.
 
 ghost use Rattle.std.specs.Prelude.{◌≡◌, ◌+◌, if◌then◌else◌};
 ghost use Rattle.std.specs.Io.Iter.{u64_saturate};
 
-/// What a script did. Each number stays at the greatest once it is there.
+/// The numbers of lines of a script. Each number stops at the greatest `u64`.
 #[derive(Clone, Copy, PartialEq, Eq)]
 pub struct Summary {
-    /// How many lines there were, one without a newline among them.
+    /// The number of lines, including one without a newline.
     pub lines: u64,
-    /// How many of them were refused: lines that ask nothing, a line without a newline, and
-    /// commands that were refused.
+    /// The number of refused lines: lines that ask for nothing, a line without a newline, and lines
+    /// whose command is refused.
     pub refused: u64,
 }
 
 impl Summary {
-    /// Counts a line.
+    /// Counts a line, which was refused if `refused` is true.
     pub(crate) fn count(&mut self, refused: bool)
         ensures lines { self.new.lines ≡ u64_saturate (self.old.lines + 1) }
         ensures refused { self.new.refused

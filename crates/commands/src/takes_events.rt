@@ -1,4 +1,4 @@
-// What a script's events go to.
+// The type over which a script runs.
 
 ghost use Rattle.binders.specs.Events.{Happening, happening_of};
 ghost use Rattle.binders.specs.declared.event.EventReply.{EventReply};
@@ -8,13 +8,13 @@ use crate::watched::Watched;
 use binders::{Binders, Event, EventReply};
 use sector_disk::Disk;
 
-/// What takes events: a registry on a disk with its binders, and whatever else answers as its own
-/// steps say.
+/// A type that takes events: a registry on a disk with its binders, or any other type that answers
+/// by its own steps.
 pub trait TakesEvents {
-    /// What may be answered to what happens, from one value to the next.
+    /// An event may be answered with this reply, and may change the first value to the second.
     ghost step: { Self → Happening → EventReply → Self → Type 0 };
 
-    /// Lets an event happen, and gives its one reply.
+    /// Carries out `event`, and returns its one reply.
     fn happen(&mut self, event: &Event<'_>) -> EventReply
         ensures step { step self.old (happening_of event.now) result self.new };
 }

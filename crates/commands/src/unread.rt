@@ -1,4 +1,4 @@
-// A file that wasn't read.
+// The answers if a file can't be read.
 
 ghost use Rattle.std.specs.Prelude.{◌≡◌, false};
 ghost use Rattle.program_parts.specs.Refusal.{memory_text};
@@ -12,7 +12,7 @@ use program_parts::{FileFault, Status, write_disk_refusal};
 use std::io::Write;
 use store::StoreRefusal;
 
-/// Writes that memory was refused.
+/// Writes the line for refused memory.
 pub(crate) fn no_memory<O: Write>(output: &mut O) -> Status
     ensures { IsTold NoMemory memory_text (O.contents output.old) (O.contents output.new) result }
 {
@@ -22,7 +22,7 @@ pub(crate) fn no_memory<O: Write>(output: &mut O) -> Status
     }
 }
 
-/// Says why a file wasn't read.
+/// Reports why a file can't be read.
 pub(crate) fn not_read<O: Write, E: Write>(
     fault: FileFault,
     path: &str,

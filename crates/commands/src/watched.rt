@@ -1,4 +1,4 @@
-// A registry with binders, and how bad its replies are.
+// A registry with binders, for which the greatest status of the replies is kept.
 
 ghost use Rattle.std.specs.Prelude.{◌≢◌};
 ghost use Rattle.program_parts.specs.declared.status.Status.TheVariants.{BadWords};
@@ -10,6 +10,6 @@ use program_parts::Status;
 pub(crate) struct Watched<G> {
     pub(crate) binders: G,
     pub(crate) worst: Status,
-    // No reply is about words.
+    // No reply has the status for bad arguments.
     ghost answers: { worst ≢ BadWords },
 }

@@ -1,4 +1,4 @@
-// What is asked with the bytes of a file.
+// Commands that need the bytes of a file.
 
 ghost use Rattle.std.specs.Prelude.{◌≡◌};
 ghost use Rattle.requests.specs.Request.{request_of};
@@ -15,22 +15,22 @@ use std::fs::File;
 use std::io::Write;
 use std::rt::{Clock, Files};
 
-/// What is asked of a registry with the bytes of a file.
+/// A command of a registry, without the bytes of its file.
 #[derive(Clone, Copy)]
 pub(crate) enum WithFile {
     /// Installs a library.
     Install,
-    /// Puts it in the place of the library of the same name.
+    /// Replaces the library with the same name.
     Replace,
     /// Binds a program.
     Bind {
-        /// The address at which it is bound.
+        /// The address at which the program is bound.
         base: u64,
     },
 }
 
 impl WithFile {
-    /// The command, with these bytes.
+    /// Returns the command with the file `bytes`.
     fn command(self, bytes: &[u8]) -> Command<'_>
         ensures { request_of result ≡ request_with self bytes.now }
     {
@@ -45,7 +45,7 @@ impl WithFile {
     }
 }
 
-/// Reads a file, and then opens the disk and asks what is asked with the file's bytes.
+/// Reads a file, then opens the disk and applies the command with the file's bytes.
 #[tactic(auto, using(crate::proofs::Asking::unread_replied))]
 pub(crate) fn ask_with<R: Files<File = File> + Clock, O: Write, E: Write>(
     rt: &R,

@@ -1,4 +1,4 @@
--- A library of a state, by its position and by its name.
+-- Lemmas about a library of a state, found by its position and by its name.
 use Rattle.std.proofs.Common.{◌≡◌, ◌≢◌, ◌↔◌, ℕ, ◌<◌, List, length, get_or, All, Option, Some, None, Result, Ok, Err, refl, sym, ap, subst, ◌∙◌}
 use Rattle.std.specs.Prelude.{Contains, IfOk, OnOk}
 use Rattle.std.specs.Global.{Vec}
@@ -9,7 +9,7 @@ use Rattle.store.specs.Stands.{HaveOwnNames, name_of, no_library}
 use Rattle.store.proofs.Drafts.{same_name}
 use Rattle.contents.specs.File.{HasFile}
 
--- what the position of a name is, by the store's contract
+-- `found` is the position of a name, as the store's contract states it
 abbrev pub IsPosition : State → List ℕ → Option ℕ → Type 0
 IsPosition s name found = (i : ℕ) → (found ≡ Some i) ↔ ((i < length s.libraries) × ((get_or s.libraries i no_library).name ≡ name))
 
@@ -17,7 +17,7 @@ IsPosition s name found = (i : ℕ) → (found ≡ Some i) ↔ ((i < length s.li
 pub named_at : (s : State) (name : List ℕ) (position : ℕ) → IsPosition s name (Some position) → (position < length s.libraries) × ((get_or s.libraries position no_library).name ≡ name)
 named_at s name position is = (is position).0 refl
 
--- These bytes are the library's,
+-- The bytes at a name's position are the library's.
 pub has_file : {E : Type 0} (s : State) (name : List ℕ) (position : ℕ) (result : Result (Vec ℕ) E) → IsPosition s name (Some position)
     → IfOk result (λ bytes. bytes.items ≡ (get_or s.libraries position no_library).bytes) → IfOk result (λ bytes. HasFile s name bytes.items)
 has_file s name position (Err e) is read = tt
@@ -27,7 +27,7 @@ has_file s name position (Ok bytes) is read =
     let same : get_or s.libraries position no_library ≡ file = λ i. record { name = at.1 i; bytes = sym read i } in
     (position, at.0, get_or_default s.libraries position file no_library at.0 ∙ same)
 
--- and no others are.
+-- The library at a name's position has no other bytes.
 pub no_other : {E : Type 0} (s : State) (name : List ℕ) (position : ℕ) (result : Result (Vec ℕ) E) → IsPosition s name (Some position)
     → IfOk result (λ bytes. bytes.items ≡ (get_or s.libraries position no_library).bytes) → IfOk result (λ bytes. (other : List ℕ) → HasFile s name other → other ≡ bytes.items)
 no_other s name position (Err e) is read = tt
@@ -38,13 +38,13 @@ no_other s name position (Ok bytes) is read = λ other has.
     let same : position ≡ has.0 = cc in
     sym (ap (λ (l : Library). l.bytes) its) ∙ ap (λ k. (get_or s.libraries k no_library).bytes) (sym same) ∙ sym read
 
--- a name without a position
+-- if a name has no position, no library has the name
 pub none_named : (s : State) (name : List ℕ) → IsPosition s name None → All (λ (library : Library). library.name ≢ name) s.libraries
 none_named s name is k d lt named =
     let found : ◌≡◌ {A = Option ℕ} None (Some k) = (is k).1 (lt, ap (λ (l : Library). l.name) (get_or_default s.libraries k no_library d lt) ∙ named) in
     absurd cc
 
--- what is true of the length that an entry tells is true of the length of the bytes
+-- a fact about the length in an entry is a fact about the length of the bytes
 pub of_length : {E : Type 0} (P : ℕ → Type 0) (size : ℕ) (result : Result (Vec ℕ) E) → OnOk result (P size)
     → IfOk result (λ bytes. length bytes.items ≡ size) → IfOk result (λ bytes. P (length bytes.items))
 of_length P size (Err e) holds is = tt

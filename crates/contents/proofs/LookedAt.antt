@@ -1,4 +1,4 @@
--- Libraries that are looked at one after the other.
+-- Lemmas about libraries that are examined one after the other.
 use Rattle.std.proofs.Common.{◌≡◌, ℕ, ◌+◌, ◌-◌, ◌<◌, ◌≤◌, Bool, true, false, cond, List, [], ◌∷◌, ◌++◌, length, get_or, take, sum_by, refl, sym, ap, subst, ◌∙◌, ⊎_elim, arith}
 use Rattle.std.specs.Prelude.{count_by}
 use Rattle.std.proofs.lemmas.Bool.{cases_lt}
@@ -14,9 +14,10 @@ use Rattle.store.specs.Stands.{no_library}
 use Rattle.store.proofs.IsReadLemmas.{read_none, read_more}
 use Rattle.store.proofs.UsedAlone.{no_entry}
 
--- `Is l x`: x is what is seen of a library. `is_unread x`: it is seen that it can't be read.
+-- `Is l x` is the fact that the finding `x` is true of the library `l`. `is_unread x` is whether `x`
+-- reports that the library can't be read.
 module _ {T : Type 0} (Is : Library → T → Type 0) (is_unread : T → Bool) where
-  -- The libraries before this position were looked at, and these were seen.
+  -- The libraries before this position were examined, and `seen` has a true finding for each of them.
   pub record SeenSoFar {D : Type 0} (facts : D → DiskFacts) (start now : Opened D) (position : ℕ) (seen : List T) : Type 0 where
     pub read : IsRead facts start now
     pub count : length seen ≡ position
@@ -24,12 +25,14 @@ module _ {T : Type 0} (Is : Library → T → Type 0) (is_unread : T → Bool) w
     pub failures : (facts start.disk).failures + count_by is_unread seen ≤ (facts now.disk).failures
     pub calls : AreCallsAtMost (sum_by file_sectors (take position start.entries)) (facts start.disk) (facts now.disk)
 
--- one that can't be read is one failure more
+-- if the count of unreadable libraries is at most the number of failures, this is still so after one
+-- more library
 counted : (unread : Bool) (count before after : ℕ) → (unread ≡ true → before < after) → before ≤ after → count ≤ before → count + cond unread 1 0 ≤ after
 counted true count before after failed later so_far = omega (arith, failed refl, so_far)
 counted false count before after failed later so_far = omega (arith, later, so_far)
 
--- one behind others
+-- if a property holds for each item of a list and for one appended item, it holds for each item of the
+-- longer list
 pushed : {T : Type 0} (P : ℕ → T → Type 0) (seen : List T) (x : T) (position : ℕ) → length seen ≡ position
     → ((k : ℕ) → k < position → (d : T) → P k (get_or seen k d)) → P position x
     → (k : ℕ) → k < position + 1 → (d : T) → P k (get_or (seen ++ x ∷ []) k d)
@@ -51,7 +54,7 @@ module _ {T : Type 0} (Is : Library → T → Type 0) (is_unread : T → Bool) {
     calls = exactly_at_most (exactly_none (facts start.disk)) (omega arith);
   }
 
-  -- the calls up to one more
+  -- if one more library is read, the calls are at most the sectors of the libraries up to it
   pub more_calls : {start mid : Opened D} {position : ℕ} {seen : List T} (new : Opened D) → position < length start.entries → SeenSoFar Is is_unread facts start mid position seen
       → ((d : PlacedEntry) → AreCallsAtMost (file_sectors (get_or mid.entries position d)) (facts mid.disk) (facts new.disk))
       → AreCallsAtMost (sum_by file_sectors (take (position + 1) start.entries)) (facts start.disk) (facts new.disk)
@@ -61,7 +64,8 @@ module _ {T : Type 0} (Is : Library → T → Type 0) (is_unread : T → Bool) {
     sum_by_more file_sectors start.entries position no_entry lt,
   ))
 
-  -- one library more
+  -- if the libraries before a position were examined, and then the one at it, the libraries up to the
+  -- next position were examined
   pub one_seen : {start mid new : Opened D} {position : ℕ} {seen : List T} (x : T) → position < length start.entries
       → SeenSoFar Is is_unread facts start mid position seen → IsRead facts mid new
       → ((s : State) → IsAt facts mid s → Is (get_or s.libraries position no_library) x)
@@ -80,7 +84,7 @@ module _ {T : Type 0} (Is : Library → T → Type 0) (is_unread : T → Bool) {
     calls = more_calls new lt so_far calls;
   }
 
-  -- The calls up to one more are some of those for all.
+  -- If one more library is read, the calls are at most the sectors of all libraries.
   pub some_calls : {start mid : Opened D} {position : ℕ} {seen : List T} (new : Opened D) → position < length start.entries → SeenSoFar Is is_unread facts start mid position seen
       → ((d : PlacedEntry) → AreCallsAtMost (file_sectors (get_or mid.entries position d)) (facts mid.disk) (facts new.disk))
       → AreCallsAtMost (sum_by file_sectors start.entries) (facts start.disk) (facts new.disk)
@@ -90,7 +94,8 @@ module _ {T : Type 0} (Is : Library → T → Type 0) (is_unread : T → Bool) {
     sum_by_more_le file_sectors start.entries position no_entry lt,
   ))
 
-  -- All were looked at.
+  -- If all libraries were examined, there are as many findings as entries, and the calls are at most the
+  -- sectors of all of them.
   pub all_counted : {start now : Opened D} {position : ℕ} {seen : List T} → SeenSoFar Is is_unread facts start now position seen → length start.entries ≡ position
       → length seen ≡ length start.entries
   all_counted so_far all = so_far.count ∙ sym all

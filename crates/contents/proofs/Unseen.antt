@@ -1,4 +1,4 @@
--- What is seen of a library, and where it is that it can't be read.
+-- The finding or the digest of a library, and which findings report that the library can't be read.
 use Rattle.std.proofs.Common.{◌≡◌, List, ℕ, true, Option, Some, None, refl}
 use Rattle.std.specs.Prelude.{is_none}
 use Rattle.std.proofs.lemmas.Bool.{false≢true}
@@ -8,14 +8,14 @@ use Rattle.contents.specs.declared.finding.Finding.TheVariants.{Sound, Refused, 
 use Rattle.contents.specs.Digest.{IsDigest}
 use Rattle.contents.specs.Finding.{is_unreadable}
 
--- a finding
+-- a finding that reports that the library can't be read is Unreadable
 pub no_finding : (f : Finding) → is_unreadable f ≡ true → f ≡ Unreadable
 no_finding Sound h = absurd (false≢true h)
 no_finding (Refused refusal) h = absurd (false≢true h)
 no_finding OtherName h = absurd (false≢true h)
 no_finding Unreadable h = refl
 
--- the digest of its bytes
+-- the digest is that of the library's bytes
 abbrev pub IsDigestOf : Library → Option (List ℕ) → Type 0
 IsDigestOf l digest = IsDigest l.bytes digest
 

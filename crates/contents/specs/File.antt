@@ -5,7 +5,7 @@ use Rattle.store.specs.Opened.{Opened}
 use Rattle.store.specs.Stands.{name_of}
 use Rattle.store.specs.declared.placed_entry.PlacedEntry.{PlacedEntry}
 
--- a library of this name is installed, and these are its bytes
+-- a library with this name and these bytes is installed
 abbrev pub HasFile : State → (name bytes : List ℕ) → Type 0
 HasFile s name bytes = Contains s.libraries (record { name = name; bytes = bytes })
 

@@ -1,17 +1,18 @@
--- What is told of a disk as a whole (own).
+-- The numbers of a disk and of the state that it holds (own).
 use Rattle.std.specs.Prelude.{◌≡◌, ◌+◌, ℕ, length}
 use Rattle.roots.specs.declared.version.Version.TheVariants.{Two}
 use Rattle.states.specs.Cost.{catalogues_for, free}
 use Rattle.states.specs.State.{State}
 use Rattle.contents.specs.declared.info.Info.{Info}
 
--- What is told of a disk of so many sectors, which holds this state.
+-- These are the numbers of a disk of `sectors` sectors that holds state s.
 pub record IsInfo (sectors : ℕ) (s : State) (info : Info) : Type 0 where
   pub version : info.version ≡ Two
   pub sectors_are : info.sectors ≡ sectors
   pub generation : info.generation ≡ s.generation
   pub libraries : info.libraries ≡ length s.libraries
   pub preloads : info.preloads ≡ length s.preloads
-  -- what the state leaves free, and beside it what the catalogues of the next change take
+  -- `free` is the number of sectors that the state leaves free; `sectors` also counts those for the
+  -- catalogues of the next change
   pub free_are : info.unused.free ≡ free sectors s
   pub unused_are : info.unused.sectors ≡ free sectors s + catalogues_for (length s.libraries)

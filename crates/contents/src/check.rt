@@ -1,4 +1,4 @@
-// Whether installed libraries are libraries.
+// Tests whether the files of installed libraries are libraries.
 ghost use Rattle.std.specs.Prelude.{◌≡◌, ◌≢◌, ◌⊎◌, ◌+◌, ◌<◌, ◌≤◌, ℕ, All, IfOk, OnErr, length};
 ghost use Rattle.std.specs.Prelude.{count_by, slice_index_or, sum_by};
 ghost use Rattle.sector_disk.specs.Disk.{AreCallsExactly, AreCallsAtMost};
@@ -18,12 +18,12 @@ use requests::{Refusal, library_name};
 use sector_disk::Disk;
 use std::alloc::{AllocError, Global};
 
-/// What is found of a file under this name. It fails only if memory is refused for a test that
-/// allocates.
+/// Returns the finding for the file `file` of a library with the name `name`. Fails only if memory
+/// is refused for a test that allocates.
 pub fn finding_of(alloc: Global, name: &[u8], file: &[u8]) -> Result<Finding, AllocError>
     ensures finding { IfOk result (IsFinding (record { name = name.now; bytes = file.now })) }
     ensures read { IfOk result (λ finding. finding ≢ Finding.Unreadable) }
-    // A file that another test refuses is always reported.
+    // If another test refuses the file, this is always reported.
     ensures memory { OnErr result (ReadNeedsMemory file.now) }
 {
     match library_name(alloc, file) {
@@ -38,8 +38,8 @@ pub fn finding_of(alloc: Global, name: &[u8], file: &[u8]) -> Result<Finding, Al
 }
 
 impl<D: Disk> Contents<D> {
-    /// Reads the library at this position, each of its sectors once, and tells what is found of it.
-    /// It fails only if memory is refused, for the bytes or for a test.
+    /// Reads the library at `position`, each of its sectors once, and returns the finding. Fails
+    /// only if memory is refused, for the bytes or for a test.
     pub fn check_at(&mut self, alloc: Global, position: usize) -> Result<Finding, AllocError>
         requires { position < length self.old.entries }
         ensures read { IsRead D.facts self.old self.new }
@@ -67,9 +67,10 @@ impl<D: Disk> Contents<D> {
         }
     }
 
-    /// Tells of each library, in their order, what is found of it: a damaged one, or one that
-    /// can't be read, is told of as such, and the next is looked at. Each is let go before the
-    /// next, and each of their sectors is read once. It ends early for want of memory alone.
+    /// Returns a finding for each library, in their order. If a library is damaged or can't be
+    /// read, its finding reports this, and the next library is tested. Frees the bytes of each
+    /// library before it reads the next one, and reads each sector once. Ends early only if memory
+    /// is refused.
     pub fn check(&mut self, alloc: Global) -> Result<Vec<Finding>, AllocError>
         ensures read { IsRead D.facts self.old self.new }
         ensures all { IfOk result (λ findings.
@@ -79,7 +80,7 @@ impl<D: Disk> Contents<D> {
             → IsFinding (slice_index_or s.libraries i no_library)
             (slice_index_or findings.items i d)) }
 
-        // On any disk. For each one that can't be read a call of the disk failed.
+        // On any disk, at least one call of the disk failed for each library that can't be read.
         ensures device { IfOk result (λ findings. (D.facts self.old.disk).failures
             + count_by is_unreadable findings.items ≤ (D.facts self.new.disk).failures) }
         ensures calls { AreCallsAtMost (sum_by file_sectors self.old.entries)

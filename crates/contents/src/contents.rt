@@ -1,11 +1,11 @@
-// What a disk has.
+// The contents of a disk.
 use sector_disk::Disk;
 use std::marker::Model;
 use store::Store;
 
-/// What a disk of version 2 has. In memory are names, lengths and the places of files, and no byte
-/// of a file. Contracts see the store that keeps it, which nobody changes and whose byte strings
-/// nobody holds.
+/// The contents of a disk of version 2. Names, lengths and the places of files are in memory, but
+/// no bytes of files. In contracts, this value is the store that keeps the contents. Nobody changes
+/// this store, and nobody holds its byte strings.
 pub struct Contents<D: Disk> {
     pub(crate) store: Store<D>,
 }
@@ -24,14 +24,14 @@ impl<D: Disk> Model for Contents<D> {
 impl<D: Disk> Contents<D> {
     ghost use Rattle.std.specs.Prelude.{◌≡◌};
 
-    /// The store, which tells names, lengths and preloads.
+    /// Returns the store, which reports names, lengths and preloads.
     pub fn store(&self) -> &Store<D>
         ensures { result.now ≡ self.now }
     {
         &self.store
     }
 
-    /// The disk.
+    /// Returns the disk.
     pub fn into_disk(self) -> D
         ensures { result ≡ self.disk }
     {

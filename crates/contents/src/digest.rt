@@ -19,8 +19,8 @@ use sha2::{Digest, Sha256};
 use std::alloc::{AllocError, Global};
 
 impl<D: Disk> Contents<D> {
-    /// The SHA-256 of the bytes of the library at this position; none where these can't be read.
-    /// It reads each of their sectors once, and fails for want of memory alone.
+    /// Returns the SHA-256 of the bytes of the library at `position`, or `None` if they can't be
+    /// read. Reads each of their sectors once, and fails only if memory is refused.
     pub fn digest_at(
         &mut self,
         alloc: Global,
@@ -48,9 +48,10 @@ impl<D: Disk> Contents<D> {
         }
     }
 
-    /// The SHA-256 of the bytes of each library, in their order; none where these can't be read.
-    /// Whether they still are those of a library isn't looked at. Each is let go before the next,
-    /// and each of their sectors is read once. It ends early for want of memory alone.
+    /// Returns the SHA-256 of the bytes of each library, in their order, and `None` for each
+    /// library that can't be read. Doesn't test whether the files are still libraries. Frees the
+    /// bytes of each library before it reads the next one, and reads each sector once. Ends early
+    /// only if memory is refused.
     pub fn digests(&mut self, alloc: Global) -> Result<Vec<Option<[u8; 32]>>, AllocError>
         ensures read { IsRead D.facts self.old self.new }
         ensures all { IfOk result (λ digests.
@@ -60,7 +61,7 @@ impl<D: Disk> Contents<D> {
             → IsDigest (slice_index_or s.libraries i no_library).bytes
             (slice_index_or digests.items i d)) }
 
-        // On any disk. For each one that can't be read a call of the disk failed.
+        // On any disk, at least one call of the disk failed for each library that can't be read.
         ensures some { IfOk result (λ digests. All IsDigestOfSome digests.items) }
         ensures device { IfOk result (λ digests. (D.facts self.old.disk).failures
             + count_by is_none digests.items ≤ (D.facts self.new.disk).failures) }
@@ -75,12 +76,12 @@ impl<D: Disk> Contents<D> {
         Ok(digests)
     }
 
-    /// The SHA-256 of the bytes of the library of this name. It reads each of their sectors once, as
-    /// `file` does, and nothing if no library has the name.
+    /// Returns the SHA-256 of the bytes of the library with the name `name`. Reads each of their
+    /// sectors once, as `file` does, and reads nothing if no library has the name.
     pub fn digest(&mut self, alloc: Global, name: &[u8]) -> Result<[u8; 32], Unread>
         ensures read { IsRead D.facts self.old self.new }
 
-        // It is that of the library's bytes, and of no others.
+        // The digest is that of this library's bytes, and the library has no other bytes.
         ensures ok { (s : State) → IsAt D.facts self.old s → IfOk result (λ digest.
             (bytes : List ℕ) × HasFile s name.now bytes × (digest ≡ sha256 bytes)) }
         ensures only { (s : State) → IsAt D.facts self.old s
@@ -90,7 +91,7 @@ impl<D: Disk> Contents<D> {
             → (result ≡ Err Unread.NotInstalled)
             ↔ All (λ library. library.name ≢ name.now) s.libraries }
 
-        // On any disk
+        // These clauses hold on any disk.
         ensures device { IfErr result (λ e. e ≡ Unread.Unreadable
             → (D.facts self.old.disk).failures < (D.facts self.new.disk).failures) }
         ensures untouched { IfErr result (λ e. e ≢ Unread.Unreadable → self.new ≡ self.old) }

@@ -17,8 +17,8 @@ use std::alloc::Global;
 use store::StoreRefusal;
 
 impl<D: Disk> Contents<D> {
-    /// The bytes of the library at this position. It reads each of its sectors once, and does not
-    /// look whether they are those of a library. It answers Unreadable or OutOfMemory.
+    /// Returns the bytes of the library at `position`. Reads each of its sectors once, and doesn't
+    /// test whether the file is a library. Fails with `Unreadable` or `OutOfMemory`.
     pub fn read(&mut self, alloc: Global, position: usize) -> Result<Vec<u8>, Unread>
         requires { position < length self.old.entries }
         ensures read { IsRead D.facts self.old self.new }
@@ -44,13 +44,13 @@ impl<D: Disk> Contents<D> {
         }
     }
 
-    /// The bytes of the library of this name, as they were installed: whether they still are those
-    /// of a library is what `check` tells. It reads each of their sectors once, and nothing where
-    /// no library has the name.
+    /// Returns the bytes of the library with the name `name`, as they were installed. Only `check`
+    /// tests whether the file is still a library. Reads each sector of the file once, and reads
+    /// nothing if no library has the name.
     pub fn file(&mut self, alloc: Global, name: &[u8]) -> Result<Vec<u8>, Unread>
         ensures read { IsRead D.facts self.old self.new }
 
-        // These bytes are the library's, and no others are.
+        // The bytes are those of this library, and the library has no other bytes.
         ensures ok { (s : State) → IsAt D.facts self.old s
             → IfOk result (λ bytes. HasFile s name.now bytes.items) }
         ensures only { (s : State) → IsAt D.facts self.old s
@@ -60,7 +60,7 @@ impl<D: Disk> Contents<D> {
             → (result ≡ Err Unread.NotInstalled)
             ↔ All (λ library. library.name ≢ name.now) s.libraries }
 
-        // On any disk
+        // These clauses hold on any disk.
         ensures device { IfErr result (λ e. e ≡ Unread.Unreadable
             → (D.facts self.old.disk).failures < (D.facts self.new.disk).failures) }
         ensures untouched { IfErr result (λ e. e ≢ Unread.Unreadable → self.new ≡ self.old) }

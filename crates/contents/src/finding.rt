@@ -1,17 +1,17 @@
-// What is found of a library that is looked at.
+// Findings about installed libraries.
 ghost use Rattle.std.specs.Prelude.{◌≡◌};
 
 use hash_check::FileRefusal;
 
-/// What is found of an installed library.
+/// The result of a check of an installed library.
 #[derive(Clone, Copy, PartialEq, Eq)]
 pub enum Finding {
-    /// Its file is a library of its name.
+    /// The file is a library with the name of its entry.
     Sound,
-    /// Its file is damaged: a test refuses it as a library, and this is the first that does.
+    /// The file is damaged: a test refuses it as a library, and this is the first such test.
     Refused(FileRefusal),
-    /// Its file is damaged: it is a library of another name.
+    /// The file is damaged: it is a library with another name.
     OtherName,
-    /// A read of the disk failed: S1.
+    /// A read of the disk failed: S1 (Device).
     Unreadable,
 }

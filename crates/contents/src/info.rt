@@ -1,23 +1,23 @@
-// What is told of the whole.
+// The numbers of a disk and of the state that it holds.
 use crate::contents::Contents;
 use roots::Version;
 use sector_disk::Disk;
 use store::UnusedSpace;
 
-/// What is told of a disk and of the state that it holds.
+/// The numbers of a disk and of the state that it holds.
 #[derive(Clone, Copy, PartialEq, Eq)]
 pub struct Info {
     /// The version of the disk.
     pub version: Version,
-    /// How many sectors the disk has.
+    /// The number of sectors of the disk.
     pub sectors: u32,
-    /// How many changes were accepted since the disk was formatted.
+    /// The number of changes that were accepted since the disk was formatted.
     pub generation: u64,
-    /// How many libraries are installed, of `MOST_LIBRARIES` at most.
+    /// The number of installed libraries, at most `MOST_LIBRARIES`.
     pub libraries: usize,
-    /// How many preloads there are, of `MOST_PRELOADS` at most.
+    /// The number of preloads, at most `MOST_PRELOADS`.
     pub preloads: usize,
-    /// How much of the disk is unused, and the greatest file that still goes in.
+    /// The unused space of the disk, and the size of the largest file that can still be installed.
     pub unused: UnusedSpace,
 }
 
@@ -33,16 +33,17 @@ impl<D: Disk> Contents<D> {
     ghost use Rattle.store.specs.Step.{longest_unused, refusal_of_new};
     ghost use Rattle.contents.specs.Info.{IsInfo};
 
-    /// What is told of the whole. It makes one pass over the unused runs, and neither takes
-    /// memory nor calls the disk.
+    /// Returns the numbers of the disk. Makes one pass over the unused runs, allocates nothing, and
+    /// makes no call of the disk.
     pub fn info(&self) -> Info
         ensures state { (s : State) → IsAt D.facts self.now s
             → IsInfo (D.facts self.now.disk).sectors s result }
         ensures unused { result.unused.sectors ≡ unused_count (layout_in_use self.now) }
         ensures runs { result.unused.runs ≡ length (unused_runs (layout_in_use self.now)) }
 
-        // An install of a file of a new name meets neither S7 nor S8, S9 nor S10, exactly up to
-        // this length: it is 0, or the length of a file, which is accepted itself.
+        // An install of a file with a new name is refused with none of S7, S8, S9 and S10 exactly
+        // if the file has at most `largest` bytes. `largest` is 0, or a length that such a file may
+        // have.
         ensures largest { (s : State) → IsAt D.facts self.now s
             → (file : List ℕ) → IsFileSize (length file)
             → (length file ≤ result.unused.largest)

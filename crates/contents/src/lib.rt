@@ -1,9 +1,9 @@
-//! What a disk has, and how it is: read from roots, catalogues and entries, and from a library's
-//! file only where it is asked for.
+//! The contents of a disk, and whether its libraries are sound. Roots, catalogues and entries are
+//! read, but a library's file is read only if it is asked for.
 //!
-//! `Contents::open` opens a disk of version 2 to be read alone. `file` gives a library's bytes,
-//! `info` tells of the whole, `check` tells of each library whether it is one, and `digests` gives
-//! the SHA-256 of each: a library that is damaged or can't be read keeps none of the others from
+//! `Contents::open` opens a disk of version 2 only for reading. `file` returns a library's bytes,
+//! `info` the numbers of the whole disk, `check` a finding for each library, and `digests` the
+//! SHA-256 of each. A library that is damaged or can't be read doesn't prevent the others from
 //! being read.
 #![tactic(auto)]
 

@@ -1,4 +1,4 @@
-// Opening a disk to read what it has.
+// Opens a disk to read its contents.
 use crate::contents::Contents;
 use sector_disk::Disk;
 use std::alloc::Global;
@@ -7,11 +7,11 @@ use store::{Store, StoreRefusal};
 impl<D: Disk> Contents<D> {
     ghost use Rattle.store.specs.Opens.{OpensByEntries};
 
-    /// Opens a disk of version 2, after a stop too; OldFormat where its current root is of version
-    /// 1. It writes nothing: it syncs, and reads the two root sectors, each catalogue and one
-    /// sector an entry. Where it refuses it hands the disk back.
+    /// Opens the contents of a disk of version 2, also after a stop. Refuses with S12 (OldFormat)
+    /// if the current root has version 1. Syncs, reads the two root sectors, each catalogue, and
+    /// one sector for each entry, and writes nothing. If it refuses, hands the disk back.
     pub fn open(alloc: Global, disk: D) -> Result<Contents<D>, (StoreRefusal, D)>
-        // Whether the files of its state are libraries doesn't matter.
+        // The clause holds whether or not the files are libraries.
         ensures { OpensByEntries D.facts disk result }
     {
         let store = Store::open(alloc, disk)?;

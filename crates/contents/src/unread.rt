@@ -1,13 +1,13 @@
-// Why a library's bytes aren't given.
+// The reason why a library's bytes aren't returned.
 use std::alloc::AllocError;
 
-/// Why the bytes of a library aren't given.
+/// The reason why the bytes of a library aren't returned.
 #[derive(Clone, Copy, PartialEq, Eq)]
 pub enum Unread {
-    /// No library of this name is installed.
+    /// No library with this name is installed.
     NotInstalled,
-    /// A read of the disk failed: S1.
+    /// A read of the disk failed: S1 (Device).
     Unreadable,
-    /// Memory was refused: S11.
+    /// Memory was refused: S11 (OutOfMemory).
     OutOfMemory,
 }

@@ -1,4 +1,4 @@
--- What holds of a file that no test refuses.
+-- Facts about a file that no test refuses.
 use Rattle.std.proofs.Common.{◌≡◌, ℕ, ◌<◌, ◌≤◌, ◌+◌, Bool, true, false, cond, List, [], ◌∷◌, ◌++◌, length, arith, refl, get_or, suc, zero, Some, None, take, drop, filter, nat_lt, length-drop}
 use Rattle.std.specs.Prelude.{slice_get, not, ◌||◌, ◌&&◌}
 use Rattle.std.specs.List.{list_any, All, AllPairs}
@@ -25,7 +25,7 @@ or-false_right : (a b : Bool) → (a || b) ≡ false → b ≡ false
 or-false_right true b h = cc
 or-false_right false b h = h
 
--- its headers, segments and tags aren't refused
+-- the headers, segments and tags of an accepted file pass their tests
 pub file_refuses_none : (file : List ℕ) → first_refusal file ≡ None → file_refusal file ≡ None
 unfolding first_refusal file_refusal
 file_refuses_none file h =
@@ -50,7 +50,7 @@ none-step q bad x xs false false e f none more k d lt = more k d lt
 none-step q bad x xs true false e f none more zero d lt = (e, f)
 none-step q bad x xs true false e f none more (suc k) d lt = more k d (omega (arith, lt))
 
--- an element of a filtered list passes the filter, and no test that no element of the list passes
+-- an element of a filtered list passes the filter, and fails any test that all elements of the list fail
 none_in : {X : Type 0} (q bad : X → Bool) (xs : List X) → list_any bad xs ≡ false
     → (k : ℕ) (d : X) → k < length (filter q xs) → (q (get_or (filter q xs) k d) ≡ true) × (bad (get_or (filter q xs) k d) ≡ false)
 none_in q bad [] none k d lt = absurd (omega (arith, lt))
@@ -71,8 +71,8 @@ some_in : {X : Type 0} (q : X → Bool) (xs : List X) → list_any q xs ≡ true
 some_in q [] some = cc
 some_in q (x ∷ xs) some = some-step q x xs (q x) some (some_in q xs)
 
--- A PT_LOAD of an accepted file: it has no more bytes in the file than in memory, they lie in the file, and its memory
--- ends at or below the highest end.
+-- A PT_LOAD of an accepted file has no more bytes in the file than in memory, and its bytes lie in the file. Its memory ends at or below the
+-- highest end.
 pub record LoadFits (file : List ℕ) (h : ProgramHeader) : Type 0 where
   pub sizes : h.file_size ≤ h.memory_size
   pub within : 0 < h.file_size → h.offset + h.file_size ≤ length file
@@ -82,7 +82,7 @@ fits_by : (size : ℕ) (h : ProgramHeader) → is_load h ≡ true → is_bad_loa
     → (h.file_size ≤ h.memory_size) × (0 < h.file_size → h.offset + h.file_size ≤ size) × (h.address + h.memory_size ≤ HIGHEST_END)
 fits_by size h load fine low = (grind (arith, nat_tests), (λ some. grind (arith, nat_tests)), grind (arith, nat_tests))
 
--- each PT_LOAD fits
+-- `LoadFits` is true of each PT_LOAD of an accepted file
 pub loads_fit : (file : List ℕ) → first_refusal file ≡ None → All (LoadFits file) (loads file)
 unfolding loads has_bad_load has_high_segment
 loads_fit file h k d lt =
@@ -93,7 +93,7 @@ loads_fit file h k d lt =
     let t = fits_by (length file) (get_or (filter is_load (program_headers file)) k d) a.0 a.1 b.1 in
     record { sizes = t.0; within = t.1; low = t.2 }
 
--- a PT_LOAD stands
+-- an accepted file has a PT_LOAD
 pub has_loads : (file : List ℕ) → first_refusal file ≡ None → 0 < length (loads file)
 unfolding loads has_load
 has_loads file h =
@@ -113,7 +113,7 @@ placed-by true true h e = refl
 placed-by true false h e = cc
 placed-by false p h e = cc
 
--- each relocation that writes does so in the memory of a PT_LOAD
+-- each relocation that writes does so in the memory of one PT_LOAD
 pub places : (file : List ℕ) → first_refusal file ≡ None → All (λ r. is_writing r.kind ≡ true → is_in_memory file r.offset 8 ≡ true) (relocations file)
 unfolding has_bad_place
 places file h k d lt writing =
@@ -124,19 +124,19 @@ length-part : (at n : ℕ) (bytes : List ℕ) → (0 < n → at + n ≤ length b
 length-part at zero bytes h = refl
 length-part at (suc n) bytes h = let k = h (omega arith) in omega (arith, length-take (suc n) (drop at bytes), length-drop at bytes, k)
 
--- as many bytes as p_filesz says are loaded
+-- the contents of each PT_LOAD have p_filesz bytes
 pub contents_length : (file : List ℕ) → first_refusal file ≡ None → All (λ h. length (contents file h) ≡ h.file_size) (loads file)
 contents_length file h k d lt =
     let fits = loads_fit file h k d lt in
     length-part (get_or (loads file) k d).offset (get_or (loads file) k d).file_size file fits.within
 
--- a PT_LOAD that was given by its number fits
+-- `LoadFits` is true of PT_LOAD number `i` of an accepted file
 pub load_fits : (file : List ℕ) (i : ℕ) (h : ProgramHeader) → first_refusal file ≡ None → slice_get (loads file) i ≡ Some h → LoadFits file h
 load_fits file i h accepted at =
     let fits = loads_fit file accepted i h (slice_get_within (loads file) i h at) in
     rw (get_or_from_slice_get (loads file) i h h at) at fits
 
--- so are as many of a PT_LOAD that was given by its number
+-- the contents of PT_LOAD number `i` of an accepted file have p_filesz bytes
 pub contents_whole : (file : List ℕ) (i : ℕ) (h : ProgramHeader) → first_refusal file ≡ None → slice_get (loads file) i ≡ Some h → length (contents file h) ≡ h.file_size
 contents_whole file i h accepted at =
     let all = contents_length file accepted i h (slice_get_within (loads file) i h at) in
@@ -146,11 +146,11 @@ ranges_fine : (file : List ℕ) → first_refusal file ≡ None → has_bad_rang
 unfolding first_refusal
 ranges_fine file h = when_none BadRange (has_bad_range file) (none_at (object_tests file) 21 h)
 
--- its tables are found
+-- no table of an accepted file is unreadable
 pub tables_found : (file : List ℕ) → first_refusal file ≡ None → has_bad_range file ≡ true → ⊥
 tables_found file h e =
     let fine = ranges_fine file h in
     cc
 
--- for finding its tables again
+-- the rules for `of_accepted`, which finds the tables again
 pub ruleset accepted_parts = (file_refuses_none, tables_found)

@@ -1,4 +1,4 @@
--- Symbols of which no test refuses one.
+-- Symbols that none of the four tests refuses.
 use Rattle.std.proofs.Common.{◌≡◌, ℕ, Bool, true, false, List, ◌∷◌, [], None, drop, refl, ◌∙◌, sym, ap, get_or}
 use Rattle.std.specs.Prelude.{◌||◌}
 use Rattle.std.specs.List.{list_any}
@@ -11,7 +11,7 @@ use Rattle.elf_dynamic.specs.Symbol.{has_common_symbol, has_tls_symbol, has_ifun
 use Rattle.elf_dynamic.specs.inside.Symbols.{is_refused}
 use Rattle.elf_dynamic.specs.declared.symbol.Symbol.{Symbol}
 
--- what refuses no symbol by a test finds none by a test that says less
+-- if each symbol that passes `p` also passes `q`, and no symbol passes `q`, no symbol passes `p`
 fewer : (p q : Symbol → Bool) (xs : List Symbol) → ((s : Symbol) → p s ≡ true → q s ≡ true) → list_any q xs ≡ false → list_any p xs ≡ false
 fewer p q xs more none = elim (list_any p xs) as (λ b. list_any p xs ≡ b → b ≡ false) [
   | true ↦ λ e.
@@ -37,7 +37,7 @@ no-first false false true d p q r s = absurd (cc)
 no-first false false false true p q r s = absurd (cc)
 no-first false false false false p q r s = refl
 
--- where no symbol is refused, none of the tests applies
+-- if the joint test refuses no symbol, none of the four tests applies
 pub none_refused : (file table : List ℕ) → table ≡ symbol_table file → list_any is_refused (drop 1 (symbols_in table)) ≡ false → symbol_refusal file ≡ None
 unfolding symbol_refusal has_common_symbol has_tls_symbol has_ifunc_symbol has_bad_binding symbols is_refused
 none_refused file table is none =

@@ -9,7 +9,7 @@ front-step : {X : Type 0} (x : X) (xs rest : List X) (b : Bool) → take (length
 front-step x xs rest true h = ap (λ t. x ∷ t) h
 front-step x xs rest false h = refl
 
--- as many bytes as pass a test at the front are those
+-- if a list is cut to as many elements as pass a test at its beginning, it has these elements
 pub take_front : {X : Type 0} (p : X → Bool) (xs : List X) → take (length (take_while p xs)) xs ≡ take_while p xs
 take_front p [] = refl
 take_front p (x ∷ xs) =
@@ -19,7 +19,7 @@ short-step : {X : Type 0} (x : X) (xs rest : List X) (b : Bool) → length rest 
 short-step x xs rest true h = omega (arith, h)
 short-step x xs rest false h = omega arith
 
--- they are no more than there are
+-- the elements that pass a test at the beginning of a list aren't more than all of its elements
 pub front_short : {X : Type 0} (p : X → Bool) (xs : List X) → length (take_while p xs) ≤ length xs
 front_short p [] = omega arith
 front_short p (x ∷ xs) = omega (arith, ap length (take_while-cons p x xs), short-step x xs (take_while p xs) (p x) (front_short p xs))
@@ -41,7 +41,8 @@ no-zero : (b : Bool) → (b ≡ true → ⊥) → not b ≡ true
 no-zero true is = absurd (is refl)
 no-zero false is = refl
 
--- the place of the first zero byte, or the end, is as many bytes as stand before it
+-- the number of bytes before the first zero byte is its index, or the length of the list if there is
+-- none
 pub zero_found : (xs : List ℕ) (found : Option ℕ) → IsFirstByte (is_byte 0) xs found → unwrap_or found (length xs) ≡ length (take_while (λ b. not (eqb b 0)) xs)
 zero_found xs None none =
     sym (length-prefix_len (λ b. not (eqb b 0)) xs
@@ -51,5 +52,5 @@ zero_found xs (Some at) first =
     ∙ prefix_len_is (λ b. not (eqb b 0)) xs at 0 (omega (arith, first.0.high))
     (λ k lt. let least : 0 ≤ k = omega arith in no-zero (eqb (get_or xs k 0) 0) (first.0.before k least lt)) (λ lt. ap not first.1))
 
--- for a string of a table
+-- the rules for `string_at`
 pub ruleset ends = (take_front, front_short, drop_min)

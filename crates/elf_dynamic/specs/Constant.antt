@@ -1,11 +1,11 @@
--- The numbers of symbols and relocations (gABI chapter 4; psABI, relocation types).
+-- The numbers that symbols and relocations are encoded with (gABI chapter 4; psABI, relocation types).
 use Rattle.std.specs.Prelude.{ℕ}
 
--- bytes of a word of the hash table
+-- the size of a word of the hash table, in bytes
 abbrev pub WORD_SIZE : ℕ
 WORD_SIZE = 4
 
--- bindings of symbols
+-- the bindings of symbols
 abbrev pub STB_LOCAL : ℕ
 STB_LOCAL = 0
 
@@ -15,7 +15,7 @@ STB_GLOBAL = 1
 abbrev pub STB_WEAK : ℕ
 STB_WEAK = 2
 
--- types of symbols
+-- the types of symbols
 abbrev pub STT_NOTYPE : ℕ
 STT_NOTYPE = 0
 
@@ -34,7 +34,7 @@ STT_TLS = 6
 abbrev pub STT_GNU_IFUNC : ℕ
 STT_GNU_IFUNC = 10
 
--- visibilities of symbols
+-- the visibilities of symbols
 abbrev pub STV_DEFAULT : ℕ
 STV_DEFAULT = 0
 
@@ -47,7 +47,7 @@ STV_HIDDEN = 2
 abbrev pub STV_PROTECTED : ℕ
 STV_PROTECTED = 3
 
--- section indices of symbols
+-- the section indices of symbols
 abbrev pub SHN_UNDEF : ℕ
 SHN_UNDEF = 0
 
@@ -57,7 +57,7 @@ SHN_ABS = 0xfff1
 abbrev pub SHN_COMMON : ℕ
 SHN_COMMON = 0xfff2
 
--- types of relocations
+-- the types of relocations
 abbrev pub R_X86_64_NONE : ℕ
 R_X86_64_NONE = 0
 

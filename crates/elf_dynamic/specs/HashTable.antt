@@ -7,7 +7,7 @@ use Rattle.elf_file.specs.Dynamic.{tag_value}
 use Rattle.elf_file.specs.Address.{bytes_at}
 use Rattle.elf_dynamic.specs.Constant.{WORD_SIZE}
 
--- the word number i of a table
+-- word number `i` of a table
 unfoldable pub word : List ℕ → ℕ → ℕ
 word table i = number_at 4 table (WORD_SIZE * i)
 
@@ -15,15 +15,15 @@ word table i = number_at 4 table (WORD_SIZE * i)
 unfoldable pub hash_head_bytes : List ℕ → Option (List ℕ)
 hash_head_bytes file = bytes_at file (tag_value file DT_HASH) (WORD_SIZE * 2)
 
--- the first two words; no bytes where they can't be read, which BadRange refuses
+-- the first two words, or no bytes if they can't be read, which BadRange refuses
 abbrev pub hash_head : List ℕ → List ℕ
 hash_head file = unwrap_or (hash_head_bytes file) []
 
--- nbucket: how many buckets there are
+-- nbucket: the number of buckets
 unfoldable pub bucket_count : List ℕ → ℕ
 bucket_count file = word (hash_head file) 0
 
--- nchain: how many chain words there are, and how many symbols
+-- nchain: the number of chain words, which is also the number of symbols
 unfoldable pub chain_count : List ℕ → ℕ
 chain_count file = word (hash_head file) 1
 
@@ -31,14 +31,15 @@ chain_count file = word (hash_head file) 1
 unfoldable pub hash_bytes : List ℕ → Option (List ℕ)
 hash_bytes file = bytes_at file (tag_value file DT_HASH) (WORD_SIZE * (2 + (bucket_count file + chain_count file)))
 
--- the whole table; no bytes where they can't be read, which BadRange refuses
+-- the whole table, or no bytes if it can't be read, which BadRange refuses
 unfoldable pub hash_table : List ℕ → List ℕ
 hash_table file = unwrap_or (hash_bytes file) []
 
--- the buckets: each is the index of the first symbol of a chain
+-- the words of the buckets: each is the index of the first symbol of a chain
 unfoldable pub buckets : List ℕ → List ℕ
 buckets file = map (word (hash_table file)) (range_with_len 2 (bucket_count file))
 
--- the chain words: each is the index of the symbol after one, or 0 at the end of a chain
+-- the chain words: the chain word of a symbol is the index of the next symbol of its chain, or 0 at the
+-- end of the chain
 unfoldable pub chains : List ℕ → List ℕ
 chains file = map (word (hash_table file)) (range_with_len (2 + bucket_count file) (chain_count file))

@@ -1,4 +1,4 @@
--- The refusal of a file: that of the first test that applies, each made over the whole file.
+-- The refusal of a file is that of the first test that applies. Each test is stated for the whole file.
 use Rattle.std.specs.Prelude.{ℕ, List, [], ◌∷◌, ◌++◌, Option}
 use Rattle.std.specs.Option.{option_map}
 use Rattle.elf_file.specs.FirstOf.{◌when◌, first_of}
@@ -49,6 +49,6 @@ abbrev pub object_tests : List ℕ → List (Option ObjectRefusal)
 object_tests file =
     header_tests file ++ segment_tests file ++ tag_tests file ++ table_tests file ++ symbol_tests file ++ relocation_tests file
 
--- the refusal of a file, or none where it is accepted
+-- the refusal of a file, or none if the file is accepted
 unfoldable pub first_refusal : List ℕ → Option ObjectRefusal
 first_refusal file = first_of (object_tests file)

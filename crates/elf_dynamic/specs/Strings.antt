@@ -13,7 +13,7 @@ use Rattle.elf_dynamic.specs.Symbol.{symbols, tested_symbols}
 unfoldable pub string_bytes : List ℕ → Option (List ℕ)
 string_bytes file = bytes_at file (tag_value file DT_STRTAB) (tag_value file DT_STRSZ)
 
--- the string table; no bytes where they can't be read, which BadRange refuses
+-- the string table, or no bytes if it can't be read, which BadRange refuses
 unfoldable pub string_table : List ℕ → List ℕ
 string_table file = unwrap_or (string_bytes file) []
 
@@ -25,15 +25,15 @@ string_at table offset = take_while (λ b. not (b == 0)) (drop offset table)
 unfoldable pub needed : List ℕ → List (List ℕ)
 needed file = map (string_at (string_table file)) (needed_offsets file)
 
--- the name of the object itself, where it has one
+-- the object's own name, if it has one
 unfoldable pub soname : List ℕ → Option (List ℕ)
 soname file = if is_present file DT_SONAME then Some (string_at (string_table file) (tag_value file DT_SONAME)) else None
 
--- the name of the symbol of an index; of index 0 it is empty
+-- the name of the symbol with index `i`; it is empty for index 0
 unfoldable pub name_of : List ℕ → ℕ → List ℕ
 name_of file i = if i == 0 then [] else option_map_or (λ s. string_at (string_table file) s.name) (slice_get (symbols file) i) []
 
--- an offset that isn't below the size of the string table
+-- the offset isn't below the size of the string table
 abbrev pub is_outside : List ℕ → ℕ → Bool
 is_outside file offset = nat_le (tag_value file DT_STRSZ) offset
 
@@ -41,7 +41,7 @@ is_outside file offset = nat_le (tag_value file DT_STRSZ) offset
 abbrev pub is_unended : List ℕ → Bool
 is_unended file = (tag_value file DT_STRSZ == 0) || not (slice_index (string_table file) (tag_value file DT_STRSZ - 1) == 0)
 
--- a needed library's name isn't in the string table
+-- the name of a needed library isn't in the string table
 unfoldable pub has_bad_needed : List ℕ → Bool
 has_bad_needed file = list_any (is_outside file) (needed_offsets file)
 
@@ -53,6 +53,6 @@ has_bad_soname_offset file = is_present file DT_SONAME && is_outside file (tag_v
 unfoldable pub has_bad_symbol_name : List ℕ → Bool
 has_bad_symbol_name file = list_any (λ s. is_outside file s.name) (tested_symbols file)
 
--- E23: the string table is empty or isn't ended by a zero byte, or a name isn't in it
+-- E23: the string table is empty or doesn't end with a zero byte, or a name isn't in it
 abbrev pub has_bad_string : List ℕ → Bool
 has_bad_string file = is_unended file || has_bad_needed file || has_bad_soname_offset file || has_bad_symbol_name file

@@ -23,7 +23,7 @@ symbol_at table at =
       size = number_at 8 table (at + 16);
     }
 
--- the symbol number i of a table
+-- symbol number `i` of a table
 unfoldable pub nth_symbol : List ℕ → ℕ → Symbol
 nth_symbol table i = symbol_at table (SYMBOL_SIZE * i)
 
@@ -35,15 +35,15 @@ symbols_in table = map (nth_symbol table) (range_with_len 0 (length table / SYMB
 unfoldable pub symbol_bytes : List ℕ → Option (List ℕ)
 symbol_bytes file = bytes_at file (tag_value file DT_SYMTAB) (SYMBOL_SIZE * chain_count file)
 
--- the symbol table; no bytes where they can't be read, which BadRange refuses
+-- the symbol table, or no bytes if it can't be read, which BadRange refuses
 unfoldable pub symbol_table : List ℕ → List ℕ
 symbol_table file = unwrap_or (symbol_bytes file) []
 
--- all symbols, that of index 0 too
+-- all symbols, including the one with index 0
 unfoldable pub symbols : List ℕ → List Symbol
 symbols file = symbols_in (symbol_table file)
 
--- the symbols that are tested: all but that of index 0
+-- the symbols that are tested: all except the one with index 0
 abbrev pub tested_symbols : List ℕ → List Symbol
 tested_symbols file = drop 1 (symbols file)
 
@@ -59,43 +59,43 @@ type_of s = s.info % 16
 abbrev pub visibility_of : Symbol → ℕ
 visibility_of s = s.other % 4
 
--- of the object alone
+-- the symbol belongs only to its object
 abbrev pub is_local : Symbol → Bool
 is_local s = binding_of s == STB_LOCAL
 
--- of all objects
+-- the symbol is shared by all objects
 abbrev pub is_global : Symbol → Bool
 is_global s = binding_of s == STB_GLOBAL
 
--- of all objects, and 0 where it isn't found
+-- the symbol is shared by all objects, and its value is 0 if no definition is found
 abbrev pub is_weak : Symbol → Bool
 is_weak s = binding_of s == STB_WEAK
 
--- it is defined in the object
+-- the symbol is defined in its object
 abbrev pub is_defined : Symbol → Bool
 is_defined s = not (s.section == SHN_UNDEF)
 
--- its value is no address: the base isn't added
+-- the symbol's value isn't an address: the base isn't added
 abbrev pub is_absolute : Symbol → Bool
 is_absolute s = s.section == SHN_ABS
 
--- it is a function, an object, or of no type
+-- the symbol is a function, an object, or of no type
 abbrev pub is_function_or_object : Symbol → Bool
 is_function_or_object s = (type_of s == STT_NOTYPE) || (type_of s == STT_OBJECT) || (type_of s == STT_FUNC)
 
--- other objects see it by its visibility, and may replace it
+-- other objects can see the symbol and replace it, by its visibility
 abbrev pub has_default_visibility : Symbol → Bool
 has_default_visibility s = visibility_of s == STV_DEFAULT
 
--- other objects see it by its visibility
+-- other objects can see the symbol, by its visibility
 abbrev pub is_visible : Symbol → Bool
 is_visible s = has_default_visibility s || (visibility_of s == STV_PROTECTED)
 
--- other objects don't see it by its visibility
+-- other objects can't see the symbol, by its visibility
 abbrev pub is_hidden : Symbol → Bool
 is_hidden s = (visibility_of s == STV_HIDDEN) || (visibility_of s == STV_INTERNAL)
 
--- a common symbol, by its section or its type
+-- the symbol is common, by its section or its type
 abbrev pub is_common : Symbol → Bool
 is_common s = (s.section == SHN_COMMON) || (type_of s == STT_COMMON)
 
@@ -103,7 +103,7 @@ is_common s = (s.section == SHN_COMMON) || (type_of s == STT_COMMON)
 unfoldable pub has_common_symbol : List ℕ → Bool
 has_common_symbol file = list_any is_common (tested_symbols file)
 
--- a thread-local symbol, by its type
+-- the symbol is thread-local, by its type
 abbrev pub is_tls : Symbol → Bool
 is_tls s = type_of s == STT_TLS
 
@@ -111,7 +111,7 @@ is_tls s = type_of s == STT_TLS
 unfoldable pub has_tls_symbol : List ℕ → Bool
 has_tls_symbol file = list_any is_tls (tested_symbols file)
 
--- an indirect function, by its type
+-- the symbol is an indirect function, by its type
 abbrev pub is_ifunc : Symbol → Bool
 is_ifunc s = type_of s == STT_GNU_IFUNC
 
@@ -119,10 +119,10 @@ is_ifunc s = type_of s == STT_GNU_IFUNC
 unfoldable pub has_ifunc_symbol : List ℕ → Bool
 has_ifunc_symbol file = list_any is_ifunc (tested_symbols file)
 
--- a binding other than LOCAL, GLOBAL and WEAK
+-- the symbol's binding is neither LOCAL, GLOBAL nor WEAK
 abbrev pub is_badly_bound : Symbol → Bool
 is_badly_bound s = not (is_local s) && not (is_global s) && not (is_weak s)
 
--- E27: a symbol with another binding is present
+-- E27: a symbol is present whose binding is neither LOCAL, GLOBAL nor WEAK
 unfoldable pub has_bad_binding : List ℕ → Bool
 has_bad_binding file = list_any is_badly_bound (tested_symbols file)

@@ -1,3 +1,4 @@
--- What the code keeps to be fast: nothing here has to be believed.
+-- Definitions of the data that the code keeps to be fast. A reader doesn't have to believe these
+-- definitions.
 pub mod Tables
 pub mod Symbols

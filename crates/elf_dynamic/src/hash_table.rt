@@ -8,10 +8,10 @@ ghost use Rattle.elf_dynamic.specs.inside.Tables.{IsHashTable};
 
 use elf_file::{Dynamic, Tag, u32_at};
 
-/// How many bytes a word of the table has.
+/// The size of a word of the table, in bytes.
 const WORD_SIZE: u64 = 4;
 
-/// A hash table: its bytes, and how many buckets and chain words it has.
+/// A hash table: its bytes, and its numbers of buckets and chain words.
 #[derive(Clone, Copy)]
 pub(crate) struct HashTable<'a> {
     pub(crate) bytes: &'a [u8],
@@ -19,7 +19,7 @@ pub(crate) struct HashTable<'a> {
     pub(crate) chain_count: u32,
 }
 
-/// The word number `i` of a table.
+/// Returns word number `i` of a table.
 #[tactic(auto, unfolding(crate::specs::HashTable::word))]
 pub(crate) fn word(table: &[u8], i: usize) -> u32
     requires { 4 * (i + 1) ≤ length table.now }
@@ -29,7 +29,7 @@ pub(crate) fn word(table: &[u8], i: usize) -> u32
 }
 
 impl<'a> HashTable<'a> {
-    /// The hash table of a file, if it can be read.
+    /// Returns the hash table of a file, if it can be read.
     pub(crate) fn find(dynamic: &Dynamic<'a>) -> Option<HashTable<'a>>
         ensures { MatchOption result (has_bad_hash dynamic.now ≡ true)
             (λ table. (has_bad_hash dynamic.now ≡ false) × IsHashTable dynamic.now table) }

@@ -1,9 +1,9 @@
 //! A borrowed view of an ELF-64 shared object for x86-64 (System V gABI chapters 4 and 5, elf(5),
 //! psABI).
 //!
-//! `Object::read` accepts a file exactly where none of its tests applies, and else gives the
-//! refusal of the first that does. It takes no memory and copies nothing: what the view gives are
-//! parts of the file.
+//! `Object::read` accepts a file exactly if none of its tests applies. Otherwise it returns the
+//! refusal of the first test that applies. It allocates nothing and copies nothing: the names and
+//! contents that the view returns are parts of the file.
 #![tactic(auto)]
 
 mod hash_table;

@@ -1,4 +1,4 @@
-// The names that the dynamic section gives (gABI chapter 5, `DT_NEEDED` and `DT_SONAME`).
+// The names that the dynamic section refers to (gABI chapter 5, `DT_NEEDED` and `DT_SONAME`).
 
 ghost use Rattle.std.specs.Prelude.{◌≡◌, ◌<◌, length, None, Some, MatchOption, slice_get};
 ghost use Rattle.elf_dynamic.specs.Strings.{string_table, needed, soname};
@@ -14,7 +14,7 @@ impl<'a> Tables<'a> {
         self.parts().strings
     }
 
-    /// How many libraries the object needs.
+    /// The number of libraries that the object needs.
     #[tactic(auto, using(crate::proofs::SymbolNumbers::needed_counted))]
     pub(crate) fn needed_count(&self) -> usize
         ensures { result ≡ length (needed self.now) }
@@ -22,7 +22,7 @@ impl<'a> Tables<'a> {
         self.parts().needed_count
     }
 
-    /// The names of the needed libraries in their order.
+    /// Returns the names of the needed libraries, in the order of their entries.
     #[tactic(auto, unfolding(crate::specs::Strings::needed))]
     pub(crate) fn needed_names(&self) -> NeededNames<'a>
         ensures { result ≡ needed self.now }
@@ -30,7 +30,7 @@ impl<'a> Tables<'a> {
         NeededNames::new(self.string_table(), self.needed_offsets())
     }
 
-    /// The name of the needed library number `i`.
+    /// Returns the name of needed library number `i`.
     #[tactic(auto, using(crate::proofs::SymbolNumbers::needed_by_number))]
     pub(crate) fn needed(&self, i: usize) -> &'a [u8]
         requires { i < length (needed self.now) }
@@ -46,7 +46,7 @@ impl<'a> Tables<'a> {
         unreachable!()
     }
 
-    /// The object's own name.
+    /// Returns the object's own name, if it has one.
     #[tactic(auto, unfolding(crate::specs::Strings::soname))]
     pub(crate) fn soname(&self) -> Option<&'a [u8]>
         ensures { MatchOption result (soname self.now ≡ None)

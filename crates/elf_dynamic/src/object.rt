@@ -37,9 +37,9 @@ impl<'a> Model for Object<'a> {
 }
 
 impl<'a> Object<'a> {
-    /// Reads a file, or gives the refusal of the first test that applies. A few passes over the
-    /// program headers and the relocations, and two over the dynamic section and the symbols; it
-    /// takes no memory and copies nothing.
+    /// Reads a file, or returns the refusal of the first test that applies. Makes a few passes over
+    /// the program headers and the relocations, and two over the dynamic section and the symbols.
+    /// Allocates nothing and copies nothing.
     #[tactic(auto, using(crate::proofs::Stages::stages))]
     pub fn read(file: &'a [u8]) -> Result<Object<'a>, ObjectRefusal>
         ensures { MatchResult result
@@ -53,9 +53,9 @@ impl<'a> Object<'a> {
         Ok(Object { tables })
     }
 
-    /// The object that a file is which no test refuses: of these only that of the ranges of its
-    /// tables (E22) is made again, since it finds them. A few passes over the program headers, and
-    /// one over the dynamic section.
+    /// Makes the view of a file that no test refuses. Makes only one of the tests again, that of
+    /// the ranges of the tables (E22), because this test finds the tables. Makes a few passes over
+    /// the program headers, and one over the dynamic section.
     #[tactic(auto, using(crate::proofs::Accepted::accepted_parts))]
     pub fn of_accepted(file: &'a [u8]) -> Object<'a>
         requires { first_refusal file.now ≡ None }
@@ -70,18 +70,19 @@ impl<'a> Object<'a> {
         }
     }
 
-    /// How many PT_LOADs there are: one pass over the program headers.
+    /// The number of PT_LOADs. Makes one pass over the program headers.
     pub fn segment_count(&self) -> usize
         ensures count { result ≡ length (loads self.now) }
 
-        // A file that is held as an object is refused by no test.
+        // No test refuses the file of an object.
         ensures accepted { first_refusal self.now ≡ None }
     {
         self.tables.segments().count()
     }
 
-    /// The PT_LOAD number `i`, in the order of the program headers, which is that of their
-    /// addresses. A pass over these up to it; where all are wanted, `segments` gives them in one.
+    /// Returns PT_LOAD number `i`, in the order of the program headers, which is also the order of
+    /// their addresses. Makes one pass over the program headers up to this PT_LOAD. For a caller
+    /// that needs all PT_LOADs, `segments` makes only one pass.
     pub fn segment(&self, i: usize) -> ProgramHeader
         requires { i < length (loads self.now) }
         ensures segment { slice_get (loads self.now) i ≡ Some result }
@@ -90,7 +91,8 @@ impl<'a> Object<'a> {
         self.tables.segments().nth(i)
     }
 
-    /// The PT_LOADs in their order: one pass over the program headers.
+    /// Returns the PT_LOADs in their order. Going through them makes one pass over the program
+    /// headers.
     pub fn segments(&self) -> LoadSegments<'a>
         ensures segments { result ≡ loads self.now }
         ensures accepted { first_refusal self.now ≡ None }
@@ -98,15 +100,16 @@ impl<'a> Object<'a> {
         self.tables.segments().iter()
     }
 
-    /// The bytes of the file that are loaded to the front of the PT_LOAD number `i`: `p_filesz` of
-    /// them, from `p_offset` on. A pass over the program headers up to it; where all are wanted,
-    /// `contents_of` gives those of each that `segments` gives.
+    /// Returns the bytes of the file that are loaded to the beginning of PT_LOAD number `i`:
+    /// `p_filesz` bytes from `p_offset`. Makes one pass over the program headers up to this
+    /// PT_LOAD. A caller that needs the bytes of all PT_LOADs passes each PT_LOAD of `segments` to
+    /// `contents_of`.
     pub fn contents(&self, i: usize) -> &'a [u8]
         requires { i < length (loads self.now) }
         ensures contents { IfSome (slice_get (loads self.now) i)
             (λ segment. result.now ≡ contents self.now segment) }
 
-        // The file has all of them.
+        // The file has all of these bytes.
         ensures whole { IfSome (slice_get (loads self.now) i)
             (λ segment. length result.now ≡ segment.file_size) }
         ensures accepted { first_refusal self.now ≡ None }
@@ -114,8 +117,8 @@ impl<'a> Object<'a> {
         self.contents_of(self.segment(i))
     }
 
-    /// The bytes of the file that are loaded to the front of a PT_LOAD, in constant time. Of
-    /// another segment, as many of its bytes as the file has.
+    /// Returns the bytes of the file that are loaded to the beginning of a PT_LOAD. For any other
+    /// header, returns those of its bytes that the file has. Takes constant time.
     pub fn contents_of(&self, segment: ProgramHeader) -> &'a [u8]
         ensures contents { result.now ≡ contents self.now segment }
         ensures accepted { first_refusal self.now ≡ None }
@@ -127,15 +130,15 @@ impl<'a> Object<'a> {
         &file[start as usize..(start + size) as usize]
     }
 
-    /// Where its program headers and its dynamic section lie, and its entry. Three passes over the
-    /// program headers.
+    /// Returns the addresses of the program headers and of the dynamic section, and the entry.
+    /// Makes three passes over the program headers.
     pub fn addresses(&self) -> ObjectAddresses
         ensures { result ≡ addresses_of self.now }
     {
         self.tables.segments().addresses()
     }
 
-    /// How many relocations there are.
+    /// The number of relocations.
     pub fn rela_count(&self) -> usize
         ensures count { result ≡ length (relocations self.now) }
         ensures accepted { first_refusal self.now ≡ None }
@@ -143,7 +146,8 @@ impl<'a> Object<'a> {
         self.tables.relocation_count()
     }
 
-    /// The relocation number `i`: those of `DT_RELA` come first, then those of `DT_JMPREL`.
+    /// Returns relocation number `i`. The relocations of `DT_RELA` come first, then those of
+    /// `DT_JMPREL`.
     pub fn rela(&self, i: usize) -> Relocation
         requires { i < length (relocations self.now) }
         ensures relocation { slice_get (relocations self.now) i ≡ Some result }
@@ -152,7 +156,7 @@ impl<'a> Object<'a> {
         self.tables.relocation(i)
     }
 
-    /// How many libraries the object needs.
+    /// The number of libraries that the object needs.
     pub fn needed_count(&self) -> usize
         ensures count { result ≡ length (needed self.now) }
         ensures accepted { first_refusal self.now ≡ None }
@@ -160,8 +164,9 @@ impl<'a> Object<'a> {
         self.tables.needed_count()
     }
 
-    /// The name of the needed library number `i`, in the order of the dynamic section. A pass over
-    /// that section up to it; where all are wanted, `needed_names` gives them in one pass.
+    /// Returns the name of needed library number `i`, in the order of the dynamic section. Makes
+    /// one pass over this section up to the library's entry. For a caller that needs all names,
+    /// `needed_names` makes only one pass.
     pub fn needed(&self, i: usize) -> &'a [u8]
         requires { i < length (needed self.now) }
         ensures name { slice_get (needed self.now) i ≡ Some result.now }
@@ -170,7 +175,8 @@ impl<'a> Object<'a> {
         self.tables.needed(i)
     }
 
-    /// The names of the needed libraries in the order of the dynamic section: one pass over it.
+    /// Returns the names of the needed libraries, in the order of the dynamic section. Going
+    /// through them makes one pass over that section.
     pub fn needed_names(&self) -> NeededNames<'a>
         ensures names { result ≡ needed self.now }
         ensures accepted { first_refusal self.now ≡ None }
@@ -178,7 +184,7 @@ impl<'a> Object<'a> {
         self.tables.needed_names()
     }
 
-    /// The object's own name, where it has one.
+    /// Returns the object's own name (SONAME), if it has one.
     pub fn soname(&self) -> Option<&'a [u8]>
         ensures name { MatchOption result (soname self.now ≡ None)
             (λ name. soname self.now ≡ Some name.now) }
@@ -187,8 +193,9 @@ impl<'a> Object<'a> {
         self.tables.soname()
     }
 
-    /// Whether the object itself is looked in first for its own references: `DT_SYMBOLIC` is
-    /// present, or `DT_FLAGS` with `DF_SYMBOLIC` (gABI chapter 5). In constant time.
+    /// Returns whether the symbols to which the object itself refers are looked up in the object
+    /// first: `DT_SYMBOLIC` is present, or `DT_FLAGS` with `DF_SYMBOLIC` (gABI chapter 5). Takes
+    /// constant time.
     pub fn symbolic(&self) -> bool
         ensures symbolic { result ≡ is_symbolic self.now }
         ensures accepted { first_refusal self.now ≡ None }
@@ -196,7 +203,7 @@ impl<'a> Object<'a> {
         self.tables.parts().symbolic
     }
 
-    /// The string table, in which the names of symbols stand at their offsets.
+    /// The string table, which has the names of the symbols at their offsets.
     pub fn string_table(&self) -> &'a [u8]
         ensures table { result.now ≡ string_table self.now }
         ensures accepted { first_refusal self.now ≡ None }
@@ -204,7 +211,7 @@ impl<'a> Object<'a> {
         self.tables.string_table()
     }
 
-    /// How many symbols there are, that of index 0 too, and how many chain words.
+    /// The number of symbols, including the one with index 0. It is also the number of chain words.
     pub fn symbol_count(&self) -> u32
         ensures count { result ≡ length (symbols self.now) }
         ensures chains { result ≡ length (chains self.now) }
@@ -213,7 +220,7 @@ impl<'a> Object<'a> {
         self.tables.symbol_count()
     }
 
-    /// The symbol of an index.
+    /// Returns the symbol with index `i`.
     pub fn symbol(&self, i: u32) -> Symbol
         requires { i < length (symbols self.now) }
         ensures symbol { slice_get (symbols self.now) i ≡ Some result }
@@ -222,8 +229,8 @@ impl<'a> Object<'a> {
         self.tables.symbol(i)
     }
 
-    /// The name of the symbol of an index, which is empty at index 0. As long as the name, whose
-    /// end is looked for.
+    /// Returns the name of the symbol with index `i`. The name is empty for index 0. Searches for
+    /// the name's end, so the time is proportional to the name's length.
     pub fn name_of(&self, i: u32) -> &'a [u8]
         requires { i < length (symbols self.now) }
         ensures name { result.now ≡ name_of self.now i }
@@ -232,7 +239,7 @@ impl<'a> Object<'a> {
         self.tables.name_of(i)
     }
 
-    /// How many buckets the hash table has.
+    /// The number of buckets of the hash table.
     pub fn bucket_count(&self) -> u32
         ensures count { result ≡ length (buckets self.now) }
         ensures accepted { first_refusal self.now ≡ None }
@@ -240,7 +247,7 @@ impl<'a> Object<'a> {
         self.tables.bucket_count()
     }
 
-    /// The word of a bucket: the index of the first symbol of its chain.
+    /// Returns the word of bucket `i`: the index of the first symbol of its chain.
     pub fn bucket(&self, i: u32) -> u32
         requires { i < length (buckets self.now) }
         ensures word { slice_get (buckets self.now) i ≡ Some result }
@@ -249,7 +256,8 @@ impl<'a> Object<'a> {
         self.tables.bucket(i)
     }
 
-    /// The chain word of a symbol: the index of the next symbol of its chain, or 0 at the end.
+    /// Returns the chain word of symbol `i`: the index of the next symbol of its chain, or 0 at the
+    /// end.
     pub fn chain(&self, i: u32) -> u32
         requires { i < length (chains self.now) }
         ensures word { slice_get (chains self.now) i ≡ Some result }

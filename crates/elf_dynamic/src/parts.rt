@@ -1,4 +1,4 @@
-// The tables of a file, found in it.
+// The tables that are found in a file.
 
 ghost use Rattle.std.specs.Prelude.{◌≡◌, ◌*◌, length, true, false, None, Some, MatchOption};
 ghost use Rattle.elf_file.specs.Tag.{number_of};
@@ -13,9 +13,9 @@ ghost use Rattle.elf_dynamic.specs.inside.Tables.{HasParts, soname_offset};
 use crate::hash_table::HashTable;
 use elf_file::{Dynamic, SYMBOL_SIZE, Tag};
 
-/// The tables of a file, which are parts of its bytes, and what else is kept of its tags: how many
-/// libraries it needs, where its own name stands in the string table, where it has one, and whether
-/// it is looked in first for its own references.
+/// The tables of a file, which are parts of its bytes, and three values of its tags. They are the
+/// number of needed libraries, the offset of the object's own name in the string table (if it has a
+/// name), and whether the object is symbolic.
 #[derive(Clone, Copy)]
 pub(crate) struct Parts<'a> {
     pub(crate) strings: &'a [u8],
@@ -28,7 +28,7 @@ pub(crate) struct Parts<'a> {
     pub(crate) symbolic: bool,
 }
 
-/// The string table, if it can be read.
+/// Returns the string table, if it can be read.
 #[tactic(auto, unfolding(crate::specs::Strings::string_bytes))]
 fn string_table<'a>(dynamic: &Dynamic<'a>) -> Option<&'a [u8]>
     ensures { MatchOption result (string_bytes dynamic.now ≡ None)
@@ -41,7 +41,7 @@ fn string_table<'a>(dynamic: &Dynamic<'a>) -> Option<&'a [u8]>
     )
 }
 
-/// The table of so many symbols, if it can be read.
+/// Returns the table of `count` symbols, if it can be read.
 #[tactic(auto, unfolding(crate::specs::Symbol::symbol_bytes))]
 fn symbol_table<'a>(dynamic: &Dynamic<'a>, count: u32) -> Option<&'a [u8]>
     requires { count ≡ chain_count dynamic.now }
@@ -55,7 +55,8 @@ fn symbol_table<'a>(dynamic: &Dynamic<'a>, count: u32) -> Option<&'a [u8]>
     )
 }
 
-/// The relocations that one tag places and another one measures, if they can be read.
+/// Returns the table of relocations whose address is in the tag `place` and whose size is in the
+/// tag `size`, if it can be read. Returns no bytes if the tag `place` is absent.
 fn table_bytes<'a>(dynamic: &Dynamic<'a>, place: Tag, size: Tag) -> Option<&'a [u8]>
     ensures { MatchOption result (table_bytes dynamic.now (number_of place) (number_of size) ≡ None)
         (λ bytes. table_bytes dynamic.now (number_of place) (number_of size) ≡ Some bytes.now) }
@@ -68,7 +69,7 @@ fn table_bytes<'a>(dynamic: &Dynamic<'a>, place: Tag, size: Tag) -> Option<&'a [
         .bytes_at(dynamic.tag_value(place), dynamic.tag_value(size))
 }
 
-/// Where the object's own name stands in the string table, where it has one.
+/// Returns the offset of the object's own name in the string table, if it has a name.
 fn soname_offset(dynamic: &Dynamic<'_>) -> Option<u64>
     ensures { result ≡ soname_offset dynamic.now }
 {
@@ -80,7 +81,7 @@ fn soname_offset(dynamic: &Dynamic<'_>) -> Option<u64>
 }
 
 impl<'a> Parts<'a> {
-    /// The tables of a file, if they can be read.
+    /// Returns the tables of a file, or `None` if one of them can't be read (E22).
     pub(crate) fn find(dynamic: &Dynamic<'a>) -> Option<Parts<'a>>
         ensures { MatchOption result (has_bad_range dynamic.now ≡ true)
             (λ parts. (has_bad_range dynamic.now ≡ false) × HasParts dynamic.now parts) }

@@ -1,4 +1,4 @@
-// Whether relocations write into memory (gABI chapter 5, `p_vaddr` and `p_memsz`).
+// Whether the bytes that relocations write lie in memory (gABI chapter 5, `p_vaddr` and `p_memsz`).
 
 ghost use Rattle.std.specs.Prelude.{◌≡◌, IfSome};
 ghost use Rattle.std.specs.List.{list_any};
@@ -8,11 +8,12 @@ ghost use Rattle.elf_dynamic.specs.Relocation.{is_misplaced, relocations_in};
 use crate::relocation::{Relocation, is_writing, nth_relocation, relocation_count};
 use elf_file::{IndexedSegments, ProgramHeader, is_in_memory_part};
 
-/// How many bytes a relocation writes.
+/// The number of bytes that a relocation writes.
 const WRITTEN: u64 = 8;
 
-/// Whether a relocation writes where no PT_LOAD has memory. `last` is the PT_LOAD that the one
-/// before needed: it is tried first, and then the index of all of them.
+/// Returns whether a relocation writes bytes that don't lie in the memory of one PT_LOAD. `last` is
+/// the PT_LOAD into which the last relocation before it that writes does so, if there is one. Tries
+/// this PT_LOAD first, and then the index of all PT_LOADs.
 #[tactic(auto, using(crate::proofs::Misplaced::of_one))]
 fn is_misplaced(
     segments: &IndexedSegments<'_>,
@@ -40,7 +41,8 @@ fn is_misplaced(
     }
 }
 
-/// Whether a relocation of a table writes where no PT_LOAD has memory.
+/// Returns whether a relocation of a table writes bytes that don't lie in the memory of one
+/// PT_LOAD.
 #[tactic(auto, using(crate::proofs::Misplaced::of_a_table))]
 pub(crate) fn has_misplaced_in(segments: &IndexedSegments<'_>, table: &[u8]) -> bool
     ensures { result ≡ list_any (is_misplaced segments.now) (relocations_in table.now) }

@@ -29,7 +29,7 @@ impl<'a> Tables<'a> {
         self.parts().jmprel
     }
 
-    /// How many relocations there are.
+    /// The number of relocations.
     #[tactic(auto, unfolding(crate::specs::Relocation::relocations))]
     pub(crate) fn relocation_count(&self) -> usize
         ensures { result ≡ length (relocations self.now) }
@@ -37,7 +37,7 @@ impl<'a> Tables<'a> {
         relocation_count(self.rela()) + relocation_count(self.jmprel())
     }
 
-    /// The relocation number `i`.
+    /// Returns relocation number `i`.
     #[tactic(auto, using(crate::proofs::TableEntries::length_relocations_in))]
     pub(crate) fn relocation(&self, i: usize) -> Relocation
         requires { i < length (relocations self.now) }
@@ -52,7 +52,7 @@ impl<'a> Tables<'a> {
         }
     }
 
-    /// The first type of a relocation that isn't supported.
+    /// Returns the first type of a relocation that isn't supported.
     fn first_unsupported_type(&self) -> Option<u32>
         ensures { result ≡ first_unsupported_type self.now }
     {
@@ -62,7 +62,7 @@ impl<'a> Tables<'a> {
         }
     }
 
-    /// Whether a relocation's symbol isn't there.
+    /// Returns whether a relocation uses a symbol that doesn't exist.
     fn has_bad_relocation_symbol(&self) -> bool
         ensures { result ≡ has_bad_relocation_symbol self.now }
     {
@@ -71,7 +71,7 @@ impl<'a> Tables<'a> {
             || has_bad_relocation_symbol_in(self.jmprel(), count)
     }
 
-    /// Whether a relocation writes where no PT_LOAD has memory.
+    /// Returns whether a relocation writes bytes that don't lie in the memory of one PT_LOAD.
     fn has_bad_place(&self) -> bool
         ensures { result ≡ has_bad_place self.now }
     {
@@ -79,7 +79,7 @@ impl<'a> Tables<'a> {
         has_misplaced_in(&segments, self.rela()) || has_misplaced_in(&segments, self.jmprel())
     }
 
-    /// Tests the relocations.
+    /// Tests the relocations: E30 to E32.
     #[tactic(auto, unfolding(crate::specs::Refusal::relocation_refusal))]
     pub(crate) fn test_relocations(&self) -> Result<(), ObjectRefusal>
         ensures { MatchResult result (λ _. relocation_refusal self.now ≡ None)

@@ -8,7 +8,7 @@ use elf_file::NeededOffsets;
 use memchr::memchr;
 use std::marker::Model;
 
-/// How many bytes stand before the first zero byte.
+/// Returns the number of bytes before the first zero byte, or of all bytes if there is none.
 #[tactic(auto, using(crate::proofs::StringEnds::zero_found))]
 fn string_length(bytes: &[u8]) -> usize
     ensures { result ≡ length (take_while (λ b. not (b == 0)) bytes.now) }
@@ -16,7 +16,8 @@ fn string_length(bytes: &[u8]) -> usize
     memchr(0, bytes).unwrap_or(bytes.len())
 }
 
-/// The string at an offset of a table, up to its zero byte. As long as the string.
+/// Returns the string at an offset of a table, up to its zero byte. The time is proportional to the
+/// string's length.
 #[tactic(auto, using(crate::proofs::StringEnds::ends), unfolding(crate::specs::Strings::string_at))]
 pub(crate) fn string_at(table: &[u8], offset: usize) -> &[u8]
     ensures { result.now ≡ string_at table.now offset }
@@ -25,8 +26,8 @@ pub(crate) fn string_at(table: &[u8], offset: usize) -> &[u8]
     &rest[..string_length(rest)]
 }
 
-/// The names of the needed libraries that are left to come, in the order of their entries.
-/// Contracts see their list.
+/// The names of the needed libraries that haven't been read yet, in the order of their entries.
+/// Contracts see the list of them.
 #[derive(Drop)]
 pub struct NeededNames<'a> {
     strings: &'a [u8],
@@ -43,7 +44,7 @@ impl<'a> Model for NeededNames<'a> {
 }
 
 impl<'a> NeededNames<'a> {
-    /// The names at these offsets of a table.
+    /// Returns the names at the offsets `offsets` of a string table.
     pub(crate) fn new(strings: &'a [u8], offsets: NeededOffsets<'a>) -> NeededNames<'a>
         ensures { result ≡ map (string_at strings.now) offsets.entry }
     {

@@ -1,4 +1,4 @@
-// A symbol, and what its fields say of it (gABI chapter 4, symbol table).
+// A symbol, and the meaning of its fields (gABI chapter 4, symbol table).
 
 ghost use Rattle.std.specs.Prelude.{◌≡◌, ◌<◌, ◌/◌, length, drop, nat_le};
 ghost use Rattle.std.specs.List.{list_any};
@@ -12,81 +12,84 @@ ghost use Rattle.elf_dynamic.specs.inside.Symbols.{is_refused};
 
 use elf_file::{SYMBOL_SIZE, u16_at, u32_at, u64_at};
 
-/// A symbol as it stands in the file (gABI chapter 4, `Elf64_Sym`).
+/// A symbol of the file (gABI chapter 4, `Elf64_Sym`).
 #[derive(Clone, Copy, PartialEq, Eq)]
 pub struct Symbol {
-    /// `st_name`: the offset of its name in the string table, in bytes.
+    /// `st_name`: the offset of the symbol's name in the string table, in bytes.
     pub name: u32,
-    /// `st_info`: its binding and its type.
+    /// `st_info`: the symbol's binding and type.
     pub info: u8,
-    /// `st_other`: its visibility.
+    /// `st_other`: the symbol's visibility.
     pub other: u8,
-    /// `st_shndx`: the index of the section in which it is defined, or one of the `SHN_` numbers.
+    /// `st_shndx`: the index of the section in which the symbol is defined, or one of the `SHN_`
+    /// numbers.
     pub section: u16,
-    /// `st_value`: an address before the base is added, or an absolute value.
+    /// `st_value`: an address to which the base hasn't been added, or an absolute value.
     pub value: u64,
     /// `st_size`, in bytes.
     pub size: u64,
 }
 
 impl Symbol {
-    /// Its binding, one of the `STB_` numbers.
+    /// The symbol's binding, one of the `STB_` numbers.
     pub fn binding(self) -> u8
         ensures { result ≡ binding_of self }
     {
         self.info / 16
     }
 
-    /// Its type, one of the `STT_` numbers.
+    /// The symbol's type, one of the `STT_` numbers.
     pub fn kind(self) -> u8
         ensures { result ≡ type_of self }
     {
         self.info % 16
     }
 
-    /// Its visibility, one of the `STV_` numbers.
+    /// The symbol's visibility, one of the `STV_` numbers.
     pub fn visibility(self) -> u8
         ensures { result ≡ visibility_of self }
     {
         self.other % 4
     }
 
-    /// Whether it is of the object alone (`STB_LOCAL`).
+    /// Returns whether the symbol belongs only to its object (`STB_LOCAL`).
     pub fn is_local(self) -> bool
         ensures { result ≡ is_local self }
     {
         self.binding() == STB_LOCAL
     }
 
-    /// Whether it is of all objects (`STB_GLOBAL`).
+    /// Returns whether the symbol is shared by all objects (`STB_GLOBAL`).
     pub fn is_global(self) -> bool
         ensures { result ≡ is_global self }
     {
         self.binding() == STB_GLOBAL
     }
 
-    /// Whether it is of all objects, and 0 where it isn't found (`STB_WEAK`).
+    /// Returns whether the symbol is shared by all objects, and has the value 0 if no definition is
+    /// found (`STB_WEAK`).
     pub fn is_weak(self) -> bool
         ensures { result ≡ is_weak self }
     {
         self.binding() == STB_WEAK
     }
 
-    /// Whether it is defined in the object: its section isn't `SHN_UNDEF`.
+    /// Returns whether the symbol is defined in its object: its section isn't `SHN_UNDEF`.
     pub fn is_defined(self) -> bool
         ensures { result ≡ is_defined self }
     {
         self.section != SHN_UNDEF
     }
 
-    /// Whether its value is no address, so that the base isn't added (`SHN_ABS`).
+    /// Returns whether the symbol's value isn't an address, so that the base isn't added
+    /// (`SHN_ABS`).
     pub fn is_absolute(self) -> bool
         ensures { result ≡ is_absolute self }
     {
         self.section == SHN_ABS
     }
 
-    /// Whether it is a function, an object, or of no type.
+    /// Returns whether the symbol is a function, an object, or of no type.
     pub fn is_function_or_object(self) -> bool
         ensures { result ≡ is_function_or_object self }
     {
@@ -94,21 +97,24 @@ impl Symbol {
         kind == STT_NOTYPE || kind == STT_OBJECT || kind == STT_FUNC
     }
 
-    /// Whether other objects see it by its visibility, and may replace it (`STV_DEFAULT`).
+    /// Returns whether other objects can see the symbol and replace it, by its visibility
+    /// (`STV_DEFAULT`).
     pub fn has_default_visibility(self) -> bool
         ensures { result ≡ has_default_visibility self }
     {
         self.visibility() == STV_DEFAULT
     }
 
-    /// Whether other objects see it by its visibility (`STV_DEFAULT`, `STV_PROTECTED`).
+    /// Returns whether other objects can see the symbol, by its visibility (`STV_DEFAULT`,
+    /// `STV_PROTECTED`).
     pub fn is_visible(self) -> bool
         ensures { result ≡ is_visible self }
     {
         self.has_default_visibility() || self.visibility() == STV_PROTECTED
     }
 
-    /// Whether other objects don't see it by its visibility (`STV_HIDDEN`, `STV_INTERNAL`).
+    /// Returns whether other objects can't see the symbol, by its visibility (`STV_HIDDEN`,
+    /// `STV_INTERNAL`).
     pub fn is_hidden(self) -> bool
         ensures { result ≡ is_hidden self }
     {
@@ -117,40 +123,41 @@ impl Symbol {
     }
 }
 
-/// Of the object alone.
+/// The binding of a symbol that belongs only to its object.
 const STB_LOCAL: u8 = 0;
-/// Of all objects.
+/// The binding of a symbol that is shared by all objects.
 const STB_GLOBAL: u8 = 1;
-/// Of all objects, and may be undefined.
+/// The binding of a symbol that is shared by all objects, and may be undefined.
 const STB_WEAK: u8 = 2;
-/// Of no type.
+/// The type of a symbol without a type.
 const STT_NOTYPE: u8 = 0;
-/// Data.
+/// The type of data.
 const STT_OBJECT: u8 = 1;
-/// A function.
+/// The type of a function.
 const STT_FUNC: u8 = 2;
-/// A common block.
+/// The type of a common block.
 const STT_COMMON: u8 = 5;
-/// Thread-local data.
+/// The type of thread-local data.
 const STT_TLS: u8 = 6;
-/// An indirect function.
+/// The type of an indirect function.
 const STT_GNU_IFUNC: u8 = 10;
-/// Other objects see it and may replace it.
+/// The visibility of a symbol that other objects can see and replace.
 const STV_DEFAULT: u8 = 0;
-/// Other objects don't see it, and don't get it either.
+/// The visibility of a symbol that other objects can't see, and whose address they don't get
+/// either.
 const STV_INTERNAL: u8 = 1;
-/// Other objects don't see it.
+/// The visibility of a symbol that other objects can't see.
 const STV_HIDDEN: u8 = 2;
-/// Other objects see it, and don't replace it for this one.
+/// The visibility of a symbol that other objects can see, but can't replace within its own object.
 const STV_PROTECTED: u8 = 3;
-/// Not defined in the object.
+/// The section index of a symbol that isn't defined in the object.
 const SHN_UNDEF: u16 = 0;
-/// Of no section: its value stays.
+/// The section index of a symbol that belongs to no section: its value is absolute.
 const SHN_ABS: u16 = 0xfff1;
-/// Of a common block.
+/// The section index of a common block.
 const SHN_COMMON: u16 = 0xfff2;
 
-/// The symbol number `i` of a table.
+/// Returns symbol number `i` of a table.
 #[tactic(auto, unfolding(crate::specs::Symbol::nth_symbol))]
 pub(crate) fn nth_symbol(table: &[u8], i: usize) -> Symbol
     requires { i < length table.now / 24 }
@@ -191,7 +198,7 @@ fn is_badly_bound(symbol: Symbol) -> bool
     !symbol.is_local() && !symbol.is_global() && !symbol.is_weak()
 }
 
-/// Whether one of the tests E24 to E27 refuses a symbol.
+/// Returns whether one of the tests E24 to E27 refuses a symbol.
 #[tactic(auto, unfolding(crate::specs::inside::Symbols::is_refused))]
 fn is_refused(symbol: Symbol) -> bool
     ensures { result ≡ is_refused symbol }
@@ -199,44 +206,45 @@ fn is_refused(symbol: Symbol) -> bool
     is_common(symbol) || is_tls(symbol) || is_ifunc(symbol) || is_badly_bound(symbol)
 }
 
-/// Whether one of these tests refuses a symbol of a table, but for the first: one pass, where the
-/// tests make four.
+/// Returns whether one of the tests E24 to E27 refuses a symbol of a table, except the first
+/// symbol. Makes one pass over the symbols instead of four.
 pub(crate) fn has_refused_in(table: &[u8]) -> bool
     ensures { result ≡ list_any is_refused (drop 1 (symbols_in table.now)) }
 {
     (1..table.len() / SYMBOL_SIZE as usize).any(|i| is_refused(nth_symbol(table, i)))
 }
 
-/// Whether a symbol of a table, but for the first, is a common symbol.
+/// Returns whether a symbol of a table, except the first, is a common symbol.
 pub(crate) fn has_common_in(table: &[u8]) -> bool
     ensures { result ≡ list_any is_common (drop 1 (symbols_in table.now)) }
 {
     (1..table.len() / SYMBOL_SIZE as usize).any(|i| is_common(nth_symbol(table, i)))
 }
 
-/// Whether a symbol of a table, but for the first, is thread-local.
+/// Returns whether a symbol of a table, except the first, is thread-local.
 pub(crate) fn has_tls_in(table: &[u8]) -> bool
     ensures { result ≡ list_any is_tls (drop 1 (symbols_in table.now)) }
 {
     (1..table.len() / SYMBOL_SIZE as usize).any(|i| is_tls(nth_symbol(table, i)))
 }
 
-/// Whether a symbol of a table, but for the first, is an indirect function.
+/// Returns whether a symbol of a table, except the first, is an indirect function.
 pub(crate) fn has_ifunc_in(table: &[u8]) -> bool
     ensures { result ≡ list_any is_ifunc (drop 1 (symbols_in table.now)) }
 {
     (1..table.len() / SYMBOL_SIZE as usize).any(|i| is_ifunc(nth_symbol(table, i)))
 }
 
-/// Whether a symbol of a table, but for the first, has another binding.
+/// Returns whether a symbol of a table, except the first, has a binding other than local, global
+/// and weak.
 pub(crate) fn has_badly_bound_in(table: &[u8]) -> bool
     ensures { result ≡ list_any is_badly_bound (drop 1 (symbols_in table.now)) }
 {
     (1..table.len() / SYMBOL_SIZE as usize).any(|i| is_badly_bound(nth_symbol(table, i)))
 }
 
-/// Whether the offset of the name of a symbol of a table, but for the first, is at or above a
-/// limit.
+/// Returns whether the name of a symbol of a table, except the first, has an offset at or above
+/// `limit`.
 pub(crate) fn has_name_from(table: &[u8], limit: u64) -> bool
     ensures { result ≡ list_any (λ s. nat_le limit s.name) (drop 1 (symbols_in table.now)) }
 {

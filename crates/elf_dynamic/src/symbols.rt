@@ -16,7 +16,8 @@ use crate::tables::Tables;
 use elf_file::ObjectRefusal;
 
 impl<'a> Tables<'a> {
-    /// Tests the symbols: one by one only where one of them is refused.
+    /// Tests the symbols: E24 to E27. Makes the four tests separately only if a symbol fails one of
+    /// them.
     #[tactic(auto, using(crate::proofs::NoneRefused::none_refused))]
     pub(crate) fn test_symbols(&self) -> Result<(), ObjectRefusal>
         ensures { MatchResult result (λ _. symbol_refusal self.now ≡ None)
@@ -41,7 +42,7 @@ impl<'a> Tables<'a> {
         Ok(())
     }
 
-    /// How many symbols there are, that of index 0 too.
+    /// The number of symbols, including the one with index 0.
     #[tactic(auto, using(crate::proofs::SymbolNumbers::symbols_counted))]
     pub(crate) fn symbol_count(&self) -> u32
         ensures count { result ≡ length (symbols self.now) }
@@ -51,7 +52,7 @@ impl<'a> Tables<'a> {
         self.parts().hash.chain_count
     }
 
-    /// The symbol of an index.
+    /// Returns the symbol with index `i`.
     #[tactic(auto, using(crate::proofs::SymbolNumbers::symbol_numbered))]
     pub(crate) fn symbol(&self, i: u32) -> Symbol
         requires { i < length (symbols self.now) }
@@ -60,7 +61,7 @@ impl<'a> Tables<'a> {
         nth_symbol(self.parts().symbols, i as usize)
     }
 
-    /// The name of the symbol of an index, which is empty at index 0.
+    /// Returns the name of the symbol with index `i`, which is empty for index 0.
     #[tactic(auto, unfolding(crate::specs::Strings::name_of))]
     pub(crate) fn name_of(&self, i: u32) -> &'a [u8]
         requires { i < length (symbols self.now) }
@@ -72,7 +73,7 @@ impl<'a> Tables<'a> {
         string_at(self.parts().strings, self.symbol(i).name as usize)
     }
 
-    /// How many buckets there are.
+    /// The number of buckets.
     #[tactic(auto, using(crate::proofs::SymbolNumbers::buckets_counted))]
     pub(crate) fn bucket_count(&self) -> u32
         ensures { result ≡ length (buckets self.now) }
@@ -80,7 +81,7 @@ impl<'a> Tables<'a> {
         self.parts().hash.bucket_count
     }
 
-    /// The word of a bucket: the index of the first symbol of its chain.
+    /// Returns the word of bucket `i`: the index of the first symbol of its chain.
     #[tactic(auto, using(crate::proofs::SymbolNumbers::bucket_numbered))]
     pub(crate) fn bucket(&self, i: u32) -> u32
         requires { i < length (buckets self.now) }
@@ -89,7 +90,8 @@ impl<'a> Tables<'a> {
         word(self.parts().hash.bytes, 2 + i as usize)
     }
 
-    /// The chain word of a symbol: the index of the next symbol of its chain, or 0 at the end.
+    /// Returns the chain word of symbol `i`: the index of the next symbol of its chain, or 0 at the
+    /// end.
     #[tactic(auto, using(crate::proofs::SymbolNumbers::chain_numbered))]
     pub(crate) fn chain(&self, i: u32) -> u32
         requires { i < length (chains self.now) }

@@ -13,15 +13,15 @@ use crate::symbol::has_name_from;
 use elf_file::{Dynamic, NeededOffsets, ObjectRefusal, Segments};
 use std::marker::Model;
 
-/// Whether an offset is at or above a limit.
+/// Returns whether one of the offsets is at or above `limit`.
 fn has_offset_from(mut offsets: NeededOffsets<'_>, limit: u64) -> bool
     ensures { result ≡ list_any (nat_le limit) offsets.entry }
 {
     offsets.any(|offset| offset >= limit)
 }
 
-/// A file that none of the tests E1 to E22 refuses, and from `read` on none of E1 to E23: its
-/// tables can be read. Contracts see its bytes.
+/// A file that none of the tests E1 to E22 refuses: its tables can be read. If `read` made the
+/// view, E23 doesn't refuse the file either. Contracts see the file's bytes.
 #[derive(Drop)]
 pub(crate) struct Tables<'a> {
     segments: Segments<'a>,
@@ -41,7 +41,7 @@ impl<'a> Model for Tables<'a> {
 }
 
 impl<'a> Tables<'a> {
-    /// The tables of a file, which were found.
+    /// Makes the view of a file from its tables, which have already been found.
     pub(crate) fn new(dynamic: &Dynamic<'a>, parts: Parts<'a>) -> Tables<'a>
         requires { HasParts dynamic.now parts }
         ensures { result ≡ dynamic.now }
@@ -53,7 +53,7 @@ impl<'a> Tables<'a> {
         }
     }
 
-    /// Finds the tables, and tests the strings.
+    /// Finds the tables (E22) and tests the strings (E23).
     #[tactic(auto, unfolding(crate::specs::Refusal::table_refusal))]
     pub(crate) fn read(dynamic: &Dynamic<'a>) -> Result<Tables<'a>, ObjectRefusal>
         ensures { MatchResult result
@@ -91,21 +91,21 @@ impl<'a> Tables<'a> {
         self.segments.headers().file()
     }
 
-    /// The tables.
+    /// The tables of the file.
     pub(crate) fn parts(&self) -> Parts<'a>
         ensures { HasParts self.now result }
     {
         self.parts
     }
 
-    /// How many bytes the string table has.
+    /// The size of the string table, in bytes.
     fn limit(&self) -> u64
         ensures { result ≡ tag_value self.now 10 }
     {
         self.parts().strings.len() as u64
     }
 
-    /// Whether the string table is empty, or its last byte isn't zero.
+    /// Returns whether the string table is empty, or its last byte isn't zero.
     fn is_unended(&self) -> bool
         ensures { result ≡ is_unended self.now }
     {
@@ -113,7 +113,7 @@ impl<'a> Tables<'a> {
         strings.is_empty() || strings[strings.len() - 1] != 0
     }
 
-    /// Whether a needed library's name isn't in the string table.
+    /// Returns whether a needed library's name isn't in the string table.
     #[tactic(auto, unfolding(crate::specs::Strings::has_bad_needed))]
     fn has_bad_needed(&self) -> bool
         ensures { result ≡ has_bad_needed self.now }
@@ -121,7 +121,7 @@ impl<'a> Tables<'a> {
         has_offset_from(self.needed_offsets(), self.limit())
     }
 
-    /// Whether the object's own name isn't in the string table.
+    /// Returns whether the object's own name isn't in the string table.
     fn has_bad_soname_offset(&self) -> bool
         ensures { result ≡ has_bad_soname_offset self.now }
     {
@@ -131,7 +131,7 @@ impl<'a> Tables<'a> {
         }
     }
 
-    /// Whether a symbol's name isn't in the string table.
+    /// Returns whether a symbol's name isn't in the string table.
     fn has_bad_symbol_name(&self) -> bool
         ensures { result ≡ has_bad_symbol_name self.now }
     {

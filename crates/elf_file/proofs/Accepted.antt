@@ -1,4 +1,4 @@
--- What holds of a file that no test refuses.
+-- Facts about a file that no test refuses.
 use Rattle.std.proofs.Common.{◌≡◌, ℕ, ◌+◌, ◌*◌, ◌≤◌, Bool, true, false, List, ◌++◌, length, arith, None, nat_lt}
 use Rattle.std.specs.Prelude.{◌||◌, ◌==◌, not}
 use Rattle.std.proofs.lemmas.Bool.Decides.{nat_tests}
@@ -21,7 +21,7 @@ long-by n h = grind (arith, nat_tests)
 within-by : (count size end : ℕ) → ((count == 0) || (count == PN_XNUM) || nat_lt size end) ≡ false → end ≤ size
 within-by count size end h = grind (arith, nat_tests)
 
--- the headers of a file that E1 to E10 don't refuse are in it
+-- if E1 to E10 don't refuse a file, its headers lie within the file
 pub has_headers : (file : List ℕ) → header_refusal file ≡ None → HasHeaders file
 unfolding header_refusal
 has_headers file h = (
@@ -30,7 +30,8 @@ has_headers file h = (
       (when_none BadProgramHeaders (has_bad_program_headers file) (none_at (header_tests file) 9 h)),
 )
 
--- the PT_LOADs of a file that E11 to E14 don't refuse follow the rules and each other
+-- if E11 to E14 don't refuse a file, its PT_LOADs follow the rules, and each begins at or above the end
+-- of the one before it
 pub has_segments : (file : List ℕ) → segment_refusal file ≡ None → HasSegments file
 unfolding segment_refusal
 has_segments file h = record {
@@ -39,17 +40,17 @@ has_segments file h = record {
   in_order = when_none SegmentOrder (has_bad_order file) (none_at (segment_tests file) 3 h);
 }
 
--- the headers of a file that E1 to E21 don't refuse aren't refused
+-- if E1 to E21 don't refuse a file, E1 to E10 don't refuse its headers
 pub headers_accepted : (file : List ℕ) → file_refusal file ≡ None → header_refusal file ≡ None
 unfolding file_refusal header_refusal
 headers_accepted file h = none_first (header_tests file) (segment_tests file ++ tag_tests file) h
 
--- nor are its segments
+-- if E1 to E21 don't refuse a file, E11 to E14 don't refuse its segments
 pub segments_accepted : (file : List ℕ) → file_refusal file ≡ None → segment_refusal file ≡ None
 unfolding file_refusal segment_refusal
 segments_accepted file h = none_first (segment_tests file) (tag_tests file) (none_behind (header_tests file) (segment_tests file ++ tag_tests file) h)
 
--- and its dynamic section isn't bad
+-- if E1 to E21 don't refuse a file, its dynamic section isn't bad
 pub section_accepted : (file : List ℕ) → file_refusal file ≡ None → has_bad_dynamic file ≡ false
 unfolding file_refusal
 section_accepted file h = when_none BadDynamic (has_bad_dynamic file) (none_at (header_tests file ++ segment_tests file ++ tag_tests file) 14 h)

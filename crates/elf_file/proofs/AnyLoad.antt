@@ -1,4 +1,4 @@
--- Whether some program header is a PT_LOAD that passes a test, by the PT_LOADs alone.
+-- Whether some program header is a PT_LOAD that passes a test, decided by looking only at the PT_LOADs.
 use Rattle.std.proofs.Common.{◌≡◌, ℕ, ◌+◌, ◌≤◌, ◌<◌, Bool, true, false, cond, List, [], ◌∷◌, refl, ap, sym, ◌∙◌, filter, arith, inl, inr, nat_lt}
 use Rattle.std.specs.Prelude.{◌||◌}
 use Rattle.std.specs.List.{list_any}
@@ -14,7 +14,7 @@ any-step : (test : ProgramHeader → Bool) (h : ProgramHeader) (left : List Prog
 any-step test h left all true only rest = ap (λ b. test h || b) rest
 any-step test h left all false only rest = rest ∙ sym (ap (λ b. b || all) (only refl))
 
--- no other program header passes a test that only PT_LOADs pass
+-- if only PT_LOADs pass a test, some program header passes it exactly if some PT_LOAD does
 pub any_load : (test : ProgramHeader → Bool) → ((h : ProgramHeader) → is_load h ≡ false → test h ≡ false) → (hs : List ProgramHeader)
     → list_any test (filter is_load hs) ≡ list_any test hs
 any_load test only [] = refl
@@ -24,7 +24,8 @@ loaded : (file : List ℕ) (b : Bool) → list_any is_load (loads_from file 0) �
 unfolding has_load loads
 loaded file b is = sym is ∙ ap (list_any is_load) (loads_from_start file) ∙ any_load is_load (λ h no. no) (program_headers file)
 
--- a PT_LOAD is present where the first one stands before the end of the program headers
+-- a search that stops at the first PT_LOAD, or at the end of the program headers, finds whether there is
+-- a PT_LOAD
 pub has_load_by : (file : List ℕ) (k : ℕ) → k ≤ header_count file → ((j : ℕ) → 0 ≤ j → j < k → is_load (program_header file j) ≡ false)
     → (k < header_count file → is_load (program_header file k) ≡ true) → nat_lt k (header_count file) ≡ has_load file
 has_load_by file k within none here =

@@ -1,4 +1,4 @@
--- The PT_LOADs in blocks.
+-- The blocks of the index of the PT_LOADs.
 use Rattle.std.proofs.Common.{◌≡◌, ℕ, ◌<◌, ◌≤◌, ◌+◌, ◌-◌, ◌*◌, true, false, List, length, arith, sym, ap, ◌∙◌, inl, inr, get_or, set, subst, get_or-set_same, get_or-set_other}
 use Rattle.std.proofs.lemmas.Bool.Decides.{nat_tests}
 use Rattle.std.proofs.Math.ListN.{length-set}
@@ -14,11 +14,11 @@ use Rattle.elf_file.proofs.LoadNumbers.{loads_apart, loads_rise}
 abbrev pub first_of_block : LoadIndex → ℕ → ℕ
 first_of_block index b = get_or index.first b 0
 
--- its address
+-- the address of a block's first PT_LOAD
 abbrev pub block_address : List ℕ → LoadIndex → ℕ → ℕ
 block_address file index b = (program_header file (first_of_block index b)).address
 
--- later blocks begin later
+-- later blocks begin at later program headers
 pub firsts_rise : (file : List ℕ) (n : ℕ) (index : LoadIndex) (a b : ℕ) → Indexes file n index → a ≤ b → b < index.blocks → first_of_block index a ≤ first_of_block index b
 firsts_rise file n index a b has le lt =
     elim (cases_lt a b) [
@@ -26,7 +26,7 @@ firsts_rise file n index a b has le lt =
       | inr ge ↦ let e : a ≡ b = omega arith in omega (arith, ap (first_of_block index) e)
     ]
 
--- where the first block begins above an address, all PT_LOADs do
+-- if the first block begins above an address, all PT_LOADs begin above it
 pub all_above : (file : List ℕ) (index : LoadIndex) (address : ℕ) → has_bad_order file ≡ false → Indexes file (header_count file) index
     → (0 < index.blocks → address < block_address file index 0) → AllAbove file address 0
 all_above file index address order has above j low lt is =
@@ -35,7 +35,7 @@ all_above file index address order has above j low lt is =
     let le : first_of_block index 0 ≤ j = omega (arith, firsts_rise file (header_count file) index 0 b.block has (omega arith) b.stands, b.from) in
     omega (arith, above some, loads_rise file (first_of_block index 0) j order le lt (has.load 0 some) is)
 
--- the last block that begins at or below an address
+-- `IsBlockAt` is true of the first PT_LOAD of the last block that begins at or below an address
 pub block_at_by : (file : List ℕ) (index : LoadIndex) (address c : ℕ) → has_bad_order file ≡ false → Indexes file (header_count file) index
     → c < index.blocks → block_address file index c ≤ address → (c + 1 < index.blocks → address < block_address file index (c + 1))
     → IsBlockAt file address (first_of_block index c)
@@ -53,11 +53,11 @@ block_at_by file index address c order has stands below above = (
       ]),
 )
 
--- a program header behind the last block
+-- if the last block doesn't span a program header, the header comes after this block
 pub behind : (file : List ℕ) (n : ℕ) (index : LoadIndex) (i : ℕ) → is_spanned index i ≡ false → 0 < index.blocks → first_of_block index (index.blocks - 1) + BLOCK ≤ i
 behind file n index i free some = grind (arith, nat_tests)
 
--- there is room for another block
+-- if the last block doesn't span the next program header, there is room for one more block
 pub block_fits : (file : List ℕ) (index : LoadIndex) (i : ℕ) → Indexes file i index → i < 65536 → is_spanned index i ≡ false → index.blocks < BLOCKS
 block_fits file index i has most free =
     elim (cases_lt 0 index.blocks) [
@@ -73,7 +73,7 @@ in-next file i index has here j lt is =
       | inr at ↦ let e : i ≡ j = omega arith in subst (λ (k : ℕ). InBlock index k) e (here (ap (λ k. is_load (program_header file k)) e ∙ is))
     ]
 
--- another program header, which is no PT_LOAD
+-- if the next program header isn't a PT_LOAD, the index is right with it, unchanged
 pub index_other : (file : List ℕ) (i : ℕ) (index : LoadIndex) → Indexes file i index → is_load (program_header file i) ≡ false → Indexes file (i + 1) index
 index_other file i index has is = record {
   first_size = has.first_size;
@@ -85,7 +85,7 @@ index_other file i index has is = record {
   all = in-next file i index has (λ t. let f = sym is ∙ t in cc);
 }
 
--- another PT_LOAD, which the last block spans
+-- if the last block spans the next PT_LOAD, the index is right with it, unchanged
 pub index_spanned : (file : List ℕ) (i : ℕ) (index : LoadIndex) → Indexes file i index → is_load (program_header file i) ≡ true → is_spanned index i ≡ true
     → Indexes file (i + 1) index
 index_spanned file i index has is spanned =
@@ -104,7 +104,8 @@ index_spanned file i index has is spanned =
           record { block = at.block; stands = at.stands; from = at.from; to = at.to };
     }
 
--- a fact of each element of a list, after one more was written
+-- if a fact is true of the first n elements of a list and of a new value, writing the value at n makes
+-- it true of the first n + 1 elements
 set-facts : (xs : List ℕ) (n v : ℕ) (P : ℕ → ℕ → Type 0) → n < length xs → ((b : ℕ) → b < n → P b (get_or xs b 0)) → P n v
     → (b : ℕ) → b < n + 1 → P b (get_or (set xs n v) b 0)
 set-facts xs n v P room low top b lt =
@@ -115,13 +116,14 @@ set-facts xs n v P room low top b lt =
           subst (λ (k : ℕ). P k (get_or (set xs n v) k 0)) e (subst (P n) (sym (get_or-set_same xs n v 0 room)) top)
     ]
 
--- a program header that the last block doesn't span is a block's length behind each
+-- if the last block doesn't span a program header, the header comes at least a block's length after the
+-- beginning of each block
 far : (file : List ℕ) (i : ℕ) (index : LoadIndex) (a : ℕ) → Indexes file i index → is_spanned index i ≡ false → a < index.blocks → first_of_block index a + BLOCK ≤ i
 far file i index a has free lt =
     let last : index.blocks - 1 < index.blocks = omega (arith, lt) in
     omega (arith, behind file i index i free (omega (arith, lt)), firsts_rise file i index a (index.blocks - 1) has (omega (arith, lt)) last)
 
--- another PT_LOAD, which begins a block
+-- if the last block doesn't span the next PT_LOAD, the index is right with a new block that begins there
 pub index_block : (file : List ℕ) (i : ℕ) (index : LoadIndex) → Indexes file i index → is_load (program_header file i) ≡ true → is_spanned index i ≡ false → index.blocks < BLOCKS
     → Indexes file (i + 1) (with_block index i)
 index_block file i index has is free room =
@@ -159,7 +161,7 @@ index_block file i index has is free room =
           ];
     }
 
--- what is true of a PT_LOAD of a block is true of a later one that begins at or below the address
+-- `IsBlockAt` stays true of a later PT_LOAD that begins at or below the address
 pub block_later : (file : List ℕ) (address low next : ℕ) → has_bad_order file ≡ false → IsBlockAt file address low → low ≤ next → BeginsBy file address next → IsBlockAt file address next
 block_later file address low next order block le begins = (
   begins.0,

@@ -1,4 +1,5 @@
--- What is counted or looked for among the images of numbers, by the numbers.
+-- Counting and searching the values of a function on a range of numbers is the same as counting and
+-- searching the numbers.
 use Rattle.std.proofs.Common.{◌≡◌, ℕ, ◌-◌, arith, Bool, true, false, cond, List, [], ◌∷◌, length, refl, ap, filter, map, suc}
 use Rattle.std.specs.Prelude.{◌||◌}
 use Rattle.std.specs.List.{list_any}
@@ -17,6 +18,6 @@ pub list_any-map : {X Y : Type 0} (test : Y → Bool) (f : X → Y) (xs : List X
 list_any-map test f [] = refl
 list_any-map test f (x ∷ xs) = ap (λ b. test (f x) || b) (list_any-map test f xs)
 
--- how many numbers are below one
+-- subtracting 0 from a number leaves the number
 pub below : (n : ℕ) → n - 0 ≡ n
 below n = omega arith

@@ -22,7 +22,7 @@ none-step : {X : Type 0} (p q : X → Bool) (x : X) (xs : List X) (b : Bool) →
 none-step p q x xs true is here rest = ap (λ a. a || list_any p xs) (here is) ∙ rest
 none-step p q x xs false is here rest = rest
 
--- a test that none of so many made elements passes which pass another one
+-- if no element that passes the test `q` passes the test `p`, no element of the filtered list passes `p`
 none_made : {X : Type 0} (p q : X → Bool) (f : ℕ → X) (n a : ℕ) → ((j : ℕ) → a ≤ j → j < a + n → q (f j) ≡ true → p (f j) ≡ false)
     → list_any p (filter q (map f (range_with_len a n))) ≡ false
 none_made p q f zero a none = refl
@@ -30,7 +30,8 @@ none_made p q f (suc n) a none =
     none-step p q (f a) (filter q (map f (range_with_len (a + 1) n))) (q (f a)) refl (none a (omega arith) (omega arith))
     (none_made p q f n (a + 1) (λ j ge lt. none j (omega (arith, ge)) (omega (arith, lt))))
 
--- bytes that lie in the memory part of no PT_LOAD by its header number
+-- if no PT_LOAD has the bytes in its memory part, by the numbers of the program headers, they don't lie
+-- in memory
 not_in_memory : (file : List ℕ) (address size : ℕ)
     → ((j : ℕ) → j < header_count file → is_load (program_header file j) ≡ true → is_in_memory_part address size (program_header file j) ≡ false)
     → is_in_memory file address size ≡ false
@@ -38,12 +39,12 @@ unfolding is_in_memory loads
 not_in_memory file address size none =
     none_made (is_in_memory_part address size) is_load (program_header file) (header_count file) 0 (λ j ge lt is. none j (omega (arith, lt)) is)
 
--- where all PT_LOADs begin above an address
+-- if all PT_LOADs begin above an address, no bytes at this address lie in memory
 pub none_above : (file : List ℕ) (address size : ℕ) → AllAbove file address 0 → is_in_memory file address size ≡ false
 none_above file address size above =
     not_in_memory file address size (λ j lt is. outside-above address size (program_header file j) (above j (omega arith) lt is))
 
--- where no PT_LOAD of the one block has them
+-- if no PT_LOAD of the block has the bytes in its memory part, no PT_LOAD has them
 pub none_in_block : (file : List ℕ) (address size first : ℕ) → 0 < size → IsBlockAt file address first
     → ((j : ℕ) → first ≤ j → j < min (header_count file) (first + BLOCK) → is_load (program_header file j) ≡ true
     → is_in_memory_part address size (program_header file j) ≡ false)

@@ -1,4 +1,4 @@
--- The PT_LOAD that stands behind so many others.
+-- The number of PT_LOADs before a program header, and the list of the PT_LOADs that are left.
 use Rattle.std.proofs.lemmas.Bool.{cases_lt}
 use Rattle.std.proofs.lemmas.Option.{get_or_from_slice_get, slice_get_within}
 use Rattle.elf_file.proofs.Order.{loads_rising}
@@ -32,7 +32,7 @@ length-cond : {X : Type 0} (b : Bool) (x : X) → length (cond b (x ∷ []) []) 
 length-cond true x = refl
 length-cond false x = refl
 
--- a program header more
+-- one more PT_LOAD comes before the next program header if this header is a PT_LOAD
 pub loads_before_more : (file : List ℕ) (k : ℕ) → loads_before file (k + 1) ≡ loads_before file k + cond (is_load (program_header file k)) 1 0
 unfolding loads_before
 loads_before_more file k =
@@ -40,7 +40,7 @@ loads_before_more file k =
     ∙ length-append (filter is_load (map (program_header file) (range_with_len 0 k))) (cond (is_load (program_header file k)) (program_header file k ∷ []) [])
     ∙ ap (λ n. length (filter is_load (map (program_header file) (range_with_len 0 k))) + n) (length-cond (is_load (program_header file k)) (program_header file k))
 
--- a PT_LOAD has the number of those before it
+-- the number of a PT_LOAD is the number of PT_LOADs before it
 pub load_at : (file : List ℕ) (j : ℕ) → j < header_count file → is_load (program_header file j) ≡ true
     → slice_get (loads file) (loads_before file j) ≡ Some (program_header file j)
 unfolding loads_before loads
@@ -56,14 +56,14 @@ load_at file j lt is =
     ∙ filter-append is_load (map (program_header file) (range_with_len 0 j)) (map (program_header file) (range_with_len j (suc n))) in
     ap (λ l. slice_get l (length front)) (split ∙ ap (λ b. front ++ cond b (program_header file j ∷ back) back) is) ∙ middle front back (program_header file j)
 
--- more program headers have no fewer PT_LOADs before them
+-- the number of PT_LOADs before a program header never becomes smaller
 pub loads_before_rises : (file : List ℕ) (i d : ℕ) → loads_before file i ≤ loads_before file (i + d)
 loads_before_rises file i zero = omega (arith, ap (loads_before file) (add-zero i))
 loads_before_rises file i (suc d) =
     let e : i + suc d ≡ i + d + 1 = omega arith in
     omega (arith, loads_before_rises file i d, loads_before_more file (i + d), ap (loads_before file) e)
 
--- fewer PT_LOADs stand before a PT_LOAD than before a later program header
+-- there are fewer PT_LOADs before a PT_LOAD than before a later program header
 pub loads_before_less : (file : List ℕ) (i j : ℕ) → i < j → is_load (program_header file i) ≡ true → loads_before file i < loads_before file j
 loads_before_less file i j lt is =
     let d : ℕ = j - (i + 1) in
@@ -71,7 +71,7 @@ loads_before_less file i j lt is =
     let more : loads_before file (i + 1) ≡ loads_before file i + 1 = loads_before_more file i ∙ ap (λ b. loads_before file i + cond b 1 0) is in
     omega (arith, more, loads_before_rises file (i + 1) d, ap (loads_before file) e)
 
--- PT_LOADs end at or below the addresses of later ones
+-- a PT_LOAD ends at or below the address of each later one
 pub loads_apart : (file : List ℕ) (i j : ℕ) → has_bad_order file ≡ false → i < j → j < header_count file
     → is_load (program_header file i) ≡ true → is_load (program_header file j) ≡ true
     → (program_header file i).address + (program_header file i).memory_size ≤ (program_header file j).address
@@ -85,7 +85,7 @@ loads_apart file i j order lt within is1 is2 =
     let b : get_or (loads file) (loads_before file j) d ≡ program_header file j = get_or_from_slice_get (loads file) (loads_before file j) (program_header file j) d at2 in
     omega (arith, h, ap (λ x. x.address + x.memory_size) a, ap (λ x. x.address) b)
 
--- the addresses of PT_LOADs don't fall
+-- a later PT_LOAD doesn't have a lower address
 pub loads_rise : (file : List ℕ) (i j : ℕ) → has_bad_order file ≡ false → i ≤ j → j < header_count file
     → is_load (program_header file i) ≡ true → is_load (program_header file j) ≡ true
     → (program_header file i).address ≤ (program_header file j).address
@@ -104,7 +104,7 @@ from-one file k b lt is =
     ∙ ap (λ c. cond c (program_header file k ∷ filter is_load (map (program_header file) (range_with_len (k + 1) (header_count file - (k + 1)))))
     (filter is_load (map (program_header file) (range_with_len (k + 1) (header_count file - (k + 1)))))) is
 
--- a PT_LOAD is the first of those from it on
+-- if program header k is a PT_LOAD, the PT_LOADs from there on begin with it
 pub loads_from_load : (file : List ℕ) (k : ℕ) → k < header_count file → is_load (program_header file k) ≡ true
     → loads_from file k ≡ program_header file k ∷ loads_from file (k + 1)
 loads_from_load file k lt is = from-one file k true lt is
@@ -116,19 +116,19 @@ skipped file (suc d) from to e le none =
     from-one file from false (omega (arith, e, le)) (none from (omega arith) (omega (arith, e)))
     ∙ skipped file d (from + 1) to (omega (arith, e)) le (λ j ge lt. none j (omega (arith, ge)) lt)
 
--- other program headers are passed over
+-- if no header between two program headers is a PT_LOAD, the same PT_LOADs are left from both
 pub loads_from_skip : (file : List ℕ) (from to : ℕ) → from ≤ to → to ≤ header_count file
     → ((j : ℕ) → from ≤ j → j < to → is_load (program_header file j) ≡ false) → loads_from file from ≡ loads_from file to
 loads_from_skip file from to ge le none = skipped file (to - from) from to (omega arith) le none
 
--- none are left at the end
+-- at the end of the program headers, no PT_LOADs are left
 pub loads_from_end : (file : List ℕ) (k : ℕ) → k ≡ header_count file → loads_from file k ≡ []
 unfolding loads_from
 loads_from_end file k e =
     let z : header_count file - k ≡ 0 = omega arith in
     ap (λ n. filter is_load (map (program_header file) (range_with_len k n))) z
 
--- all are left at the start
+-- at the beginning of the program headers, all PT_LOADs are left
 pub loads_from_start : (file : List ℕ) → loads_from file 0 ≡ loads file
 unfolding loads_from loads
 loads_from_start file =

@@ -1,4 +1,4 @@
--- The entries that name needed libraries, from one on.
+-- The offsets of needed libraries' names that are left from an entry on.
 use Rattle.std.proofs.Common.{◌≡◌, ℕ, ◌<◌, ◌≤◌, ◌+◌, ◌-◌, Bool, true, false, cond, List, [], ◌∷◌, length, arith, ◌∙◌, sym, ap, filter, map, suc, zero, add-zero, refl, subst}
 use Rattle.std.specs.List.{range_with_len}
 use Rattle.std.proofs.lemmas.List.Sums.{length-filter}
@@ -24,7 +24,7 @@ from-one section count k b lt is =
     ∙ ap (λ c. map (λ (x : Entry). x.value) (cond c (entry section k ∷ rest section count (k + 1)) (rest section count (k + 1)))) is
     ∙ pick b (entry section k) (rest section count (k + 1))
 
--- an entry with DT_NEEDED is the first of those from it on
+-- if entry k has the tag DT_NEEDED, the values that are left begin with its value
 pub values_from_needed : (section : List ℕ) (count k : ℕ) → k < count → is_needed section k ≡ true
     → values_from section count k ≡ (entry section k).value ∷ values_from section count (k + 1)
 values_from_needed section count k lt is = from-one section count k true lt is
@@ -36,19 +36,19 @@ skipped section count (suc d) from to e le none =
     from-one section count from false (omega (arith, e, le)) (none from (omega arith) (omega (arith, e)))
     ∙ skipped section count d (from + 1) to (omega (arith, e)) le (λ j ge lt. none j (omega (arith, ge)) lt)
 
--- other entries are passed over
+-- if no entry between two entries has the tag DT_NEEDED, the same values are left from both
 pub values_from_skip : (section : List ℕ) (count from to : ℕ) → from ≤ to → to ≤ count
     → ((j : ℕ) → from ≤ j → j < to → is_needed section j ≡ false) → values_from section count from ≡ values_from section count to
 values_from_skip section count from to ge le none = skipped section count (to - from) from to (omega arith) le none
 
--- none are left at the end
+-- at the end of the entries, no values are left
 pub values_from_end : (section : List ℕ) (count k : ℕ) → k ≡ count → values_from section count k ≡ []
 unfolding values_from
 values_from_end section count k e =
     let z : count - k ≡ 0 = omega arith in
     ap (λ n. map (λ (x : Entry). x.value) (filter (has_tag DT_NEEDED) (map (entry section) (range_with_len k n)))) z
 
--- all are left at the start
+-- at the first entry, all values are left
 pub values_from_start : (file section : List ℕ) (count : ℕ) → section ≡ dynamic_section file
     → entries file ≡ map (entry (dynamic_section file)) (range_with_len 0 count) → values_from section count 0 ≡ needed_offsets file
 unfolding values_from needed_offsets
@@ -58,13 +58,13 @@ values_from_start file section count same all =
     ∙ ap (λ s. map (λ (x : Entry). x.value) (filter (has_tag DT_NEEDED) (map (entry s) (range_with_len 0 count)))) same
     ∙ ap (λ es. map (λ (x : Entry). x.value) (filter (has_tag DT_NEEDED) es)) (sym all)
 
--- the entries of a file, by those of its section
+-- the entries of a file are those of its section
 pub entries_kept : (file section : List ℕ) (count : ℕ) → section ≡ dynamic_section file → entries_in section ≡ map (entry section) (range_with_len 0 count)
     → entries file ≡ map (entry (dynamic_section file)) (range_with_len 0 count)
 unfolding entries
 entries_kept file section count same kept = subst (λ (s : List ℕ). entries_in s ≡ map (entry s) (range_with_len 0 count)) same kept
 
--- how often DT_NEEDED is present
+-- the number of DT_NEEDED entries is the number of needed libraries
 pub needed_counted : (file : List ℕ) → tag_count file DT_NEEDED ≡ length (needed_offsets file)
 unfolding tag_count needed_offsets
 needed_counted file =

@@ -1,4 +1,4 @@
--- PT_LOADs follow each other.
+-- Each PT_LOAD ends before the later ones begin.
 use Rattle.std.proofs.Common.{◌≡◌, ℕ, ◌<◌, ◌≤◌, ◌+◌, Bool, true, false, List, [], ◌∷◌, length, arith, drop, get_or, suc, zero}
 use Rattle.std.specs.Prelude.{◌||◌}
 use Rattle.std.specs.List.{list_any, zip, AllPairs}

@@ -1,4 +1,4 @@
--- What a PT_LOAD that was found by an address says of the file.
+-- Facts about a PT_LOAD that was found by an address.
 use Rattle.std.proofs.Common.{◌≡◌, ◌≢◌, Option, ℕ, ◌<◌, ◌≤◌, ◌+◌, ◌-◌, Bool, true, false, cond, List, [], ◌∷◌, length, arith, refl, ◌∙◌, sym, ap, Some, filter, nat_lt}
 use Rattle.std.specs.List.{list_any, find}
 use Rattle.std.specs.Prelude.{◌||◌}
@@ -27,12 +27,13 @@ found-step p q bad d x xs true false false e f g more none found =
     let h : cond (p x) (Some x) (find p (filter q xs)) ≡ Some d = found in
     more none (rw f at h)
 
--- what a search in a filtered list found passes both tests, and no test that no element of the list passes
+-- the element that a search in a filtered list finds passes both tests, and fails any test that all
+-- elements of the list fail
 found_in : {X : Type 0} (p q bad : X → Bool) (d : X) (xs : List X) → list_any bad xs ≡ false → find p (filter q xs) ≡ Some d → Found p q bad d
 found_in p q bad d [] none found = cc
 found_in p q bad d (x ∷ xs) none found = found-step p q bad d x xs (q x) (p x) (bad x) refl refl refl (found_in p q bad d xs) none found
 
--- no file is longer than the greatest length
+-- an accepted file isn't longer than the maximum length
 pub short : (file : List ℕ) → is_too_large file ≡ false → length file ≤ LARGEST_FILE
 short file fine = short-by (length file) (has_high_segment file) fine
   where
@@ -55,13 +56,13 @@ span_fits file address size h some fine found =
     let t = spans_by (length file) address size h some f.0 f.1 f.2 in
     record { from = t.0; to = t.1; within = t.2 }
 
--- a PT_LOAD that a search over the same file found
+-- `Spans` is true of a PT_LOAD that a search of the file found by an address
 pub found_fits : (file same : List ℕ) (address size : ℕ) (r : Option ProgramHeader) (h : ProgramHeader) → same ≡ file → r ≡ find_file_part same address size → r ≡ Some h
     → size ≢ 0 → has_bad_load file ≡ false → Spans file address size h
 found_fits file same address size r h e found is some fine =
     span_fits file address size h (omega (arith, some)) fine (ap (λ f. find_file_part f address size) (sym e) ∙ sym found ∙ is)
 
--- a PT_LOAD that has so many bytes of the file from an offset on, as a search for one found it
+-- the PT_LOAD begins in the file at or before `offset`, and loads the byte at `offset` at or below HIGHEST_END
 pub record HasBytes (offset : ℕ) (h : ProgramHeader) : Type 0 where
   pub from : h.offset ≤ offset
   pub within : h.address + (offset - h.offset) ≤ HIGHEST_END
@@ -86,7 +87,7 @@ has_bytes file offset size h fine low found =
     let t = bytes_by (length file) offset size h f.0 f.1 f.2 g.2 in
     record { from = t.0; within = omega (arith, t.0, t.1, t.2, t.3) }
 
--- a PT_LOAD that a search over the same file found by the file's bytes
+-- `HasBytes` is true of a PT_LOAD that a search of the file found by an offset
 pub found_bytes : (file same : List ℕ) (offset size : ℕ) (r : Option ProgramHeader) (h : ProgramHeader) → same ≡ file
     → r ≡ find (has_file_bytes offset size) (loads same) → r ≡ Some h → has_bad_load file ≡ false → is_too_large file ≡ false → HasBytes offset h
 found_bytes file same offset size r h e found is fine small =

@@ -1,4 +1,4 @@
--- One pass over the entries gives the table of the tags.
+-- One pass over the entries of the dynamic section makes the table of the tags.
 use Rattle.std.proofs.Common.{length, ◌≡◌, ◌≢◌, ℕ, ◌<◌, ◌≤◌, ◌+◌, ◌-◌, ◌/◌, Bool, true, false, cond, List, [], ◌∷◌, ◌++◌, arith, refl, ◌∙◌, sym, ap}
 use Rattle.std.proofs.Common.{map, get_or, zero-add, add-zero, zero, suc, Option, Some, None}
 use Rattle.std.specs.Prelude.{not, ◌||◌, ◌==◌, nat_lt, take_while, count_by, unwrap_or, is_some}
@@ -32,12 +32,12 @@ found-step : {X : Type 0} (x : X) (b : Bool) (n : ℕ) (o : Option X) → nat_lt
 found-step x true n o h = grind (arith, nat_tests)
 found-step x false n o h = ap (nat_lt 0) (zero-add n) ∙ h
 
--- one is found where the count isn't 0
+-- a search finds an element that passes a test exactly if more than 0 elements pass
 found-count : {X : Type 0} (p : X → Bool) (xs : List X) → nat_lt 0 (count_by p xs) ≡ is_some (find p xs)
 found-count p [] = refl
 found-count p (x ∷ xs) = count-cons p x xs ∙ found-step x (p x) (count_by p xs) (find p xs) (found-count p xs)
 
--- a tag is present where it is present once or more
+-- a tag is present exactly if more than 0 entries have it
 pub present : (file : List ℕ) (tag : ℕ) → nat_lt 0 (tag_count file tag) ≡ is_present file tag
 unfolding tag_count find_entry
 present file tag = found-count (has_tag tag) (entries file)
@@ -45,7 +45,7 @@ present file tag = found-count (has_tag tag) (entries file)
 more-than-none : (n : ℕ) → (suc n == 0) ≡ false
 more-than-none n = grind (arith, nat_tests)
 
--- the slot after one more entry, by whether that has the tag
+-- the slot of a tag stays right after one more entry, whether the entry has the tag or not
 slot-step : (n : ℕ) (o : Option Entry) (e : Entry) (b : Bool) → nat_lt 0 n ≡ is_some o
     → cond b (slot (n + 1) (cond (n == 0) e.value (first_value o))) (slot n (first_value o))
     ≡ slot (n + cond b 1 0) (first_value (option_or o (cond b (Some e) None)))
@@ -61,7 +61,7 @@ count-one tag es e =
     sum_by-append (λ x. cond (has_tag tag x) 1 0) es (e ∷ [])
     ∙ ap (λ m. count_by (has_tag tag) es + m) (sum_by-cons (λ x. cond (has_tag tag x) 1 0) e [] ∙ add-zero (cond (has_tag tag e) 1 0))
 
--- what entries say of a tag, after one more entry
+-- if an entry is added to the slot of a tag, the result is the slot of the entries with this one
 slot-more : (es : List Entry) (e : Entry) (tag : ℕ) → slot_and tag e (slot_of es tag) ≡ slot_of (es ++ e ∷ []) tag
 slot-more es e tag =
     slot-step (count_by (has_tag tag) es) (find (has_tag tag) es) e (has_tag tag e) (found-count (has_tag tag) es)
@@ -71,7 +71,7 @@ slot-more es e tag =
 one-more : (section : List ℕ) (i : ℕ) → first_entries section (i + 1) ≡ first_entries section i ++ entry section i ∷ []
 one-more section i = map-range_with_len_more (entry section) 0 i i (zero-add i)
 
--- the table after one more entry
+-- the table stays right after one more entry
 pub table-more : (section : List ℕ) (i : ℕ) (old new : List Slot) → IsTable (first_entries section i) old
     → ((n k : ℕ) (d : Slot) → place_of n ≡ Some k → get_or new k d ≡ slot_and n (entry section i) (get_or old k d))
     → IsTable (first_entries section (i + 1)) new
@@ -81,7 +81,7 @@ table-more section i old new is step n k d at =
     ∙ slot-more (first_entries section i) (entry section i) n
     ∙ ap (λ es. slot_of es n) (sym (one-more section i))
 
--- a tag is present no more often than there are entries
+-- the table never counts more entries with a tag than there are entries
 pub table-small : (section : List ℕ) (i : ℕ) (slots : List Slot) → IsTable (first_entries section i) slots
     → (n k : ℕ) (d : Slot) → place_of n ≡ Some k → (get_or slots k d).count ≤ i
 table-small section i slots is n k d at =
@@ -104,7 +104,7 @@ or-true true b c h = refl
 or-true false true c h = refl
 or-true false false c h = cc
 
--- no DT_NULL after one more entry that is none
+-- if an entry isn't a DT_NULL, the entries with it still have no DT_NULL
 pub none-more : (section : List ℕ) (i : ℕ) → list_any is_null (first_entries section i) ≡ false → (entry section i).tag ≢ DT_NULL → list_any is_null (first_entries section (i + 1)) ≡ false
 none-more section i none other =
     ap (list_any is_null) (one-more section i)
@@ -122,7 +122,7 @@ stop bad (y ∷ xs) ys x none is =
     take_while-cons (λ e. not (bad e)) y (xs ++ x ∷ ys)
     ∙ stop-step y xs (take_while (λ e. not (bad e)) (xs ++ x ∷ ys)) (bad y) (list_any bad xs) none (λ rest. stop bad xs ys x rest is)
 
--- the entries before one of them, it, and those behind it
+-- the entries are those before entry number `i`, that entry, and those after it
 split : (section : List ℕ) (i : ℕ) → i < length section / DYNAMIC_ENTRY_SIZE
     → whole_entries section ≡ first_entries section i ++ (entry section i ∷ map (entry section) (range_with_len (i + 1) (length section / DYNAMIC_ENTRY_SIZE - i - 1)))
 unfolding whole_entries
@@ -133,7 +133,8 @@ split section i lt =
     ∙ ap (map (entry section)) (range-split 0 i (suc n) ∙ ap (λ a. range_with_len 0 i ++ range_with_len a (suc n)) (zero-add i))
     ∙ map-append (entry section) (range_with_len 0 i) (range_with_len i (suc n))
 
--- where the first DT_NULL stands
+-- if the first DT_NULL is entry number `i`, the section has an end, and its entries are those before
+-- number `i`
 pub ended : (section : List ℕ) (i : ℕ) → i < length section / DYNAMIC_ENTRY_SIZE → list_any is_null (first_entries section i) ≡ false → (entry section i).tag ≡ DT_NULL
     → (is_ended section ≡ true) × (first_entries section i ≡ entries_in section)
 unfolding is_ended entries_in
@@ -146,7 +147,7 @@ ended section i lt none is =
       sym (ap (take_while (λ e. not (is_null e))) (split section i lt) ∙ stop is_null (first_entries section i) behind (entry section i) none null),
     )
 
--- no DT_NULL stands
+-- if no entry is a DT_NULL, the section has no end
 pub not_ended : (section : List ℕ) (n : ℕ) → n ≡ length section / DYNAMIC_ENTRY_SIZE → list_any is_null (first_entries section n) ≡ false → is_ended section ≡ false
 unfolding is_ended whole_entries
 not_ended section n all none = ap (λ m. list_any is_null (first_entries section m)) (sym all) ∙ none

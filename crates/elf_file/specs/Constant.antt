@@ -5,7 +5,7 @@ use Rattle.std.specs.Prelude.{ℕ}
 abbrev pub ELF_MAGIC : ℕ
 ELF_MAGIC = 0x464c457f
 
--- EI_CLASS of files of 64 bits
+-- EI_CLASS of 64-bit files
 abbrev pub ELFCLASS64 : ℕ
 ELFCLASS64 = 2
 
@@ -21,7 +21,7 @@ EV_CURRENT = 1
 abbrev pub ELFOSABI_SYSV : ℕ
 ELFOSABI_SYSV = 0
 
--- EI_OSABI of its GNU extensions
+-- EI_OSABI of the GNU extensions of the System V ABI
 abbrev pub ELFOSABI_GNU : ℕ
 ELFOSABI_GNU = 3
 
@@ -33,15 +33,15 @@ ET_DYN = 3
 abbrev pub EM_X86_64 : ℕ
 EM_X86_64 = 62
 
--- e_phnum where the number of program headers is told elsewhere
+-- e_phnum if the number of program headers is recorded elsewhere
 abbrev pub PN_XNUM : ℕ
 PN_XNUM = 0xffff
 
--- bytes of a file header
+-- the size of a file header, in bytes
 abbrev pub FILE_HEADER_SIZE : ℕ
 FILE_HEADER_SIZE = 64
 
--- bytes of a program header
+-- the size of a program header, in bytes
 abbrev pub PROGRAM_HEADER_SIZE : ℕ
 PROGRAM_HEADER_SIZE = 56
 
@@ -55,15 +55,15 @@ PT_DYNAMIC = 2
 abbrev pub PT_TLS : ℕ
 PT_TLS = 7
 
--- bytes of an entry of the dynamic section
+-- the size of an entry of the dynamic section, in bytes
 abbrev pub DYNAMIC_ENTRY_SIZE : ℕ
 DYNAMIC_ENTRY_SIZE = 16
 
--- bytes of a symbol
+-- the size of a symbol, in bytes
 abbrev pub SYMBOL_SIZE : ℕ
 SYMBOL_SIZE = 24
 
--- bytes of a relocation with an addend
+-- the size of a relocation with an addend, in bytes
 abbrev pub RELOCATION_SIZE : ℕ
 RELOCATION_SIZE = 24
 
@@ -131,14 +131,14 @@ DT_VERDEF = 0x6ffffffc
 abbrev pub DT_VERNEED : ℕ
 DT_VERNEED = 0x6ffffffe
 
--- the bit of DT_FLAGS by which the object is looked in first
+-- the bit of DT_FLAGS by which the object's own references are looked up in the object first
 abbrev pub DF_SYMBOLIC : ℕ
 DF_SYMBOLIC = 0x2
 
--- the greatest length of a file, in bytes (own)
+-- the maximum length of a file, in bytes (own)
 abbrev pub LARGEST_FILE : ℕ
 LARGEST_FILE = 16777216
 
--- the highest address that an object's memory may end at (own)
+-- the highest address at which an object's memory may end (own)
 abbrev pub HIGHEST_END : ℕ
 HIGHEST_END = 67108864

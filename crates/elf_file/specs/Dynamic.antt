@@ -11,11 +11,11 @@ use Rattle.elf_file.specs.Segment.{program_headers, contents}
 use Rattle.elf_file.specs.declared.entry.Entry.{Entry}
 use Rattle.elf_file.specs.declared.segment.ProgramHeader.{ProgramHeader}
 
--- PT_DYNAMIC
+-- the segment is a PT_DYNAMIC
 abbrev pub is_dynamic : ProgramHeader → Bool
 is_dynamic h = h.kind == PT_DYNAMIC
 
--- how many PT_DYNAMICs there are
+-- the number of PT_DYNAMICs
 unfoldable pub dynamic_count : List ℕ → ℕ
 dynamic_count file = count_by is_dynamic (program_headers file)
 
@@ -27,11 +27,11 @@ find_dynamic file = find is_dynamic (program_headers file)
 abbrev pub is_whole : List ℕ → ProgramHeader → Bool
 is_whole file h = nat_le (h.offset + h.file_size) (length file)
 
--- one PT_DYNAMIC is present, and its bytes are in the file
+-- exactly one PT_DYNAMIC is present, and its bytes are in the file
 abbrev pub has_dynamic : List ℕ → Bool
 has_dynamic file = (dynamic_count file == 1) && option_map_or (is_whole file) (find_dynamic file) false
 
--- the bytes of the dynamic section; none where there is no PT_DYNAMIC
+-- the bytes of the dynamic section; no bytes if there is no PT_DYNAMIC
 unfoldable pub dynamic_section : List ℕ → List ℕ
 dynamic_section file = option_map_or (contents file) (find_dynamic file) []
 
@@ -39,7 +39,7 @@ dynamic_section file = option_map_or (contents file) (find_dynamic file) []
 abbrev pub entry_at : List ℕ → ℕ → Entry
 entry_at section at = record { tag = number_at 8 section at; value = number_at 8 section (at + 8) }
 
--- the entry number i of a section
+-- entry number `i` of a section
 unfoldable pub entry : List ℕ → ℕ → Entry
 entry section i = entry_at section (DYNAMIC_ENTRY_SIZE * i)
 
@@ -47,15 +47,15 @@ entry section i = entry_at section (DYNAMIC_ENTRY_SIZE * i)
 unfoldable pub whole_entries : List ℕ → List Entry
 whole_entries section = map (entry section) (range_with_len 0 (length section / DYNAMIC_ENTRY_SIZE))
 
--- an entry that ends the section: DT_NULL
+-- the entry is a DT_NULL, which ends the section
 abbrev pub is_null : Entry → Bool
 is_null e = e.tag == DT_NULL
 
--- an entry that has this tag
+-- the entry has this tag
 abbrev pub has_tag : ℕ → Entry → Bool
 has_tag tag e = e.tag == tag
 
--- a DT_NULL is among the whole entries of a section
+-- one of the whole entries of a section is a DT_NULL
 unfoldable pub is_ended : List ℕ → Bool
 is_ended section = list_any is_null (whole_entries section)
 
@@ -67,7 +67,7 @@ entries_in section = take_while (λ e. not (is_null e)) (whole_entries section)
 unfoldable pub entries : List ℕ → List Entry
 entries file = entries_in (dynamic_section file)
 
--- E15: there isn't exactly one PT_DYNAMIC, or it runs past the file's end, or has no DT_NULL
+-- E15: there isn't exactly one PT_DYNAMIC, or its bytes run past the file's end or have no DT_NULL
 abbrev pub has_bad_dynamic : List ℕ → Bool
 has_bad_dynamic file = not (has_dynamic file) || not (is_ended (dynamic_section file))
 
@@ -75,7 +75,7 @@ has_bad_dynamic file = not (has_dynamic file) || not (is_ended (dynamic_section 
 unfoldable pub tag_count : List ℕ → ℕ → ℕ
 tag_count file tag = count_by (has_tag tag) (entries file)
 
--- the first entry with a tag
+-- the first entry with a tag, if there is one
 unfoldable pub find_entry : List ℕ → ℕ → Option Entry
 find_entry file tag = find (has_tag tag) (entries file)
 
@@ -83,7 +83,7 @@ find_entry file tag = find (has_tag tag) (entries file)
 abbrev pub is_present : List ℕ → ℕ → Bool
 is_present file tag = is_some (find_entry file tag)
 
--- the value of a tag, or 0 where it is absent: then no test and no accessor reads it
+-- the value of the first entry with a tag, or 0 if the tag is absent; in that case no test and no accessor reads it
 unfoldable pub tag_value : List ℕ → ℕ → ℕ
 tag_value file tag = unwrap_or (option_map (λ e. e.value) (find_entry file tag)) 0
 
@@ -91,13 +91,13 @@ tag_value file tag = unwrap_or (option_map (λ e. e.value) (find_entry file tag)
 unfoldable pub needed_offsets : List ℕ → List ℕ
 needed_offsets file = map (λ e. e.value) (filter (has_tag DT_NEEDED) (entries file))
 
--- the tags that may be present once
+-- the tags that may be present only once
 abbrev pub single_tags : List ℕ
 single_tags =
     DT_PLTRELSZ ∷ DT_HASH ∷ DT_STRTAB ∷ DT_SYMTAB ∷ DT_RELA ∷ DT_RELASZ ∷ DT_RELAENT ∷ DT_STRSZ ∷ DT_SYMENT ∷ DT_SONAME
     ∷ DT_SYMBOLIC ∷ DT_REL ∷ DT_PLTREL ∷ DT_JMPREL ∷ DT_FLAGS ∷ DT_RELR ∷ DT_VERSYM ∷ DT_VERDEF ∷ DT_VERNEED ∷ []
 
--- E16: one of these tags is present twice
+-- E16: one of these tags is present more than once
 unfoldable pub has_duplicate_tag : List ℕ → Bool
 has_duplicate_tag file = list_any (λ tag. nat_lt 1 (tag_count file tag)) single_tags
 
@@ -105,15 +105,15 @@ has_duplicate_tag file = list_any (λ tag. nat_lt 1 (tag_count file tag)) single
 abbrev pub has_symbol_versions : List ℕ → Bool
 has_symbol_versions file = is_present file DT_VERSYM || is_present file DT_VERDEF || is_present file DT_VERNEED
 
--- the flags say that the object itself is looked in first, whatever else they say
+-- DT_FLAGS has the bit by which the object's own references are looked up in the object first, whatever its other bits are
 abbrev pub is_flagged_symbolic : List ℕ → Bool
 is_flagged_symbolic file = is_present file DT_FLAGS && not (bit_and (tag_value file DT_FLAGS) DF_SYMBOLIC == 0)
 
--- its own references are looked up in it first: it has DT_SYMBOLIC, or DF_SYMBOLIC in DT_FLAGS
+-- the object's own references are looked up in the object first: it has DT_SYMBOLIC, or DF_SYMBOLIC in DT_FLAGS
 unfoldable pub is_symbolic : List ℕ → Bool
 is_symbolic file = is_present file DT_SYMBOLIC || is_flagged_symbolic file
 
--- E18: relocations without addends or in short form are present
+-- E18: relocations without addends (DT_REL) or in short form (DT_RELR) are present
 abbrev pub has_unsupported_tag : List ℕ → Bool
 has_unsupported_tag file = is_present file DT_REL || is_present file DT_RELR
 
@@ -121,23 +121,23 @@ has_unsupported_tag file = is_present file DT_REL || is_present file DT_RELR
 abbrev pub has_no_hash_table : List ℕ → Bool
 has_no_hash_table file = not (is_present file DT_HASH)
 
--- a tag of the strings or the symbols is absent
+-- one of the tags of the strings or the symbols is absent
 abbrev pub lacks_symbol_tag : List ℕ → Bool
 lacks_symbol_tag file =
     not (is_present file DT_STRTAB) || not (is_present file DT_SYMTAB) || not (is_present file DT_STRSZ) || not (is_present file DT_SYMENT)
 
--- E20: a tag of the strings or symbols is missing, or one beside a table of relocations
+-- E20: a tag of the strings or the symbols is missing, or a tag that a table of relocations requires
 abbrev pub has_missing_tag : List ℕ → Bool
 has_missing_tag file =
     lacks_symbol_tag file
     || (is_present file DT_RELA && (not (is_present file DT_RELASZ) || not (is_present file DT_RELAENT)))
     || (is_present file DT_JMPREL && (not (is_present file DT_PLTRELSZ) || not (is_present file DT_PLTREL)))
 
--- a size that isn't that of whole relocations
+-- the size isn't a multiple of the size of a relocation
 abbrev pub is_part : ℕ → Bool
 is_part size = not (size % RELOCATION_SIZE == 0)
 
--- E21: symbols of another size; or relocations of another size or kind, or a part of one
+-- E21: the symbols have another size; or relocations have another size or kind, or their table ends within a relocation
 abbrev pub has_bad_entry_size : List ℕ → Bool
 has_bad_entry_size file =
     not (tag_value file DT_SYMENT == SYMBOL_SIZE)

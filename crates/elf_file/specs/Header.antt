@@ -1,18 +1,18 @@
--- The ELF-64 file header and the tests of it (gABI chapter 4; elf(5)).
+-- The ELF-64 file header and its tests (gABI chapter 4; elf(5)).
 use Rattle.std.specs.Prelude.{ℕ, ◌+◌, ◌*◌, List, length, slice_index, Bool, not, ◌==◌, ◌||◌, ◌&&◌, nat_lt, ◌≤◌}
 use Rattle.elf_file.specs.Number.{number_at}
 use Rattle.elf_file.specs.Constant.{ELF_MAGIC, ELFCLASS64, ELFDATA2LSB, EV_CURRENT, ELFOSABI_SYSV, ELFOSABI_GNU}
 use Rattle.elf_file.specs.Constant.{ET_DYN, EM_X86_64, PN_XNUM, FILE_HEADER_SIZE, PROGRAM_HEADER_SIZE}
 
--- e_entry: where the object begins to run, before a base is added; 0 where it has no such place
+-- e_entry: the address at which the object begins to run, before a base is added; 0 if it has none
 abbrev pub entry_address : List ℕ → ℕ
 entry_address file = number_at 8 file 24
 
--- e_phoff: where the program headers begin, in bytes from the file's start
+-- e_phoff: the offset of the program headers, in bytes from the file's start
 abbrev pub headers_offset : List ℕ → ℕ
 headers_offset file = number_at 8 file 32
 
--- e_phnum: how many program headers there are
+-- e_phnum: the number of program headers
 abbrev pub header_count : List ℕ → ℕ
 header_count file = number_at 2 file 56
 
@@ -48,7 +48,7 @@ has_bad_type file = not (number_at 2 file 16 == ET_DYN)
 abbrev pub has_bad_machine : List ℕ → Bool
 has_bad_machine file = not (number_at 2 file 18 == EM_X86_64)
 
--- E9: e_ehsize or e_phentsize isn't the size of the header
+-- E9: e_ehsize isn't the size of a file header, or e_phentsize isn't that of a program header
 abbrev pub has_bad_header_size : List ℕ → Bool
 has_bad_header_size file = not (number_at 2 file 52 == FILE_HEADER_SIZE) || not (number_at 2 file 54 == PROGRAM_HEADER_SIZE)
 
@@ -57,6 +57,6 @@ abbrev pub has_bad_program_headers : List ℕ → Bool
 has_bad_program_headers file =
     (header_count file == 0) || (header_count file == PN_XNUM) || nat_lt (length file) (headers_offset file + PROGRAM_HEADER_SIZE * header_count file)
 
--- the file has a whole file header and all program headers that this speaks of
+-- the whole file header, and all program headers that it announces, are in the file
 abbrev pub HasHeaders : List ℕ → Type 0
 HasHeaders file = (FILE_HEADER_SIZE ≤ length file) × (headers_offset file + PROGRAM_HEADER_SIZE * header_count file ≤ length file)

@@ -1,4 +1,4 @@
--- Where an object's program headers and dynamic section lie in memory, and its entry (gABI chapters 4 and 5).
+-- The addresses of an object's program headers, of its dynamic section, and of its entry (gABI chapters 4 and 5).
 use Rattle.std.specs.Prelude.{ℕ, ◌+◌, ◌-◌, ◌*◌, List, Option, None, Bool, ◌&&◌, nat_le}
 use Rattle.std.specs.Option.{option_map, option_map_or}
 use Rattle.std.specs.List.{find}
@@ -9,23 +9,23 @@ use Rattle.elf_file.specs.Dynamic.{find_dynamic}
 use Rattle.elf_file.specs.declared.segment.ProgramHeader.{ProgramHeader}
 use Rattle.elf_file.specs.declared.object_addresses.ObjectAddresses.{ObjectAddresses}
 
--- so many bytes of the file from an offset on are among those that this PT_LOAD has: p_filesz bytes from p_offset on
+-- a PT_LOAD, whose bytes are the p_filesz bytes of the file from p_offset, has the `size` bytes of the file from `offset`
 abbrev pub has_file_bytes : ℕ → ℕ → ProgramHeader → Bool
 has_file_bytes offset size h = nat_le h.offset offset && nat_le (offset + size) (h.offset + h.file_size)
 
--- the address, before a base is added, where the first PT_LOAD that has them puts so many bytes of the file
+-- the address, before a base is added, at which the first PT_LOAD that has the `size` bytes of the file from `offset` loads them
 unfoldable pub address_of_bytes : List ℕ → ℕ → ℕ → Option ℕ
 address_of_bytes file offset size = option_map (λ h. h.address + (offset - h.offset)) (find (has_file_bytes offset size) (loads file))
 
--- the address of the program headers
+-- the address of the program headers, if one PT_LOAD has all of them
 unfoldable pub headers_address : List ℕ → Option ℕ
 headers_address file = address_of_bytes file (headers_offset file) (PROGRAM_HEADER_SIZE * header_count file)
 
--- the address of the dynamic section
+-- the address of the dynamic section, if one PT_LOAD has all of its bytes
 unfoldable pub dynamic_address : List ℕ → Option ℕ
 dynamic_address file = option_map_or (λ h. address_of_bytes file h.offset h.file_size) (find_dynamic file) None
 
--- all of them
+-- the addresses of the object's own parts, and the number of its program headers
 abbrev pub addresses_of : List ℕ → ObjectAddresses
 addresses_of file =
     record {

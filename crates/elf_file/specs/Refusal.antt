@@ -1,4 +1,4 @@
--- The tests of headers, segments and tags in their order, each made over the whole file.
+-- The tests of headers, segments and tags in their order. Each test is stated for the whole file.
 use Rattle.std.specs.Prelude.{ℕ, List, [], ◌∷◌, ◌++◌, Option}
 use Rattle.elf_file.specs.FirstOf.{◌when◌, first_of}
 use Rattle.elf_file.specs.Header.{is_too_short, has_bad_magic, has_bad_class, has_bad_data, has_bad_version, has_bad_os_abi}
@@ -12,7 +12,7 @@ use Rattle.elf_file.specs.declared.refusal.ObjectRefusal.TheVariants.{BadMachine
 use Rattle.elf_file.specs.declared.refusal.ObjectRefusal.TheVariants.{TooLarge, SegmentOrder, BadDynamic, DuplicateTag, SymbolVersions}
 use Rattle.elf_file.specs.declared.refusal.ObjectRefusal.TheVariants.{UnsupportedTag, NoHashTable, MissingTag, BadEntrySize}
 
--- the tests of the file header, E1 to E10, in their order
+-- the tests of the file header and the place of the program headers, E1 to E10, in their order
 abbrev pub header_tests : List ℕ → List (Option ObjectRefusal)
 header_tests file =
     (TooShort when is_too_short file)

@@ -1,4 +1,4 @@
--- The program headers and the tests of them (gABI chapter 5; elf(5)).
+-- The program headers and their tests (gABI chapter 5; elf(5)).
 use Rattle.std.specs.Prelude.{ℕ, ◌+◌, ◌*◌, ◌%◌, List, map, filter, take, drop, length, Bool, not, ◌==◌, ◌||◌, ◌&&◌, nat_lt}
 use Rattle.std.specs.Int.{is_power_of_two}
 use Rattle.std.specs.List.{list_any, range_with_len, zip}
@@ -20,7 +20,7 @@ header_at file at =
       alignment = number_at 8 file (at + 48);
     }
 
--- the program header number i
+-- program header number `i`
 unfoldable pub program_header : List ℕ → ℕ → ProgramHeader
 program_header file i = header_at file (headers_offset file + PROGRAM_HEADER_SIZE * i)
 
@@ -28,11 +28,11 @@ program_header file i = header_at file (headers_offset file + PROGRAM_HEADER_SIZ
 abbrev pub program_headers : List ℕ → List ProgramHeader
 program_headers file = map (program_header file) (range_with_len 0 (header_count file))
 
--- PT_LOAD
+-- the segment is a PT_LOAD
 abbrev pub is_load : ProgramHeader → Bool
 is_load h = h.kind == PT_LOAD
 
--- PT_TLS
+-- the segment is a PT_TLS
 abbrev pub is_tls : ProgramHeader → Bool
 is_tls h = h.kind == PT_TLS
 
@@ -40,7 +40,7 @@ is_tls h = h.kind == PT_TLS
 unfoldable pub loads : List ℕ → List ProgramHeader
 loads file = filter is_load (program_headers file)
 
--- the bytes of a segment in the file
+-- the bytes of the file that a segment has
 abbrev pub contents : List ℕ → ProgramHeader → List ℕ
 contents file h = take h.file_size (drop h.offset file)
 
@@ -52,7 +52,7 @@ has_tls_segment file = list_any is_tls (program_headers file)
 unfoldable pub has_load : List ℕ → Bool
 has_load file = list_any is_load (program_headers file)
 
--- in a file of so many bytes a PT_LOAD has a wrong file size, end or alignment
+-- `h` is a PT_LOAD with a wrong file size, file end or alignment, in a file of `size` bytes
 abbrev pub is_bad_load : ℕ → ProgramHeader → Bool
 is_bad_load size h =
     is_load h
@@ -68,7 +68,7 @@ has_bad_load file = list_any (is_bad_load (length file)) (program_headers file)
 abbrev pub has_bad_segment : List ℕ → Bool
 has_bad_segment file = not (has_load file) || has_bad_load file
 
--- a PT_LOAD whose memory ends too high
+-- a PT_LOAD's memory ends too high
 abbrev pub is_too_high : ProgramHeader → Bool
 is_too_high h = is_load h && nat_lt HIGHEST_END (h.address + h.memory_size)
 
@@ -80,7 +80,7 @@ has_high_segment file = list_any is_too_high (program_headers file)
 abbrev pub is_too_large : List ℕ → Bool
 is_too_large file = nat_lt LARGEST_FILE (length file) || has_high_segment file
 
--- a PT_LOAD and the next: the next one begins before the end of the first
+-- the second of a pair of PT_LOADs begins before the end of the first
 abbrev pub is_out_of_order : ProgramHeader × ProgramHeader → Bool
 is_out_of_order pair = nat_lt pair.1.address (pair.0.address + pair.0.memory_size)
 

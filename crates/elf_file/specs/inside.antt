@@ -1,4 +1,4 @@
--- What the code keeps to be fast: nothing here has to be believed.
+-- Definitions of what the code keeps to be fast. None of them has to be believed.
 pub mod Index
 pub mod Tags
 pub mod Needed

@@ -1,4 +1,4 @@
-// From addresses to the bytes of the file that are loaded there (gABI chapter 5).
+// Finding the bytes of the file that are loaded at an address (gABI chapter 5).
 
 ghost use Rattle.std.specs.Prelude.{◌≡◌, ◌≤◌, ◌+◌, length, take, drop, None, Some, MatchOption};
 ghost use Rattle.elf_file.specs.Address.{is_in_file_part, find_file_part, bytes_at};
@@ -8,7 +8,7 @@ use crate::load_segments::LoadSegments;
 use crate::segment::ProgramHeader;
 use crate::segments::Segments;
 
-/// So many bytes of a file from one on.
+/// Returns `size` bytes of the file from offset `start`.
 pub(crate) fn part(file: &[u8], start: usize, size: usize) -> &[u8]
     requires { start + size ≤ length file.now }
     ensures part { result.now ≡ take size (drop start file.now) }
@@ -17,7 +17,7 @@ pub(crate) fn part(file: &[u8], start: usize, size: usize) -> &[u8]
     &file[start..start + size]
 }
 
-/// Whether so many bytes at an address lie in the file part of this PT_LOAD.
+/// Returns whether the file part of the PT_LOAD `h` has the `size` bytes at `address`.
 fn is_in_file_part(address: u64, size: u64, h: ProgramHeader) -> bool
     ensures { result ≡ is_in_file_part address size h }
 {
@@ -26,8 +26,8 @@ fn is_in_file_part(address: u64, size: u64, h: ProgramHeader) -> bool
 }
 
 impl Headers<'_> {
-    /// The PT_LOAD that has so many bytes at an address in its file part. One pass over the program
-    /// headers.
+    /// Returns the first PT_LOAD whose file part has the `size` bytes at `address`. Makes one pass
+    /// over the program headers.
     fn find_file_part(&self, address: u64, size: u64) -> Option<ProgramHeader>
         ensures { result ≡ find_file_part self.now address size }
     {
@@ -36,8 +36,8 @@ impl Headers<'_> {
 }
 
 impl<'a> Segments<'a> {
-    /// The bytes of the file at so many addresses from one on, if they can be read. One pass over
-    /// the program headers.
+    /// Returns the `size` bytes of the file that are loaded at `address`, or `None` if they can't
+    /// be read. Makes one pass over the program headers.
     #[tactic(auto, unfolding(crate::specs::Address::bytes_at))]
     pub fn bytes_at(&self, address: u64, size: u64) -> Option<&'a [u8]>
         ensures { MatchOption result (bytes_at self.now address size ≡ None)

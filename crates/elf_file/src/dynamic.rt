@@ -22,7 +22,7 @@ use crate::tag::{DF_SYMBOLIC, DT_RELA, RELOCATION_SIZE, SYMBOL_SIZE, Tag};
 use crate::tag_table::{Slot, Tags, place, read_tags};
 use std::marker::Model;
 
-/// The tags that may be present once.
+/// The tags that may be present only once.
 const SINGLE_TAGS: [Tag; 19] = [
     Tag::PltRelSize,
     Tag::Hash,
@@ -46,7 +46,8 @@ const SINGLE_TAGS: [Tag; 19] = [
 ];
 
 impl<'a> Headers<'a> {
-    /// The bytes of the dynamic section, where one PT_DYNAMIC is present and they are in the file.
+    /// Returns the bytes of the dynamic section, if exactly one PT_DYNAMIC is present and its bytes
+    /// are in the file.
     #[tactic(auto, unfolding(crate::specs::Dynamic::dynamic_section))]
     fn dynamic_section(&self) -> Option<&'a [u8]>
         ensures { MatchOption result (has_dynamic self.now ≡ false)
@@ -66,8 +67,9 @@ impl<'a> Headers<'a> {
     }
 }
 
-/// A file that none of the tests E1 to E15 refuses, and from `read` on none of E1 to E21: its
-/// dynamic section is in it and is ended. Contracts see its bytes.
+/// A file that none of the tests E1 to E15 refuses: its dynamic section is in the file and has an
+/// end. A view from `read` or `of_accepted` has passed E16 to E21 as well. Contracts see the file's
+/// bytes.
 #[derive(Drop)]
 pub struct Dynamic<'a> {
     segments: Segments<'a>,
@@ -87,8 +89,9 @@ impl<'a> Model for Dynamic<'a> {
 }
 
 impl<'a> Dynamic<'a> {
-    /// Reads a file as far as its tags, or gives the refusal of the first of the tests E1 to E21
-    /// that applies. A few passes over the program headers, and one over the dynamic section.
+    /// Reads the headers, segments and tags of a file, or returns the refusal of the first of the
+    /// tests E1 to E21 that applies. Makes a few passes over the program headers, and one over the
+    /// dynamic section.
     #[tactic(auto, using(crate::proofs::Stages::stages))]
     pub fn read(file: &'a [u8]) -> Result<Dynamic<'a>, ObjectRefusal>
         ensures { MatchResult result
@@ -100,8 +103,8 @@ impl<'a> Dynamic<'a> {
         Dynamic::test(segments)
     }
 
-    /// The view of a file that none of the tests E1 to E21 refuses: none of them is made again. Two
-    /// passes over the program headers, and one over the dynamic section.
+    /// Makes the view of a file that none of the tests E1 to E21 refuses, and makes none of these
+    /// tests again. Makes two passes over the program headers, and one over the dynamic section.
     pub fn of_accepted(file: &'a [u8]) -> Dynamic<'a>
         requires { file_refusal file.now ≡ None }
         ensures { result ≡ file.now }
@@ -113,7 +116,7 @@ impl<'a> Dynamic<'a> {
         }
     }
 
-    /// Finds the dynamic section, and reads it.
+    /// Finds the dynamic section and reads it. Returns `None` if the file has no good one (E15).
     fn find(segments: Segments<'a>) -> Option<Dynamic<'a>>
         ensures { MatchOption result (has_bad_dynamic segments.entry ≡ true)
             (λ dynamic. (has_bad_dynamic segments.entry ≡ false) × (dynamic ≡ segments.entry)) }
@@ -131,7 +134,7 @@ impl<'a> Dynamic<'a> {
         }
     }
 
-    /// Tests the dynamic section and its tags.
+    /// Tests the dynamic section and its tags: E15 to E21.
     #[tactic(auto, unfolding(crate::specs::Refusal::tag_refusal))]
     fn test(segments: Segments<'a>) -> Result<Dynamic<'a>, ObjectRefusal>
         ensures { MatchResult result
@@ -169,7 +172,7 @@ impl<'a> Dynamic<'a> {
         &self.segments
     }
 
-    /// What is known of a tag.
+    /// Returns the table's slot for a tag.
     #[tactic(auto, unfolding(crate::specs::Dynamic::entries))]
     fn slot(&self, tag: Tag) -> Slot
         ensures { result ≡ slot_of (entries self.now) (number_of tag) }
@@ -177,7 +180,7 @@ impl<'a> Dynamic<'a> {
         self.tags.table.slots[place(tag)]
     }
 
-    /// How often a tag is present.
+    /// Returns how often a tag is present.
     #[tactic(auto, unfolding(crate::specs::Dynamic::tag_count))]
     pub fn tag_count(&self, tag: Tag) -> usize
         ensures { result ≡ tag_count self.now (number_of tag) }
@@ -185,7 +188,7 @@ impl<'a> Dynamic<'a> {
         self.slot(tag).count
     }
 
-    /// Whether a tag is present.
+    /// Returns whether a tag is present.
     #[tactic(auto, using(crate::proofs::TagTables::present))]
     pub fn is_present(&self, tag: Tag) -> bool
         ensures { result ≡ is_present self.now (number_of tag) }
@@ -193,7 +196,7 @@ impl<'a> Dynamic<'a> {
         self.tag_count(tag) > 0
     }
 
-    /// The value of a tag, or 0 where it is absent.
+    /// Returns the value of a tag, or 0 if the tag is absent.
     #[tactic(auto, unfolding(crate::specs::Dynamic::tag_value, crate::specs::Dynamic::find_entry))]
     pub fn tag_value(&self, tag: Tag) -> u64
         ensures { result ≡ tag_value self.now (number_of tag) }
@@ -201,7 +204,7 @@ impl<'a> Dynamic<'a> {
         self.slot(tag).value
     }
 
-    /// Whether one of these tags is present twice.
+    /// Returns whether one of `tags` is present more than once.
     fn has_one_twice(&self, tags: &[Tag]) -> bool
         ensures { result
             ≡ list_any (λ tag. nat_lt 1 (tag_count self.now (number_of tag))) tags.now }
@@ -224,15 +227,15 @@ impl<'a> Dynamic<'a> {
             || self.is_present(Tag::VerNeed)
     }
 
-    /// Whether the flags say that the object itself is looked in first.
+    /// Returns whether DT_FLAGS has the bit by which lookup begins in the object itself.
     fn is_flagged_symbolic(&self) -> bool
         ensures { result ≡ is_flagged_symbolic self.now }
     {
         self.is_present(Tag::Flags) && self.tag_value(Tag::Flags) & DF_SYMBOLIC != 0
     }
 
-    /// Whether the object itself is looked in first for its own references (gABI chapter 5,
-    /// `DT_SYMBOLIC` and `DF_SYMBOLIC`), in constant time.
+    /// Returns whether the object's own references are looked up in the object itself first (gABI
+    /// chapter 5, `DT_SYMBOLIC` and `DF_SYMBOLIC`). Takes constant time.
     #[tactic(auto, unfolding(crate::specs::Dynamic::is_symbolic))]
     pub fn is_symbolic(&self) -> bool
         ensures { result ≡ is_symbolic self.now }
@@ -252,7 +255,7 @@ impl<'a> Dynamic<'a> {
         !self.is_present(Tag::Hash)
     }
 
-    /// Whether a tag of the strings or the symbols is absent.
+    /// Returns whether one of the tags of the strings or the symbols is absent.
     fn lacks_symbol_tag(&self) -> bool
         ensures { result ≡ lacks_symbol_tag self.now }
     {
@@ -272,7 +275,7 @@ impl<'a> Dynamic<'a> {
                 && (!self.is_present(Tag::PltRelSize) || !self.is_present(Tag::PltRel)))
     }
 
-    /// Whether the value of a tag isn't the size of whole relocations.
+    /// Returns whether the value of a tag isn't a multiple of the size of a relocation.
     fn is_part(&self, tag: Tag) -> bool
         ensures { result ≡ is_part (tag_value self.now (number_of tag)) }
     {
@@ -297,7 +300,7 @@ impl<'a> Dynamic<'a> {
         self.section
     }
 
-    /// How many entries stand before the first DT_NULL.
+    /// The number of entries before the first DT_NULL.
     fn entry_count(&self) -> usize
         ensures entries { entries self.now
             ≡ map (entry (dynamic_section self.now)) (range_with_len 0 result) }
@@ -306,15 +309,15 @@ impl<'a> Dynamic<'a> {
         self.tags.count
     }
 
-    /// How many libraries the object needs.
+    /// The number of libraries that the object needs.
     pub fn needed_count(&self) -> usize
         ensures { result ≡ length (needed_offsets self.now) }
     {
         self.tag_count(Tag::Needed)
     }
 
-    /// The offsets of the needed libraries' names in the string table, in the order of their
-    /// entries: one pass over the dynamic section.
+    /// Returns the offsets of the needed libraries' names in the string table, in the order of
+    /// their entries. Going through them makes one pass over the dynamic section.
     pub fn needed_offsets(&self) -> NeededOffsets<'a>
         ensures { result ≡ needed_offsets self.now }
     {

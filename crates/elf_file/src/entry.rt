@@ -14,10 +14,10 @@ pub struct Entry {
     pub value: u64,
 }
 
-/// How many bytes an entry has.
+/// The size of an entry, in bytes.
 pub(crate) const DYNAMIC_ENTRY_SIZE: usize = 16;
 
-/// The entry number `i` of a section.
+/// Returns entry number `i` of a section.
 #[tactic(auto, unfolding(crate::specs::Dynamic::entry))]
 pub(crate) fn nth_entry(section: &[u8], i: usize) -> Entry
     requires { i < length section.now / 16 }

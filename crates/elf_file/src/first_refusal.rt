@@ -1,5 +1,5 @@
-// The tests of the headers and of the segments in their order: the refusal of the first that
-// applies.
+// The tests of the headers and of the segments, in their order. Each function returns the refusal
+// of the first test that applies.
 
 ghost use Rattle.std.specs.Prelude.{◌≡◌, Some, None, false, MatchResult, OnOk};
 ghost use Rattle.elf_file.specs.Header.{HasHeaders};
@@ -13,7 +13,7 @@ use crate::header::{
 };
 use crate::headers::Headers;
 
-/// Tests the file header.
+/// Tests the file header and the place of the program headers: E1 to E10.
 #[tactic(auto, unfolding(crate::specs::Refusal::header_refusal))]
 pub(crate) fn test_header(file: &[u8]) -> Result<(), ObjectRefusal>
     ensures refused { MatchResult result (λ _. header_refusal file.now ≡ None)
@@ -53,7 +53,7 @@ pub(crate) fn test_header(file: &[u8]) -> Result<(), ObjectRefusal>
     Ok(())
 }
 
-/// Tests the program headers.
+/// Tests the program headers: E11 to E14.
 #[tactic(auto, unfolding(crate::specs::Refusal::segment_refusal))]
 pub(crate) fn test_segments(headers: &Headers<'_>) -> Result<(), ObjectRefusal>
     ensures refused { MatchResult result (λ _. segment_refusal headers.now ≡ None)

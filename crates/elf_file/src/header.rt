@@ -8,27 +8,27 @@ ghost use Rattle.elf_file.specs.Header.{has_bad_program_headers};
 
 use crate::number::{u16_at, u32_at, u64_at};
 
-/// The first four bytes of an ELF file.
+/// The first four bytes of an ELF file, as a little endian number.
 const ELF_MAGIC: u32 = 0x464c_457f;
-/// Of the 64-bit class.
+/// The class of 64-bit files.
 const ELFCLASS64: u8 = 2;
-/// Little endian.
+/// The encoding of little endian files.
 const ELFDATA2LSB: u8 = 1;
-/// The one version of the format.
+/// The only version of the format.
 const EV_CURRENT: u8 = 1;
-/// For System V.
+/// The OS ABI of files for System V.
 const ELFOSABI_SYSV: u8 = 0;
-/// For GNU.
+/// The OS ABI of files for GNU.
 const ELFOSABI_GNU: u8 = 3;
-/// A shared object.
+/// The type of a shared object.
 const ET_DYN: u16 = 3;
-/// For x86-64.
+/// The machine x86-64.
 const EM_X86_64: u16 = 62;
-/// The number of program headers stands elsewhere.
+/// The value of `e_phnum` if the number of program headers is recorded elsewhere.
 const PN_XNUM: u16 = 0xffff;
-/// How many bytes a file header has.
+/// The size of a file header, in bytes.
 const FILE_HEADER_SIZE: u16 = 64;
-/// How many bytes a program header has.
+/// The size of a program header, in bytes.
 pub(crate) const PROGRAM_HEADER_SIZE: u16 = 56;
 
 pub(crate) fn is_too_short(file: &[u8]) -> bool

@@ -28,7 +28,7 @@ fn header_at(file: &[u8], at: usize) -> ProgramHeader
 }
 
 /// A file that none of the tests E1 to E10 refuses: its file header and its program headers are in
-/// it. Contracts see its bytes.
+/// the file. Contracts see the file's bytes.
 #[derive(Drop)]
 pub struct Headers<'a> {
     file: &'a [u8],
@@ -46,7 +46,8 @@ impl<'a> Model for Headers<'a> {
 }
 
 impl<'a> Headers<'a> {
-    /// Tests the file header.
+    /// Makes the view of a file, or returns the refusal of the first of the tests E1 to E10 that
+    /// applies.
     pub(crate) fn read(file: &'a [u8]) -> Result<Headers<'a>, ObjectRefusal>
         ensures { MatchResult result
             (λ headers. (header_refusal file.now ≡ None) × (headers ≡ file.now))
@@ -56,7 +57,8 @@ impl<'a> Headers<'a> {
         Ok(Headers { file })
     }
 
-    /// The headers of a file that none of the tests E1 to E10 refuses: none of them is made again.
+    /// Makes the view of a file that none of the tests E1 to E10 refuses, and makes none of these
+    /// tests again.
     pub(crate) fn of_accepted(file: &'a [u8]) -> Headers<'a>
         requires { header_refusal file.now ≡ None }
         ensures { result ≡ file.now }
@@ -64,7 +66,7 @@ impl<'a> Headers<'a> {
         Headers { file }
     }
 
-    /// The same view once more.
+    /// Returns another view of the same file.
     pub(crate) fn again(&self) -> Headers<'a>
         ensures { result ≡ self.now }
     {
@@ -85,14 +87,14 @@ impl<'a> Headers<'a> {
         u64_at(self.file, 24)
     }
 
-    /// `e_phoff`: where the program headers begin, in bytes from the file's start.
+    /// `e_phoff`: the offset of the program headers, in bytes from the file's start.
     pub(crate) fn offset(&self) -> u64
         ensures { result ≡ headers_offset self.now }
     {
         u64_at(self.file, 32)
     }
 
-    /// How many program headers there are.
+    /// `e_phnum`: the number of program headers.
     pub(crate) fn count(&self) -> usize
         ensures ok { result ≡ header_count self.now }
         ensures most { result < 65536 }
@@ -100,7 +102,7 @@ impl<'a> Headers<'a> {
         usize::from(u16_at(self.file, 56))
     }
 
-    /// The program header number `i`.
+    /// Returns program header number `i`.
     #[tactic(auto, unfolding(crate::specs::Segment::program_header))]
     pub(crate) fn nth(&self, i: usize) -> ProgramHeader
         requires { i < header_count self.now }
@@ -110,7 +112,7 @@ impl<'a> Headers<'a> {
         header_at(self.file, table + usize::from(PROGRAM_HEADER_SIZE) * i)
     }
 
-    /// Whether the program header number `i` is a PT_LOAD: its type alone is read.
+    /// Returns whether program header number `i` is a PT_LOAD. Reads only its type.
     #[tactic(auto, unfolding(crate::specs::Segment::program_header))]
     pub(crate) fn is_load(&self, i: usize) -> bool
         requires { i < header_count self.now }

@@ -10,8 +10,8 @@ use crate::load_index::LoadIndex;
 use crate::segment::ProgramHeader;
 use std::marker::Model;
 
-/// The same as `Segments`, with an index by which the PT_LOAD at an address is found. It is made
-/// where many are looked for; other views of a file are small without it. Contracts see the file's
+/// The same as `Segments`, with an index that finds the PT_LOAD at an address, for callers that look
+/// up many addresses. Other views have no index, so that they stay small. Contracts see the file's
 /// bytes.
 #[derive(Drop)]
 pub struct IndexedSegments<'a> {
@@ -31,7 +31,7 @@ impl<'a> Model for IndexedSegments<'a> {
 }
 
 impl<'a> IndexedSegments<'a> {
-    /// The PT_LOADs of a file, which follow each other.
+    /// Makes the index for a file whose PT_LOADs follow each other.
     pub(crate) fn new(headers: Headers<'a>) -> IndexedSegments<'a>
         requires { has_bad_order headers ≡ false }
         ensures { result ≡ headers.entry }
@@ -40,7 +40,7 @@ impl<'a> IndexedSegments<'a> {
         IndexedSegments { headers, index }
     }
 
-    /// The headers, and what has been tested of the PT_LOADs.
+    /// The headers. The contract also states that the PT_LOADs follow each other.
     pub(crate) fn headers(&self) -> &Headers<'a>
         ensures same { result.now ≡ self.now }
         ensures order { has_bad_order self.now ≡ false }
@@ -48,7 +48,7 @@ impl<'a> IndexedSegments<'a> {
         &self.headers
     }
 
-    /// How many program headers there are.
+    /// The number of program headers.
     pub(crate) fn header_count(&self) -> usize
         ensures ok { result ≡ header_count self.now }
         ensures most { result < 65536 }
@@ -56,7 +56,7 @@ impl<'a> IndexedSegments<'a> {
         self.headers.count()
     }
 
-    /// The program header number `i`.
+    /// Returns program header number `i`.
     pub(crate) fn header(&self, i: usize) -> ProgramHeader
         requires { i < header_count self.now }
         ensures { result ≡ program_header self.now i }

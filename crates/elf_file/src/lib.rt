@@ -1,10 +1,10 @@
-//! An ELF-64 file for x86-64, as far as its dynamic section (System V gABI chapters 4 and 5,
-//! elf(5)).
+//! Reads the headers and the dynamic section of an ELF-64 file for x86-64 (System V gABI chapters 4
+//! and 5, elf(5)).
 //!
-//! `Dynamic::read` accepts a file exactly where none of the tests of its headers, its segments and
-//! its tags applies, and else gives the refusal of the first that does. The view that it gives
-//! knows the values of the tags, the PT_LOADs, and the bytes of the file at an address. It takes no
-//! memory and copies nothing.
+//! `Dynamic::read` accepts a file exactly if none of the tests of its headers, segments and tags
+//! applies. Otherwise it returns the refusal of the first test that applies. The view that it
+//! returns has the values of the tags, the PT_LOADs, and the bytes of the file at an address. The
+//! crate allocates nothing and copies nothing.
 #![tactic(auto)]
 
 mod address;

@@ -1,4 +1,4 @@
-// An index of the PT_LOADs, without memory of its own.
+// An index of the PT_LOADs, which needs no allocation.
 
 ghost use Rattle.std.specs.Prelude.{◌≡◌, ◌≤◌, ◌<◌, ◌+◌, ℕ, List, true, false, MatchOption};
 ghost use Rattle.elf_file.specs.Header.{header_count};
@@ -10,15 +10,17 @@ use crate::headers::Headers;
 use crate::indexed_segments::IndexedSegments;
 use crate::segment::ProgramHeader;
 
-/// How many program headers a block spans.
+/// The number of program headers that a block spans.
 pub(crate) const BLOCK: usize = 1024;
-/// How many blocks a file can have, its program headers being counted by 16 bits.
+/// The maximum number of blocks of a file: its program headers are counted by 16 bits.
 const BLOCKS: usize = 64;
 
-/// The PT_LOADs in blocks. Each block begins with a PT_LOAD and has those of the 1,024 program
-/// headers from there on. Kept is the header number of each block's first PT_LOAD. So a PT_LOAD is
-/// found by an address by one halving over the blocks, one over a block (`narrowed`), and a pass
-/// over what that leaves, where other headers stand between.
+/// The PT_LOADs in blocks. Each block begins with a PT_LOAD and spans 1,024 program headers from
+/// there. The index has, for each block, the header number of its first PT_LOAD.
+///
+/// A PT_LOAD is found by its address in three steps: a binary search over the blocks, a binary
+/// search within a block (`narrowed`), and a pass over the headers that are left. The pass is
+/// needed because headers of other types may lie between the PT_LOADs.
 #[derive(Clone, Copy)]
 pub(crate) struct LoadIndex {
     pub(crate) blocks: usize,
@@ -26,7 +28,7 @@ pub(crate) struct LoadIndex {
 }
 
 impl LoadIndex {
-    /// The index of no program headers.
+    /// Returns an index without blocks, which is the index of no program headers.
     fn empty() -> LoadIndex
         ensures { (file : List ℕ) → Indexes file 0 result }
     {
@@ -36,7 +38,7 @@ impl LoadIndex {
         }
     }
 
-    /// The index of a file. One pass over the program headers.
+    /// Makes the index of a file. Makes one pass over the program headers.
     pub(crate) fn new(headers: &Headers<'_>) -> LoadIndex
         ensures { Indexes headers.now (header_count headers.now) result }
     {
@@ -47,7 +49,8 @@ impl LoadIndex {
         index
     }
 
-    /// Whether the last block spans a program header behind its first.
+    /// Returns whether the last block spans program header number `i`, for an `i` after the block's
+    /// first header.
     fn spans(&self, i: usize) -> bool
         requires { self.now.blocks ≤ BLOCKS }
         ensures { result ≡ is_spanned self.now i }
@@ -55,7 +58,7 @@ impl LoadIndex {
         self.blocks > 0 && i < usize::from(self.first[self.blocks - 1]) + BLOCK
     }
 
-    /// Begins a block with the program header number `i`.
+    /// Begins a block with program header number `i`.
     fn begin_block(&mut self, i: usize)
         requires room { self.old.blocks < BLOCKS }
         requires header { i < 65536 }
@@ -65,8 +68,8 @@ impl LoadIndex {
         self.blocks += 1;
     }
 
-    /// Begins a block with the program header number `i` where it is a PT_LOAD that the last one
-    /// doesn't span.
+    /// Begins a block with program header number `i` if that is a PT_LOAD and the last block
+    /// doesn't span it.
     fn add(&mut self, headers: &Headers<'_>, i: usize)
         requires within { i < header_count headers.now }
         requires number { i < 65536 }
@@ -83,8 +86,9 @@ impl LoadIndex {
 }
 
 impl IndexedSegments<'_> {
-    /// The header number of the first PT_LOAD of the last block that begins at or below an address,
-    /// by halving. Each PT_LOAD before it ends there, and each behind its block begins above.
+    /// Returns the header number of the first PT_LOAD of the last block that begins at or below
+    /// `address`, or `None` if no block does. Each PT_LOAD before the returned one ends at or below
+    /// `address`, and each after its block begins above. Makes a binary search.
     pub(crate) fn block_at(&self, address: u64) -> Option<usize>
         ensures { MatchOption result (AllAbove self.now address 0) (IsBlockAt self.now address) }
     {
@@ -105,7 +109,7 @@ impl IndexedSegments<'_> {
         Some(usize::from(index.first[low - 1]))
     }
 
-    /// Whether a program header is a PT_LOAD that begins at or below an address.
+    /// Returns whether program header number `i` is a PT_LOAD that begins at or below `address`.
     fn begins_by(&self, i: usize, address: u64) -> bool
         requires { i < header_count self.now }
         ensures begins { result ≡ true → BeginsBy self.now address i }
@@ -115,8 +119,8 @@ impl IndexedSegments<'_> {
         headers.is_load(i) && headers.nth(i).address <= address
     }
 
-    /// The second of two program headers, where it is a PT_LOAD that begins at or below an address,
-    /// else the first.
+    /// Returns `second` if it is the number of a PT_LOAD that begins at or below `address`, and
+    /// otherwise `first`.
     fn later(&self, first: usize, second: usize, address: u64) -> usize
         requires block { IsBlockAt self.now address first }
         requires order { first ≤ second }
@@ -129,10 +133,10 @@ impl IndexedSegments<'_> {
         first
     }
 
-    /// A PT_LOAD not before this one of which the same is true: each before it ends at or below the
-    /// address, and each that stands far enough behind it begins above. By halving over a block;
-    /// where all its headers are PT_LOADs, or every second one, it is the last that begins at or
-    /// below the address.
+    /// Returns a header number, not before `first`, that has the same property as `first`: each
+    /// PT_LOAD before it ends at or below `address`, and each PT_LOAD at least a block after it
+    /// begins above. Makes a binary search over a block. If all headers of the block are PT_LOADs,
+    /// or every second one is, the result is the last PT_LOAD that begins at or below `address`.
     pub(crate) fn narrowed(&self, first: usize, address: u64) -> usize
         requires { IsBlockAt self.now address first }
         ensures { IsBlockAt self.now address result }

@@ -9,8 +9,7 @@ use crate::headers::Headers;
 use crate::segment::ProgramHeader;
 use std::marker::Model;
 
-/// The PT_LOADs that are left to come, in the order of the program headers. Contracts see their
-/// list.
+/// The PT_LOADs that are left, in the order of the program headers. Contracts see the list of them.
 #[derive(Drop)]
 pub struct LoadSegments<'a> {
     headers: Headers<'a>,
@@ -31,7 +30,8 @@ impl<'a> Model for LoadSegments<'a> {
 }
 
 impl Headers<'_> {
-    /// The number of the first PT_LOAD from a program header on, or how many headers there are.
+    /// Returns the number of the first PT_LOAD from program header number `from`, or the number of
+    /// program headers if there is none.
     pub(crate) fn next_load(&self, from: usize) -> usize
         requires { from ≤ header_count self.now }
         ensures within { result ≤ header_count self.now }
@@ -51,7 +51,7 @@ impl Headers<'_> {
 }
 
 impl<'a> LoadSegments<'a> {
-    /// All PT_LOADs of a file.
+    /// Returns all PT_LOADs of a file.
     pub(crate) fn new(headers: &Headers<'a>) -> LoadSegments<'a>
         ensures { result ≡ loads headers.now }
     {

@@ -7,7 +7,7 @@ use crate::indexed_segments::IndexedSegments;
 use crate::load_index::BLOCK;
 use crate::segment::ProgramHeader;
 
-/// Whether so many bytes at an address lie in the memory part of this PT_LOAD.
+/// Returns whether the memory part of the PT_LOAD `h` has the `size` bytes at `address`.
 pub fn is_in_memory_part(address: u64, size: u64, h: ProgramHeader) -> bool
     ensures { result ≡ is_in_memory_part address size h }
 {
@@ -17,9 +17,10 @@ pub fn is_in_memory_part(address: u64, size: u64, h: ProgramHeader) -> bool
 }
 
 impl IndexedSegments<'_> {
-    /// The PT_LOAD that has so many bytes at an address in its memory part. Since PT_LOADs follow
-    /// each other, only one of the last block that begins at or below the address can: a halving
-    /// over the blocks, one over the headers of a block, and a pass over what that leaves.
+    /// Returns a PT_LOAD whose memory part has the `size` bytes at `address`, or `None` if there is
+    /// none. PT_LOADs follow each other, so only a PT_LOAD of the last block that begins at or
+    /// below `address` can have them. Makes a binary search over the blocks, one over the headers
+    /// of a block, and a pass over the headers that are left.
     pub fn load_at(&self, address: u64, size: u64) -> Option<ProgramHeader>
         requires { 0 < size }
         ensures { MatchOption result (is_in_memory self.now address size ≡ false)

@@ -1,4 +1,4 @@
-// The entries that name needed libraries, one after the other (gABI chapter 5, `DT_NEEDED`).
+// The entries that name needed libraries (gABI chapter 5, `DT_NEEDED`).
 
 ghost use Rattle.std.specs.Prelude.{◌≡◌, ◌≤◌, ◌<◌, ◌/◌, ℕ, length, true, false};
 ghost use Rattle.std.specs.Iterator.{YieldsFirst, item_count};
@@ -8,8 +8,8 @@ use crate::entry::nth_entry;
 use crate::tag::DT_NEEDED;
 use std::marker::Model;
 
-/// The offsets of the needed libraries' names that are left to come, in the order of their entries.
-/// Contracts see their list.
+/// The offsets of the needed libraries' names that are left, in the order of their entries.
+/// Contracts see the list of them.
 #[derive(Drop)]
 pub struct NeededOffsets<'a> {
     section: &'a [u8],
@@ -28,7 +28,8 @@ impl<'a> Model for NeededOffsets<'a> {
     ghost invariant = { λ s. (s.next ≤ s.count) × (s.count ≤ length s.section.now / 16) };
 }
 
-/// The number of the first entry with DT_NEEDED from an entry on, or how many entries there are.
+/// Returns the number of the first DT_NEEDED from entry number `from`, or `count` if none of the
+/// first `count` entries from there is one.
 fn next_needed(bytes: &[u8], count: usize, from: usize) -> usize
     requires from { from ≤ count }
     requires count { count ≤ length bytes.now / 16 }
@@ -46,7 +47,7 @@ fn next_needed(bytes: &[u8], count: usize, from: usize) -> usize
 }
 
 impl<'a> NeededOffsets<'a> {
-    /// Those of all entries of a section.
+    /// Returns the offsets in the DT_NEEDED entries among the first `count` entries of a section.
     pub(crate) fn new(section: &'a [u8], count: usize) -> NeededOffsets<'a>
         requires { count ≤ length section.now / 16 }
         ensures { result ≡ values_from section.now count 0 }
@@ -58,7 +59,7 @@ impl<'a> NeededOffsets<'a> {
         }
     }
 
-    /// The same ones once more.
+    /// Returns an iterator over the same offsets that are left.
     pub fn again(&self) -> NeededOffsets<'a>
         ensures { result ≡ self.now }
     {

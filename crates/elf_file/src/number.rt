@@ -1,11 +1,11 @@
-// The numbers of a file, little endian (gABI chapter 4, ELFDATA2LSB).
+// Numbers in a file, little endian (gABI chapter 4, ELFDATA2LSB).
 
 ghost use Rattle.std.specs.Prelude.{◌≡◌, ◌+◌, ◌≤◌, length};
 ghost use Rattle.elf_file.specs.Number.{number_at};
 
 use byteorder::{ByteOrder, LittleEndian};
 
-/// The number of two bytes.
+/// Returns the number in the two bytes at offset `at`.
 #[tactic(auto, unfolding(crate::specs::Number::number_at))]
 pub fn u16_at(file: &[u8], at: usize) -> u16
     requires { at + 2 ≤ length file.now }
@@ -14,7 +14,7 @@ pub fn u16_at(file: &[u8], at: usize) -> u16
     LittleEndian::read_u16(&file[at..])
 }
 
-/// The number of four bytes.
+/// Returns the number in the four bytes at offset `at`.
 #[tactic(auto, unfolding(crate::specs::Number::number_at))]
 pub fn u32_at(file: &[u8], at: usize) -> u32
     requires { at + 4 ≤ length file.now }
@@ -23,7 +23,7 @@ pub fn u32_at(file: &[u8], at: usize) -> u32
     LittleEndian::read_u32(&file[at..])
 }
 
-/// The number of eight bytes.
+/// Returns the number in the eight bytes at offset `at`.
 #[tactic(auto, unfolding(crate::specs::Number::number_at))]
 pub fn u64_at(file: &[u8], at: usize) -> u64
     requires { at + 8 ≤ length file.now }

@@ -1,4 +1,4 @@
-// Where an object's program headers and dynamic section lie in memory, and its entry.
+// The addresses of an object's program headers, of its dynamic section, and of its entry.
 
 ghost use Rattle.std.specs.Prelude.{◌≡◌};
 ghost use Rattle.std.specs.List.{find};
@@ -16,17 +16,17 @@ use crate::segments::Segments;
 /// Addresses within an object before its base is added (gABI chapters 4 and 5).
 #[derive(Clone, Copy, PartialEq, Eq)]
 pub struct ObjectAddresses {
-    /// Of its program headers, where a PT_LOAD has all of them.
+    /// The address of the program headers, if one PT_LOAD has all of them.
     pub headers: Option<u64>,
-    /// How many program headers there are: `e_phnum`.
+    /// The number of program headers: `e_phnum`.
     pub header_count: u64,
-    /// Of its dynamic section, where a PT_LOAD has all of its bytes.
+    /// The address of the dynamic section, if one PT_LOAD has all of its bytes.
     pub dynamic: Option<u64>,
     /// `e_entry`.
     pub entry: u64,
 }
 
-/// Whether so many bytes of the file from an offset on are among those that this PT_LOAD has.
+/// Returns whether the PT_LOAD `h` has the `size` bytes of the file from `offset`.
 fn has_file_bytes(offset: u64, size: u64, h: ProgramHeader) -> bool
     ensures { result ≡ has_file_bytes offset size h }
 {
@@ -35,8 +35,8 @@ fn has_file_bytes(offset: u64, size: u64, h: ProgramHeader) -> bool
 }
 
 impl Headers<'_> {
-    /// The first PT_LOAD that has so many bytes of the file from an offset on. One pass over the
-    /// program headers.
+    /// Returns the first PT_LOAD that has the `size` bytes of the file from `offset`. Makes one
+    /// pass over the program headers.
     fn find_file_bytes(&self, offset: u64, size: u64) -> Option<ProgramHeader>
         ensures { result ≡ find (has_file_bytes offset size) (loads self.now) }
     {
@@ -45,8 +45,8 @@ impl Headers<'_> {
 }
 
 impl Segments<'_> {
-    /// The address where the first PT_LOAD that has them puts so many bytes of the file. One pass
-    /// over the program headers.
+    /// Returns the address at which the `size` bytes of the file from `offset` are loaded by the
+    /// first PT_LOAD that has them. Makes one pass over the program headers.
     #[tactic(auto, unfolding(crate::specs::ObjectAddresses::address_of_bytes))]
     fn address_of_bytes(&self, offset: u64, size: u64) -> Option<u64>
         ensures { result ≡ address_of_bytes self.now offset size }
@@ -57,7 +57,7 @@ impl Segments<'_> {
         }
     }
 
-    /// The address of the program headers.
+    /// Returns the address of the program headers, if one PT_LOAD has all of them.
     #[tactic(auto, unfolding(crate::specs::ObjectAddresses::headers_address))]
     fn headers_address(&self) -> Option<u64>
         ensures { result ≡ headers_address self.now }
@@ -67,7 +67,7 @@ impl Segments<'_> {
         self.address_of_bytes(offset, size)
     }
 
-    /// The address of the dynamic section.
+    /// Returns the address of the dynamic section, if one PT_LOAD has all of it.
     #[tactic(auto, unfolding(crate::specs::ObjectAddresses::dynamic_address))]
     fn dynamic_address(&self) -> Option<u64>
         ensures { result ≡ dynamic_address self.now }
@@ -78,7 +78,8 @@ impl Segments<'_> {
         }
     }
 
-    /// Where the object's own parts lie. Three passes over the program headers.
+    /// Returns the addresses of the object's own parts. Makes three passes over the program
+    /// headers.
     pub fn addresses(&self) -> ObjectAddresses
         ensures { result ≡ addresses_of self.now }
     {

@@ -1,66 +1,66 @@
-/// Why a file isn't accepted, in the order in which the tests are made.
+/// The reason why a file is refused. The variants are in the order of the tests.
 #[derive(Clone, Copy, Debug, PartialEq, Eq)]
 pub enum ObjectRefusal {
-    /// E1: the file is shorter than a file header.
+    /// E1: the file is shorter than a file header (64 bytes).
     TooShort,
-    /// E2: it doesn't begin as an ELF file does.
+    /// E2: the file doesn't begin with 7f 45 4c 46.
     BadMagic,
-    /// E3: it isn't of the 64-bit class.
+    /// E3: the file isn't of the 64-bit class.
     BadClass,
-    /// E4: it isn't little endian.
+    /// E4: the file isn't little endian.
     BadData,
-    /// E5: it isn't of the current version.
+    /// E5: the file isn't of the current version.
     BadVersion,
-    /// E6: it is neither for System V nor for GNU.
+    /// E6: the file is neither for System V nor for GNU.
     BadOsAbi,
-    /// E7: it isn't a shared object.
+    /// E7: the file isn't a shared object.
     BadType,
-    /// E8: it isn't for x86-64.
+    /// E8: the file isn't for x86-64.
     BadMachine,
-    /// E9: its headers have other sizes.
+    /// E9: `e_ehsize` isn't 64, or `e_phentsize` isn't 56.
     BadHeaderSize,
-    /// E10: it has no program headers, or they don't lie in the file.
+    /// E10: the file has no program headers, or they don't lie in the file.
     BadProgramHeaders,
-    /// E11: it has thread-local data.
+    /// E11: the file has a segment of thread-local data.
     TlsSegment,
-    /// E12: it has no segment to load, or one that breaks the rules.
+    /// E12: the file has no PT_LOAD, or one that breaks the rules.
     BadSegment,
     /// E13: the file is too long, or its memory ends too high.
     TooLarge,
-    /// E14: its segments don't follow each other.
+    /// E14: a PT_LOAD begins before the end of the one before it.
     SegmentOrder,
-    /// E15: it hasn't one whole dynamic section.
+    /// E15: the file hasn't exactly one dynamic section, or this section isn't whole or has no end.
     BadDynamic,
-    /// E16: a tag that may be present once is present twice.
+    /// E16: a tag that may be present only once is present more often.
     DuplicateTag,
-    /// E17: it has symbol versions.
+    /// E17: the file has symbol versions.
     SymbolVersions,
-    /// E18: it has relocations without addends, or in short form.
+    /// E18: the file has relocations without addends, or in short form.
     UnsupportedTag,
-    /// E19: it has no SYSV hash table.
+    /// E19: the file has no SYSV hash table.
     NoHashTable,
-    /// E20: a tag is missing.
+    /// E20: a tag that has to be present is missing.
     MissingTag,
-    /// E21: a table has entries of another size.
+    /// E21: symbols or relocations have a wrong size or kind, or a table ends within a relocation.
     BadEntrySize,
-    /// E22: a table can't be read from the file.
+    /// E22: a table doesn't lie in the file bytes of one PT_LOAD.
     BadRange,
-    /// E23: its string table is empty or isn't ended, or a name isn't in it.
+    /// E23: the string table is empty or doesn't end with a 0, or a name isn't in it.
     BadString,
-    /// E24: it has a common symbol.
+    /// E24: the file has a common symbol.
     CommonSymbol,
-    /// E25: it has a thread-local symbol.
+    /// E25: the file has a thread-local symbol.
     TlsSymbol,
-    /// E26: it has an indirect function.
+    /// E26: the file has an indirect function.
     IfuncSymbol,
     /// E27: a symbol's binding is neither local, global nor weak.
     BadBinding,
-    /// E30: a relocation has a type that isn't supported, this one.
+    /// E30: a relocation has this type, which isn't supported.
     RelocationType(u32),
-    /// E31: a relocation names a symbol that isn't there.
+    /// E31: a relocation names a symbol that doesn't exist.
     RelocationSymbol,
-    /// E32: a relocation writes outside of the segments.
+    /// E32: a relocation writes bytes that don't lie in the memory of one PT_LOAD.
     RelocationPlace,
-    /// E33: it has no name under which a library can be kept.
+    /// E33: a library's file has no SONAME that may be a library's name.
     BadSoname,
 }

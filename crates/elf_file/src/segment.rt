@@ -9,16 +9,16 @@ ghost use Rattle.elf_file.specs.Dynamic.{dynamic_count, find_dynamic};
 use crate::headers::Headers;
 use crate::load_segments::LoadSegments;
 
-/// A program header as it stands in the file (gABI chapter 5, `Elf64_Phdr`).
+/// A program header of the file (gABI chapter 5, `Elf64_Phdr`).
 #[derive(Clone, Copy, PartialEq, Eq)]
 pub struct ProgramHeader {
     /// `p_type`.
     pub kind: u32,
-    /// `p_flags`: 1 execution, 2 writing, 4 reading; other bits mean nothing here.
+    /// `p_flags`: 1 is execution, 2 writing, 4 reading. Other bits have no meaning here.
     pub flags: u32,
     /// `p_offset`, in bytes from the file's start.
     pub offset: u64,
-    /// `p_vaddr`, an address before the base is added.
+    /// `p_vaddr`, an address to which the base hasn't been added.
     pub address: u64,
     /// `p_filesz`, in bytes.
     pub file_size: u64,
@@ -28,19 +28,19 @@ pub struct ProgramHeader {
     pub alignment: u64,
 }
 
-/// A segment that is loaded.
+/// The type of a segment that is loaded.
 pub const PT_LOAD: u32 = 1;
-/// The segment of the dynamic section.
+/// The type of the segment that has the dynamic section.
 const PT_DYNAMIC: u32 = 2;
-/// A segment of thread-local data.
+/// The type of a segment of thread-local data.
 const PT_TLS: u32 = 7;
 
-/// The greatest length of a file, in bytes.
+/// The maximum length of a file, in bytes.
 const LARGEST_FILE: usize = 16_777_216;
-/// The highest address that an object's memory may end at.
+/// The highest address at which an object's memory may end.
 const HIGHEST_END: u64 = 67_108_864;
 
-/// Whether a PT_LOAD breaks the rules, in a file of so many bytes.
+/// Returns whether `h` is a PT_LOAD that breaks the rules, in a file of `size` bytes.
 fn is_bad_load(size: usize, h: ProgramHeader) -> bool
     ensures { result ≡ is_bad_load size h }
 {
@@ -58,7 +58,7 @@ fn is_too_high(h: ProgramHeader) -> bool
     h.kind == PT_LOAD && u128::from(h.address) + u128::from(h.memory_size) > u128::from(HIGHEST_END)
 }
 
-/// Whether a PT_LOAD begins before the end of the one before it.
+/// Returns whether the PT_LOAD `next` begins before the end of the PT_LOAD `first`.
 fn is_out_of_order(first: ProgramHeader, next: ProgramHeader) -> bool
     ensures { result ≡ is_out_of_order (first, next) }
 {
@@ -111,7 +111,7 @@ impl Headers<'_> {
         loads.zip(others).any(|(a, b)| is_out_of_order(a, b))
     }
 
-    /// How many PT_DYNAMICs there are.
+    /// The number of PT_DYNAMICs.
     pub(crate) fn dynamic_count(&self) -> usize
         ensures { result ≡ dynamic_count self.now }
     {
@@ -120,7 +120,7 @@ impl Headers<'_> {
             .count()
     }
 
-    /// The first PT_DYNAMIC.
+    /// Returns the first PT_DYNAMIC.
     #[tactic(auto, unfolding(crate::specs::Dynamic::find_dynamic))]
     pub(crate) fn find_dynamic(&self) -> Option<ProgramHeader>
         ensures { result ≡ find_dynamic self.now }

@@ -14,8 +14,8 @@ use crate::load_segments::LoadSegments;
 use crate::segment::ProgramHeader;
 use std::marker::Model;
 
-/// A file that none of the tests E1 to E14 refuses: its PT_LOADs follow the rules and each other.
-/// Contracts see its bytes.
+/// A file that none of the tests E1 to E14 refuses: its PT_LOADs follow the rules and follow each
+/// other. Contracts see the file's bytes.
 #[derive(Drop)]
 pub struct Segments<'a> {
     headers: Headers<'a>,
@@ -33,7 +33,7 @@ impl<'a> Model for Segments<'a> {
 }
 
 impl<'a> Segments<'a> {
-    /// Tests the program headers.
+    /// Tests the program headers: E11 to E14.
     pub(crate) fn read(headers: Headers<'a>) -> Result<Segments<'a>, ObjectRefusal>
         ensures { MatchResult result
             (λ segments. (segment_refusal headers.entry ≡ None) × (segments ≡ headers.entry))
@@ -43,7 +43,8 @@ impl<'a> Segments<'a> {
         Ok(Segments { headers })
     }
 
-    /// The segments of a file that none of the tests E1 to E14 refuses: none of them is made again.
+    /// Makes the view of a file that none of the tests E1 to E14 refuses, and makes none of these
+    /// tests again.
     pub(crate) fn of_accepted(file: &'a [u8]) -> Segments<'a>
         requires headers { header_refusal file.now ≡ None }
         requires segments { segment_refusal file.now ≡ None }
@@ -54,7 +55,7 @@ impl<'a> Segments<'a> {
         }
     }
 
-    /// The same view once more.
+    /// Returns another view of the same file.
     pub fn again(&self) -> Segments<'a>
         ensures { result ≡ self.now }
     {
@@ -63,7 +64,7 @@ impl<'a> Segments<'a> {
         }
     }
 
-    /// The headers, and what has been tested of the PT_LOADs.
+    /// The headers. The contract also states which tests the PT_LOADs have passed.
     pub fn headers(&self) -> &Headers<'a>
         ensures same { result.now ≡ self.now }
         ensures loads { has_bad_load self.now ≡ false }
@@ -73,7 +74,7 @@ impl<'a> Segments<'a> {
         &self.headers
     }
 
-    /// How many PT_LOADs there are: one pass over the program headers.
+    /// The number of PT_LOADs. Makes one pass over the program headers.
     pub fn count(&self) -> usize
         ensures { result ≡ length (loads self.now) }
     {
@@ -82,7 +83,7 @@ impl<'a> Segments<'a> {
             .count()
     }
 
-    /// The PT_LOAD number `i`: a pass over the program headers up to it.
+    /// Returns PT_LOAD number `i`. Makes a pass over the program headers up to it.
     pub fn nth(&self, i: usize) -> ProgramHeader
         requires { i < length (loads self.now) }
         ensures { slice_get (loads self.now) i ≡ Some result }
@@ -97,14 +98,15 @@ impl<'a> Segments<'a> {
         unreachable!()
     }
 
-    /// The PT_LOADs in their order: one pass over the program headers.
+    /// Returns the PT_LOADs in their order. Going through them makes one pass over the program
+    /// headers.
     pub fn iter(&self) -> LoadSegments<'a>
         ensures { result ≡ loads self.now }
     {
         LoadSegments::new(&self.headers)
     }
 
-    /// How many program headers there are.
+    /// The number of program headers.
     pub(crate) fn header_count(&self) -> usize
         ensures ok { result ≡ header_count self.now }
         ensures most { result < 65536 }
@@ -112,7 +114,7 @@ impl<'a> Segments<'a> {
         self.headers.count()
     }
 
-    /// The program header number `i`.
+    /// Returns program header number `i`.
     pub(crate) fn header(&self, i: usize) -> ProgramHeader
         requires { i < header_count self.now }
         ensures { result ≡ program_header self.now i }
@@ -120,8 +122,8 @@ impl<'a> Segments<'a> {
         self.headers.nth(i)
     }
 
-    /// The PT_LOADs with an index, by which the one at an address is found. One pass over the
-    /// program headers.
+    /// Returns the segments with an index that finds the PT_LOAD at an address. Makes one pass over
+    /// the program headers.
     pub fn indexed(&self) -> IndexedSegments<'a>
         ensures { result ≡ self.now }
     {

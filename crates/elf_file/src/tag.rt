@@ -3,11 +3,11 @@
 ghost use Rattle.std.specs.Prelude.{◌≡◌};
 ghost use Rattle.elf_file.specs.Tag.{number_of};
 
-/// Ends the dynamic section.
+/// The end of the dynamic section.
 pub(crate) const DT_NULL: u64 = 0;
 /// A library that the object needs: the offset of its name in the string table.
 pub(crate) const DT_NEEDED: u64 = 1;
-/// How many bytes the relocations at `DT_JMPREL` take.
+/// The size of the relocations at `DT_JMPREL`, in bytes.
 pub(crate) const DT_PLTRELSZ: u64 = 2;
 /// The address of the hash table.
 pub(crate) const DT_HASH: u64 = 4;
@@ -17,41 +17,41 @@ pub(crate) const DT_STRTAB: u64 = 5;
 pub(crate) const DT_SYMTAB: u64 = 6;
 /// The address of the relocations.
 pub(crate) const DT_RELA: u64 = 7;
-/// How many bytes the relocations at `DT_RELA` take.
+/// The size of the relocations at `DT_RELA`, in bytes.
 pub(crate) const DT_RELASZ: u64 = 8;
-/// How many bytes one relocation takes.
+/// The size of one relocation, in bytes.
 pub(crate) const DT_RELAENT: u64 = 9;
-/// How many bytes the string table takes.
+/// The size of the string table, in bytes.
 pub(crate) const DT_STRSZ: u64 = 10;
-/// How many bytes one symbol takes.
+/// The size of one symbol, in bytes.
 pub(crate) const DT_SYMENT: u64 = 11;
 /// The object's own name: its offset in the string table.
 pub(crate) const DT_SONAME: u64 = 14;
-/// The object itself is looked in first.
+/// Its presence means that the object's own references are looked up in the object first.
 pub(crate) const DT_SYMBOLIC: u64 = 16;
 /// The address of relocations without addends.
 pub(crate) const DT_REL: u64 = 17;
-/// Of which kind the relocations at `DT_JMPREL` are.
+/// The kind of the relocations at `DT_JMPREL`.
 pub(crate) const DT_PLTREL: u64 = 20;
 /// The address of the relocations of the procedure linkage table.
 pub(crate) const DT_JMPREL: u64 = 23;
-/// Flags.
+/// Flags, of which only `DF_SYMBOLIC` has a meaning here.
 pub(crate) const DT_FLAGS: u64 = 30;
 /// The address of relocations in short form.
 pub(crate) const DT_RELR: u64 = 36;
-/// The versions of the symbols.
+/// The address of the symbols' versions.
 pub(crate) const DT_VERSYM: u64 = 0x6fff_fff0;
-/// The versions that the object defines.
+/// The address of the versions that the object defines.
 pub(crate) const DT_VERDEF: u64 = 0x6fff_fffc;
-/// The versions that the object needs.
+/// The address of the versions that the object needs.
 pub(crate) const DT_VERNEED: u64 = 0x6fff_fffe;
 
-/// The bit of `DT_FLAGS` by which the object itself is looked in first.
+/// The bit of `DT_FLAGS` with the meaning of `DT_SYMBOLIC`.
 pub(crate) const DF_SYMBOLIC: u64 = 0x2;
 
-/// How many bytes a symbol has.
+/// The size of a symbol, in bytes.
 pub const SYMBOL_SIZE: u64 = 24;
-/// How many bytes a relocation with an addend has.
+/// The size of a relocation with an addend, in bytes.
 pub const RELOCATION_SIZE: u64 = 24;
 
 /// A tag that is read.
@@ -100,7 +100,7 @@ pub enum Tag {
 }
 
 impl Tag {
-    /// Its number.
+    /// Returns the tag's number.
     pub fn number(self) -> u64
         ensures { result ≡ number_of self }
     {

@@ -1,4 +1,4 @@
-// The table of what the dynamic section says of each tag that is read.
+// A table that has, for each tag that is read, its count and its value in the dynamic section.
 
 ghost use Rattle.std.specs.Prelude.{◌≡◌, ◌<◌, ◌^◌, ℕ, [], true, false, Some};
 ghost use Rattle.std.specs.Prelude.{IfSome, MatchOption, slice_index_or};
@@ -14,27 +14,27 @@ use crate::tag::{
     DT_SYMTAB, DT_VERDEF, DT_VERNEED, DT_VERSYM, Tag,
 };
 
-/// How many places there are: one for each tag that is read.
+/// The number of places in the table: one for each tag that is read.
 const PLACES: usize = 20;
 
-/// What the dynamic section says of a tag: how often it is present, and the value of the first
-/// entry, or 0 where it is absent.
+/// A tag's slot in the table: how often the tag is present, and the value of the first entry with
+/// it, or 0 if it is absent.
 #[derive(Clone, Copy)]
 pub(crate) struct Slot {
     pub(crate) count: usize,
     pub(crate) value: u64,
 }
 
-/// An absent tag.
+/// The slot of an absent tag.
 const NO_SLOT: Slot = Slot { count: 0, value: 0 };
 
-/// What the dynamic section says of each tag that has a place.
+/// The slots of all tags that have a place.
 #[derive(Clone, Copy)]
 pub(crate) struct TagTable {
     pub(crate) slots: [Slot; PLACES],
 }
 
-/// The place of a tag's number in the table, where it has one.
+/// Returns the place of tag number `number` in the table, if it has one.
 fn place_of(number: u64) -> Option<usize>
     ensures ok { result ≡ place_of number }
     ensures within { IfSome result (λ k. k < PLACES) }
@@ -64,7 +64,7 @@ fn place_of(number: u64) -> Option<usize>
     }
 }
 
-/// The place of a tag in the table.
+/// Returns the place of a tag in the table.
 pub(crate) fn place(tag: Tag) -> usize
     ensures ok { place_of (number_of tag) ≡ Some result }
     ensures within { result < PLACES }
@@ -73,7 +73,7 @@ pub(crate) fn place(tag: Tag) -> usize
 }
 
 impl Slot {
-    /// The same after one more entry with the tag.
+    /// Returns the slot after one more entry with the tag, which has this value.
     fn and(self, value: u64) -> Slot
         requires { self.count < 2 ^ 63 }
         ensures { result ≡ slot_more value self }
@@ -86,7 +86,7 @@ impl Slot {
 }
 
 impl TagTable {
-    /// The table of no entries.
+    /// Returns the table of a section without entries.
     fn empty() -> TagTable
         ensures { IsTable [] result.slots }
     {
@@ -95,7 +95,7 @@ impl TagTable {
         }
     }
 
-    /// Counts one more entry.
+    /// Counts one more entry in the slot of its tag, if the tag has a place.
     fn add(&mut self, entry: Entry)
         requires { (n k : ℕ) (d : Slot) → place_of n ≡ Some k
             → (slice_index_or self.old.slots k d).count < 2 ^ 63 }
@@ -109,15 +109,15 @@ impl TagTable {
     }
 }
 
-/// What is kept of a section: how many entries stand before its first DT_NULL, and the table of
-/// them.
+/// The number of entries of a section before its first DT_NULL, and the table of these entries.
 #[derive(Clone, Copy)]
 pub(crate) struct Tags {
     pub(crate) count: usize,
     pub(crate) table: TagTable,
 }
 
-/// What is to be kept of a section that has a DT_NULL. One pass.
+/// Reads the entries of a section up to its first DT_NULL. Returns `None` if it has no DT_NULL.
+/// Makes one pass.
 pub(crate) fn read_tags(section: &[u8]) -> Option<Tags>
     ensures { MatchOption result (is_ended section.now ≡ false)
         (λ tags. (is_ended section.now ≡ true) × IsTagsOf section.now tags) }

@@ -1,9 +1,9 @@
--- What the pieces of a list load.
+-- The bytes that the pieces of a list load.
 use Rattle.std.proofs.Common.{◌≡◌, ℕ, ◌⊎◌, inl, inr, List, [], ◌∷◌, ◌++◌, Some}
 use Rattle.image.specs.Loading.{Loaded, loaded_byte_at}
 use Rattle.executable.proofs.Bytes.{Loads, piece-cases}
 
--- one of these pieces loads a byte
+-- one of the pieces loads byte b at address a
 abbrev pub AnyLoads : List Loaded → ℕ → ℕ → Type 0
 AnyLoads [] a b = ⊥
 AnyLoads (p ∷ rest) a b = Loads p a b ⊎ AnyLoads rest a b
@@ -22,7 +22,7 @@ any-split [] ys a b h = inr h
 any-split (x ∷ xs) ys a b (inl h) = inl (inl h)
 any-split (x ∷ xs) ys a b (inr h) = elim (any-split xs ys a b h) [ inl l ↦ inl (inr l) | inr r ↦ inr r ]
 
--- what is found at an address is what one of them loads
+-- if the pieces have byte b at address a, one of them loads it
 pub byte-any : (pieces : List Loaded) (a b : ℕ) → loaded_byte_at pieces a ≡ Some b → AnyLoads pieces a b
 byte-any [] a b h = cc
 byte-any (p ∷ rest) a b h = elim (piece-cases p rest a b h) [ inl here ↦ inl here | inr there ↦ inr (byte-any rest a b there) ]

@@ -10,17 +10,17 @@ use Rattle.image.specs.Image.{ImageSegment, heading, segments_byte}
 use Rattle.image.specs.Loading.{Loaded, loaded_byte, loaded_byte_at}
 use Rattle.executable.specs.Piece.{end_of}
 
--- a byte of a piece is what stands there in its contents, and 0 behind them
+-- byte i of a piece is that of its contents, or 0 after them
 pub loaded-is : (p : Loaded) (i : ℕ) → loaded_byte p i ≡ get_or p.contents i 0
 loaded-is p i = grind (arith, nat_tests, get_or_past)
 
--- a segment has a byte at an address
+-- a segment has byte b at address a
 pub record HasByte (s : ImageSegment) (a b : ℕ) : Type 0 where
   pub from : s.address ≤ a
   pub to : a < s.address + length s.bytes
   pub is : get_or s.bytes (a - s.address) 0 ≡ b
 
--- a piece has a byte at an address
+-- a piece loads byte b at address a
 pub record Loads (p : Loaded) (a b : ℕ) : Type 0 where
   pub from : p.heading.address ≤ a
   pub to : a < end_of p
@@ -29,7 +29,8 @@ pub record Loads (p : Loaded) (a b : ℕ) : Type 0 where
 some-same : {X : Type 0} (x y : X) → Some x ≡ Some y → x ≡ y
 some-same x y e = cc
 
--- the byte at an address is the first segment's, or the others'
+-- if `s` and the segments after it have byte b at address a, `s` has it, or the segments after it have
+-- it
 segment-by : (s : ImageSegment) (rest : List ImageSegment) (a b : ℕ) (t : Bool) → holds a (heading s) ≡ t
     → option_map (λ s. slice_index s.bytes (a - s.address)) (cond t (Some s) (find (λ s. holds a (heading s)) rest)) ≡ Some b
     → HasByte s a b ⊎ (segments_byte rest a ≡ Some b)
@@ -53,7 +54,7 @@ segment-there s rest a h =
     let e : holds a (heading s) ≡ false = grind (arith, nat_tests) in
     ap (λ t. option_map (λ s. slice_index s.bytes (a - s.address)) (cond t (Some s) (find (λ s. holds a (heading s)) rest))) e
 
--- the byte that loading puts at an address is the first piece's, or the others'
+-- if p and the pieces after it load byte b at address a, p loads it, or the pieces after it load it
 piece-by : (p : Loaded) (rest : List Loaded) (a b : ℕ) (t : Bool) → holds a p.heading ≡ t
     → option_map (λ s. loaded_byte s (a - s.heading.address)) (cond t (Some p) (find (λ s. holds a s.heading) rest)) ≡ Some b
     → Loads p a b ⊎ (loaded_byte_at rest a ≡ Some b)
@@ -81,7 +82,7 @@ piece-there p rest a h =
     let e : holds a p.heading ≡ false = grind (arith, nat_tests) in
     ap (λ t. option_map (λ s. loaded_byte s (a - s.heading.address)) (cond t (Some p) (find (λ s. holds a s.heading) rest))) e
 
--- the bytes of a list, zeros and a second list
+-- a list followed by g zeros has the list's bytes and then zeros, whatever follows the zeros
 pub front-byte : (c bs : List ℕ) (g i : ℕ) → i < length c + g → get_or (c ++ replicate g 0 ++ bs) i 0 ≡ get_or c i 0
 front-byte c bs g i h =
     get_or_append_left (c ++ replicate g 0) bs 0 i (omega (arith, length-append c (replicate g 0), length-replicate {A = ℕ} g 0))

@@ -1,4 +1,4 @@
--- Bytes that are put one after the other.
+-- Texts that several calls append, one after the other.
 use Rattle.std.proofs.Common.{◌≡◌, ℕ, List, ◌++◌, append_assoc, ap, ◌∙◌}
 use Rattle.std.specs.Prelude.{OnOk, Ok, Err, Result}
 

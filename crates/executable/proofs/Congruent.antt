@@ -1,4 +1,4 @@
--- Offsets are congruent to addresses.
+-- The offsets of the PT_LOADs are congruent to their addresses.
 use Rattle.std.proofs.Common.{◌≡◌, ℕ, ◌+◌, Bool, true, false, List, [], ◌∷◌, ◌++◌, length, zero, suc, sym, ap, ◌∙◌, arith}
 use Rattle.std.specs.Prelude.{◌%◌}
 use Rattle.std.specs.Int.{next_multiple_of}

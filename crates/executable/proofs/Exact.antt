@@ -1,4 +1,4 @@
--- A file of pieces loads them and its own headers, and nothing else.
+-- A file of pieces loads the pieces and its own headers, and nothing else.
 use Rattle.std.proofs.Common.{◌≡◌, ℕ, ◌+◌, ◌-◌, ◌*◌, ◌<◌, ◌≤◌, Bool, true, false, List, [], ◌∷◌, ◌++◌, length, map, take, drop, replicate, refl, sym, ap, ◌∙◌, arith, append_assoc, filter}
 use Rattle.std.specs.Prelude.{◌%◌, ◌^◌, ◌==◌, ◌||◌, nat_lt}
 use Rattle.std.specs.Int.{next_multiple_of}
@@ -25,7 +25,7 @@ use Rattle.executable.proofs.Loading.{AllPermissions, pieces-loaded, own-loaded,
 use Rattle.executable.proofs.Fine.{Fine, permissions-of}
 use Rattle.executable.proofs.Lengths.{length-front_of, length-table_of, length-padded, short-piece}
 
--- the headers themselves in memory
+-- the headers of the file as a piece, mapped at address `place`
 abbrev pub own_piece : ℕ → ℕ → List ℕ → Loaded
 own_piece place n front = record { heading = record { address = place; permissions = 4; size = headers_size n }; contents = front }
 
@@ -82,7 +82,7 @@ table-fits place n p q = record {
 stack-fits : HeaderFits stack_header
 stack-fits = record { kind = omega arith; flags = omega arith; offset = omega arith; address = omega arith; file_size = omega arith; memory_size = omega arith; alignment = omega arith }
 
--- where the pages of the pieces begin
+-- the offset at which the pages of the pieces begin
 abbrev pub start_of : List Loaded → ℕ
 start_of pieces = length (padded (replicate (headers_size (header_count_of pieces)) 0))
 
@@ -103,7 +103,7 @@ all-fit from place pieces fine low few =
           (stack-fits, tt),
     )
 
--- the parts of a file
+-- the file has these parts, one after the other
 record Parts (F : List ℕ) (entry : ℕ) (table : List ProgramHeader) (pieces : List Loaded) : Type 0 where
   is : F ≡ file_header entry (length table) ++ (flat_map header_bytes table ++ (replicate ((PAGE - length (front_of entry table) % PAGE) % PAGE) 0 ++ flat_map piece_bytes pieces))
 
@@ -195,7 +195,7 @@ front-taken F front pieces n e long =
     ∙ ap (λ k. take k (front ++ (zeros ++ flat_map piece_bytes pieces))) (sym long)
     ∙ take-append_seam front (zeros ++ flat_map piece_bytes pieces)
 
--- what is known of a file of pieces
+-- the file has the program headers of these pieces, and loads exactly the pieces and its own headers
 pub record Made (F : List ℕ) (entry place : ℕ) (pieces : List Loaded) : Type 0 where
   pub headers : program_headers F ≡ table_of place pieces
   pub loads : loads F ≡ put_in_order (is_below place pieces) (own_header place (header_count_of pieces)) (load_headers (start_of pieces) pieces)

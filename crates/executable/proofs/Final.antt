@@ -1,4 +1,4 @@
--- What is promised of the file of segments.
+-- The facts about the file that is made of segments.
 use Rattle.std.proofs.Common.{◌≡◌, ℕ, ◌-◌, ◌<◌, ◌≤◌, inl, inr, List, replicate, refl, sym, ap, ◌∙◌, subst, arith, Some}
 use Rattle.std.proofs.lemmas.List.{get_or-take}
 use Rattle.elf_file.specs.Header.{entry_address}
@@ -19,7 +19,7 @@ use Rattle.executable.proofs.Merged.{fine-of, keeps-all, only-all}
 use Rattle.executable.proofs.Exact.{made, own_piece}
 use Rattle.executable.proofs.Placing.{ordered, place-low, place-whole}
 
--- the file of segments whose headers have a place
+-- the file of segments, with its headers mapped at address `place`
 abbrev pub file_at : ℕ → ℕ → List ImageSegment → List ℕ
 file_at entry place segments = file_with (front_of entry (table_of place (pieces_of segments))) (pieces_of segments)
 

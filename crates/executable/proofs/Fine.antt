@@ -13,7 +13,8 @@ use Rattle.executable.specs.inside.Joining.{IsShort}
 use Rattle.executable.proofs.Joining.{finished-loads, loads-finished, finished-end}
 use Rattle.executable.proofs.Loading.{AllPermissions}
 
--- what is known of a piece that begins in a page at or above `from`
+-- the piece begins in a page at or above `from`, isn't empty, has no more contents than memory, and ends
+-- at or below the limit
 pub record FinePiece (from : ℕ) (p : Loaded) : Type 0 where
   pub page : from ≤ page_of p.heading.address
   pub short : IsShort p
@@ -21,7 +22,8 @@ pub record FinePiece (from : ℕ) (p : Loaded) : Type 0 where
   pub low : end_of p ≤ MEMORY_LIMIT
   pub permissions : p.heading.permissions < 2 ^ 3
 
--- each piece is so, from the end of the one before it
+-- each piece is fine and begins in a page at or above the end of the one before it, the first one at or
+-- above `from`
 abbrev pub Fine : ℕ → List Loaded → Type 0
 Fine from [] = Unit {0}
 Fine from (p ∷ rest) = FinePiece from p × Fine (end_of p) rest
@@ -43,7 +45,7 @@ fine-finished from p f =
       permissions = rw e f.permissions;
     }
 
--- the same piece behind another end
+-- a fine piece is fine after any end at or below its first page
 pub fine-behind : (from : ℕ) (p : Loaded) → from ≤ page_of p.heading.address → FinePiece 0 p → FinePiece from p
 fine-behind from p h f = record { page = h; short = f.short; some = f.some; low = f.low; permissions = f.permissions }
 
@@ -56,14 +58,14 @@ fine-above from (p ∷ rest) a b fine (inr h) =
     let over = fine-above (end_of p) rest a b fine.1 h in
     omega (arith, page, some, over)
 
--- what one of them loads is found at its address
+-- if one of the pieces loads byte b at address a, the search by address finds it
 pub any-byte : (from : ℕ) (pieces : List Loaded) (a b : ℕ) → Fine from pieces → AnyLoads pieces a b → loaded_byte_at pieces a ≡ Some b
 any-byte from [] a b fine h = absurd h
 any-byte from (p ∷ rest) a b fine (inl h) = piece-here p rest a b h
 any-byte from (p ∷ rest) a b fine (inr h) =
     piece-there p rest a (inr (fine-above (end_of p) rest a b fine.1 h)) ∙ any-byte (end_of p) rest a b fine.1 h
 
--- pieces as the file has them
+-- finished pieces load the same bytes as the pieces
 pub any-finished : (pieces : List Loaded) (a b : ℕ) → AnyLoads pieces a b → AnyLoads (map finished pieces) a b
 any-finished [] a b h = h
 any-finished (p ∷ rest) a b (inl h) = inl (finished-loads p a b h)

@@ -1,4 +1,4 @@
--- A piece and one behind it: what they load, and where.
+-- A piece and the next one: the bytes that the pieces made of both load, and where these lie.
 use Rattle.std.proofs.Common.{◌≡◌, ℕ, ◌+◌, ◌<◌, ◌≤◌, ◌⊎◌, inl, inr, Bool, true, false, cond, List, [], ◌∷◌, ◌++◌, refl, ◌∙◌, arith, append_assoc}
 use Rattle.std.specs.Prelude.{nat_le, nat_lt}
 use Rattle.std.proofs.lemmas.Bool.Decides.{nat_tests, leb_tells}
@@ -23,14 +23,15 @@ page-low x = omega arith
 page-high : (x : ℕ) → x < page_of x + PAGE
 page-high x = omega arith
 
--- where done pieces end, a piece that begins in a later page may follow
+-- pieces that begin at or above the page of `last` may follow the finished pieces
 abbrev pub Opens : ℕ → List Loaded → Loaded → Type 0
 Opens from done last = (more : List Loaded) → ((end : ℕ) → end ≤ page_of last.heading.address → Fine end more) → Fine from (done ++ more)
 
 pub at-0 : {from : ℕ} (p : Loaded) → FinePiece from p → FinePiece 0 p
 at-0 {from} p f = record { page = omega arith; short = f.short; some = f.some; low = f.low; permissions = f.permissions }
 
--- the parts of a piece below the page of an address, and from there on
+-- p is split at the page of an address: together, the pieces `low` and the piece `up` load the bytes of
+-- p
 pub record Parts (p : Loaded) (x from : ℕ) (low : List Loaded) (up : Loaded) : Type 0 where
   pub it : FinePiece 0 up
   pub ends : end_of up ≡ end_of p
@@ -72,7 +73,8 @@ parts-by p x from false e f h = record {
 parts : (p : Loaded) (x from : ℕ) → FinePiece from p → page_of x < end_of p → Parts p x from (lower (page_of x) p) (upper (page_of x) p)
 parts p x from f h = parts-by p x from (nat_lt p.heading.address (page_of x)) refl f h
 
--- a byte of one of the two, or a 0 between them in a page that they share
+-- byte b at address a comes from piece p or from piece q, or is a 0 between them in a page that they
+-- share
 abbrev pub Origin : Loaded → Loaded → ℕ → ℕ → Type 0
 Origin p q a b = Loads p a b ⊎ (Loads q a b ⊎ ((b ≡ 0) × (end_of p ≤ a) × (a < q.heading.address) × (page_of q.heading.address < end_of p)))
 
@@ -97,7 +99,7 @@ joined-fine u q f g h =
       permissions = or_lt 3 u.heading.permissions q.heading.permissions f.permissions g.permissions;
     }
 
--- the second begins in the last page of the first and ends there
+-- if q begins and ends in the last page of p, `Follows` is true of the joined piece
 follows-within : (p q : Loaded) (from : ℕ) → FinePiece from p → FinePiece 0 q → end_of p ≤ q.heading.address → page_of q.heading.address < end_of p
     → Follows p q from (let all : Pieces = record { done = []; last = joined p q } in all)
 follows-within p q from f g h k =
@@ -116,7 +118,8 @@ follows-within p q from f g h k =
       fine = λ more m. m from f.page;
     }
 
--- or it ends in a later one
+-- if q begins in the last page of p and ends in a later one, `Follows` is true of the two pieces made of
+-- them
 follows-across : (p q : Loaded) (from : ℕ) → FinePiece from p → FinePiece 0 q → end_of p ≤ q.heading.address → page_of q.heading.address < end_of p
     → page_of q.heading.address + PAGE < end_of q
     → Follows p q from (let all : Pieces = record { done = joined p (below (page_of q.heading.address + PAGE) q) ∷ []; last = above (page_of q.heading.address + PAGE) q } in all)
@@ -168,7 +171,7 @@ follows-in-page : (p q : Loaded) (from : ℕ) → FinePiece from p → FinePiece
     → Follows p q from (in_page (page_of q.heading.address) p q)
 follows-in-page p q from f g h k = in-page-by p q from (nat_le (end_of q) (page_of q.heading.address + PAGE)) refl f g h k
 
--- the same of the upper part of a piece as of the piece
+-- a byte that comes from the upper part of p or from q comes from p or q
 upper-origin : (p u q : Loaded) (a b : ℕ) → end_of u ≡ end_of p → (Loads u a b → Loads p a b) → Origin u q a b → Origin p q a b
 upper-origin p u q a b e up l = elim l [
   | inl k ↦ inl (up k)
@@ -221,6 +224,6 @@ followed-by p q from false e f g h =
       fine = λ more k. (f, k (end_of p) apart);
     }
 
--- all of it holds of a piece and one behind it
+-- `Follows` is true of the pieces made of a piece and of the next one
 pub follows : (p q : Loaded) (from : ℕ) → FinePiece from p → FinePiece 0 q → end_of p ≤ q.heading.address → Follows p q from (followed p q)
 follows p q from f g h = followed-by p q from (shares_page p q) refl f g h

@@ -1,4 +1,4 @@
--- Pieces that are joined, and their parts.
+-- Pieces that are joined, and the parts of a piece.
 use Rattle.std.proofs.Common.{◌≡◌, ℕ, ◌+◌, ◌-◌, ◌<◌, ◌≤◌, ◌⊎◌, inl, inr, ◌++◌, length, get_or, replicate, sym, ap, ◌∙◌, arith}
 use Rattle.std.proofs.lemmas.Bool.Decides.{leb_tells}
 use Rattle.std.proofs.lemmas.List.{length-append, length-replicate, length-take, length-drop, get_or_past, get_or-take, get_or-drop}
@@ -9,7 +9,8 @@ use Rattle.executable.specs.inside.Joining.{IsShort}
 use Rattle.executable.proofs.Bytes.{HasByte, Loads, front-byte, back-byte}
 use Rattle.executable.proofs.Zeros.{finished-heading, finished-byte, finished-length}
 
--- two pieces that were joined
+-- the joined piece loads the bytes of both pieces, ends where q ends, and has no more contents than
+-- memory
 pub record Joined (p q : Loaded) : Type 0 where
   pub short : IsShort (joined p q)
   pub ends : end_of (joined p q) ≡ end_of q
@@ -52,7 +53,8 @@ joins p q short own above =
       ];
     }
 
--- the parts of a piece below an address and from it on
+-- the parts of a piece below an address and from the address on have no more contents than memory, and
+-- together load the piece's bytes
 pub short-below : (at : ℕ) (p : Loaded) → IsShort (below at p)
 short-below at p = let n : ℕ = at - p.heading.address in omega (arith, length-take n p.contents)
 
@@ -90,7 +92,7 @@ out-of-above at p a b h k l = record {
   is = sym (get_or-drop (at - p.heading.address) p.contents (a - at) 0 ∙ ap (λ i. get_or p.contents i 0) (same-place at p.heading.address a h l.from)) ∙ l.is;
 }
 
--- a piece as the file has it loads what the piece does
+-- a finished piece loads the same bytes as the piece, and ends at the same address
 pub finished-loads : (p : Loaded) (a b : ℕ) → Loads p a b → Loads (finished p) a b
 finished-loads p a b h =
     let e = finished-heading p in
@@ -112,11 +114,11 @@ loads-finished p a b h =
 pub finished-end : (p : Loaded) → end_of (finished p) ≡ end_of p
 finished-end p = ap (λ g. g.address + g.size) (finished-heading p)
 
--- two that were joined, as the file has them
+-- two joined pieces are still right after they are finished
 pub short-joined : (p q : Loaded) → IsShort p → IsShort q → end_of p ≤ q.heading.address → IsShort (finished (joined p q))
 short-joined p q short own above = rw (finished-heading (joined p q)) (finished-length (joined p q) (joined p q).heading.size (joins p q short own above).short)
 
--- a segment as a piece
+-- the piece of a segment loads the segment's bytes
 pub piece-loads : (s : ImageSegment) (a b : ℕ) → HasByte s a b → Loads (piece_of s) a b
 piece-loads s a b h = record { from = h.from; to = h.to; is = h.is }
 

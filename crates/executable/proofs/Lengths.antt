@@ -1,4 +1,4 @@
--- How long the parts of a file are.
+-- The lengths of the parts of a file.
 use Rattle.std.proofs.Common.{◌≡◌, ℕ, ◌+◌, ◌-◌, ◌*◌, ◌≤◌, Bool, true, false, List, [], ◌∷◌, ◌++◌, length, replicate, refl, ap, ◌∙◌, arith}
 use Rattle.std.specs.Prelude.{◌%◌, ◌^◌}
 use Rattle.std.specs.Int.{next_multiple_of}

@@ -1,4 +1,4 @@
--- A file that was made of pieces loads them.
+-- A file that is made of pieces loads them.
 use Rattle.std.proofs.Common.{◌≡◌, ℕ, ◌+◌, ◌-◌, Bool, true, false, List, [], ◌∷◌, ◌++◌, length, map, take, drop, replicate, refl, sym, ap, ◌∙◌, arith, append_assoc, filter}
 use Rattle.std.specs.Prelude.{◌%◌}
 use Rattle.std.specs.List.{flat_map}
@@ -12,7 +12,7 @@ use Rattle.image.specs.Permissions.{permission_bits}
 use Rattle.executable.specs.File.{piece_bytes, load_header, load_headers, own_header, put_in_order}
 use Rattle.executable.specs.Place.{headers_size}
 
--- the permissions of each have no other bits
+-- the permissions of each piece have only the bits of p_flags that permit reading, writing or executing
 abbrev pub AllPermissions : List Loaded → Type 0
 AllPermissions [] = Unit {0}
 AllPermissions (p ∷ rest) = (permission_bits p.heading.permissions ≡ p.heading.permissions) × AllPermissions rest
@@ -33,7 +33,7 @@ same-loaded : (a b c a' b' c' : ℕ) (s s' : List ℕ) → a ≡ a' → b ≡ b'
     ≡ (let l : Loaded = record { heading = record { address = a'; permissions = b'; size = c' }; contents = s' } in l)
 same-loaded a b c a' b' c' s s' p q r t = cc
 
--- a piece is loaded from where its pages begin
+-- the PT_LOAD of a piece loads the piece, if the piece's pages are at its offset
 piece-loaded : (F pre more : List ℕ) (p : Loaded) (at : ℕ) → F ≡ pre ++ (piece_bytes p ++ more) → length pre ≡ at → permission_bits p.heading.permissions ≡ p.heading.permissions
     → loaded_at 0 F (load_header at p) ≡ p
 unfolding piece_bytes pad
@@ -45,7 +45,7 @@ piece-loaded F pre more p at e f perms =
     same-loaded _ _ _ p.heading.address p.heading.permissions p.heading.size _ p.contents (omega arith) perms refl
     (ap (λ n. take (length p.contents) (drop (at + n) F)) (sym long) ∙ contents-at F pre lead p.contents (tail ++ more) at split f)
 
--- and so are all
+-- the PT_LOADs of the pieces load the pieces
 pub pieces-loaded : (F pre : List ℕ) (pieces : List Loaded) (at : ℕ) → F ≡ pre ++ flat_map piece_bytes pieces → length pre ≡ at → AllPermissions pieces
     → map (loaded_at 0 F) (load_headers at pieces) ≡ pieces
 pieces-loaded F pre [] at e f perms = refl
@@ -54,7 +54,7 @@ pieces-loaded F pre (p ∷ rest) at e f perms =
     ∙ ap (λ xs. p ∷ xs) (pieces-loaded F (pre ++ piece_bytes p) rest (at + length (piece_bytes p))
     (e ∙ sym (append_assoc pre (piece_bytes p) (flat_map piece_bytes rest))) (let l = length-append pre (piece_bytes p) in omega (arith, l, f)) perms.1)
 
--- the headers themselves are loaded
+-- the PT_LOAD of the headers loads the headers
 pub own-loaded : (F front more : List ℕ) (place n : ℕ) → F ≡ front ++ more → length front ≡ headers_size n
     → loaded_at 0 F (own_header place n) ≡ (let l : Loaded = record { heading = record { address = place; permissions = 4; size = headers_size n }; contents = front } in l)
 own-loaded F front more place n e f =

@@ -1,4 +1,5 @@
--- The pieces of segments have their bytes, each in the one that holds its address, before any two are one.
+-- The pieces made of segments load the bytes of the segments, before any piece is joined to one in which
+-- it continues.
 use Rattle.std.proofs.Common.{◌≡◌, ℕ, ◌+◌, ◌-◌, ◌<◌, ◌≤◌, ◌⊎◌, inl, inr, Bool, true, false, cond, List, [], ◌∷◌, ◌++◌, length, get_or, Some, refl, sym, ◌∙◌, subst, arith}
 use Rattle.std.specs.Prelude.{◌==◌}
 use Rattle.std.proofs.lemmas.Bool.Decides.{leb_tells}
@@ -13,11 +14,11 @@ use Rattle.executable.proofs.Following.{Origin, follows}
 use Rattle.executable.proofs.Joining.{piece-loads, loads-piece}
 use Rattle.executable.proofs.Rising.{Rises, rises, rising-lower, rising-above, empty, filled}
 
--- a segment with bytes as a piece
+-- the piece of a segment with bytes is fine
 pub fine-piece : (s : ImageSegment) → (length s.bytes == 0) ≡ false → s.address + length s.bytes ≤ MEMORY_LIMIT → FinePiece 0 (piece_of s)
 fine-piece s e low = record { page = omega arith; short = omega arith; some = filled s e; low = low; permissions = bits-small s.permissions }
 
--- one without bytes has no byte
+-- a segment without bytes has no byte at any address
 pub skip : (s : ImageSegment) (rest : List ImageSegment) (x : ℕ) → (length s.bytes == 0) ≡ true → segments_byte (s ∷ rest) x ≡ segments_byte rest x
 skip s rest x e =
     let none = empty s e in
@@ -36,7 +37,7 @@ fine-by from p s rest false e ih f r =
     let all = follows p (piece_of s) from f (fine-piece s e r.low) r.above in
     all.fine (pieces_from last rest) (λ end over. ih end last (fine-behind end last over all.it) (rw all.ends r.others))
 
--- they lie one above the other
+-- the pieces made of a piece and of rising segments rise, and no two share a page
 fine-from : (from : ℕ) (p : Loaded) (segments : List ImageSegment) → FinePiece from p → AreRising (end_of p) segments → Fine from (pieces_from p segments)
 fine-from from p [] f h = (f, tt)
 fine-from from p (s ∷ rest) f h = fine-by from p s rest (length s.bytes == 0) refl (λ from q. fine-from from q rest) f (rises (end_of p) s rest h)
@@ -52,7 +53,7 @@ fine-cut from (s ∷ rest) h =
     let r = rises from s rest h in
     fine-cut-by from s rest (length s.bytes == 0) refl r (fine-cut (s.address + length s.bytes) rest r.others)
 
--- what a piece loads, or segments behind it have
+-- piece p loads byte b at address a, or the segments after it have it there
 abbrev pub Either : Loaded → List ImageSegment → ℕ → ℕ → Type 0
 Either p segments a b = Loads p a b ⊎ (segments_byte segments a ≡ Some b)
 
@@ -76,7 +77,7 @@ keeps-by p s rest false e ih f r a b either =
       | inr there ↦ elim (segment-cases s rest a b there) [ inl own ↦ two (inr (piece-loads s a b own)) | inr others ↦ more (inr others) ]
     ]
 
--- the pieces of a piece and the segments behind it load what these have
+-- the pieces made of a piece and of the segments after it load all bytes of these
 keeps : (p : Loaded) (segments : List ImageSegment) → FinePiece 0 p → AreRising (end_of p) segments
     → (a b : ℕ) → Either p segments a b → AnyLoads (pieces_from p segments) a b
 keeps p [] f h a b (inl here) = inl here
@@ -91,14 +92,14 @@ keeps-cut-by from s rest a b false e r ih h =
     keeps (piece_of s) rest (fine-piece s e r.low) r.others a b
     (elim (segment-cases s rest a b h) [ inl here ↦ inl (piece-loads s a b here) | inr more ↦ inr more ])
 
--- the pieces load what the segments have
+-- the pieces made of rising segments load all bytes of these
 pub keeps-cut : (from : ℕ) (segments : List ImageSegment) (a b : ℕ) → AreRising from segments → segments_byte segments a ≡ Some b → AnyLoads (cut_pieces segments) a b
 keeps-cut from [] a b h found = cc
 keeps-cut from (s ∷ rest) a b h found =
     let r = rises from s rest h in
     keeps-cut-by from s rest a b (length s.bytes == 0) refl r (keeps-cut (s.address + length s.bytes) rest a b r.others) found
 
--- between two addresses of one page, each of which has a byte
+-- address a lies between two addresses of one page, and `Has` is true of both
 pub record Between (Has : ℕ → Type 0) (a : ℕ) : Type 0 where
   pub below : ℕ
   pub above : ℕ
@@ -108,26 +109,30 @@ pub record Between (Has : ℕ → Type 0) (a : ℕ) : Type 0 where
   pub has_above : Has above
   pub page : page_of below ≡ page_of above
 
--- what pieces load: what the first has, or the segments behind it, or a 0 between bytes of one page
+-- byte b at address a comes from piece p or from the segments after it, or is a 0 between two bytes of
+-- one page
 abbrev pub Sources : (ℕ → Type 0) → Loaded → List ImageSegment → ℕ → ℕ → Type 0
 Sources Has p segments a b = Loads p a b ⊎ ((segments_byte segments a ≡ Some b) ⊎ ((b ≡ 0) × Between Has a))
 
 same-page : (x y : ℕ) → page_of y ≤ x → x ≤ y → page_of x ≡ page_of y
 same-page x y h k = omega arith
 
--- all that is known of a piece and the segments behind it, whose bytes are among others
+-- piece p is fine, the segments after it rise, and `Has` is true of p's last address and of each address
+-- of the segments
 pub record Leads (Has : ℕ → Type 0) (p : Loaded) (segments : List ImageSegment) : Type 0 where
   pub it : FinePiece 0 p
   pub rising : AreRising (end_of p) segments
   pub last : Has (end_of p - 1)
   pub all : (a b : ℕ) → segments_byte segments a ≡ Some b → Has a
 
--- each address of a segment has a byte
+-- if `Has` is true of each address at which the segments have a byte, it is true of each address of the
+-- first one
 own-has : (Has : ℕ → Type 0) (s : ImageSegment) (rest : List ImageSegment) → ((a b : ℕ) → segments_byte (s ∷ rest) a ≡ Some b → Has a)
     → (x : ℕ) → s.address ≤ x → x < s.address + length s.bytes → Has x
 own-has Has s rest all x h k = all x (get_or s.bytes (x - s.address) 0) (segment-here s rest x (get_or s.bytes (x - s.address) 0) (record { from = h; to = k; is = refl }))
 
--- a byte of a piece and a segment behind it
+-- a byte that comes from piece p and the piece of segment s has one of the sources for p and the
+-- segments
 source : (Has : ℕ → Type 0) (p : Loaded) (s : ImageSegment) (rest : List ImageSegment) (a b : ℕ) → Leads Has p (s ∷ rest) → (length s.bytes == 0) ≡ false → end_of p ≤ s.address
     → Origin p (piece_of s) a b → Sources Has p (s ∷ rest) a b
 source Has p s rest a b k e h o =
@@ -195,7 +200,7 @@ only Has p [] k a b found = elim found [ inl here ↦ inl here | inr none ↦ ab
 only Has p (s ∷ rest) k a b found =
     only-by Has p s rest (length s.bytes == 0) refl (λ q. only Has q rest) k (rises (end_of p) s rest k.rising) a b found
 
--- what pieces load: what the segments have, or a 0 between bytes of one page
+-- byte b at address a comes from the segments, or is a 0 between two bytes of one page
 abbrev pub Found : (ℕ → Type 0) → List ImageSegment → ℕ → ℕ → Type 0
 Found Has segments a b = (segments_byte segments a ≡ Some b) ⊎ ((b ≡ 0) × Between Has a)
 
@@ -219,7 +224,7 @@ only-cut-by Has from s rest a b false e r all ih h =
       | inr more ↦ elim more [ inl found ↦ inl (there a b found) | inr zero ↦ inr zero ]
     ]
 
--- and nothing else
+-- each byte that the pieces load comes from the segments, or is a 0 between two bytes of one page
 pub only-cut : (Has : ℕ → Type 0) (from : ℕ) (segments : List ImageSegment) (a b : ℕ) → AreRising from segments
     → ((x y : ℕ) → segments_byte segments x ≡ Some y → Has x) → AnyLoads (cut_pieces segments) a b → Found Has segments a b
 only-cut Has from [] a b h all found = absurd found

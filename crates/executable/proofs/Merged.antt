@@ -1,4 +1,4 @@
--- Pieces that are merged load what they did, and zeros where their pages touch.
+-- Joined pieces load what the pieces loaded before, and zeros between pieces whose pages are neighbours.
 use Rattle.std.proofs.Common.{◌≡◌, ℕ, ◌+◌, ◌-◌, ◌<◌, ◌≤◌, ◌⊎◌, inl, inr, Bool, true, false, cond, List, [], ◌∷◌, ◌++◌, length, get_or, map, Some, refl, ◌∙◌, subst, arith}
 use Rattle.std.specs.Prelude.{not, nat_lt, ◌&&◌, ◌==◌}
 use Rattle.std.proofs.lemmas.Bool.Decides.{nat_tests}
@@ -15,7 +15,8 @@ use Rattle.executable.proofs.Following.{Opens, at-0, joined-fine}
 use Rattle.executable.proofs.Joining.{joins, finished-loads, loads-finished, finished-end}
 use Rattle.executable.proofs.Making.{Between, Found, fine-cut, keeps-cut, only-cut}
 
--- a byte of one of the two, or a 0 between them, no whole page behind the first
+-- byte b at address a comes from piece p or piece q, or is a 0 between them; no whole page lies between
+-- p and q
 abbrev pub Source : Loaded → Loaded → ℕ → ℕ → Type 0
 Source p q a b = Loads p a b ⊎ (Loads q a b ⊎ ((b ≡ 0) × (end_of p ≤ a) × (a < q.heading.address) × (page_of q.heading.address < end_of p + PAGE)))
 
@@ -26,7 +27,7 @@ pub record Merges (p q : Loaded) (from : ℕ) (all : Pieces) : Type 0 where
   pub only : (a b : ℕ) → AnyLoads all.done a b ⊎ Loads all.last a b → Source p q a b
   pub fine : Opens from all.done all.last
 
--- where a piece goes on, the other is near
+-- if `goes_on` is true of two pieces, its last condition is true: the next piece is near
 near-by : (s t : Bool) (x y : ℕ) → (s && t && nat_lt x y) ≡ true → x < y
 near-by true true x y h = grind (arith, nat_tests)
 near-by true false x y h = cc
@@ -67,7 +68,7 @@ merges-by p q from false e f g = record {
   fine = λ more k. (f, k (end_of p) g.page);
 }
 
--- all of it holds of a piece and one behind it
+-- `Merges` is true of the pieces that merging makes of a piece and of the next one
 pub merges : (p q : Loaded) (from : ℕ) → FinePiece from p → FinePiece (end_of p) q → Merges p q from (merging p q)
 merges p q from f g = merges-by p q from (goes_on p q) refl f g
 
@@ -78,7 +79,7 @@ fine-merged-from from p (q ∷ rest) f r =
     let all = merges p q from f r.0 in
     all.fine (merged_from last rest) (λ end over. fine-merged-from end last rest (fine-behind end last over all.it) (rw all.ends r.1))
 
--- they still lie one above the other
+-- if pieces rise and no two share a page, the same is true of the joined pieces
 fine-merged : (from : ℕ) (pieces : List Loaded) → Fine from pieces → Fine from (merged pieces)
 fine-merged from [] fine = tt
 fine-merged from (p ∷ rest) fine = fine-merged-from from p rest fine.0 fine.1
@@ -90,7 +91,7 @@ pub in-row : (from : ℕ) (pieces : List Loaded) → Fine from pieces → AreInR
 in-row from [] fine = tt
 in-row from (p ∷ rest) fine = let page = fine.0.page in (fine.0.short, omega (arith, page), fine.0.low, in-row (end_of p) rest fine.1)
 
--- the pieces of segments may be merged
+-- the finished pieces of rising segments satisfy the requirement of `merged`
 pub row-of : (segments : List ImageSegment) → AreRising 0 segments → AreInRow 0 (map finished (cut_pieces segments))
 row-of segments h = in-row 0 (map finished (cut_pieces segments)) (all-finished 0 (cut_pieces segments) (fine-cut 0 segments h))
 
@@ -113,14 +114,14 @@ keeps-merged : (pieces : List Loaded) → Fine 0 pieces → (a b : ℕ) → AnyL
 keeps-merged [] fine a b h = h
 keeps-merged (p ∷ rest) fine a b h = keeps-from p rest fine.0 fine.1 a b h
 
--- the pieces load the byte that the segments have
+-- the pieces as the file has them load all bytes of the segments
 pub keeps-all : (from : ℕ) (segments : List ImageSegment) (a b : ℕ) → AreRising from segments → segments_byte segments a ≡ Some b → loaded_byte_at (pieces_of segments) a ≡ Some b
 keeps-all from segments a b h found =
     let cut = cut_pieces segments in
     any-byte 0 (pieces_of segments) a b (fine-of from segments h)
     (keeps-merged (map finished cut) (all-finished 0 cut (fine-cut from segments h)) a b (any-finished cut a b (keeps-cut from segments a b h found)))
 
--- between two addresses whose pages are the same or touch, each of which has a byte
+-- address a lies between two addresses whose pages are the same or neighbours, and `Has` is true of both
 pub record Nearby (Has : ℕ → Type 0) (a : ℕ) : Type 0 where
   pub below : ℕ
   pub above : ℕ
@@ -133,15 +134,16 @@ pub record Nearby (Has : ℕ → Type 0) (a : ℕ) : Type 0 where
 touch : (x y : ℕ) → 0 < y → page_of x < y + PAGE → page_of x ≤ page_of (y - 1) + PAGE
 touch x y some h = omega (arith, some, h)
 
--- each address of a piece has a byte
+-- a piece loads a byte at each of its addresses
 own-byte : (q : Loaded) (rest : List Loaded) (x : ℕ) → q.heading.address ≤ x → x < end_of q → AnyLoads (q ∷ rest) x (get_or q.contents (x - q.heading.address) 0)
 own-byte q rest x h k = inl (record { from = h; to = k; is = refl })
 
--- what merged pieces load: what the first did, or the others, or a 0 between bytes
+-- byte b at address a comes from piece p or from the pieces after it, or is a 0 between bytes whose
+-- pages are the same or neighbours
 abbrev Sources : (ℕ → Type 0) → Loaded → List Loaded → ℕ → ℕ → Type 0
 Sources Has p rest a b = Loads p a b ⊎ (AnyLoads rest a b ⊎ ((b ≡ 0) × Nearby Has a))
 
--- a byte of a piece and one behind it
+-- a byte that comes from pieces p and q has one of the sources for p and the pieces after it
 source : (Has : ℕ → Type 0) (p q : Loaded) (rest : List Loaded) (a b : ℕ) → FinePiece 0 p → FinePiece (end_of p) q → Has (end_of p - 1)
     → ((x y : ℕ) → AnyLoads (q ∷ rest) x y → Has x) → Source p q a b → Sources Has p (q ∷ rest) a b
 source Has p q rest a b f g last has s =
@@ -186,7 +188,7 @@ only-from Has p (q ∷ rest) f r last has a b found =
       ]
     ]
 
--- one of these pieces has a byte at an address
+-- one of the pieces loads a byte at address x
 abbrev Covered : List Loaded → ℕ → Type 0
 Covered pieces x = (y : ℕ) × AnyLoads pieces x y
 
@@ -205,7 +207,7 @@ only-merged (p ∷ rest) fine a b found =
 page-between : (x y z : ℕ) → x < y → y < z → page_of x ≡ page_of z → page_of y ≡ page_of x
 page-between x y z h k e = omega (arith, h, k, e)
 
--- where pieces have a byte, segments have one in the same page at or below it, and at or above it
+-- the segments have a byte at or below x in the same page, and one at or above x in the same page
 record Anchored (segments : List ImageSegment) (x : ℕ) : Type 0 where
   low : ℕ
   low_at : low ≤ x
@@ -278,7 +280,8 @@ across segments Has a anchor h =
       page = omega (arith, low_page, high_page, page);
     }
 
--- and else only zeros between bytes whose pages are the same or touch
+-- each byte that the pieces load comes from the segments, or is a 0 between bytes whose pages are the
+-- same or neighbours
 pub only-all : (from : ℕ) (segments : List ImageSegment) (a b : ℕ) → AreRising from segments → loaded_byte_at (pieces_of segments) a ≡ Some b
     → (segments_byte segments a ≡ Some b) ⊎ ((b ≡ 0) × IsBetween segments a)
 only-all from segments a b h found =

@@ -1,11 +1,11 @@
--- Notes one by one, and the program header that is of notes.
-use Rattle.std.proofs.Common.{◌≡◌, ℕ, ◌+◌, ◌-◌, ◌/◌, ◌<◌, ◌≤◌, zero, suc, Bool, true, false, cond, List, length, drop, Option, Some, refl, ap, sym, ◌∙◌, arith}
+-- The steps of a search through notes, and the program header of the notes that are read.
+use Rattle.std.proofs.Common.{◌≡◌, ℕ, ◌+◌, ◌-◌, ◌/◌, ◌<◌, ◌≤◌, zero, suc, Bool, true, false, cond, List, length, drop, Some, ap, sym, ◌∙◌, arith}
 use Rattle.std.specs.Prelude.{◌&&◌, ◌||◌, nat_le, min}
 use Rattle.std.specs.List.{find, range_with_len}
 use Rattle.std.proofs.lemmas.Bool.Decides.{nat_tests}
 use Rattle.executable.specs.Note.{note_size, is_calls_note, has_calls_note, is_of_notes, find_notes}
 
--- i of n notes were looked at, and one more is there
+-- if i is below n, a search through n - i notes tests the first note, and then searches n - (i + 1) notes after it
 one-more : (n i : ℕ) (bytes : List ℕ) → i < n
     → has_calls_note (n - i) bytes ≡ (is_calls_note bytes || (nat_le (note_size bytes) (length bytes) && has_calls_note (n - (i + 1)) (drop (note_size bytes) bytes)))
 one-more n i bytes h = let more : n - i ≡ suc (n - (i + 1)) = omega (arith, h) in ap (λ k. has_calls_note k bytes) more
@@ -37,7 +37,7 @@ found-below : (p : ℕ → Bool) (from n i : ℕ) → find p (range_with_len fro
 found-below p from zero i h = cc
 found-below p from (suc n) i h = by-test p from n i (p from) (found-below p (from + 1) n i) h
 
--- the program header that is found is a whole one
+-- the program header that is found is completely in memory
 pub found-whole : (headers : List ℕ) (n i : ℕ) → find_notes headers n ≡ Some i → i < length headers / 56
 unfolding find_notes
 found-whole headers n i h =

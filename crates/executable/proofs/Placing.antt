@@ -1,4 +1,4 @@
--- Where a file's own headers lie beside its pieces, and what the file loads at an address.
+-- Where a file's headers lie relative to its pieces, and the bytes that the file loads at an address.
 use Rattle.std.proofs.Common.{◌≡◌, ℕ, ◌+◌, ◌-◌, ◌<◌, ◌≤◌, ◌⊎◌, inl, inr, Bool, true, false, cond, List, [], ◌∷◌, ◌++◌, length, map, refl, sym, ◌∙◌, subst, arith, Some, None, zero, suc}
 use Rattle.std.specs.Prelude.{◌%◌, max, fold, nat_le}
 use Rattle.std.specs.Int.{next_multiple_of}
@@ -16,7 +16,7 @@ use Rattle.executable.specs.Place.{highest_end, place_above, place_for}
 use Rattle.executable.proofs.Bytes.{Loads, piece-cases, piece-there}
 use Rattle.executable.proofs.Fine.{Fine}
 
--- each piece ends at or below an end
+-- each piece ends at or below address `end`
 abbrev pub EndsBy : ℕ → List Loaded → Type 0
 EndsBy end [] = Unit {0}
 EndsBy end (p ∷ rest) = (end_of p ≤ end) × EndsBy end rest
@@ -42,7 +42,7 @@ contents-low from [] fine k d h = absurd (omega (arith, h))
 contents-low from (p ∷ rest) fine zero d h = omega (arith, fine.0.low, fine.0.short)
 contents-low from (p ∷ rest) fine (suc k) d h = contents-low (end_of p) rest fine.1 k d (omega (arith, h))
 
--- the headers lie right below the first piece, or above all
+-- the headers lie right below the first piece, or above all pieces and below the limit
 abbrev Beside : ℕ → Loaded → List Loaded → ℕ → Type 0
 Beside room p rest place = (place + room ≡ page_of p.heading.address) ⊎ (EndsBy place (p ∷ rest) × (place + room ≤ MEMORY_LIMIT) × (page_of place ≡ place))
 
@@ -73,7 +73,7 @@ beside room place p rest h = beside-by room place p rest (nat_le (LOWEST + room)
 low-by : (place : ℕ) → Some LOWEST ≡ Some place → place ≤ MEMORY_LIMIT
 low-by place h = let e : LOWEST ≡ place = cc in omega (arith, e)
 
--- they lie below the limit
+-- the headers lie below the limit
 pub place-low : (room from place : ℕ) (pieces : List Loaded) → Fine from pieces → place_for room pieces ≡ Some place → place ≤ MEMORY_LIMIT
 place-low room from place [] fine h = low-by place h
 place-low room from place (p ∷ rest) fine h = elim (beside room place p rest h) [
@@ -119,7 +119,7 @@ append-cases own (p ∷ rest) a b h = append-more own p rest a b (holds a p.head
     append-more own p rest a b true e ih h = inr h
     append-more own p rest a b false e ih h = ih h
 
--- what is known of headers of a size in so much room, in order with the pieces
+-- the headers and the pieces together share no page, and load the bytes of both and no others
 pub record Ordered (own : Loaded) (place : ℕ) (pieces : List Loaded) : Type 0 where
   pub apart : IsApart 0 (put_in_order (is_below place pieces) own pieces)
   pub keeps : (a b : ℕ) → loaded_byte_at pieces a ≡ Some b → loaded_byte_at (put_in_order (is_below place pieces) own pieces) a ≡ Some b
@@ -170,7 +170,7 @@ ordered own place room (p ∷ rest) e size some fine h =
 whole-by : (place : ℕ) → Some LOWEST ≡ Some place → place % PAGE ≡ 0
 whole-by place h = let e : LOWEST ≡ place = cc in subst (λ (n : ℕ). n % PAGE ≡ 0) e refl
 
--- they begin at a page, where their room is whole pages
+-- if the headers' room is whole pages, the headers begin at the beginning of a page
 pub place-whole : (size place : ℕ) (pieces : List Loaded) → place_for (next_multiple_of size PAGE) pieces ≡ Some place → place % PAGE ≡ 0
 place-whole size place [] h = whole-by place h
 place-whole size place (p ∷ rest) h = elim (beside (next_multiple_of size PAGE) place p rest h) [

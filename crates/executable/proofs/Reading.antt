@@ -1,4 +1,4 @@
--- The program headers of a file are those that were written.
+-- The program headers that are read from a file are those that were written.
 use Rattle.std.proofs.Common.{◌≡◌, ℕ, ◌+◌, ◌*◌, ◌<◌, List, [], ◌∷◌, ◌++◌, length, map, drop, refl, sym, ap, ◌∙◌, arith, append_assoc}
 use Rattle.std.specs.Prelude.{◌^◌}
 use Rattle.std.specs.List.{flat_map, range_with_len}
@@ -12,7 +12,7 @@ use Rattle.elf_file.specs.Segment.{header_at}
 use Rattle.elf_file.specs.declared.segment.ProgramHeader.{ProgramHeader}
 use Rattle.executable.specs.File.{header_bytes}
 
--- each number fits its bytes
+-- each field of a program header fits into its bytes
 pub record HeaderFits (h : ProgramHeader) : Type 0 where
   pub kind : h.kind < 256 ^ 4
   pub flags : h.flags < 256 ^ 4
@@ -26,7 +26,7 @@ abbrev pub AllHeadersFit : List ProgramHeader → Type 0
 AllHeadersFit [] = Unit {0}
 AllHeadersFit (h ∷ rest) = HeaderFits h × AllHeadersFit rest
 
--- a number behind others is that of the rest
+-- a number at an offset after `pre` is the number at the rest of this offset in the bytes after `pre`
 behind : (F pre xs : List ℕ) (n at k : ℕ) → F ≡ pre ++ xs → length pre ≡ at → number_at n F (at + k) ≡ little_number n (drop k xs)
 unfolding number_at
 behind F pre xs n at k e f = ap (little_number n) (ap (λ s. drop (at + k) s) e ∙ ap (λ m. drop (m + k) (pre ++ xs)) (sym f) ∙ drop-append-add pre xs k)
@@ -36,7 +36,7 @@ same-headers : (a b c d e f g a' b' c' d' e' f' g' : ℕ) → a ≡ a' → b ≡
     ≡ (let h : ProgramHeader = record { kind = a'; flags = b'; offset = c'; address = d'; file_size = e'; memory_size = f'; alignment = g' } in h)
 same-headers a b c d e f g a' b' c' d' e' f' g' p q r s t u v = cc
 
--- a program header is read back
+-- a program header that was written is read back unchanged
 pub header-reads : (F pre post : List ℕ) (h : ProgramHeader) (at : ℕ) → F ≡ pre ++ (header_bytes h ++ post) → length pre ≡ at → HeaderFits h → header_at F at ≡ h
 unfolding header_bytes
 header-reads F pre post h at e f fit =
@@ -55,7 +55,7 @@ pub length-header_bytes : (h : ProgramHeader) → length (header_bytes h) ≡ 56
 unfolding header_bytes
 length-header_bytes h = refl
 
--- headers that follow one another are read back
+-- program headers that were written one after the other are read back unchanged
 pub table-reads : (F pre post : List ℕ) (hs : List ProgramHeader) (a b : ℕ) → F ≡ pre ++ (flat_map header_bytes hs ++ post) → length pre ≡ b + PROGRAM_HEADER_SIZE * a
     → AllHeadersFit hs → map (λ i. header_at F (b + PROGRAM_HEADER_SIZE * i)) (range_with_len a (length hs)) ≡ hs
 table-reads F pre post [] a b e f fit = refl

@@ -1,4 +1,4 @@
--- The first of the tests that applies.
+-- The refusal of the first test that applies.
 use Rattle.std.proofs.Common.{◌≡◌, ℕ, ◌+◌, ◌<◌, ◌≤◌, Bool, true, false, cond, take, List, [], ◌∷◌, Option, Some, None, refl, ap, ◌∙◌, arith}
 use Rattle.std.specs.Prelude.{not, nat_lt, nat_le, is_none, ◌&&◌, ◌==◌}
 use Rattle.std.specs.List.{list_any}
@@ -18,12 +18,12 @@ use Rattle.executable.specs.StaticPie.{is_static_pie}
 use Rattle.executable.specs.Uncalled.{first_uninitialized, first_unfinalized, is_uncalled_before}
 use Rattle.executable.specs.WritableCode.{first_unasked}
 use Rattle.executable.specs.declared.refusal.ExecutableRefusal.{ExecutableRefusal}
-use Rattle.executable.specs.declared.refusal.ExecutableRefusal.TheVariants.{NoEntry, StaticPie, PreInitializers, Initializers, Finalizers, TooManyHeaders, WritableCode, NoRoom}
+use Rattle.executable.specs.declared.refusal.ExecutableRefusal.TheVariants.{NoEntry, StaticPie, PreInitializers, Initializers, Finalizers, TooManyHeaders, WritableCode, NoPages}
 
 abbrev refusal_by : Option ℕ → Bool → Bool → Option (List ℕ) → Option (List ℕ) → Bool → Option (List ℕ) → Option ℕ → Option ExecutableRefusal
 refusal_by entry static before name last many code place =
     first_of ((NoEntry when is_none entry) ∷ (StaticPie when static) ∷ (PreInitializers when before) ∷ option_map Initializers name ∷ option_map Finalizers last
-    ∷ (TooManyHeaders when many) ∷ option_map WritableCode code ∷ (NoRoom when is_none place) ∷ [])
+    ∷ (TooManyHeaders when many) ∷ option_map WritableCode code ∷ (NoPages when is_none place) ∷ [])
 
 abbrev are_many : MemoryImage → Bool
 are_many image = nat_lt MOST_HEADERS (header_count_of (pieces_of image.segments))
@@ -31,7 +31,7 @@ are_many image = nat_lt MOST_HEADERS (header_count_of (pieces_of image.segments)
 abbrev place_in : MemoryImage → Option ℕ
 place_in image = place_of (pieces_of image.segments)
 
--- the refusal where there is an entry
+-- the refusal of an image that has an entry, with the results of the next four tests put in
 with-entry : (image : MemoryImage) (entry : ℕ) (static before : Bool) (name last : Option (List ℕ)) → entry_of image ≡ Some entry → is_static_pie image ≡ static → is_uncalled_before image ≡ before
     → first_uninitialized image ≡ name → first_unfinalized image ≡ last
     → executable_refusal image ≡ refusal_by (Some entry) static before name last (are_many image) (first_unasked image) (place_in image)
@@ -43,7 +43,8 @@ with-entry image entry static before name last e t b n l =
     ∙ ap (λ x. refusal_by (Some entry) static before x (first_unfinalized image) (are_many image) (first_unasked image) (place_in image)) n
     ∙ ap (λ x. refusal_by (Some entry) static before name x (are_many image) (first_unasked image) (place_in image)) l
 
--- the refusal where nothing else would be called
+-- the refusal of an image with an entry and without functions that nobody would call, with the results
+-- of the last three tests put in
 uncalled : (image : MemoryImage) (entry : ℕ) (many : Bool) (code : Option (List ℕ)) (place : Option ℕ) → entry_of image ≡ Some entry → HasNoCalls image
     → are_many image ≡ many → first_unasked image ≡ code → place_in image ≡ place
     → executable_refusal image ≡ refusal_by (Some entry) false false None None many code place
@@ -81,7 +82,7 @@ pub writable-code : (image : MemoryImage) (entry : ℕ) (name : List ℕ) → en
 writable-code image entry name e c m w = uncalled image entry false (Some name) _ e c (grind (arith, nat_tests)) w refl
 
 pub no-room : (image : MemoryImage) (entry : ℕ) → entry_of image ≡ Some entry → HasNoCalls image
-    → header_count_of (pieces_of image.segments) ≤ MOST_HEADERS → first_unasked image ≡ None → place_of (pieces_of image.segments) ≡ None → executable_refusal image ≡ Some NoRoom
+    → header_count_of (pieces_of image.segments) ≤ MOST_HEADERS → first_unasked image ≡ None → place_of (pieces_of image.segments) ≡ None → executable_refusal image ≡ Some NoPages
 no-room image entry e c m w p = uncalled image entry false None None e c (grind (arith, nat_tests)) w p
 
 pub none-applies : (image : MemoryImage) (entry place : ℕ) → entry_of image ≡ Some entry → HasNoCalls image
@@ -100,6 +101,6 @@ entry-among-low (p ∷ rest) segments entry h =
     entry-by (p.base + p.addresses.entry) entry (not (p.addresses.entry == 0)) (nat_le (p.base + p.addresses.entry) MEMORY_LIMIT)
     (list_any (is_code (p.base + p.addresses.entry)) (take p.segment_count segments)) refl h
 
--- an entry lies below the limit
+-- the entry of an image isn't above the limit
 pub entry-low : (image : MemoryImage) (entry : ℕ) → entry_of image ≡ Some entry → entry ≤ MEMORY_LIMIT
 entry-low image entry h = entry-among-low image.objects image.segments entry h

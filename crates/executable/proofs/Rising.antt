@@ -1,4 +1,4 @@
--- Segments that rise.
+-- Rising segments.
 use Rattle.std.proofs.Common.{◌≡◌, ℕ, ◌+◌, ◌<◌, ◌≤◌, inl, inr, true, false, List, [], ◌∷◌, length, Some, arith}
 use Rattle.std.specs.Prelude.{◌==◌}
 use Rattle.std.proofs.lemmas.Bool.Decides.{nat_tests}
@@ -6,7 +6,8 @@ use Rattle.image.specs.Constant.{MEMORY_LIMIT}
 use Rattle.image.specs.Image.{AreRising, ImageSegment, segments_byte}
 use Rattle.executable.proofs.Bytes.{segment-cases}
 
--- what is known of the first of segments that rise
+-- the first of rising segments begins at or above `from` and ends at or below the limit, and the others
+-- rise from its end
 pub record Rises (from : ℕ) (s : ImageSegment) (rest : List ImageSegment) : Type 0 where
   pub above : from ≤ s.address
   pub low : s.address + length s.bytes ≤ MEMORY_LIMIT
@@ -19,7 +20,7 @@ pub rising-lower : (n from : ℕ) (segments : List ImageSegment) → n ≤ from 
 rising-lower n from [] l h = tt
 rising-lower n from (s ∷ rest) l h = (omega (arith, l, h.0), h.1, h.2)
 
--- their bytes lie above what they rise from
+-- the bytes of rising segments lie at or above `from`
 pub rising-above : (from : ℕ) (segments : List ImageSegment) (a b : ℕ) → AreRising from segments → segments_byte segments a ≡ Some b → from ≤ a
 rising-above from [] a b h found = cc
 rising-above from (s ∷ rest) a b h found =

@@ -1,4 +1,4 @@
--- Bytes without the zeros that they end with, and pieces as the file has them.
+-- Bytes without the zeros at their end, and finished pieces.
 use Rattle.std.proofs.Common.{◌≡◌, ℕ, ◌-◌, ◌<◌, ◌≤◌, ◌≢◌, Bool, true, false, cond, List, [], ◌∷◌, ◌++◌, length, get_or, take, refl, sym, ap, ◌∙◌, arith, suc, zero}
 use Rattle.std.specs.Prelude.{◌==◌, ◌&&◌}
 use Rattle.std.proofs.Math.Seq.{take-suc}
@@ -22,7 +22,8 @@ zeros-by b kept rest (suc i) true false e f ih = ih i
 zeros-by b kept rest zero false u e f ih = refl
 zeros-by b kept rest (suc i) false u e f ih = ih i
 
--- they are the same at every place, since what is behind the last is 0
+-- the bytes with and without the zeros at the end are the same at every index, because an index past the
+-- end reads as 0
 pub get_or-without_zeros : (bytes : List ℕ) (i : ℕ) → get_or (without_zeros bytes) i 0 ≡ get_or bytes i 0
 get_or-without_zeros [] i = refl
 get_or-without_zeros (b ∷ rest) i =
@@ -32,7 +33,7 @@ shorter-by : (b : ℕ) (kept : List ℕ) (n : ℕ) (t : Bool) → length kept �
 shorter-by b kept n true h = omega arith
 shorter-by b kept n false h = omega (arith, h)
 
--- and there are no more of them
+-- without the zeros at the end, there are no more bytes than before
 pub length-without_zeros : (bytes : List ℕ) → length (without_zeros bytes) ≤ length bytes
 length-without_zeros [] = omega arith
 length-without_zeros (b ∷ rest) =
@@ -47,12 +48,12 @@ kept-end-by b x kept rest true e =
 last-by : (x : ℕ) (t : Bool) → (x == 0) ≡ t → (t ≡ false) → without_zeros (x ∷ []) ≡ x ∷ []
 last-by x t e f = ap (λ u. cond (u && true) [] (x ∷ [])) (e ∙ f)
 
--- bytes that end with another one than 0 stay
+-- if the last byte isn't 0, all bytes stay
 pub without_zeros-other : (bytes : List ℕ) (x : ℕ) → (x == 0) ≡ false → without_zeros (bytes ++ x ∷ []) ≡ bytes ++ x ∷ []
 without_zeros-other [] x e = last-by x (x == 0) refl e
 without_zeros-other (b ∷ rest) x e = kept-end-by b x (without_zeros (rest ++ x ∷ [])) rest (b == 0) (without_zeros-other rest x e)
 
--- a zero at the end goes
+-- a zero at the end makes no difference
 pub without_zeros-zero : (bytes : List ℕ) → without_zeros (bytes ++ 0 ∷ []) ≡ without_zeros bytes
 without_zeros-zero [] = refl
 without_zeros-zero (b ∷ rest) =
@@ -62,7 +63,7 @@ finished-by : (p : Loaded) (t : Bool) → (cond t (let q : Loaded = record { hea
 finished-by p true = refl
 finished-by p false = refl
 
--- a piece lies where it lay
+-- a finished piece has the same heading
 pub finished-heading : (p : Loaded) → (finished p).heading ≡ p.heading
 finished-heading p = finished-by p (bit_and p.heading.permissions PF_W == PF_W)
 
@@ -71,7 +72,7 @@ finished-byte-by : (p : Loaded) (i : ℕ) (t : Bool)
 finished-byte-by p i true = get_or-without_zeros p.contents i
 finished-byte-by p i false = refl
 
--- and has the same bytes
+-- a finished piece has the same byte at each index, and no more contents
 pub finished-byte : (p : Loaded) (i : ℕ) → get_or (finished p).contents i 0 ≡ get_or p.contents i 0
 finished-byte p i = finished-byte-by p i (bit_and p.heading.permissions PF_W == PF_W)
 
@@ -88,12 +89,13 @@ one-more bytes n some h =
     let e : n ≡ suc (n - 1) = omega arith in
     ap (λ k. take k bytes) e ∙ take-suc bytes (n - 1) 0 (omega arith)
 
--- a zero at the end of the first n bytes goes
+-- if the last of the first n bytes is 0, the first n - 1 bytes without their zeros at the end are the
+-- same
 pub zero-step : (bytes : List ℕ) (n : ℕ) → 0 < n → n ≤ length bytes → get_or bytes (n - 1) 0 ≡ 0 → without_zeros (take (n - 1) bytes) ≡ without_zeros (take n bytes)
 zero-step bytes n some h e =
     sym (ap without_zeros (one-more bytes n some h ∙ ap (λ b. take (n - 1) bytes ++ b ∷ []) e) ∙ without_zeros-zero (take (n - 1) bytes))
 
--- another byte at their end keeps them
+-- if the last of the first n bytes isn't 0, the first n bytes have no zeros at the end
 pub other-step : (bytes : List ℕ) (n : ℕ) → 0 < n → n ≤ length bytes → get_or bytes (n - 1) 0 ≢ 0 → without_zeros (take n bytes) ≡ take n bytes
 other-step bytes n some h e =
     ap without_zeros (one-more bytes n some h)

@@ -1,4 +1,4 @@
--- The numbers of executable files (gABI chapters 4 and 5; elf(5)), and the kernel's limits.
+-- The constants of executable files (gABI chapters 4 and 5; elf(5)), and the kernel's limits.
 use Rattle.std.specs.Prelude.{ℕ}
 
 -- e_type of an executable file
@@ -9,11 +9,11 @@ ET_EXEC = 2
 abbrev pub PT_PHDR : ℕ
 PT_PHDR = 6
 
--- what may be done with the stack, by p_type
+-- the segment with the permissions of the stack, by p_type
 abbrev pub PT_GNU_STACK : ℕ
 PT_GNU_STACK = 0x6474e551
 
--- tags by d_tag: an initializer, an array of them, its size in bytes
+-- the tags, in d_tag, of an initializer, of an array of initializers, and of the array's size in bytes
 abbrev pub DT_INIT : ℕ
 DT_INIT = 12
 
@@ -23,7 +23,7 @@ DT_INIT_ARRAY = 25
 abbrev pub DT_INIT_ARRAYSZ : ℕ
 DT_INIT_ARRAYSZ = 27
 
--- the same of what is called at the end
+-- the same tags for finalizers: functions that are called at the end
 abbrev pub DT_FINI : ℕ
 DT_FINI = 13
 
@@ -33,55 +33,59 @@ DT_FINI_ARRAY = 26
 abbrev pub DT_FINI_ARRAYSZ : ℕ
 DT_FINI_ARRAYSZ = 28
 
--- an array of functions that are called before all others, of a program alone; its size in bytes
+-- the tags of an array of pre-initializers, which are called before all other functions and which only a
+-- program has, and of the array's size in bytes
 abbrev pub DT_PREINIT_ARRAY : ℕ
 DT_PREINIT_ARRAY = 32
 
 abbrev pub DT_PREINIT_ARRAYSZ : ℕ
 DT_PREINIT_ARRAYSZ = 33
 
--- flags of an object, by d_tag; of these, that it is a position-independent executable
+-- the tag of an object's flags, in d_tag, and the flag of a position-independent executable
 abbrev pub DT_FLAGS_1 : ℕ
 DT_FLAGS_1 = 0x6ffffffb
 
 abbrev pub DF_1_PIE : ℕ
 DF_1_PIE = 0x08000000
 
--- the name of an interpreter, by p_type
+-- the segment that names an interpreter, by p_type
 abbrev pub PT_INTERP : ℕ
 PT_INTERP = 3
 
--- notes, by p_type
+-- the segment of notes, by p_type
 abbrev pub PT_NOTE : ℕ
 PT_NOTE = 4
 
--- the alignment of notes, by p_align: name and descriptor of each are padded to a multiple of it
+-- the p_align of notes that are read; the name and the descriptor of a note are padded to multiples of
+-- it
 abbrev pub NOTE_ALIGNMENT : ℕ
 NOTE_ALIGNMENT = 4
 
--- bytes of a note before its name: the sizes of its name and of its descriptor, and its type
+-- the number of bytes of a note before its name: the size of its name, the size of its descriptor, and its type
 abbrev pub NOTE_HEADER_SIZE : ℕ
 NOTE_HEADER_SIZE = 12
 
--- the note of a program that calls its libraries' functions itself (own): its name, `rlibreg` and a zero, as a number of eight bytes; the name's size
+-- the name of the calls note, by which a program calls its libraries' functions itself (own): `rlibreg`
+-- and a zero, as a number of eight bytes; and the size of this name
 abbrev pub CALLS_NAME : ℕ
 CALLS_NAME = 0x67657262696c72
 
 abbrev pub CALLS_NAME_SIZE : ℕ
 CALLS_NAME_SIZE = 8
 
--- its type; it has no descriptor
+-- the type of the calls note, which has no descriptor
 abbrev pub CALLS_TYPE : ℕ
 CALLS_TYPE = 1
 
--- bytes of an entry of such an array
+-- the size in bytes of an entry of an array of functions
 abbrev pub ARRAY_ENTRY_SIZE : ℕ
 ARRAY_ENTRY_SIZE = 8
 
--- the lowest address that the kernel gives to whoever isn't root (vm.mmap_min_addr)
+-- the lowest address that the kernel allows a process to map unless the process runs as root
+-- (vm.mmap_min_addr)
 abbrev pub LOWEST : ℕ
 LOWEST = 0x10000
 
--- the most program headers that the kernel takes: 65,536 bytes of them
+-- the maximum number of program headers that the kernel accepts: as many as have 65,536 bytes
 abbrev pub MOST_HEADERS : ℕ
 MOST_HEADERS = 1170

@@ -6,17 +6,18 @@ use Rattle.image.specs.Heading.{holds}
 use Rattle.image.specs.Image.{ImageSegment, MemoryImage, heading}
 use Rattle.image.specs.declared.object.ImageObject.{ImageObject}
 
--- an address is one of a segment that may be executed
+-- an address is in a segment that may be executed
 abbrev pub is_code : ℕ → ImageSegment → Bool
 is_code address s = (bit_and s.permissions PF_X == PF_X) && holds address (heading s)
 
--- a program among these segments, of which the first are its own: its entry in its own code, if it has one
+-- the entry of a program, if it is in the program's own code; the first `program.segment_count` segments
+-- are the program's
 abbrev pub own_entry : ImageObject → List ImageSegment → Option ℕ
 own_entry program segments =
     let address = program.base + program.addresses.entry in
     if not (program.addresses.entry == 0) && nat_le address MEMORY_LIMIT && list_any (is_code address) (take program.segment_count segments) then Some address else None
 
--- the entry among these objects, of which the first is the program
+-- the entry of the program, which is the first of the objects
 abbrev pub entry_among : List ImageObject → List ImageSegment → Option ℕ
 entry_among [] segments = None
 entry_among (program ∷ libraries) segments = own_entry program segments

@@ -9,11 +9,11 @@ use Rattle.image.specs.Loading.{Loaded}
 use Rattle.executable.specs.Constant.{ET_EXEC, PT_PHDR, PT_GNU_STACK}
 use Rattle.executable.specs.Place.{header_count_of, headers_size}
 
--- e_ident: 7f 45 4c 46, of 64 bits, little endian, the current version, System V; then zeros
+-- e_ident: 7f 45 4c 46, 64 bits, little endian, the current version, and System V, followed by zeros
 abbrev pub ident : List ℕ
 ident = 0x7f ∷ 0x45 ∷ 0x4c ∷ 0x46 ∷ 2 ∷ 1 ∷ 1 ∷ 0 ∷ 0 ∷ 0 ∷ 0 ∷ 0 ∷ 0 ∷ 0 ∷ 0 ∷ 0 ∷ []
 
--- the file header of an executable with this entry and so many program headers, which follow it
+-- the file header of an executable with entry `entry` and with `count` program headers, which follow it
 abbrev pub file_header : ℕ → ℕ → List ℕ
 file_header entry count =
     ident ++ (little_bytes 2 ET_EXEC ++ (little_bytes 2 EM_X86_64 ++ (little_bytes 4 EV_CURRENT
@@ -26,15 +26,16 @@ header_bytes h =
     little_bytes 4 h.kind ++ (little_bytes 4 h.flags ++ (little_bytes 8 h.offset ++ (little_bytes 8 h.address
     ++ (little_bytes 8 h.address ++ (little_bytes 8 h.file_size ++ (little_bytes 8 h.memory_size ++ little_bytes 8 h.alignment))))))
 
--- bytes, and zeros to the end of the page
+-- bytes, and then zeros to the end of the page
 abbrev pub padded : List ℕ → List ℕ
 padded bytes = bytes ++ replicate ((PAGE - length bytes % PAGE) % PAGE) 0
 
--- the pages of the file that hold a piece's bytes, each as far into its page as its address
+-- the pages of the file that have a piece's bytes: the bytes begin as far into their page as the piece's
+-- address into its page
 unfoldable pub piece_bytes : Loaded → List ℕ
 piece_bytes p = padded (replicate (p.heading.address % PAGE) 0 ++ p.contents)
 
--- the PT_LOAD of a piece whose pages begin at an offset
+-- the PT_LOAD of a piece whose pages begin at offset `at`
 abbrev pub load_header : ℕ → Loaded → ProgramHeader
 load_header at p =
     record {
@@ -47,12 +48,13 @@ load_header at p =
       alignment = PAGE;
     }
 
--- the PT_LOADs of pieces whose pages follow one another from an offset on
+-- the PT_LOADs of pieces whose pages in the file follow one another; the first begin at offset `at`
 abbrev pub load_headers : ℕ → List Loaded → List ProgramHeader
 load_headers at [] = []
 load_headers at (p ∷ rest) = load_header at p ∷ load_headers (at + length (piece_bytes p)) rest
 
--- the PT_LOAD of the headers themselves, n program headers behind the file header, at an address
+-- the PT_LOAD of the headers, which are mapped at address `place`: the file header, and n program
+-- headers after it
 abbrev pub own_header : ℕ → ℕ → ProgramHeader
 own_header place n =
     record {
@@ -65,7 +67,7 @@ own_header place n =
       alignment = PAGE;
     }
 
--- PT_PHDR: where the program headers are
+-- PT_PHDR, with the address and the offset of the program headers
 abbrev pub table_header : ℕ → ℕ → ProgramHeader
 table_header place n =
     record {
@@ -83,16 +85,17 @@ abbrev pub stack_header : ProgramHeader
 stack_header =
     record { kind = PT_GNU_STACK; flags = PF_R + PF_W; offset = 0; address = 0; file_size = 0; memory_size = 0; alignment = 16 }
 
--- an address is below the first of these pieces
+-- address `place` is below the first piece, or there are no pieces
 abbrev pub is_below : ℕ → List Loaded → Bool
 is_below place [] = true
 is_below place (p ∷ rest) = nat_lt place p.heading.address
 
--- what is first where it lies below the others, else last
+-- `xs` with `x` before it if `below`, and otherwise with `x` after it
 abbrev pub put_in_order : {X : Type 0} → Bool → X → List X → List X
 put_in_order below x xs = if below then x ∷ xs else xs ++ x ∷ []
 
--- all program headers, for headers at an address: the PT_LOADs rise (gABI chapter 5)
+-- all program headers of a file whose headers are mapped at address `place`; their PT_LOADs rise (gABI
+-- chapter 5)
 abbrev pub table_of : ℕ → List Loaded → List ProgramHeader
 table_of place pieces =
     let n = header_count_of pieces in
@@ -100,10 +103,10 @@ table_of place pieces =
     ∷ put_in_order (is_below place pieces) (own_header place n) (load_headers (length (padded (replicate (headers_size n) 0))) pieces)
     ++ stack_header ∷ []
 
--- the file header and the program headers
+-- the bytes of the file header and of the program headers
 unfoldable pub front_of : ℕ → List ProgramHeader → List ℕ
 front_of entry table = file_header entry (length table) ++ flat_map header_bytes table
 
--- these headers and these pieces, each in pages of the file of its own
+-- the file that begins with `front`, followed by the pages of each piece
 unfoldable pub file_with : List ℕ → List Loaded → List ℕ
 file_with front pieces = padded front ++ flat_map piece_bytes pieces

@@ -1,4 +1,5 @@
--- What a file means to whoever loads it (gABI chapter 5, program loading), in the terms by which files are read.
+-- How a file is loaded (gABI chapter 5, program loading), stated with the definitions by which files are
+-- read.
 use Rattle.std.specs.Prelude.{ℕ, ◌≡◌, ◌+◌, ◌-◌, ◌<◌, ◌≤◌, ◌%◌, ◌⊎◌, false, List, [], ◌∷◌, map, take, slice_index, Option, Some}
 use Rattle.elf_file.specs.Number.{number_at}
 use Rattle.elf_file.specs.Header.{HasHeaders, has_bad_magic, has_bad_class, has_bad_data, has_bad_version, has_bad_os_abi}
@@ -13,7 +14,7 @@ use Rattle.executable.specs.File.{is_below, put_in_order, table_of}
 use Rattle.executable.specs.Piece.{page_of, end_of, pieces_of}
 use Rattle.executable.specs.Place.{header_count_of, headers_size, place_of}
 
--- the segments that loading a file puts into memory, at the addresses that it names
+-- the PT_LOADs of a file in memory, at the addresses that the file has for them
 abbrev pub loaded_by : List ℕ → List Loaded
 loaded_by file = map (loaded_at 0 file) (loads file)
 
@@ -21,7 +22,7 @@ loaded_by file = map (loaded_at 0 file) (loads file)
 abbrev pub file_byte : List ℕ → ℕ → Option ℕ
 file_byte file address = loaded_byte_at (loaded_by file) address
 
--- a whole ELF-64 file for x86-64 that is an executable: E1 to E6 and E8 to E10 find no fault in it
+-- the file is a complete ELF-64 executable for x86-64: none of the tests E1 to E6 and E8 to E10 applies
 pub record IsExecutable (file : List ℕ) : Type 0 where
   pub whole : HasHeaders file
   pub magic : has_bad_magic file ≡ false
@@ -34,20 +35,23 @@ pub record IsExecutable (file : List ℕ) : Type 0 where
   pub header_size : has_bad_header_size file ≡ false
   pub headers : has_bad_program_headers file ≡ false
 
--- the headers of a file in memory at an address, which may be read alone
+-- the headers of a file in memory at address `place`, which may be read, but neither written nor
+-- executed
 abbrev pub headers_at : ℕ → List Loaded → List ℕ → Loaded
 headers_at place pieces file =
     let size = headers_size (header_count_of pieces) in
     record { heading = record { address = place; permissions = PF_R; size = size }; contents = take size file }
 
--- a file has all program headers of these segments' pieces, and loads the pieces and its own headers
+-- the program headers of the file are those of the pieces of these segments, and the file loads the
+-- pieces and its own headers
 pub record IsFileOf (segments : List ImageSegment) (file : List ℕ) : Type 0 where
   pub place : ℕ
   pub free : place_of (pieces_of segments) ≡ Some place
   pub table : program_headers file ≡ table_of place (pieces_of segments)
   pub loaded : loaded_by file ≡ put_in_order (is_below place (pieces_of segments)) (headers_at place (pieces_of segments) file) (pieces_of segments)
 
--- a byte at an address is one of the file's own headers, which are mapped where there is place for them
+-- byte b at address a is one of the file's own headers, which are mapped where `place_of` finds room for
+-- them
 pub record IsOfHeaders (segments : List ImageSegment) (file : List ℕ) (a b : ℕ) : Type 0 where
   pub place : ℕ
   pub free : place_of (pieces_of segments) ≡ Some place
@@ -59,7 +63,8 @@ pub record IsOfHeaders (segments : List ImageSegment) (file : List ℕ) (a b : �
 abbrev pub HasAny : List ImageSegment → ℕ → Type 0
 HasAny segments a = (b : ℕ) × (segments_byte segments a ≡ Some b)
 
--- an address lies between two of one page or of neighbouring ones, at each of which a segment has a byte
+-- address a lies between two addresses that have bytes in segments and whose pages are the same or
+-- neighbours
 pub record IsBetween (segments : List ImageSegment) (a : ℕ) : Type 0 where
   pub below : ℕ
   pub above : ℕ
@@ -69,15 +74,17 @@ pub record IsBetween (segments : List ImageSegment) (a : ℕ) : Type 0 where
   pub has_above : HasAny segments above
   pub page : page_of above ≤ page_of below + PAGE
 
--- a byte at an address is the segments', or the headers', or a 0 between segments whose pages are the same or touch
+-- byte b at address a comes from the segments, or from the headers, or is a 0 between segments whose
+-- pages are the same or neighbours
 abbrev pub IsFrom : List ImageSegment → List ℕ → ℕ → ℕ → Type 0
 IsFrom segments file a b = (segments_byte segments a ≡ Some b) ⊎ (IsOfHeaders segments file a b ⊎ ((b ≡ 0) × IsBetween segments a))
 
--- segments in memory begin in pages at or above `from` and above the ends of those before: no two share a page
+-- no two segments share a page: each begins in a page at or above the end of the one before it, the
+-- first one at or above `from`
 abbrev pub IsApart : ℕ → List Loaded → Type 0
 IsApart from [] = Unit {0}
 IsApart from (s ∷ rest) = (from ≤ page_of s.heading.address) × IsApart (end_of s) rest
 
--- a PT_LOAD's offset and address lie equally far into their pages
+-- the offset and the address of a PT_LOAD are equal modulo the size of a page
 abbrev pub IsCongruent : ProgramHeader → Type 0
 IsCongruent h = h.offset % PAGE ≡ h.address % PAGE

@@ -1,4 +1,5 @@
--- The notes of a program (gABI chapter 5, note section; elf(5), notes), and the one that says that it calls its libraries' functions itself (own).
+-- The notes of a program (gABI chapter 5, note section; elf(5), notes). One of them, the calls note,
+-- says that the program itself calls its libraries' functions (own).
 use Rattle.std.specs.Prelude.{ℕ, zero, suc, ◌+◌, ◌*◌, ◌/◌, ◌==◌, min, length, List, [], ◌∷◌, take, drop, Bool, false, ◌&&◌, ◌||◌, nat_le, Option, Some}
 use Rattle.std.specs.Int.{next_multiple_of}
 use Rattle.std.specs.List.{find, range_with_len}
@@ -10,50 +11,56 @@ use Rattle.image.specs.declared.object.ImageObject.{ImageObject}
 use Rattle.executable.specs.Constant.{PT_NOTE, NOTE_ALIGNMENT, NOTE_HEADER_SIZE, CALLS_NAME, CALLS_NAME_SIZE, CALLS_TYPE}
 use Rattle.executable.specs.Initializers.{section_memory}
 
--- the size of the note that bytes begin with: n_namesz, n_descsz and n_type, and behind these the name and the descriptor, each padded
+-- the size of the note at the beginning of these bytes: n_namesz, n_descsz and n_type, followed by the
+-- padded name and the padded descriptor
 abbrev pub note_size : List ℕ → ℕ
 note_size bytes = NOTE_HEADER_SIZE + next_multiple_of (number_at 4 bytes 0) NOTE_ALIGNMENT + next_multiple_of (number_at 4 bytes 4) NOTE_ALIGNMENT
 
--- bytes begin with the note of a program that calls its libraries' functions itself: by its sizes, its type and its name
+-- these bytes begin with the calls note: they have its sizes, its type and its name
 abbrev pub is_calls_note : List ℕ → Bool
 is_calls_note bytes =
     nat_le (NOTE_HEADER_SIZE + CALLS_NAME_SIZE) (length bytes) && (number_at 4 bytes 0 == CALLS_NAME_SIZE) && (number_at 4 bytes 4 == 0)
     && (number_at 4 bytes 8 == CALLS_TYPE) && (number_at 8 bytes NOTE_HEADER_SIZE == CALLS_NAME)
 
--- it is among the first n notes of these bytes, each of which begins where the one before it ends
+-- the calls note is one of the first n whole notes of these bytes; each note begins at the end of the
+-- one before it
 abbrev pub has_calls_note : ℕ → List ℕ → Bool
 has_calls_note zero bytes = false
 has_calls_note (suc n) bytes = is_calls_note bytes || (nat_le (note_size bytes) (length bytes) && has_calls_note n (drop (note_size bytes) bytes))
 
--- the i-th of the program headers in a memory is of notes of this alignment
+-- program header number i is that of notes that are read: a PT_NOTE with the alignment 4
 abbrev pub is_of_notes : List ℕ → ℕ → Bool
 is_of_notes headers i =
     (number_at 4 headers (PROGRAM_HEADER_SIZE * i) == PT_NOTE) && (number_at 8 headers (PROGRAM_HEADER_SIZE * i + 48) == NOTE_ALIGNMENT)
 
--- the first of the first n program headers that are whole in a memory that is of notes
+-- the number of the first such program header among the first n; only headers that are completely in
+-- memory count
 unfoldable pub find_notes : List ℕ → ℕ → Option ℕ
 find_notes headers n = find (is_of_notes headers) (range_with_len 0 (min (length headers / PROGRAM_HEADER_SIZE) n))
 
--- the notes by a program header: p_filesz bytes from p_vaddr on
+-- the notes of program header number i: p_filesz bytes from p_vaddr, or those of them that the segment
+-- there has
 abbrev pub notes_by : ℕ → List ImageSegment → List ℕ → ℕ → List ℕ
 notes_by base own headers i =
     take (number_at 8 headers (PROGRAM_HEADER_SIZE * i + 32)) (section_memory base own (Some (number_at 8 headers (PROGRAM_HEADER_SIZE * i + 16))))
 
--- the notes of an object whose program headers are in memory; none where it has none
+-- the notes of an object with these program headers; empty if no program header is that of notes that
+-- are read
 abbrev pub notes_among : ℕ → List ImageSegment → List ℕ → ℕ → List ℕ
 notes_among base own headers n = option_map_or (notes_by base own headers) (find_notes headers n) []
 
--- the notes of an object, in its own segments
+-- the notes of an object, read from its own segments
 abbrev pub notes_of : ImageObject → List ImageSegment → List ℕ
 notes_of object own = notes_among object.base own (section_memory object.base own object.addresses.headers) object.addresses.header_count
 
--- the first of these objects, the program, has the note; each note has a byte
+-- the program, which is the first of these objects, has the calls note; there can't be more notes than
+-- bytes
 abbrev pub calls_among : List ImageObject → List ImageSegment → Bool
 calls_among [] segments = false
 calls_among (program ∷ libraries) segments =
     let notes = notes_of program (take program.segment_count segments) in
     has_calls_note (length notes) notes
 
--- the program of an image calls the functions itself that a loader would call
+-- the program of an image has the calls note: it calls the functions itself that a loader would call
 abbrev pub calls_itself : MemoryImage → Bool
 calls_itself image = calls_among image.objects image.segments

@@ -1,4 +1,4 @@
--- What comes of an image: its executable file, or the line of why there is none (own).
+-- The outcome of making an executable of an image: the file, or the line of a refusal (own).
 use Rattle.std.specs.Prelude.{◌≡◌, ℕ, List, All, ◌++◌, Some, None, codes}
 use Rattle.elf_file.specs.Header.{entry_address}
 use Rattle.elf_file.specs.Segment.{loads}
@@ -10,8 +10,8 @@ use Rattle.executable.specs.Refusal.{executable_refusal}
 use Rattle.executable.specs.declared.refusal.ExecutableRefusal.{ExecutableRefusal}
 use Rattle.executable.specs.declared.refusal.ExecutableRefusal.TheVariants as refusal
 
--- No test refuses the image, and the file loads its bytes, and besides only its own headers, and
--- zeros between segments whose pages are the same or touch.
+-- No test refuses the image. The file loads the image's bytes. Besides them it loads only its own
+-- headers, and zeros between segments whose pages are the same or neighbours.
 pub record IsExecutableOf (image : MemoryImage) (file : List ℕ) : Type 0 where
   pub accepted : executable_refusal image ≡ None
   pub header : IsExecutable file
@@ -22,11 +22,11 @@ pub record IsExecutableOf (image : MemoryImage) (file : List ℕ) : Type 0 where
   pub only : (a b : ℕ) → file_byte file a ≡ Some b → IsFrom image.segments file a b
   pub apart : IsApart 0 (loaded_by file)
 
--- the line of a refusal that names an object
+-- the line that begins with `says` and has the name of an object
 abbrev pub object_text : (says name : List ℕ) → List ℕ
 object_text says name = says ++ name_text name ++ codes "\n"
 
--- the line of why there is no file
+-- the line of a refusal to make a file
 abbrev pub executable_refusal_text : ExecutableRefusal → List ℕ
 executable_refusal_text refusal.NoEntry = codes "refused NoEntry\n"
 executable_refusal_text refusal.StaticPie = codes "refused StaticPie\n"
@@ -35,5 +35,5 @@ executable_refusal_text (refusal.Initializers name) = object_text (codes "refuse
 executable_refusal_text (refusal.Finalizers name) = object_text (codes "refused Finalizers ") name
 executable_refusal_text refusal.TooManyHeaders = codes "refused TooManyHeaders\n"
 executable_refusal_text (refusal.WritableCode name) = object_text (codes "refused WritableCode ") name
-executable_refusal_text refusal.NoRoom = codes "refused NoRoom\n"
+executable_refusal_text refusal.NoPages = codes "refused NoPages\n"
 executable_refusal_text refusal.OutOfMemory = codes "refused S11 OutOfMemory\n"

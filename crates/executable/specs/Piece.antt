@@ -1,4 +1,5 @@
--- The parts of an image that a file can load: what segments have in pages that permit the same (gABI chapter 5, program loading).
+-- The parts of an image that a file can load: the bytes of segments in pages with the same permissions (gABI chapter 5,
+-- program loading).
 use Rattle.std.specs.Prelude.{ℕ, ◌+◌, ◌-◌, ◌%◌, ◌==◌, Bool, not, ◌&&◌, nat_le, nat_lt, if◌then◌else◌}
 use Rattle.std.specs.Prelude.{List, [], ◌∷◌, ◌++◌, length, map, take, drop, replicate}
 use Rattle.std.specs.Int.RustNames.{bit_and, bit_or}
@@ -7,11 +8,11 @@ use Rattle.image.specs.Image.{ImageSegment}
 use Rattle.image.specs.Loading.{Loaded}
 use Rattle.image.specs.Permissions.{permission_bits}
 
--- the first address of a page
+-- the first address of the page of an address
 abbrev pub page_of : ℕ → ℕ
 page_of address = address - address % PAGE
 
--- where a piece ends
+-- the address at which a piece ends
 abbrev pub end_of : Loaded → ℕ
 end_of p = p.heading.address + p.heading.size
 
@@ -23,11 +24,11 @@ piece_of s =
       contents = s.bytes;
     }
 
--- a piece's last page is the first of the one behind it
+-- the last page of piece p is the first page of piece q, which comes after it
 abbrev pub shares_page : Loaded → Loaded → Bool
 shares_page p q = nat_lt (page_of q.heading.address) (end_of p)
 
--- a piece and the one behind it: zeros between them, and what any of the two permits
+-- piece p and piece q after it as one piece: with zeros between them, and the permissions of both
 abbrev pub joined : Loaded → Loaded → Loaded
 joined p q =
     record {
@@ -39,7 +40,7 @@ joined p q =
       contents = p.contents ++ replicate (q.heading.address - p.heading.address - length p.contents) 0 ++ q.contents;
     }
 
--- what a piece has below an address
+-- the part of piece p below address `at`
 abbrev pub below : ℕ → Loaded → Loaded
 below at p =
     record {
@@ -47,7 +48,7 @@ below at p =
       contents = take (at - p.heading.address) p.contents;
     }
 
--- what it has from an address on
+-- the part of piece p from address `at` on
 abbrev pub above : ℕ → Loaded → Loaded
 above at p =
     record {
@@ -55,77 +56,80 @@ above at p =
       contents = drop (at - p.heading.address) p.contents;
     }
 
--- bytes without the zeros that they end with
+-- bytes without the zeros at their end
 abbrev pub without_zeros : List ℕ → List ℕ
 without_zeros [] = []
 without_zeros (b ∷ rest) = let kept = without_zeros rest in if (b == 0) && (length kept == 0) then [] else b ∷ kept
 
--- a piece that may be written leaves the zeros at its end to the loading; the kernel clears no other's last page
+-- a piece as the file has it: if it may be written, without the zeros at its end. The kernel clears the
+-- rest of the last page only for such a piece.
 abbrev pub finished : Loaded → Loaded
 finished p =
     if bit_and p.heading.permissions PF_W == PF_W then record { heading = p.heading; contents = without_zeros p.contents } else p
 
--- pieces that are done, and the last one, which the next segment may share a page with
+-- the finished pieces, and the last piece, which may share a page with the next segment
 pub record Pieces : Type 0 where
   pub done : List Loaded
   pub last : Loaded
 
--- what a piece has below a page is a piece of its own, where it has anything there
+-- the part of piece p below `page`, or nothing if p doesn't begin below `page`
 abbrev pub lower : ℕ → Loaded → List Loaded
 lower page p = if nat_lt p.heading.address page then below page p ∷ [] else []
 
--- and so is what it has from there on
+-- the part of piece p from `page` on
 abbrev pub upper : ℕ → Loaded → Loaded
 upper page p = if nat_lt p.heading.address page then above page p else p
 
--- a piece in a page, and one behind it that begins there: they are joined as far as the page goes
+-- piece q begins in `page`, in which piece p lies: p joined with the part of q in this page, and the
+-- rest of q as a further piece if there is one
 abbrev pub in_page : ℕ → Loaded → Loaded → Pieces
 in_page page p q =
     if nat_le (end_of q) (page + PAGE) then record { done = []; last = joined p q }
     else record { done = joined p (below (page + PAGE) q) ∷ []; last = above (page + PAGE) q }
 
--- a piece, and one behind it that begins in this page, its last one
+-- the pieces made of piece p and of piece q after it, if q begins in p's last page, `page`
 abbrev pub sharing : ℕ → Loaded → Loaded → Pieces
 sharing page p q =
     let more = in_page page (upper page p) q in
     record { done = lower page p ++ more.done; last = more.last }
 
--- a piece and one behind it
+-- the pieces made of piece p and of piece q after it
 abbrev pub followed : Loaded → Loaded → Pieces
 followed p q = if shares_page p q then sharing (page_of q.heading.address) p q else record { done = p ∷ []; last = q }
 
--- the pieces of a piece and the segments behind it; one without bytes has no part in them
+-- the pieces made of piece p and of the segments after it; a segment without bytes is skipped
 abbrev pub pieces_from : Loaded → List ImageSegment → List Loaded
 pieces_from p [] = p ∷ []
 pieces_from p (s ∷ rest) =
     if length s.bytes == 0 then pieces_from p rest
     else (followed p (piece_of s)).done ++ pieces_from (followed p (piece_of s)).last rest
 
--- the pieces of segments
+-- the pieces made of segments, before any of them continues in the next one
 abbrev pub cut_pieces : List ImageSegment → List Loaded
 cut_pieces [] = []
 cut_pieces (s ∷ rest) = if length s.bytes == 0 then cut_pieces rest else pieces_from (piece_of s) rest
 
--- permissions, as in p_flags, to write and to execute
+-- the permissions, as in p_flags, permit both writing and executing
 abbrev pub is_both : ℕ → Bool
 is_both flags = bit_and flags (PF_W + PF_X) == PF_W + PF_X
 
--- a piece goes on in the one behind it: they permit the same, and not both, and no whole page lies between its bytes and that one
+-- piece p continues in piece q after it: they have the same permissions, which aren't both writing and
+-- executing, and no whole page lies between the file bytes of p and q
 abbrev pub goes_on : Loaded → Loaded → Bool
 goes_on p q =
     (p.heading.permissions == q.heading.permissions) && not (is_both p.heading.permissions)
     && nat_lt (page_of q.heading.address) (p.heading.address + length p.contents + PAGE)
 
--- a piece as the file has it and one behind it, which are one where it goes on
+-- piece p and piece q after it: joined, if p continues in q, and otherwise both as they are
 abbrev pub merging : Loaded → Loaded → Pieces
 merging p q = if goes_on p q then record { done = []; last = finished (joined p q) } else record { done = p ∷ []; last = q }
 
--- a piece and those behind it, each one with the next where it goes on
+-- piece p and the pieces after it, where each piece that continues in the next one is joined to it
 abbrev pub merged_from : Loaded → List Loaded → List Loaded
 merged_from p [] = p ∷ []
 merged_from p (q ∷ rest) = (merging p q).done ++ merged_from (merging p q).last rest
 
--- the same of all pieces
+-- all pieces, where each piece that continues in the next one is joined to it
 abbrev pub merged : List Loaded → List Loaded
 merged [] = []
 merged (p ∷ rest) = merged_from p rest

@@ -1,4 +1,5 @@
--- Where a file's own headers are mapped: in pages that no piece has, since the kernel tells the program their address.
+-- Where a file's own headers are mapped: in pages that no piece has, because the kernel passes their address to the
+-- program.
 use Rattle.std.specs.Prelude.{ℕ, ◌+◌, ◌-◌, ◌*◌, max, fold, nat_le, if◌then◌else◌, List, [], ◌∷◌, length, map, Option, Some, None}
 use Rattle.std.specs.Int.{next_multiple_of}
 use Rattle.elf_file.specs.Constant.{FILE_HEADER_SIZE, PROGRAM_HEADER_SIZE}
@@ -7,15 +8,15 @@ use Rattle.image.specs.Loading.{Loaded}
 use Rattle.executable.specs.Constant.{LOWEST}
 use Rattle.executable.specs.Piece.{page_of, end_of}
 
--- how many program headers the file has: one for each piece, one for the headers, PT_PHDR, PT_GNU_STACK
+-- the number of program headers of the file: one for each piece, one for the headers, PT_PHDR, PT_GNU_STACK
 abbrev pub header_count_of : List Loaded → ℕ
 header_count_of pieces = length pieces + 3
 
--- bytes of the file header and of n program headers
+-- the size in bytes of the file header and of n program headers
 abbrev pub headers_size : ℕ → ℕ
 headers_size n = FILE_HEADER_SIZE + PROGRAM_HEADER_SIZE * n
 
--- the same in whole pages
+-- the number of bytes of the pages that the headers need
 abbrev pub headers_room : ℕ → ℕ
 headers_room n = next_multiple_of (headers_size n) PAGE
 
@@ -23,19 +24,20 @@ headers_room n = next_multiple_of (headers_size n) PAGE
 abbrev pub highest_end : List Loaded → ℕ
 highest_end pieces = fold max 0 (map end_of pieces)
 
--- the first page at or above an end, where so many bytes have room there
+-- the first page at or above `end`, and not below LOWEST, if `room` bytes from there end below the limit
 abbrev pub place_above : ℕ → ℕ → Option ℕ
 place_above end room =
     let place = max LOWEST (next_multiple_of end PAGE) in
     if nat_le (place + room) MEMORY_LIMIT then Some place else None
 
--- right below the first piece where these pages are not too low, else above the last one
+-- the address for `room` bytes of headers: right below the first piece if that isn't below LOWEST, and
+-- otherwise above all pieces
 abbrev pub place_for : ℕ → List Loaded → Option ℕ
 place_for room [] = Some LOWEST
 place_for room (p ∷ rest) =
     if nat_le (LOWEST + room) (page_of p.heading.address) then Some (page_of p.heading.address - room)
     else place_above (highest_end (p ∷ rest)) room
 
--- where the headers of these pieces are mapped, if anywhere
+-- the address at which the headers of a file with these pieces are mapped, if there is room
 abbrev pub place_of : List Loaded → Option ℕ
 place_of pieces = place_for (headers_room (header_count_of pieces)) pieces

@@ -11,9 +11,11 @@ use Rattle.executable.specs.StaticPie.{is_static_pie}
 use Rattle.executable.specs.Uncalled.{first_uninitialized, first_unfinalized, is_uncalled_before}
 use Rattle.executable.specs.WritableCode.{first_unasked}
 use Rattle.executable.specs.declared.refusal.ExecutableRefusal.{ExecutableRefusal}
-use Rattle.executable.specs.declared.refusal.ExecutableRefusal.TheVariants.{NoEntry, StaticPie, PreInitializers, Initializers, Finalizers, TooManyHeaders, WritableCode, NoRoom, OutOfMemory}
+use Rattle.executable.specs.declared.refusal.ExecutableRefusal.TheVariants.{NoEntry, StaticPie, PreInitializers, Initializers, Finalizers, TooManyHeaders, WritableCode, NoPages, OutOfMemory}
 
--- no entry in own code; a static PIE; functions that nobody calls; too many headers; writable code that no file asks for; no room
+-- the tests: no entry in the program's own code; a static PIE; pre-initializers, initializers or
+-- finalizers that nobody would call (three tests); too many headers; memory that may be written and
+-- executed although no file requests it; no room
 abbrev pub executable_tests : MemoryImage → List (Option ExecutableRefusal)
 executable_tests image =
     (NoEntry when is_none (entry_of image))
@@ -23,13 +25,13 @@ executable_tests image =
     ∷ option_map Finalizers (first_unfinalized image)
     ∷ (TooManyHeaders when nat_lt MOST_HEADERS (header_count_of (pieces_of image.segments)))
     ∷ option_map WritableCode (first_unasked image)
-    ∷ (NoRoom when is_none (place_of (pieces_of image.segments)))
+    ∷ (NoPages when is_none (place_of (pieces_of image.segments)))
     ∷ []
 
 -- the refusal of an image: that of the first test that applies
 unfoldable pub executable_refusal : MemoryImage → Option ExecutableRefusal
 executable_refusal image = first_of (executable_tests image)
 
--- an answer where no file is given: that refusal, or want of memory
+-- `executable_of` may return this refusal: that of the first test that applies, or refused memory
 abbrev pub IsAnswer : MemoryImage → ExecutableRefusal → Type 0
 IsAnswer image answer = (executable_refusal image ≡ Some answer) ⊎ (answer ≡ OutOfMemory)

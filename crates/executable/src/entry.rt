@@ -9,21 +9,22 @@ use crate::segments::{holds, split};
 use bitflags::Flags;
 use image::{Image, ImageObject, Permissions, Segment};
 
-/// Whether an address is one of a segment that may be executed.
+/// Returns whether `address` is in a segment that may be executed.
 fn is_code(segment: &Segment, address: u64) -> bool
     ensures { result ≡ is_code address segment.now }
 {
     segment.permissions().contains(Permissions::EXECUTE) && holds(segment, address)
 }
 
-/// Whether an address is one of segments that may be executed.
+/// Returns whether one of the segments has `address` and may be executed.
 fn has_code(segments: &[Segment], address: u64) -> bool
     ensures { result ≡ list_any (is_code address) segments.now }
 {
     segments.iter().any(|s| is_code(s, address))
 }
 
-/// The entry of a program in its own code, if it has one; its own segments are the first of these.
+/// Returns the entry of `program`, if it is in the program's own code. The first `segment_count` of
+/// `segments` are the program's.
 fn own_entry(program: &ImageObject, segments: &[Segment]) -> Option<u64>
     ensures { result ≡ own_entry program.now segments.now }
 {
@@ -40,7 +41,7 @@ fn own_entry(program: &ImageObject, segments: &[Segment]) -> Option<u64>
     }
 }
 
-/// The entry of a bound program, if it has one in code of its own.
+/// Returns the entry of a bound program, if it is in the program's own code.
 pub(crate) fn entry_of(image: &Image) -> Option<u64>
     ensures { result ≡ entry_of image.now }
 {

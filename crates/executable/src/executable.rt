@@ -48,11 +48,11 @@ impl Model for Executable {
 
     ghost view = { λ e. file_with e.front.items e.pieces.items };
 
-    // The file header is whole.
+    // The file header is complete.
     ghost invariant = { λ e. 64 ≤ length e.front.items };
 }
 
-/// Writes no more zeros than a page has.
+/// Writes `count` zeros, at most a page of them.
 fn write_zeros<W: Write>(out: &mut W, count: usize) -> io::Result<()>
     requires { count ≤ 4096 }
     ensures { OnOk result
@@ -62,7 +62,7 @@ fn write_zeros<W: Write>(out: &mut W, count: usize) -> io::Result<()>
     out.write_all(&zeros[..count])
 }
 
-/// Writes zeros and bytes, and zeros to the end of the page.
+/// Writes `before` zeros, then `bytes`, and then zeros up to the end of the page.
 fn write_padded<W: Write>(out: &mut W, before: usize, bytes: &[u8]) -> io::Result<()>
     requires { before < 4096 }
     ensures { OnOk result (Appends (W.contents out.old) (W.contents out.new)
@@ -74,7 +74,7 @@ fn write_padded<W: Write>(out: &mut W, before: usize, bytes: &[u8]) -> io::Resul
     write_zeros(out, padding(last) as usize)
 }
 
-/// Writes the pages of pieces.
+/// Writes the pages of the pieces, one piece after the other.
 fn write_pieces<W: Write>(out: &mut W, pieces: &[Piece]) -> io::Result<()>
     ensures { OnOk result (Appends (W.contents out.old) (W.contents out.new)
         (flat_map piece_bytes pieces.now)) }
@@ -86,14 +86,14 @@ fn write_pieces<W: Write>(out: &mut W, pieces: &[Piece]) -> io::Result<()>
 }
 
 impl Executable {
-    /// How many program headers it has.
+    /// Returns the number of program headers.
     pub fn header_count(&self) -> u16
         ensures { result ≡ header_count self.now }
     {
         u16_at(&self.front, 56)
     }
 
-    /// Writes the file. It takes no memory.
+    /// Writes the file. Allocates nothing.
     #[tactic(auto, unfolding(crate::specs::File::file_with))]
     pub fn write_to<W: Write>(&self, out: &mut W) -> io::Result<()>
         ensures { OnOk result (Appends (W.contents out.old) (W.contents out.new) self.now) }
@@ -103,7 +103,7 @@ impl Executable {
     }
 }
 
-/// The refusal of a library with initializers.
+/// Returns the refusal `Initializers` with the library's name, or `OutOfMemory`.
 fn initialized(alloc: Global, name: &Name) -> ExecutableRefusal
     ensures { (result ≡ ExecutableRefusal.Initializers name.now)
         ⊎ (result ≡ ExecutableRefusal.OutOfMemory) }
@@ -114,7 +114,7 @@ fn initialized(alloc: Global, name: &Name) -> ExecutableRefusal
     }
 }
 
-/// The refusal of a library with finalizers.
+/// Returns the refusal `Finalizers` with the library's name, or `OutOfMemory`.
 fn finalized(alloc: Global, name: &Name) -> ExecutableRefusal
     ensures { (result ≡ ExecutableRefusal.Finalizers name.now)
         ⊎ (result ≡ ExecutableRefusal.OutOfMemory) }
@@ -125,7 +125,7 @@ fn finalized(alloc: Global, name: &Name) -> ExecutableRefusal
     }
 }
 
-/// The refusal of an object with memory that may be written and executed.
+/// Returns the refusal `WritableCode` with the object's name, or `OutOfMemory`.
 fn writable_code(alloc: Global, name: &[u8]) -> ExecutableRefusal
     ensures { (result ≡ ExecutableRefusal.WritableCode name.now)
         ⊎ (result ≡ ExecutableRefusal.OutOfMemory) }
@@ -136,8 +136,9 @@ fn writable_code(alloc: Global, name: &[u8]) -> ExecutableRefusal
     }
 }
 
-/// The entry of an image whose program doesn't relocate itself, and none of whose objects has
-/// functions that nobody would call: the program may say that it calls them.
+/// Returns the image's entry, if the program doesn't relocate itself, and no object has functions
+/// that nobody would call. Otherwise returns the refusal of the first of these tests that applies.
+/// A program may have a note that it calls these functions itself.
 fn entry_to_call(alloc: Global, image: &Image) -> Result<u64, ExecutableRefusal>
     ensures entry { IfOk result (λ entry. entry_of image.now ≡ Some entry) }
     ensures called { OnOk result (HasNoCalls image.now) }
@@ -164,7 +165,7 @@ fn entry_to_call(alloc: Global, image: &Image) -> Result<u64, ExecutableRefusal>
     Ok(entry)
 }
 
-/// The file of these pieces, with headers at an address.
+/// Makes the file of `pieces`, whose headers are mapped at address `place`.
 fn file_of(
     alloc: Global,
     entry: u64,
@@ -182,40 +183,45 @@ fn file_of(
     Ok(Executable { front, pieces })
 }
 
-/// The static executable file of a bound program, or the first of these: it has no entry in code of
-/// its own, it is a static PIE, it has pre-initializers, a library has initializers, or finalizers,
-/// there are more program headers than the kernel takes, memory may be written and executed although
-/// no segment in it asks for both, no pages are free for the headers.
-/// It takes as much memory as the image's bytes, up to three times as much where segments become
-/// one, and two passes over them.
+/// Makes the static executable file of a bound program.
+///
+/// Otherwise returns the first of these refusals: the program has no entry in code of its own; it
+/// is a static PIE; it has pre-initializers; a library has initializers; a library has finalizers;
+/// there are more program headers than the kernel accepts; memory may be written and executed
+/// although no segment in it requests both; no pages are free for the headers. The three refusals
+/// for functions don't apply if the program has a note that it calls these functions itself.
+///
+/// Allocates as much memory as the image's bytes, and up to three times as much if segments are
+/// joined. Makes two passes over the bytes.
 pub fn executable_of(alloc: Global, image: &Image) -> Result<Executable, ExecutableRefusal>
 
-    // A file only where no test applies; else the refusal of the first that does, or want of
-    // memory.
+    // Returns a file only if no test applies. Otherwise returns the refusal of the first test that
+    // applies, or refused memory.
     ensures accepted { OnOk result (executable_refusal image.now ≡ None) }
     ensures refused { IfErr result (IsAnswer image.now) }
 
-    // An ELF-64 file for x86-64 of type ET_EXEC, with the program's entry.
+    // The file is an ELF-64 file for x86-64 of type ET_EXEC, with the program's entry.
     ensures header { IfOk result IsExecutable }
     ensures entry { IfOk result (λ file.
         entry_of image.now ≡ Some (entry_address file)) }
 
-    // Its program headers, and the segments that they load, with their permissions.
+    // The file has the defined program headers. They load the defined pieces of the segments, with
+    // their permissions.
     ensures ok { IfOk result (IsFileOf image.now.segments) }
 
-    // Offsets are congruent to addresses, modulo a page.
+    // The offset of each PT_LOAD is congruent to its address, modulo the size of a page.
     ensures congruent { IfOk result (λ file. All IsCongruent (loads file)) }
 
-    // It loads the byte that the image has at each of its addresses.
+    // The file loads the image's byte at each address of the image.
     ensures loads { IfOk result (λ file. (a b : ℕ) →
         image_byte image.now a ≡ Some b → file_byte file a ≡ Some b) }
 
-    // And besides these only its headers, and zeros between segments whose pages are the same or
-    // touch.
+    // Besides these bytes it loads only its headers, and zeros between segments whose pages are the
+    // same or neighbours.
     ensures only { IfOk result (λ file. (a b : ℕ) →
         file_byte file a ≡ Some b → IsFrom image.now.segments file a b) }
 
-    // What it loads rises, and no two of its segments share a page.
+    // The segments that the file loads rise, and no two of them share a page.
     ensures apart { IfOk result (λ file. IsApart 0 (loaded_by file)) }
 {
     let entry = entry_to_call(alloc, image)?;
@@ -227,7 +233,7 @@ pub fn executable_of(alloc: Global, image: &Image) -> Result<Executable, Executa
         return Err(writable_code(alloc, owner(image, piece)));
     }
     let Some(place) = place_of(&pieces) else {
-        return Err(ExecutableRefusal::NoRoom);
+        return Err(ExecutableRefusal::NoPages);
     };
     Ok(file_of(alloc, entry, place, pieces)?)
 }

@@ -26,12 +26,12 @@ const FILE_HEADER_SIZE: u64 = 64;
 
 const PROGRAM_HEADER_SIZE: u64 = 56;
 
-/// What each file header begins with: of 64 bits, little endian, System V, an executable, x86-64.
+/// The first bytes of each file header: 64 bits, little endian, System V, an executable, x86-64.
 const BEGIN: [u8; 24] = [
     0x7f, b'E', b'L', b'F', 2, 1, 1, 0, 0, 0, 0, 0, 0, 0, 0, 0, 2, 0, 62, 0, 1, 0, 0, 0,
 ];
-/// What it has between the entry and the number of program headers: these follow it, there are no
-/// flags and no sections.
+/// The bytes of each file header between the entry and the number of program headers: the program
+/// headers follow the file header, and there are no flags and no sections.
 const MIDDLE: [u8; 24] = [
     64, 0, 0, 0, 0, 0, 0, 0, 0, 0, 0, 0, 0, 0, 0, 0, 0, 0, 0, 0, 64, 0, 56, 0,
 ];
@@ -60,7 +60,7 @@ fn put_u64(bytes: &mut Vec<u8>, number: u64) -> Result<(), AllocError>
     bytes.extend_from_slice(&buffer)
 }
 
-/// Adds a file header with this entry and so many program headers.
+/// Appends a file header with entry `entry` and `count` program headers.
 fn put_file_header(bytes: &mut Vec<u8>, entry: u64, count: u16) -> Result<(), AllocError>
     ensures { OnOk result (bytes.new.items ≡ bytes.old.items ++ file_header entry count) }
 {
@@ -71,7 +71,7 @@ fn put_file_header(bytes: &mut Vec<u8>, entry: u64, count: u16) -> Result<(), Al
     bytes.extend_from_slice(&[0; 6])
 }
 
-/// Adds a program header.
+/// Appends a program header.
 #[tactic(auto, unfolding(crate::specs::File::header_bytes))]
 fn put_program_header(bytes: &mut Vec<u8>, header: &ProgramHeader) -> Result<(), AllocError>
     ensures { OnOk result (bytes.new.items ≡ bytes.old.items ++ header_bytes header.now) }
@@ -86,7 +86,7 @@ fn put_program_header(bytes: &mut Vec<u8>, header: &ProgramHeader) -> Result<(),
     put_u64(bytes, header.alignment)
 }
 
-/// The file header and these program headers.
+/// Returns the bytes of the file header and of the program headers in `table`.
 #[tactic(auto, unfolding(crate::specs::File::front_of))]
 pub(crate) fn front_of(
     alloc: Global,
@@ -104,7 +104,7 @@ pub(crate) fn front_of(
     Ok(bytes)
 }
 
-/// Bytes of the pages of the file that hold a piece.
+/// Returns the number of bytes of the file's pages that have the bytes of `piece`.
 fn piece_size(piece: &Piece) -> u64
     requires { length piece.now.contents ≤ MEMORY_LIMIT }
     ensures { result ≡ length (piece_bytes piece.now) }
@@ -112,7 +112,7 @@ fn piece_size(piece: &Piece) -> u64
     whole_pages(piece.address() % PAGE + piece.contents().len() as u64)
 }
 
-/// The PT_LOAD of a piece whose pages begin at an offset.
+/// Returns the PT_LOAD of `piece`, whose pages in the file begin at `offset`.
 fn load_header(offset: u64, piece: &Piece) -> ProgramHeader
     requires { offset < 2 ^ 63 }
     ensures { result ≡ load_header offset piece.now }
@@ -128,8 +128,8 @@ fn load_header(offset: u64, piece: &Piece) -> ProgramHeader
     }
 }
 
-/// Puts the PT_LOADs of pieces, whose pages follow one another from an offset on, behind a table
-/// that has room for them.
+/// Appends the PT_LOADs of pieces to a table that has room for them. The pages of the first piece
+/// begin at `offset` of the file, and those of the other pieces follow.
 fn put_load_headers(table: &mut Vec<ProgramHeader>, mut offset: u64, pieces: &[Piece])
     requires offset { offset ≤ 2 ^ 20 }
     requires count { length pieces.now ≤ MOST_HEADERS }
@@ -145,7 +145,8 @@ fn put_load_headers(table: &mut Vec<ProgramHeader>, mut offset: u64, pieces: &[P
     }
 }
 
-/// The PT_LOAD of so many program headers at an address.
+/// Returns the PT_LOAD of the headers, which are mapped at address `place`. There are `count`
+/// program headers.
 fn own_header(place: u64, count: usize) -> ProgramHeader
     requires { count ≤ MOST_HEADERS }
     ensures { result ≡ own_header place count }
@@ -161,7 +162,7 @@ fn own_header(place: u64, count: usize) -> ProgramHeader
     }
 }
 
-/// PT_PHDR: where the program headers are.
+/// Returns PT_PHDR, with the address and the offset of the program headers.
 fn table_header(place: u64, count: usize) -> ProgramHeader
     requires place { place ≤ MEMORY_LIMIT }
     requires count { count ≤ MOST_HEADERS }
@@ -178,7 +179,7 @@ fn table_header(place: u64, count: usize) -> ProgramHeader
     }
 }
 
-/// PT_GNU_STACK: a stack that may be read and written, and not executed.
+/// Returns PT_GNU_STACK: the stack may be read and written, and not executed.
 fn stack_header() -> ProgramHeader
     ensures { result ≡ stack_header }
 {
@@ -193,7 +194,7 @@ fn stack_header() -> ProgramHeader
     }
 }
 
-/// Whether an address is below the first piece.
+/// Returns whether address `place` is below the first piece, or there are no pieces.
 fn is_below(place: u64, pieces: &[Piece]) -> bool
     ensures { result ≡ is_below place pieces.now }
 {
@@ -203,7 +204,7 @@ fn is_below(place: u64, pieces: &[Piece]) -> bool
     }
 }
 
-/// All program headers, for headers at an address.
+/// Returns all program headers of a file whose headers are mapped at address `place`.
 pub(crate) fn table_of(
     alloc: Global,
     place: u64,

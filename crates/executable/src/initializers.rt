@@ -1,4 +1,4 @@
-// Functions that a loader calls before a program and behind it.
+// The functions that a loader calls before a program starts and after it ends.
 
 ghost use Rattle.std.specs.Prelude.{◌≡◌, ◌+◌, ◌<◌, ◌≤◌, ◌/◌, ◌^◌, length};
 ghost use Rattle.std.specs.Option.{option_map};
@@ -15,28 +15,29 @@ use elf_file::{Entry, u64_at};
 use image::{Image, ImageObject, Memory, Segment};
 use names::Name;
 
-/// The end of a dynamic section, by `d_tag` (gABI chapter 5).
+/// The tag, in `d_tag`, of the end of a dynamic section (gABI chapter 5).
 pub(crate) const DT_NULL: u64 = 0;
-/// A function that initializes; an array of such functions; its size in bytes.
+/// The tags of an initializer, of an array of initializers, and of the array's size in bytes.
 const DT_INIT: u64 = 12;
 
 const DT_INIT_ARRAY: u64 = 25;
 
 const DT_INIT_ARRAYSZ: u64 = 27;
 
-/// The same of what is called at the end.
+/// The same tags for finalizers: functions that are called at the end.
 const DT_FINI: u64 = 13;
 
 const DT_FINI_ARRAY: u64 = 26;
 
 const DT_FINI_ARRAYSZ: u64 = 28;
 
-/// An array of functions that are called before all others, of a program alone.
+/// The tags of an array of pre-initializers, which are called before all other functions, and of
+/// the array's size in bytes. Only a program has such an array.
 const DT_PREINIT_ARRAY: u64 = 32;
 
 const DT_PREINIT_ARRAYSZ: u64 = 33;
 
-/// Bytes of an entry of such an array.
+/// The size in bytes of an entry of an array of functions.
 const ARRAY_ENTRY_SIZE: u64 = 8;
 
 /// The tags of a function, of an array of functions, and of its size.
@@ -47,7 +48,7 @@ struct Tags {
     size: u64,
 }
 
-/// The number at a place of memory, little endian.
+/// Returns the number in the eight bytes at offset `at` of memory, little endian.
 pub(crate) fn u64_in(memory: &Memory<'_>, at: usize) -> u64
     requires { at + 8 ≤ length memory.now }
     ensures { result ≡ number_at 8 memory.now at }
@@ -57,7 +58,7 @@ pub(crate) fn u64_in(memory: &Memory<'_>, at: usize) -> u64
     u64_at(&bytes, 0)
 }
 
-/// The entry number `i` of a dynamic section.
+/// Returns entry number `i` of a dynamic section.
 #[tactic(auto, unfolding(elf_file::specs::Dynamic::entry))]
 pub(crate) fn nth_entry(section: &Memory<'_>, i: usize) -> Entry
     requires small { length section.now < 2 ^ 32 }
@@ -70,7 +71,8 @@ pub(crate) fn nth_entry(section: &Memory<'_>, i: usize) -> Entry
     }
 }
 
-/// Whether a dynamic section has a tag with at least this value. One pass over it.
+/// Returns whether a dynamic section has an entry with the tag `tag` and a value of at least
+/// `least`. Makes one pass over the section.
 #[tactic(auto, unfolding(crate::specs::Initializers::has_from, elf_file::specs::Dynamic::entries_in, elf_file::specs::Dynamic::whole_entries))]
 fn has_from(section: &Memory<'_>, tag: u64, least: u64) -> bool
     ensures { result ≡ has_from section.now tag least }
@@ -81,21 +83,23 @@ fn has_from(section: &Memory<'_>, tag: u64, least: u64) -> bool
         .any(|e| e.tag == tag && e.value >= least)
 }
 
-/// Whether a dynamic section names an array of functions with an entry.
+/// Returns whether a dynamic section has an array of functions with at least one entry. `array` and
+/// `size` are the tags of the array and of its size.
 fn has_array(section: &Memory<'_>, array: u64, size: u64) -> bool
     ensures { result ≡ has_array section.now array size }
 {
     has_from(section, array, 0) && has_from(section, size, ARRAY_ENTRY_SIZE)
 }
 
-/// Whether a dynamic section names a function, or an array with one.
+/// Returns whether a dynamic section has, under `tags`, a function or an array of functions with at
+/// least one entry.
 fn has_functions(section: &Memory<'_>, tags: &Tags) -> bool
     ensures { result ≡ has_functions tags.now.function tags.now.array tags.now.size section.now }
 {
     has_from(section, tags.function, 0) || has_array(section, tags.array, tags.size)
 }
 
-/// The memory from an address to the end of the segment that holds it.
+/// Returns the memory from `address` to the end of the segment that has this address.
 fn memory_from(segments: &[Segment], address: u64) -> Memory<'_>
     ensures { result ≡ memory_from segments.now address }
 {
@@ -109,8 +113,8 @@ fn memory_from(segments: &[Segment], address: u64) -> Memory<'_>
     Memory::new(&[], 0)
 }
 
-/// The memory from a place in an object on, by its own segments; none where it has no such place in
-/// memory.
+/// Returns the memory of an object's own segments from `base` plus `place` to the end of the
+/// segment. It is empty if `place` is `None`, or if none of the segments has this address.
 pub(crate) fn section_memory(base: u64, own: &[Segment], place: Option<u64>) -> Memory<'_>
     ensures { result ≡ section_memory base own.now place }
 {
@@ -123,15 +127,15 @@ pub(crate) fn section_memory(base: u64, own: &[Segment], place: Option<u64>) -> 
     memory_from(own, base + place)
 }
 
-/// The memory from an object's dynamic section on.
+/// Returns the memory from an object's dynamic section to the end of its segment.
 pub(crate) fn dynamic_memory<'a>(object: &ImageObject, own: &'a [Segment]) -> Memory<'a>
     ensures { result ≡ dynamic_memory object.now own.now }
 {
     section_memory(object.base, own, object.addresses.dynamic)
 }
 
-/// The name of the first library that has functions under these tags. One pass over objects,
-/// segments and dynamic sections.
+/// Returns the name of the first library that has functions under `tags`. Makes one pass over
+/// objects, segments and dynamic sections.
 fn first_library<'a>(image: &'a Image, tags: &Tags) -> Option<&'a Name>
     ensures { option_map (λ name. name.now) result
         ≡ first_library (has_functions tags.now.function tags.now.array tags.now.size) image.now }
@@ -150,7 +154,7 @@ fn first_library<'a>(image: &'a Image, tags: &Tags) -> Option<&'a Name>
     None
 }
 
-/// The name of the first library that has initializers.
+/// Returns the name of the first library that has initializers.
 pub(crate) fn first_initialized(image: &Image) -> Option<&Name>
     ensures { option_map (λ name. name.now) result ≡ first_initialized image.now }
 {
@@ -162,7 +166,7 @@ pub(crate) fn first_initialized(image: &Image) -> Option<&Name>
     first_library(image, &tags)
 }
 
-/// The name of the first library that has finalizers.
+/// Returns the name of the first library that has finalizers.
 pub(crate) fn first_finalized(image: &Image) -> Option<&Name>
     ensures { option_map (λ name. name.now) result ≡ first_finalized image.now }
 {
@@ -174,7 +178,7 @@ pub(crate) fn first_finalized(image: &Image) -> Option<&Name>
     first_library(image, &tags)
 }
 
-/// Whether the program has functions that are called before all others.
+/// Returns whether the program has pre-initializers.
 pub(crate) fn is_preinitialized(image: &Image) -> bool
     ensures { result ≡ is_preinitialized image.now }
 {

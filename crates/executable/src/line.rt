@@ -10,10 +10,10 @@ use names::Name;
 use std::io::Write;
 use text_output::{LINE, OutputBuffer, WriteFault};
 
-/// A line on its way to a writer.
+/// The buffer for a line.
 type Line = OutputBuffer<LINE>;
 
-/// The line of a refusal that names an object.
+/// Puts the line of a refusal that names an object.
 fn put_object<W: Write>(
     line: &mut Line,
     out: &mut W,
@@ -28,7 +28,7 @@ fn put_object<W: Write>(
     line.put(out, b"\n")
 }
 
-/// The line of why there is no executable file, as `refused NoEntry`.
+/// Puts the line of a refusal, such as `refused NoEntry`.
 pub fn put_executable_refusal<W: Write>(
     line: &mut OutputBuffer<LINE>,
     out: &mut W,
@@ -51,12 +51,12 @@ pub fn put_executable_refusal<W: Write>(
         ExecutableRefusal::WritableCode { name } => {
             put_object(line, out, b"refused WritableCode ", name)
         }
-        ExecutableRefusal::NoRoom => line.put(out, b"refused NoRoom\n"),
+        ExecutableRefusal::NoPages => line.put(out, b"refused NoPages\n"),
         ExecutableRefusal::OutOfMemory => line.put(out, b"refused S11 OutOfMemory\n"),
     }
 }
 
-/// Writes that line, with one write.
+/// Writes the line of a refusal, with one write.
 pub fn write_executable_refusal<W: Write>(
     out: &mut W,
     refusal: &ExecutableRefusal,

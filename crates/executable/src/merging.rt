@@ -1,4 +1,4 @@
-// Pieces that are one where the first goes on in the second.
+// Joining each piece with the next one if it continues there.
 
 ghost use Rattle.std.specs.Prelude.{◌≡◌, ◌≤◌, ◌++◌, IfOk, OnOk};
 ghost use Rattle.image.specs.Constant.{MEMORY_LIMIT};
@@ -11,7 +11,8 @@ use crate::pieces::cut_pieces;
 use image::Segment;
 use std::alloc::{AllocError, Global};
 
-/// Joins a piece to one behind it where it goes on, else puts it; gives the last.
+/// If `piece` continues in `next`, returns both as one piece. Otherwise appends `piece` to `done`
+/// and returns `next`.
 fn merge(done: &mut Vec<Piece>, mut piece: Piece, next: Piece) -> Result<Piece, AllocError>
     requires short { IsShort piece }
     requires next_short { IsShort next }
@@ -30,7 +31,7 @@ fn merge(done: &mut Vec<Piece>, mut piece: Piece, next: Piece) -> Result<Piece, 
     Ok(next)
 }
 
-/// Pieces, of which each that goes on in the one behind it is one with it.
+/// Returns the pieces, where each piece that continues in the next one is joined to it.
 fn merged(alloc: Global, pieces: Vec<Piece>) -> Result<Vec<Piece>, AllocError>
     requires { AreInRow 0 pieces.items }
     ensures { IfOk result (λ all. all.items ≡ merged pieces.items) }
@@ -47,7 +48,7 @@ fn merged(alloc: Global, pieces: Vec<Piece>) -> Result<Vec<Piece>, AllocError>
     Ok(done)
 }
 
-/// The pieces of segments, as the file has them.
+/// Returns the pieces of segments, as the file has them.
 pub(crate) fn pieces_of(alloc: Global, segments: &[Segment]) -> Result<Vec<Piece>, AllocError>
     requires { AreRising 0 segments.now }
     ensures { IfOk result (λ pieces. pieces.items ≡ pieces_of segments.now) }

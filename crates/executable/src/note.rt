@@ -1,4 +1,4 @@
-// The notes of a program.
+// The notes of a program. The calls note says that it calls its libraries' functions itself.
 
 ghost use Rattle.std.specs.Prelude.{◌≡◌, ◌+◌, ◌≤◌, ◌<◌, ◌/◌, ◌^◌, drop, length, take};
 ghost use Rattle.std.specs.Prelude.{MatchOption};
@@ -12,21 +12,22 @@ use crate::segments::split;
 use crate::static_pie::{PROGRAM_HEADER_SIZE, u32_in};
 use image::{Image, ImageObject, Memory, Segment};
 
-/// Notes, by `p_type`.
+/// The segment of notes, by `p_type`.
 const PT_NOTE: u32 = 4;
-/// Names and descriptors of notes are padded to a multiple of it.
+/// The `p_align` of notes that are read. The name and the descriptor of a note are padded to
+/// multiples of it.
 const NOTE_ALIGNMENT: u64 = 4;
-/// Bytes of a note before its name.
+/// The number of bytes of a note before its name.
 const NOTE_HEADER_SIZE: usize = 12;
-/// The name of the note of a program that calls its libraries' functions itself, `rlibreg` and a zero,
-/// as a number; its size in bytes.
+/// The name of the calls note: `rlibreg` and a zero, as a number of eight bytes; and the size of
+/// this name in bytes.
 const CALLS_NAME: u64 = 0x0067_6572_6269_6c72;
 
 const CALLS_NAME_SIZE: u32 = 8;
-/// The type of that note, which has no descriptor.
+/// The type of the calls note, which has no descriptor.
 const CALLS_TYPE: u32 = 1;
 
-/// The first bytes of a memory, so many or all.
+/// Returns the first `size` bytes of a memory, or all of its bytes if it has fewer.
 fn first_bytes<'a>(memory: &Memory<'a>, size: u64) -> Memory<'a>
     ensures { result ≡ take size memory.now }
 {
@@ -36,7 +37,7 @@ fn first_bytes<'a>(memory: &Memory<'a>, size: u64) -> Memory<'a>
     Memory::new(&front[..kept], size as u32)
 }
 
-/// Bytes of a name or a descriptor, padded.
+/// Returns the padded size of a name or a descriptor. The unpadded size is at offset `at`.
 fn padded_size(notes: &Memory<'_>, at: usize) -> usize
     requires { at + 4 ≤ length notes.now }
     ensures value { result ≡ next_multiple_of (number_at 4 notes.now at) NOTE_ALIGNMENT }
@@ -46,7 +47,7 @@ fn padded_size(notes: &Memory<'_>, at: usize) -> usize
     size.next_multiple_of(NOTE_ALIGNMENT) as usize
 }
 
-/// What is behind the first of these notes, if they have the whole of it.
+/// Returns the notes after the first one, or `None` if the first one isn't whole.
 fn behind_note<'a>(notes: &Memory<'a>) -> Option<Memory<'a>>
     ensures { MatchOption result (length notes.now < note_size notes.now)
         (λ rest. (note_size notes.now ≤ length notes.now) × (rest ≡ drop (note_size notes.now) notes.now)) }
@@ -61,7 +62,7 @@ fn behind_note<'a>(notes: &Memory<'a>) -> Option<Memory<'a>>
     Some(notes.skip(size))
 }
 
-/// Whether the first note is that of a program that calls its libraries' functions itself.
+/// Returns whether the first note is the calls note.
 fn is_calls_note(notes: &Memory<'_>) -> bool
     ensures { result ≡ is_calls_note notes.now }
 {
@@ -72,7 +73,7 @@ fn is_calls_note(notes: &Memory<'_>) -> bool
         && u64_in(notes, NOTE_HEADER_SIZE) == CALLS_NAME
 }
 
-/// Whether it is one of these notes. One pass over them.
+/// Returns whether the calls note is one of `notes`. Makes one pass over them.
 fn has_calls_note(notes: &Memory<'_>) -> bool
     ensures { result ≡ has_calls_note (length notes.now) notes.now }
 {
@@ -89,7 +90,7 @@ fn has_calls_note(notes: &Memory<'_>) -> bool
     false
 }
 
-/// Whether a program header is of notes.
+/// Returns whether program header number `i` is that of notes that are read.
 fn is_of_notes(headers: &Memory<'_>, i: usize) -> bool
     requires small { length headers.now < 2 ^ 32 }
     requires within { i < length headers.now / 56 }
@@ -99,7 +100,8 @@ fn is_of_notes(headers: &Memory<'_>, i: usize) -> bool
         && u64_in(headers, PROGRAM_HEADER_SIZE * i + 48) == NOTE_ALIGNMENT
 }
 
-/// The first of so many program headers that is of notes. One pass over them.
+/// Returns the number of the first such program header among the first `count`. Makes one pass over
+/// them.
 #[tactic(auto, unfolding(crate::specs::Note::find_notes))]
 fn find_notes(headers: &Memory<'_>, count: u64) -> Option<usize>
     ensures found { result ≡ find_notes headers.now count }
@@ -110,7 +112,7 @@ fn find_notes(headers: &Memory<'_>, count: u64) -> Option<usize>
     (0..count).find(|i| is_of_notes(headers, *i))
 }
 
-/// The notes by a program header of an object.
+/// Returns the notes of program header number `i` of an object.
 fn notes_by<'a>(base: u64, own: &'a [Segment], headers: &Memory<'_>, i: usize) -> Memory<'a>
     requires small { length headers.now < 2 ^ 32 }
     requires within { i < length headers.now / 56 }
@@ -121,7 +123,7 @@ fn notes_by<'a>(base: u64, own: &'a [Segment], headers: &Memory<'_>, i: usize) -
     first_bytes(&section_memory(base, own, Some(place)), size)
 }
 
-/// The notes of an object.
+/// Returns the notes of an object, or no bytes if it has none that are read.
 fn notes_of<'a>(object: &ImageObject, own: &'a [Segment]) -> Memory<'a>
     ensures { result ≡ notes_of object.now own.now }
 {
@@ -132,7 +134,8 @@ fn notes_of<'a>(object: &ImageObject, own: &'a [Segment]) -> Memory<'a>
     }
 }
 
-/// Whether the program says that it calls the functions itself that a loader would call.
+/// Returns whether the program has the calls note: it calls the functions itself that a loader
+/// would call.
 pub(crate) fn calls_itself(image: &Image) -> bool
     ensures { result ≡ calls_itself image.now }
 {

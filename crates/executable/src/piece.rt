@@ -13,33 +13,33 @@ use image::Segment;
 use std::alloc::{AllocError, Global};
 use std::marker::Model;
 
-/// What may be done with memory that may be written, as in `p_flags`.
+/// The permission to write, as in `p_flags`.
 const PF_W: u32 = 2;
-/// The same of memory that may be written and executed.
+/// The permissions to write and to execute.
 const PF_WX: u32 = 3;
 
-/// The first address of a page.
+/// Returns the first address of the page of `address`.
 pub(crate) fn page_of(address: u64) -> u64
     ensures { result ≡ page_of address }
 {
     address - address % PAGE
 }
 
-/// The permissions of a segment, as in `p_flags`.
+/// Returns the permissions of a segment, as in `p_flags`.
 pub(crate) fn flags_of(segment: &Segment) -> u32
     ensures { result ≡ permission_bits segment.now.permissions }
 {
     u32::from(segment.permissions().bits()) & 7
 }
 
-/// Whether flags, as in `p_flags`, permit writing and executing.
+/// Returns whether `flags`, as in `p_flags`, permit both writing and executing.
 pub(crate) fn is_both(flags: u32) -> bool
     ensures { result ≡ is_both flags }
 {
     flags & PF_WX == PF_WX
 }
 
-/// How many bytes there are before the zeros at the end.
+/// Returns the number of bytes without the zeros at the end of `bytes`.
 fn length_without_zeros(bytes: &[u8]) -> usize
     ensures bound { result ≤ length bytes.now }
     ensures kept { take result bytes.now ≡ without_zeros bytes.now }
@@ -51,8 +51,8 @@ fn length_without_zeros(bytes: &[u8]) -> usize
     length
 }
 
-/// A part of an image that a file loads: what segments have in pages that permit the same.
-/// Contracts see it as the reader of files sees a PT_LOAD in memory.
+/// A part of an image that a file loads: the bytes of segments in pages that have the same
+/// permissions. Contracts see it as a PT_LOAD in memory.
 #[derive(Drop)]
 pub(crate) struct Piece {
     address: u64,
@@ -73,7 +73,7 @@ impl Model for Piece {
 }
 
 impl Piece {
-    /// A segment as a piece.
+    /// Makes a piece of the whole segment.
     pub(crate) fn of(alloc: Global, segment: &Segment) -> Result<Piece, AllocError>
         ensures { IfOk result (λ piece. piece ≡ piece_of segment.now) }
     {
@@ -95,28 +95,28 @@ impl Piece {
         self.address
     }
 
-    /// What may be done with it, as in `p_flags`.
+    /// The permissions of the piece, as in `p_flags`.
     pub(crate) fn flags(&self) -> u32
         ensures { result ≡ self.now.heading.permissions }
     {
         self.flags
     }
 
-    /// Bytes of memory.
+    /// The number of bytes of memory.
     pub(crate) fn size(&self) -> u64
         ensures { result ≡ self.now.heading.size }
     {
         self.size
     }
 
-    /// The bytes that the file has.
+    /// The bytes that are in the file.
     pub(crate) fn contents(&self) -> &[u8]
         ensures { result.now ≡ self.now.contents }
     {
         &self.contents
     }
 
-    /// Where it ends.
+    /// The address after the piece's last one.
     pub(crate) fn end(&self) -> u64
         requires { end_of self.now ≤ MEMORY_LIMIT }
         ensures { result ≡ end_of self.now }
@@ -124,7 +124,8 @@ impl Piece {
         self.address + self.size
     }
 
-    /// Whether its last page is the first of a piece behind it.
+    /// Returns whether the last page of this piece is the first page of `other`, which comes after
+    /// it.
     pub(crate) fn shares_page(&self, other: &Piece) -> bool
         requires { end_of self.now ≤ MEMORY_LIMIT }
         ensures { result ≡ shares_page self.now other.now }
@@ -132,7 +133,8 @@ impl Piece {
         page_of(other.address) < self.end()
     }
 
-    /// Whether it goes on in a piece behind it, of which it can be one header with it.
+    /// Returns whether this piece continues in `other`, which comes after it. Then one program
+    /// header can load both.
     pub(crate) fn goes_on(&self, other: &Piece) -> bool
         requires short { IsShort self.now }
         requires limit { end_of self.now ≤ MEMORY_LIMIT }
@@ -143,7 +145,7 @@ impl Piece {
             && page_of(other.address) < self.address + self.contents.len() as u64 + PAGE
     }
 
-    /// Joins a piece behind it to it.
+    /// Joins `other`, which comes after this piece, to this piece.
     pub(crate) fn join(&mut self, other: &Piece) -> Result<(), AllocError>
         requires short { IsShort self.old }
         requires behind { end_of self.old ≤ other.now.heading.address }
@@ -158,7 +160,8 @@ impl Piece {
         Ok(())
     }
 
-    /// Takes off what it has from an address on. All its bytes are in it.
+    /// Splits this piece at address `at`, and returns the part from there on. All bytes of the
+    /// piece must be in its contents.
     pub(crate) fn split_off(&mut self, at: u64) -> Result<Piece, AllocError>
         requires full { IsFull self.old }
         requires from { self.old.heading.address ≤ at }
@@ -179,7 +182,7 @@ impl Piece {
         Ok(rest)
     }
 
-    /// The piece as the file has it: without the zeros at the end of one that may be written.
+    /// Returns the piece as the file has it: without the zeros at its end, if it may be written.
     pub(crate) fn finish(mut self) -> Piece
         ensures { result ≡ finished self }
     {

@@ -1,4 +1,4 @@
-// The pieces of segments, before any two of them are one.
+// The pieces of segments, before any two of them are joined.
 
 ghost use Rattle.std.specs.Prelude.{◌≡◌, ◌+◌, ◌<◌, ◌≤◌, ◌++◌, ◌∷◌, IfOk, OnOk, List};
 ghost use Rattle.std.specs.Prelude.{length, map};
@@ -14,7 +14,8 @@ use crate::place::PAGE;
 use image::Segment;
 use std::alloc::{AllocError, Global};
 
-/// Puts what a piece has below a page, and gives the rest.
+/// Appends the part of `piece` below `page` to `done`, if there is one, and returns the rest of
+/// `piece`.
 fn put_lower(done: &mut Vec<Piece>, mut piece: Piece, page: u64) -> Result<Piece, AllocError>
     requires full { IsFull piece }
     requires within { page < end_of piece }
@@ -32,7 +33,9 @@ fn put_lower(done: &mut Vec<Piece>, mut piece: Piece, page: u64) -> Result<Piece
     Ok(rest)
 }
 
-/// Joins a piece to one in the page where it begins, as far as the page goes, and gives the last.
+/// Joins the part of `next` that lies in `page` to `piece`, which lies in `page`. If that is all of
+/// `next`, returns the joined piece. Otherwise appends the joined piece to `done`, and returns the
+/// rest of `next`.
 fn put_page(
     done: &mut Vec<Piece>,
     mut piece: Piece,
@@ -61,7 +64,8 @@ fn put_page(
     Ok(rest)
 }
 
-/// Puts what is done of a piece and one behind it, and gives the last.
+/// Makes the pieces of `piece` and of `next`, which comes after it. Appends all of them except the
+/// last one to `done`, and returns the last one.
 fn put(done: &mut Vec<Piece>, piece: Piece, next: Piece) -> Result<Piece, AllocError>
     requires full { IsFull piece }
     requires next_full { IsFull next }
@@ -82,7 +86,8 @@ fn put(done: &mut Vec<Piece>, piece: Piece, next: Piece) -> Result<Piece, AllocE
     put_page(done, upper, next, page)
 }
 
-/// The piece that may go on after a segment with bytes, and in `done` those before it.
+/// Makes the piece of a segment with bytes, and the pieces of `last` and this piece if there is a
+/// last piece. Appends all of them except the last one to `done`, and returns the last one.
 fn add(
     alloc: Global,
     done: &mut Vec<Piece>,
@@ -106,7 +111,8 @@ fn add(
     }
 }
 
-/// The pieces of segments. One pass over them, which copies their bytes.
+/// Returns the finished pieces of segments. Makes one pass over the segments, which copies their
+/// bytes.
 pub(crate) fn cut_pieces(alloc: Global, segments: &[Segment]) -> Result<Vec<Piece>, AllocError>
     requires { AreRising 0 segments.now }
     ensures { IfOk result (λ pieces. pieces.items ≡ map finished (cut_pieces segments.now)) }

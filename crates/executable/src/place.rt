@@ -9,16 +9,16 @@ ghost use Rattle.executable.specs.Place.{place_above, place_for, place_of};
 
 use crate::piece::{Piece, page_of};
 
-/// A page, in bytes.
+/// The size of a page in bytes.
 pub(crate) const PAGE: u64 = 4096;
-/// The highest address that memory may end at: a page below 2^47.
+/// The highest address at which memory may end: a page below 2^47.
 pub(crate) const MEMORY_LIMIT: u64 = 0x7fff_ffff_f000;
-/// The lowest address that the kernel gives to whoever isn't root.
+/// The lowest address that the kernel allows a process to map unless the process runs as root.
 const LOWEST: u64 = 0x10000;
-/// The most program headers that the kernel takes.
+/// The maximum number of program headers that the kernel accepts.
 pub(crate) const MOST_HEADERS: usize = 1170;
 
-/// Bytes of the file header and of so many program headers.
+/// Returns the size in bytes of the file header and of `count` program headers.
 pub(crate) fn headers_size(count: usize) -> u64
     requires { count ≤ MOST_HEADERS }
     ensures { result ≡ headers_size count }
@@ -26,14 +26,14 @@ pub(crate) fn headers_size(count: usize) -> u64
     64 + 56 * count as u64
 }
 
-/// How many bytes are left to the end of the page behind so many.
+/// Returns the number of bytes from the end of `size` bytes to the end of their last page.
 pub(crate) fn padding(size: u64) -> u64
     ensures { result ≡ (PAGE - size % PAGE) % PAGE }
 {
     (PAGE - size % PAGE) % PAGE
 }
 
-/// So many bytes in whole pages.
+/// Returns `size` rounded up to whole pages.
 pub(crate) fn whole_pages(size: u64) -> u64
     requires { size < 2 ^ 63 }
     ensures { result ≡ next_multiple_of size PAGE }
@@ -41,7 +41,8 @@ pub(crate) fn whole_pages(size: u64) -> u64
     size + padding(size)
 }
 
-/// The first page at or above an end, where so many bytes have room there.
+/// Returns the first page at or above `end`, and not below `LOWEST`, if `room` bytes from there end
+/// below the limit.
 fn place_above(end: u64, room: u64) -> Option<u64>
     requires end { end ≤ MEMORY_LIMIT }
     requires room { room ≤ MEMORY_LIMIT }
@@ -55,7 +56,7 @@ fn place_above(end: u64, room: u64) -> Option<u64>
     }
 }
 
-/// The greatest address at which a piece ends.
+/// Returns the greatest address at which a piece ends, or 0 if there are no pieces.
 fn highest_end(pieces: &[Piece]) -> u64
     requires { All (λ p. end_of p ≤ MEMORY_LIMIT) pieces.now }
     ensures end { result ≡ highest_end pieces.now }
@@ -68,7 +69,8 @@ fn highest_end(pieces: &[Piece]) -> u64
     highest
 }
 
-/// Where the headers of pieces are mapped, `count` program headers of them.
+/// Returns the address at which the headers of a file with these pieces are mapped, if there is
+/// room.
 pub(crate) fn place_of(pieces: &[Piece]) -> Option<u64>
     requires pieces { All (λ p. end_of p ≤ MEMORY_LIMIT) pieces.now }
     requires count { length pieces.now + 3 ≤ MOST_HEADERS }

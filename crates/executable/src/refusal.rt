@@ -4,43 +4,43 @@ use names::Name;
 use std::alloc::AllocError;
 use thiserror::Error;
 
-/// Why an image isn't written as an executable file, in the order in which the tests are made.
+/// Why an image isn't written as an executable file. The variants are in the order of the tests.
 #[derive(Debug, Drop, PartialEq, Eq, Error)]
 pub enum ExecutableRefusal {
-    /// `e_entry` is 0, or in no segment of the program's own that may be executed.
+    /// `e_entry` is 0, or isn't in a segment of the program itself that may be executed.
     #[error("the program has no entry in code of its own")]
     NoEntry,
     /// The program is a static PIE: it has DF_1_PIE, and no PT_INTERP.
     #[error("the program relocates itself, for which it looks for what the file lacks")]
     StaticPie,
-    /// The program has a DT_PREINIT_ARRAY with entries.
+    /// The program has a DT_PREINIT_ARRAY with entries, and no note that it calls them itself.
     #[error("the program has pre-initializers, which nobody would run")]
     PreInitializers,
-    /// A library has a DT_INIT, or a DT_INIT_ARRAY with entries.
+    /// A library has a DT_INIT, or a DT_INIT_ARRAY with entries, and the program has no such note.
     #[error("a library has initializers, which nobody would run")]
     Initializers {
-        /// Its name.
+        /// The library's name.
         name: Name,
     },
-    /// A library has a DT_FINI, or a DT_FINI_ARRAY with entries.
+    /// A library has a DT_FINI, or a DT_FINI_ARRAY with entries, and the program has no such note.
     #[error("a library has finalizers, which nobody would run")]
     Finalizers {
-        /// Its name.
+        /// The library's name.
         name: Name,
     },
-    /// There would be more than 1,170 program headers.
+    /// The file would have more than 1,170 program headers.
     #[error("the image has more segments than the kernel takes")]
     TooManyHeaders,
-    /// Memory may be written and executed, and no segment in it asks for both.
+    /// Memory may be written and executed, although no segment in it requests both.
     #[error("an object has memory that may be written and executed, which no file asks for")]
     WritableCode {
         /// The object's name.
         name: Name,
     },
-    /// No pages from 0x10000 on, below or above the image, have room for the headers.
+    /// The headers have room neither below the image, at 0x10000 or above, nor after the image.
     #[error("there is no room for the headers")]
-    NoRoom,
-    /// A growth of memory was refused.
+    NoPages,
+    /// Memory was refused.
     #[error("memory was refused")]
     OutOfMemory,
 }

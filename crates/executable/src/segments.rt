@@ -6,14 +6,14 @@ ghost use Rattle.image.specs.Image.{heading};
 
 use image::Segment;
 
-/// Whether an address is one of a segment.
+/// Returns whether `address` is in the segment.
 pub(crate) fn holds(segment: &Segment, address: u64) -> bool
     ensures { result ≡ holds address (heading segment.now) }
 {
     segment.address() <= address && address - segment.address() < segment.memory().len() as u64
 }
 
-/// The first so many segments, or all of them, and those behind.
+/// Returns the first `count` segments, or all if there are fewer, and the segments after them.
 #[tactic(auto, using(std::proofs::lemmas::List::take_min))]
 pub(crate) fn split(segments: &[Segment], count: usize) -> (&[Segment], &[Segment])
     ensures own { result.0.now ≡ take count segments.now }

@@ -1,4 +1,4 @@
-// Programs whose start relocates them.
+// Programs that relocate themselves when they start.
 
 ghost use Rattle.std.specs.Prelude.{◌≡◌, ◌+◌, ◌≤◌, length};
 ghost use Rattle.elf_file.specs.Number.{number_at};
@@ -9,18 +9,18 @@ use crate::segments::split;
 use elf_file::u32_at;
 use image::{Image, Memory};
 
-/// Flags of an object, by `d_tag`; of these, that it is a position-independent executable.
+/// The tag of an object's flags, in `d_tag`, and the flag of a position-independent executable.
 const DT_FLAGS_1: u64 = 0x6fff_fffb;
 
 const DF_1_PIE: u64 = 0x0800_0000;
 
-/// The name of an interpreter, by `p_type`.
+/// The segment that names an interpreter, by `p_type`.
 const PT_INTERP: u32 = 3;
 
-/// Bytes of a program header.
+/// The size of a program header in bytes.
 pub(crate) const PROGRAM_HEADER_SIZE: usize = 56;
 
-/// The number of four bytes at a place of memory, little endian.
+/// Returns the number in the four bytes at offset `at` of memory, little endian.
 pub(crate) fn u32_in(memory: &Memory<'_>, at: usize) -> u32
     requires { at + 4 ≤ length memory.now }
     ensures { result ≡ number_at 4 memory.now at }
@@ -30,7 +30,7 @@ pub(crate) fn u32_in(memory: &Memory<'_>, at: usize) -> u32
     u32_at(&bytes, 0)
 }
 
-/// Whether a dynamic section says that its object is a position-independent executable.
+/// Returns whether a dynamic section says that its object is a position-independent executable.
 #[tactic(auto, unfolding(crate::specs::StaticPie::is_pie, elf_file::specs::Dynamic::entries_in, elf_file::specs::Dynamic::whole_entries))]
 fn is_pie(section: &Memory<'_>) -> bool
     ensures { result ≡ is_pie section.now }
@@ -41,7 +41,8 @@ fn is_pie(section: &Memory<'_>) -> bool
         .any(|e| e.tag == DT_FLAGS_1 && e.value & DF_1_PIE != 0)
 }
 
-/// Whether one of so many program headers, as many of them as are in memory, is of a type.
+/// Returns whether one of the first `count` program headers has type `kind`. Only headers that are
+/// completely in `memory` count.
 #[tactic(auto, unfolding(crate::specs::StaticPie::has_header))]
 fn has_header(memory: &Memory<'_>, count: u64, kind: u32) -> bool
     ensures { result ≡ has_header memory.now count kind }
@@ -51,7 +52,7 @@ fn has_header(memory: &Memory<'_>, count: u64, kind: u32) -> bool
     (0..count).any(|i| u32_in(memory, PROGRAM_HEADER_SIZE * i) == kind)
 }
 
-/// Whether the program is a static PIE.
+/// Returns whether the program is a static PIE.
 pub(crate) fn is_static_pie(image: &Image) -> bool
     ensures { result ≡ is_static_pie image.now }
 {

@@ -11,14 +11,14 @@ use crate::piece::{Piece, flags_of, is_both};
 use crate::segments::split;
 use image::{Image, Segment};
 
-/// Whether so many bytes from an address on end above another address.
+/// Returns whether `size` bytes from address `from` end above `address`.
 fn ends_above(from: u64, size: u64, address: u64) -> bool
     ensures { result ≡ nat_lt address (from + size) }
 {
     address < from || address - from < size
 }
 
-/// Whether a segment has a byte in a piece.
+/// Returns whether `segment` has a byte within `piece`.
 fn meets(piece: &Piece, segment: &Segment) -> bool
     ensures { result ≡ meets piece.now segment.now }
 {
@@ -28,7 +28,7 @@ fn meets(piece: &Piece, segment: &Segment) -> bool
         && ends_above(segment.address(), size, piece.address())
 }
 
-/// Whether some segment in a piece asks for both.
+/// Returns whether a segment that has a byte in `piece` requests both writing and executing.
 fn is_asked(segments: &[Segment], piece: &Piece) -> bool
     ensures { result ≡ list_any
         (λ s. meets piece.now s && is_both (permission_bits s.permissions)) segments.now }
@@ -38,15 +38,16 @@ fn is_asked(segments: &[Segment], piece: &Piece) -> bool
         .any(|s| meets(piece, s) && is_both(flags_of(s)))
 }
 
-/// Whether a piece may be written and executed, although no segment in it asks for both.
+/// Returns whether `piece` may be written and executed, although no segment that has a byte in it
+/// requests both.
 fn is_unasked(segments: &[Segment], piece: &Piece) -> bool
     ensures { result ≡ is_unasked segments.now piece.now }
 {
     is_both(piece.flags()) && !is_asked(segments, piece)
 }
 
-/// The first such piece. One pass over the segments for each piece that may be written and
-/// executed.
+/// Returns the first piece that may be written and executed although no segment in it requests
+/// both. Makes one pass over the segments for each piece that may be written and executed.
 pub(crate) fn first_unasked<'a>(segments: &[Segment], pieces: &'a [Piece]) -> Option<&'a Piece>
     ensures { option_map (λ p. p.now) result ≡ find (is_unasked segments.now) pieces.now }
 {
@@ -58,14 +59,14 @@ pub(crate) fn first_unasked<'a>(segments: &[Segment], pieces: &'a [Piece]) -> Op
     None
 }
 
-/// Whether some segment has a byte in a piece.
+/// Returns whether one of the segments has a byte in `piece`.
 fn any_meets(segments: &[Segment], piece: &Piece) -> bool
     ensures { result ≡ list_any (meets piece.now) segments.now }
 {
     segments.iter().any(|s| meets(piece, s))
 }
 
-/// The name of the object that has a segment in a piece.
+/// Returns the name of the first object that has a segment with a byte in `piece`.
 pub(crate) fn owner<'a>(image: &'a Image, piece: &Piece) -> &'a [u8]
     ensures { result.now ≡ owner_among piece.now image.now.objects image.now.segments }
 {

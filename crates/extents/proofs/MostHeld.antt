@@ -1,4 +1,4 @@
--- For readers and callers: no extents that a file could be given hold more sectors than the longest unused runs.
+-- For readers and callers: no extents that a file could get have more sectors than the longest unused runs.
 use Rattle.std.proofs.Common.{◌≡◌, ◌⊎◌, zero, suc, ℕ, ◌+◌, ◌<◌, ◌≤◌, leb, Bool, true, false, not, cond, take, List, [], ◌∷◌, length, refl, sym, subst, ⊎_elim, inl, inr, arith}
 use Rattle.std.specs.Prelude.{Contains, filter}
 use Rattle.std.specs.List.{AllByRecursion}
@@ -22,7 +22,7 @@ use Rattle.extents.proofs.RunsLemmas.{unused_runs-contains, unused_runs-cover}
 abbrev IsIn : Extent → Extent → Type 0
 IsIn run e = (run.start ≤ e.start) × (e.start + e.count ≤ run.start + run.count)
 
--- or in one of these
+-- one extent lies in one of these
 abbrev IsInSome : List Extent → Extent → Type 0
 IsInSome [] e = ⊥
 IsInSome (run ∷ runs) e = IsIn run e ⊎ IsInSome runs e
@@ -34,18 +34,18 @@ in_some (next ∷ runs) run e contains is = ⊎_elim
     (λ later. inr (in_some runs run e later is))
     (cases_contains run next runs contains)
 
--- two facts of each extent
+-- if `P` holds for all extents and `Q` too, both together hold for all of them
 both : (P Q : Extent → Type 0) (es : List Extent) → AllByRecursion P es → AllByRecursion Q es → AllByRecursion (λ e. P e × Q e) es
 both P Q [] p q = tt
 both P Q (e ∷ es) p q = ((p.0, q.0), both P Q es p.1 q.1)
 
--- what holds of each extent that passes a test
+-- what follows from P and the test holds for each extent that passes the test
 all_filter : (P Q : Extent → Type 0) (p : Extent → Bool) → ((e : Extent) → P e → p e ≡ true → Q e) → (es : List Extent) → AllByRecursion P es → AllByRecursion Q (filter p es)
 all_filter P Q p gives [] all = tt
 all_filter P Q p gives (e ∷ es) all =
     cond_both (p e) (e ∷ filter p es) (filter p es) (AllByRecursion Q) (λ is. (gives e all.0 is, all_filter P Q p gives es all.1)) (λ _. all_filter P Q p gives es all.1)
 
--- and of each two
+-- what holds for each two extents also holds for each two that pass a test
 pairs_filter : (R : Extent → Extent → Type 0) (p : Extent → Bool) (es : List Extent) → PairsByRecursion R es → PairsByRecursion R (filter p es)
 pairs_filter R p [] pairs = tt
 pairs_filter R p (e ∷ es) pairs =
@@ -57,7 +57,7 @@ pairs_filter R p (e ∷ es) pairs =
 abbrev IsBetween : ℕ → ℕ → Extent → Type 0
 IsBetween low high e = (low ≤ e.start) × (e.start + e.count ≤ high)
 
--- whether an extent ends before a place, or not
+-- whether an extent ends at a place or before it
 abbrev ends_before : ℕ → Extent → Bool
 ends_before place e = leb (e.start + e.count) place
 
@@ -80,7 +80,7 @@ module _ (low high : ℕ) (e : Extent) (es : List Extent) (between : AllByRecurs
       ))
       es (both (IsBetween low high) (IsApart e) es between apart)
 
--- extents that lie apart between two places have no more sectors than lie there
+-- extents that lie apart between two places have no more sectors than the places between
 held_between : (n low high : ℕ) (es : List Extent) → length es ≤ n → low ≤ high → AllByRecursion (IsBetween low high) es
     → PairsByRecursion IsApart es → low + sector_count es ≤ high
 held_between n low high [] few le between apart = omega (arith, le)
@@ -99,7 +99,7 @@ held_between (suc n) low high (e ∷ es) few le between apart =
       sum_by-filter_both (ends_before e.start) (ends_behind e.start) (λ x. refl) (λ (x : Extent). x.count) es,
     )
 
--- one more of sorted runs is no longer than those before it
+-- if no run is longer than `most`, one more run adds at most `most` sectors
 one_more : (most n : ℕ) (runs : List Extent) → AllByRecursion (λ run. run.count ≤ most) runs → sector_count (take (suc n) runs) ≤ most + sector_count (take n runs)
 one_more most n [] shorter = omega arith
 one_more most zero (run ∷ runs) shorter = omega (arith, shorter.0, sum_by-cons (λ (x : Extent). x.count) run [])
@@ -110,7 +110,7 @@ none_held : (es : List Extent) → length es ≤ 0 → sector_count es ≡ 0
 none_held [] none = refl
 none_held (e ∷ es) none = absurd (omega (arith, none))
 
--- whether an extent lies in a run, or not
+-- whether an extent lies in a run
 abbrev is_here : Extent → Extent → Bool
 is_here run e = cond (leb run.start e.start) (leb (e.start + e.count) (run.start + run.count)) false
 
@@ -127,7 +127,7 @@ is_found run e inside = cond_both (leb run.start e.start) (leb (e.start + e.coun
     (λ low. le-leb (e.start + e.count) (run.start + run.count) inside.1)
     (λ low. absurd (both_ways (leb run.start e.start) low (le-leb run.start e.start inside.0)))
 
--- those that lie in a run have no more sectors than it, and the others lie in the rest
+-- the extents that lie in a run have no more sectors than the run, and the others lie in the rest
 module _ (run : Extent) (runs es : List Extent) (inside : AllByRecursion (IsInSome (run ∷ runs)) es) where
   here_hold : PairsByRecursion IsApart es → run.start + sector_count (filter (is_here run) es) ≤ run.start + run.count
   here_hold apart = held_between (length (filter (is_here run) es)) run.start (run.start + run.count) (filter (is_here run) es) (omega arith) (omega arith)
@@ -137,7 +137,7 @@ module _ (run : Extent) (runs es : List Extent) (inside : AllByRecursion (IsInSo
   in_others = all_filter (IsInSome (run ∷ runs)) (IsInSome runs) (is_other run)
       (λ e some is. ⊎_elim (λ inside. absurd (both_ways (is_here run e) (not-true (is_here run e) is) (is_found run e inside))) (λ later. later) some) es inside
 
--- Extents that lie apart in sorted runs hold no more than as many of the first runs.
+-- `n` extents that lie apart in sorted runs have no more sectors than the first `n` runs.
 held_in : (n : ℕ) (runs es : List Extent) → PairsByRecursion (λ earlier later. later.count ≤ earlier.count) runs → length es ≤ n → AllByRecursion (IsInSome runs) es
     → PairsByRecursion IsApart es → sector_count es ≤ sector_count (take n runs)
 held_in n [] [] sorted few inside apart = omega arith
@@ -182,7 +182,7 @@ unused_in flags e inside unused =
     in_some (longest_first (unused_runs flags)) run e
     (Contains-permutation (unused_runs flags) (longest_first (unused_runs flags)) run (longest_first-permutes (unused_runs flags)) contains) (found.4.0, ends)
 
--- No extents that a file could be given hold more sectors than the longest unused runs.
+-- No extents that a file could get have more sectors than the longest unused runs.
 pub longest_runs-most : (flags : List Bool) (extents : List Extent) → AreCandidates flags extents → sector_count extents ≤ sector_count (longest_runs flags)
 longest_runs-most flags extents could =
     held_in most_extents (longest_first (unused_runs flags)) extents

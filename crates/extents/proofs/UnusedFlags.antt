@@ -1,4 +1,4 @@
--- The flags of a disk with these unused runs, and its unused runs, which are these.
+-- The flags of a disk that has given unused runs. The runs that are found from these flags are the given ones.
 use Rattle.std.proofs.Common.{◌≡◌, ℕ, suc, ◌+◌, ◌-◌, ◌<◌, ◌≤◌, ◌⊎◌, Bool, true, false, not, leb, ltb, cond, List, [], ◌∷◌, length, get_or, drop, refl, sym, ap, ◌∙◌, ⊎_elim, inl, inr, arith}
 use Rattle.std.proofs.lemmas.Bool.{cases_lt, le-leb, lt-leb, lt-ltb, le-ltb, cond-true, cond-false, true≢false}
 use Rattle.std.proofs.lemmas.List.{same_lists, get_or_past}
@@ -13,7 +13,7 @@ use Rattle.extents.proofs.Unused.{skip_claimed, whole_run, no_run}
 use Rattle.extents.proofs.Marks.{is_of, length-with_flag, flag_within, flag_without}
 use Rattle.extents.proofs.Sectors.{IsOfSome}
 
--- the test of a sector says whether a run has it
+-- the test of a sector is true if a run has the sector
 in_run : (runs : List Extent) (s : ℕ) → IsOfSome runs s → is_in_run runs s ≡ true
 in_run [] s has = absurd has
 in_run (run ∷ runs) s has =
@@ -43,7 +43,7 @@ in_no_run (run ∷ runs) s none =
     (cases_lt s (run.start + run.count)))
     (cases_lt s run.start)
 
--- so it can be asked
+-- each sector is in a run, or in none
 pub has_or_not : (runs : List Extent) (s : ℕ) → IsOfSome runs s ⊎ (IsOfSome runs s → ⊥)
 has_or_not [] s = inr (λ has. has)
 has_or_not (run ∷ runs) s = ⊎_elim
@@ -79,7 +79,7 @@ length-flags_of sectors runs = length-map-range_with_len (flag_at runs) 0 sector
 pub flag_is : (sectors : ℕ) (runs : List Extent) (s : ℕ) (d : Bool) → s < sectors → get_or (flags_of sectors runs) s d ≡ flag_at runs s
 flag_is sectors runs s d lt = get_or-map-range_with_len (flag_at runs) 0 sectors s s d lt (omega arith)
 
--- the unused sectors are those of the runs
+-- each unused sector is in a run
 pub unused_has : (sectors : ℕ) (runs : List Extent) (s : ℕ) → IsUnused (flags_of sectors runs) s → IsOfSome runs s
 unused_has sectors runs s unused = ⊎_elim
     (λ lt. ⊎_elim
@@ -94,7 +94,7 @@ has_unused sectors runs s are has =
     let within = some_from 2 sectors s runs are has in
     (within.0, flag_is sectors runs s true within.1 ∙ flag_unused runs s within.0 has)
 
--- with the sectors of an extent taken out of the runs they are claimed
+-- if the sectors of an extent are removed from the runs, they are claimed
 pub flags_cut : (sectors : ℕ) (old new : List Extent) (e : Extent) → 2 ≤ e.start → e.start + e.count ≤ sectors
     → ((s : ℕ) → IsOfSome new s → IsOfSome old s × (Has e s → ⊥)) → ((s : ℕ) → IsOfSome old s → (Has e s → ⊥) → IsOfSome new s)
     → flags_of sectors new ≡ with_flag true e (flags_of sectors old)
@@ -111,7 +111,7 @@ flags_cut sectors old new e low high to back =
     flag_same new old k (λ has. (to k has).0) (λ has. back k has no) ∙ sym (flag_is sectors old k d inside) ∙ sym (flag_without true e (flags_of sectors old) k d fits without))
     (is_of e k))
 
--- with the sectors of an extent put to the runs they are unused
+-- if the sectors of an extent are added to the runs, they are unused
 pub flags_joined : (sectors : ℕ) (old new : List Extent) (e : Extent) → 2 ≤ e.start → e.start + e.count ≤ sectors
     → ((s : ℕ) → IsOfSome new s → IsOfSome old s ⊎ Has e s) → ((s : ℕ) → IsOfSome old s → IsOfSome new s) → ((s : ℕ) → Has e s → IsOfSome new s)
     → flags_of sectors new ≡ with_flag false e (flags_of sectors old)
@@ -129,7 +129,7 @@ flags_joined sectors old new e low high to back has_new =
     ∙ sym (flag_is sectors old k d inside) ∙ sym (flag_without false e (flags_of sectors old) k d fits without))
     (is_of e k))
 
--- the runs are found again from the flags
+-- the runs that are found from the flags are the given ones, from each sector on
 runs_again : (sectors from : ℕ) (all runs : List Extent) → 2 ≤ from → AreApart from sectors runs
     → ((s : ℕ) → from ≤ s → IsOfSome all s → IsOfSome runs s) → ((s : ℕ) → IsOfSome runs s → IsOfSome all s)
     → runs_from from (drop from (flags_of sectors all)) ≡ runs
@@ -162,6 +162,6 @@ runs_again sectors from all (run ∷ runs) behind are to back =
     (λ s low has. ⊎_elim (λ here. absurd (omega (arith, here.1, low))) (λ there. there) (to s (omega (arith, low, are.0)) has))
     (λ s has. back s (inr has)))
 
--- the unused runs are these
+-- the unused runs are the given ones
 pub unused_runs-flags_of : (sectors : ℕ) (runs : List Extent) → AreApart 2 sectors runs → unused_runs (flags_of sectors runs) ≡ runs
 unused_runs-flags_of sectors runs are = runs_again sectors 2 runs runs (omega arith) are (λ s low has. has) (λ s has. has)

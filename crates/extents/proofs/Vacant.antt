@@ -1,16 +1,16 @@
--- Lists whose first places are vacant: what a write makes of what stands behind these.
+-- Lists whose first places are vacant: how a write changes the part after these places.
 use Rattle.std.proofs.Common.{◌≡◌, ℕ, ◌+◌, ◌<◌, ◌≤◌, List, [], ◌∷◌, ◌++◌, length, get_or, take, drop, set, sym, ap, ◌∙◌, arith}
 use Rattle.std.proofs.lemmas.List.{append_assoc, drop-append-le, drop-drop, drop-set-add, drop-take, drop_at, drop_more, length-append, length-drop, length-take-le, set_at, take-take, take_at}
 use borrow.Rule.Slice.PartMut.{put_mid, mid_of}
 use Rattle.extents.specs.declared.extent.Extent.{Extent}
 use Rattle.extents.proofs.Edits.{nothing}
 
--- what stands behind the vacant places, up to the place of a change
+-- the part after the vacant places, up to the place of a change
 behind : (v p : ℕ) (xs ys : List Extent) → v + p ≤ length xs → drop v (take (v + p) xs ++ ys) ≡ take p (drop v xs) ++ ys
 behind v p xs ys le =
     drop-append-le v (take (v + p) xs) ys (omega (arith, length-take-le (v + p) xs le)) ∙ ap (λ l. l ++ ys) (drop-take v p xs)
 
--- one is taken out, and those above it move down
+-- an element is removed, and those above it move down
 pub taken_out : (v p : ℕ) (xs : List Extent) → v + p < length xs
     → drop v (take (v + p) xs ++ drop (v + p + 1) xs) ≡ take p (drop v xs) ++ drop (p + 1) (drop v xs)
 taken_out v p xs lt =
@@ -18,7 +18,7 @@ taken_out v p xs lt =
     behind v p xs (drop (v + p + 1) xs) (omega (arith, lt))
     ∙ ap (λ l. take p (drop v xs) ++ l) (ap (λ n. drop n xs) next ∙ sym (drop-drop (p + 1) v xs))
 
--- one is put in, and those above it move up
+-- an element is inserted, and those above it move up
 pub put_in : (v p : ℕ) (xs : List Extent) (x : Extent) → v + p ≤ length xs
     → drop v (take (v + p) xs ++ x ∷ drop (v + p) xs) ≡ take p (drop v xs) ++ x ∷ drop p (drop v xs)
 put_in v p xs x le = behind v p xs (x ∷ drop (v + p) xs) le ∙ ap (λ l. take p (drop v xs) ++ x ∷ l) (sym (drop-drop p v xs))
@@ -36,12 +36,12 @@ length_written a k xs ys le is = omega (
   length-drop a xs,
 )
 
--- so a vector holds just what was written
+-- a vector in the middle of which elements were written holds exactly what was written
 pub written : (a k n : ℕ) (xs ys more : List Extent) → a + k ≤ length xs → length ys ≡ k → length xs ≡ n
     → take n (put_mid a k xs ys ++ more) ≡ put_mid a k xs ys
 written a k n xs ys more le is size = take_at (put_mid a k xs ys) more n (length_written a k xs ys le is ∙ size)
 
--- the last of those in the middle comes first, and its place is vacant then
+-- the last of the middle part becomes the first, and its place is vacant afterwards
 pub moved_up : (v p k n : ℕ) (xs ys : List Extent) → v + p < length xs → k ≡ p + 1 → n ≡ p → ys ≡ drop n (mid_of v k xs) ++ take n (mid_of v k xs)
     → drop (v + 1) (put_mid v k xs ys) ≡ take p (drop v xs) ++ drop (p + 1) (drop v xs)
 moved_up v p k n xs ys lt size at turned =
@@ -59,7 +59,7 @@ moved_up v p k n xs ys lt size at turned =
     ∙ ap (λ zs. drop 1 (zs ++ drop k l)) is
     ∙ ap (λ i. take p l ++ drop i l) size
 
--- the first of those in the middle comes last, and is written over
+-- the first of the middle part becomes the last, and is overwritten
 pub moved_down : (v w p k : ℕ) (xs ys : List Extent) (x : Extent) → w + 1 ≡ v → w + p < length xs → k ≡ p + 1
     → ys ≡ drop 1 (mid_of w k xs) ++ take 1 (mid_of w k xs)
     → drop w (set (put_mid w k xs ys) (w + p) x) ≡ take p (drop v xs) ++ x ∷ drop p (drop v xs)

@@ -5,14 +5,15 @@ use crate::extent::Extent;
 use std::alloc::{AllocError, Global};
 use std::marker::Model;
 
-/// The unused runs of a disk, from the lowest up. Most that come and go are among the lowest, so a
-/// run that goes may leave a vacant place in front of all, and one that comes may fill it.
+/// The unused runs of a disk, from the lowest to the highest. Most changes are among the lowest
+/// runs. So a removed run may leave a vacant place in front of all others, and an added run may
+/// fill it.
 #[derive(Drop)]
 pub(crate) struct RunList {
-    // Vacant places, and behind them the runs.
+    // The vacant places, followed by the runs.
     list: Vec<Extent>,
 
-    // How many places are vacant.
+    // The number of vacant places.
     vacant: usize,
 }
 
@@ -33,7 +34,7 @@ impl Model for RunList {
 }
 
 impl RunList {
-    /// No runs, with room for so many.
+    /// Makes an empty list, with room for `capacity` runs.
     pub(crate) fn with_capacity(alloc: Global, capacity: usize) -> Result<RunList, AllocError>
         ensures items { IfOk result (λ runs. runs.items ≡ []) }
         ensures capacity { IfOk result (λ runs. runs.capacity ≡ capacity) }
@@ -44,14 +45,14 @@ impl RunList {
         })
     }
 
-    /// The runs, from the lowest up.
+    /// Returns the runs, from the lowest to the highest.
     pub(crate) fn as_slice(&self) -> &[Extent]
         ensures { result.now ≡ self.now.items }
     {
         &self.list[self.vacant..]
     }
 
-    /// Puts a run in the place of another.
+    /// Replaces the run at `place` by `run`.
     pub(crate) fn set(&mut self, place: usize, run: Extent)
         requires { place < length self.old.items }
         ensures items { self.new.items ≡ set self.old.items place run }
@@ -61,8 +62,8 @@ impl RunList {
         self.list[self.vacant + place] = run;
     }
 
-    /// Takes the run at `place` out. Those below it move up or those above it move down, whichever
-    /// are fewer.
+    /// Removes the run at `place`. The runs below it move up, or the runs above it move down,
+    /// whichever are fewer.
     pub(crate) fn remove(&mut self, place: usize)
         requires { place < length self.old.items }
         ensures items { self.new.items
@@ -79,8 +80,8 @@ impl RunList {
         }
     }
 
-    /// Puts a run in at `place`. Those below move down or those above move up, whichever are fewer
-    /// where there is room on both sides.
+    /// Inserts `run` at `place`. The runs below it move down, or those above it move up: whichever
+    /// are fewer, if there is room on both sides.
     pub(crate) fn insert(&mut self, place: usize, run: Extent)
         requires within { place ≤ length self.old.items }
         requires room { length self.old.items < self.old.capacity }

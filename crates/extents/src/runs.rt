@@ -12,8 +12,9 @@ use crate::limits::ROOT_SECTORS;
 use crate::run_list::RunList;
 use std::alloc::{AllocError, Global};
 
-/// The runs of a disk of this many sectors, none of which is claimed: one, where there is a sector
-/// behind the roots. There is room for as many runs as the disk can have.
+/// Returns the runs of a disk of `sectors` sectors, none of which is claimed. There is one run if
+/// the disk has a sector after the roots, and otherwise none. There is room for as many runs as the
+/// disk can have.
 pub(crate) fn one_run(alloc: Global, sectors: u32) -> Result<RunList, AllocError>
     ensures items { IfOk result (λ runs.
         runs.items ≡ some_of root_sectors (sectors - root_sectors)) }
@@ -33,7 +34,7 @@ pub(crate) fn one_run(alloc: Global, sectors: u32) -> Result<RunList, AllocError
     Ok(runs)
 }
 
-/// How many of the runs end at a sector or before it. By halving.
+/// Returns the number of runs that end at `sector` or before it, by binary search.
 pub(crate) fn place_of(runs: &[Extent], sector: u32) -> usize
     requires { IsRising runs.now }
     ensures within { result ≤ length runs.now }
@@ -44,8 +45,8 @@ pub(crate) fn place_of(runs: &[Extent], sector: u32) -> usize
     runs.partition_point(|run| run.start as u64 + run.count as u64 <= sector as u64)
 }
 
-/// Takes an extent out of the run at `place`, which has all of it: the run goes, or what is left
-/// of it before the extent or behind it stays, or both.
+/// Removes the sectors of `extent` from the run at `place`, which has all of them. What is left of
+/// the run before and after the extent stays; if nothing is left, the run is removed.
 pub(crate) fn cut(runs: &mut RunList, place: usize, extent: Extent)
     requires within { place < length runs.old.items }
     requires front { (slice_index_or runs.old.items place extent).start ≤ extent.start }
@@ -88,7 +89,8 @@ pub(crate) fn cut(runs: &mut RunList, place: usize, extent: Extent)
     }
 }
 
-/// How many sectors the run before `place` has, where it ends right before the sector; else 0.
+/// Returns the number of sectors of the run before `place`, if that run ends right before `sector`;
+/// otherwise 0.
 pub(crate) fn count_before(runs: &[Extent], place: usize, sector: u32) -> u32
     requires { place ≤ length runs.now }
     ensures none { result ≡ 0 → 0 < place → (d : Extent) →
@@ -109,7 +111,8 @@ pub(crate) fn count_before(runs: &[Extent], place: usize, sector: u32) -> u32
     }
 }
 
-/// How many sectors the run at `place` has, where it begins at the sector; else 0.
+/// Returns the number of sectors of the run at `place`, if that run begins at `sector`; otherwise
+/// 0.
 pub(crate) fn count_behind(runs: &[Extent], place: usize, sector: u32) -> u32
     requires { place ≤ length runs.now }
     ensures none { result ≡ 0 → place < length runs.now → (d : Extent) →
@@ -125,8 +128,9 @@ pub(crate) fn count_behind(runs: &[Extent], place: usize, sector: u32) -> u32
     if run.start == sector { run.count } else { 0 }
 }
 
-/// Puts an extent among the runs at `place`, joined to the one before it, which has `left`
-/// sectors, and the one behind it, which has `right`; to neither where that is 0.
+/// Inserts `extent` among the runs at `place`, and joins it to its neighbours. The run before it
+/// has `left` sectors, and the run after it has `right`. It isn't joined to a neighbour for which
+/// this number is 0.
 pub(crate) fn join(runs: &mut RunList, place: usize, extent: Extent, left: u32, right: u32)
     requires before { min left 1 ≤ place }
     requires behind { place + min right 1 ≤ length runs.old.items }
@@ -157,14 +161,14 @@ pub(crate) fn join(runs: &mut RunList, place: usize, extent: Extent, left: u32, 
     }
 }
 
-/// The longer of two runs; the first where neither is.
+/// Returns the longer of two runs, or the first one if they are equally long.
 fn longer(first: Extent, run: Extent) -> Extent
     ensures { result ≡ (if nat_lt first.count run.count then run else first) }
 {
     if first.count < run.count { run } else { first }
 }
 
-/// The first of the longest runs. One pass over the runs.
+/// Returns the first of the longest runs, after one pass over the runs.
 pub(crate) fn longest_run(runs: &[Extent]) -> Option<Extent>
     ensures { IfSome result (λ run. (others : List Extent)
         × (longest_first runs.now ≡ run ∷ others)) }
@@ -179,8 +183,9 @@ pub(crate) fn longest_run(runs: &[Extent]) -> Option<Extent>
     Some(longest)
 }
 
-/// As many of the longest runs as a file may have extents, longest first. One pass over the runs;
-/// each is compared with a few of those that are kept, since their number is bounded.
+/// Returns the longest runs, at most as many as a file may have extents, the longest first. The
+/// call makes one pass over the runs. It compares each run with only a bounded number of the runs
+/// that are kept so far.
 pub(crate) fn longest_of(runs: &[Extent]) -> Extents
     ensures { result ≡ take most_extents (longest_first runs.now) }
 {

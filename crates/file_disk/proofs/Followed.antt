@@ -1,4 +1,4 @@
--- A disk follows its file, and goes on to do so with each call.
+-- A disk follows its file, and continues to do so with each call.
 use Rattle.std.proofs.Common.{◌≡◌, ◌<◌, ◌≤◌, ◌+◌, ◌-◌, inr, ⊎_elim, ℕ, List, [], ◌∷◌, ◌++◌, length, get_or, zero, suc, sym, ◌∙◌, ap, subst, arith, IsTrue}
 use Rattle.std.proofs.lemmas.Bool.{cases_lt}
 use Rattle.std.proofs.lemmas.List.{get_or_past, length_push}
@@ -16,7 +16,7 @@ use Rattle.file_disk.specs.inside.Transfer.{StaysWithin}
 use Rattle.file_disk.proofs.Disks.{before_push}
 
 module _ {F : Type 0} {g : Ghosts F} where
-  -- as a disk starts
+  -- at a disk's start, no earlier moment has a later time
   pub timed_first : (b : Buffered F g) (files : List (Buffered F g)) (now : ℕ) → files ≡ [] → IsTimed files b now
   timed_first b files now none v le = subst (λ l. time_at l b v ≤ (g.facts b.file).time) (sym none) (omega arith)
 
@@ -28,16 +28,16 @@ module _ {F : Type 0} {g : Ghosts F} where
       subst (λ l. LeftOf (get_or l v since).items k c) (sym first)
       (covered k c (inr (subst (λ (t : ℕ). (g.facts b.file).may_have t k c) (omega (arith, low', high')) has)))
 
-  -- one call more
+  -- one more call
   module _ (old : FileDisk F g) (honest : IsTrue g.is_honest) (b : Buffered F g) (files : List (Buffered F g)) (past : List (Past (Buffered F g))) (since : Past (Buffered F g)) (now : ℕ)
       (counted : now ≡ calls_made old.calls + 1) (kept : files ≡ old.files.items ++ old.buffered ∷ []) (marked : past ≡ old.past.items ++ old.since ∷ [])
       (within : StaysWithin (Leaves old.buffered) (g.facts old.buffered.file) (g.facts b.file)) where
-    -- the times of the moments before
+    -- the times of the earlier moments stay the same
     time_stays : (v : ℕ) → v ≤ calls_made old.calls → time_at files b v ≡ time_at old.files.items old.buffered v
     time_stays v le =
         ap (λ l. time_at l b v) kept ∙ ap (λ s. (g.facts s.file).time) (before_push old.files.items old.buffered b v (omega (arith, le, old.noted)))
 
-    -- the time now
+    -- the time of the present moment is the file's time
     time_now : (v : ℕ) → calls_made old.calls < v → time_at files b v ≡ (g.facts b.file).time
     time_now v lt = ap (λ s. (g.facts s.file).time) (get_or_past files v b (omega (arith, lt, old.noted, ap length kept, length_push old.files.items old.buffered)))
 
@@ -70,7 +70,7 @@ module _ {F : Type 0} {g : Ghosts F} where
         (cases_lt v (calls_made old.calls))))
         (cases_lt (calls_made old.calls) v)
 
-  -- The law. A moment of the file lies in the call behind one of the disk's moments.
+  -- The law. A moment of the file lies within the call that follows one of the disk's moments.
   module _ (disk : FileDisk F g) (honest : IsTrue g.is_honest) where
     abbrev mark : ℕ → ℕ
     mark = (file_facts disk).marks
@@ -89,7 +89,7 @@ module _ {F : Type 0} {g : Ghosts F} where
           each = λ k lt. disk.followed honest v u k (sector m k) is.up_to is.reached next (medium.each k (omega (arith, lt, disk.buffered.size honest)));
         }
 
-    -- the last moment whose mark isn't past u, at most `more` behind `since`
+    -- the last moment whose mark isn't past u, at most `more` moments after `since`
     moment_from : (more since u : ℕ) → mark since ≤ u → since + more ≤ calls_made disk.calls
         → ((w : ℕ) → since + more < w → w ≤ calls_made disk.calls → u < mark w) → (v : ℕ) × IsMomentAt (file_facts disk) u v
     moment_from zero since u low le last = (since, record { up_to = omega (arith, le); reached = low; last = λ w lt. last w (omega (arith, lt)) })
@@ -112,7 +112,7 @@ module _ {F : Type 0} {g : Ghosts F} where
           (found.0, found.1, mixture_of found.0 u m found.1 high medium);
     }
 
-  -- What holds of all that a stop may leave holds of the medium.
+  -- A property of all that a stop may leave is a property of the medium.
   pub holds_of_the_medium : (disk : FileDisk F g) → IsTrue g.is_honest → (P : List Sector → Type 0) → HoldsOfTheMedium disk P
   holds_of_the_medium disk honest P old leaves u m low high medium =
       let start = (file_facts old).time in

@@ -1,4 +1,4 @@
--- Sectors in a row, written to a disk in memory.
+-- Adjacent sectors that are written to a disk in memory.
 use Rattle.std.proofs.Common.{Ok, Err, ◌≡◌, ◌≢◌, ◌<◌, ◌≤◌, ◌+◌, ◌⊎◌, inl, inr, ⊎_elim, ℕ, List, [], length, set, refl, sym, ◌∙◌, ap, arith, below_more}
 use Rattle.std.specs.Prelude.{Result, IsOk, OnOk}
 use Rattle.std.proofs.lemmas.Bool.{cases_lt, false≢true}
@@ -6,7 +6,7 @@ use Rattle.std.proofs.lemmas.List.{length-set, get_or-set_same, get_or-set_other
 use Rattle.sector_disk.specs.Disk.{Sector, sector, DiskFacts, IsUnchanged, GrowsBy}
 use Rattle.file_disk.specs.Medium.{HasWritten, IsSameMedium}
 
--- what holds of a call that succeeds
+-- if a call succeeded, what its contract states for a success is true
 pub known_ok : {T E : Type 0} (result : Result T E) (P : Type 0) → IsOk result → OnOk result P → P
 known_ok (Ok x) P is on = on
 known_ok (Err e) P is on = absurd (false≢true is)
@@ -33,7 +33,7 @@ written_none at given old = record {
   medium = λ k c. (λ has. inl has, λ some. ⊎_elim (λ has. has) (λ wrote. absurd (omega (arith, wrote.1))) some);
 }
 
--- a write that changed nothing
+-- after a call that changes nothing, the same sectors are written
 pub written_same : (at : ℕ) (given : List Sector) (count : ℕ) (old mid new : DiskFacts) → HasWritten at given count old mid → new.sectors ≡ mid.sectors → IsUnchanged mid new
     → HasWritten at given count old new
 written_same at given count old mid new before sectors same = record {
@@ -44,7 +44,7 @@ written_same at given count old mid new before sectors same = record {
   medium = λ k c. (λ has. (before.medium k c).0 ((same.stop k c).0 has), λ has. (same.stop k c).1 ((before.medium k c).1 has));
 }
 
--- one sector more
+-- after one more sector is written, `count + 1` sectors are written
 pub written_more : (at : ℕ) (given : List Sector) (count : ℕ) (old mid new : DiskFacts) → at + count < length old.now → HasWritten at given count old mid → new.sectors ≡ mid.sectors
     → new.now ≡ set mid.now (at + count) (sector given count) → GrowsBy mid new (at + count) (sector given count) → HasWritten at given (count + 1) old new
 written_more at given count old mid new inside before sectors now grows = record {
@@ -76,7 +76,8 @@ written_more at given count old mid new inside before sectors now grows = record
   );
 }
 
--- of sectors that begin with these
+-- a write of the first sectors of a list is also a write of the first sectors of each list that begins with the same
+-- ones
 pub written_of : (at : ℕ) (given given' : List Sector) (count : ℕ) (old new : DiskFacts) → ((i : ℕ) → i < count → sector given' i ≡ sector given i) → HasWritten at given' count old new
     → HasWritten at given count old new
 written_of at given given' count old new same written = record {

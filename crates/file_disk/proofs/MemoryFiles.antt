@@ -1,4 +1,4 @@
--- Calls of a file in memory are those of an honest file.
+-- Calls of a file in memory are calls of an honest file.
 use Rattle.std.proofs.Common.{◌≡◌, ◌<◌, ◌≤◌, ◌+◌, ◌-◌, ◌++◌, inl, inr, ⊎_elim, ℕ, Bool, true, false, List, [], ◌∷◌, length, get_or, Ok, Err, refl, sym, ◌∙◌, ap, subst, arith, if◌then◌else◌}
 use Rattle.std.specs.Prelude.{◌==◌, nat_lt, Result, IfOk, is_err}
 use Rattle.std.proofs.lemmas.Bool.{cases_lt}
@@ -7,7 +7,7 @@ use Rattle.sector_disk.specs.Disk.{Sector, sector, MayLeave, LeavesNoMore, Leave
 use Rattle.sector_disk.specs.Memory.{memory_facts}
 use Rattle.sector_disk.specs.declared.memory.Memory.{Memory}
 use Rattle.file_disk.specs.declared.memory_file.MemoryFile.{MemoryFile}
-use Rattle.file_disk.specs.declared.memory_file.Turn.{Turn}
+use Rattle.file_disk.specs.declared.memory_file.CallOutcome.{CallOutcome}
 use Rattle.file_disk.specs.Medium.{HasWritten, IsSameMedium}
 use Rattle.file_disk.specs.MemoryFile.{facts_over, memory_file_facts, does_work}
 use Rattle.file_disk.specs.SectorFile.{MayHave, moved, IsFileCall, IsCounted, IsFileRead, IsFileWrite, IsFileSync, IsFoundWith}
@@ -19,7 +19,7 @@ now_has file k c has = (has.0, subst (λ m. MayLeave (memory_facts m) k c) (get_
 has_now : (file : MemoryFile) (k : ℕ) (c : Sector) → k < (memory_facts file.medium).sectors → MayLeave (memory_facts file.medium) k c → MayHave (memory_file_facts file) k c
 has_now file k c lt left = (lt, subst (λ m. MayLeave (memory_facts m) k c) (sym (get_or_past file.past.items (length file.past.items) file.medium (omega arith))) left)
 
--- over a disk as it starts, the file is found with what the disk has
+-- over a disk at its start, the file is found with the contents of the disk
 pub found_with : (medium : Memory) (past : List Memory) (failures : ℕ) (contents : List Sector) → StartsWith (memory_facts medium) contents
     → IsFoundWith (facts_over medium past failures false) contents
 found_with medium past failures contents starts = record {
@@ -31,30 +31,30 @@ found_with medium past failures contents starts = record {
   sync_failed = refl;
 }
 
--- the moment that a call ends is past then
+-- the moment that a call ends becomes the last past one
 at_past : (media : List Memory) (was new : Memory) (u : ℕ) → u ≤ length media → get_or (media ++ was ∷ []) u new ≡ get_or media u was
 at_past media was new u le = ⊎_elim
     (λ early. get_or_append_left media (was ∷ []) new u early ∙ get_or_default media u new was early)
     (λ late. get_or_push media was new u (omega (arith, le, late)) ∙ sym (get_or_past media u was (omega (arith, late))))
     (cases_lt u (length media))
 
--- a file in the midst of a sync, when its medium has been settled
+-- a file in the middle of a sync, after its medium was settled
 pub record AfterSync (begun : MemoryFile) (settled : Memory) (failed : Bool) (file : MemoryFile) : Type 0 where
   pub past : file.past.items ≡ begun.past.items
   pub medium : file.medium ≡ settled
   pub calls : file.calls ≡ begun.calls
   pub sync_failed : file.sync_failed ≡ failed
 
--- what holds from one medium to another
+-- what holds from one medium to another also holds for equal media
 pub from_to : (P : Memory → Memory → Type 0) {old mid mid' new : Memory} → mid ≡ old → new ≡ mid' → P mid mid' → P old new
 from_to P {old} {mid} {mid'} {new} begun ended holds = subst (λ m. P old m) (sym ended) (subst (λ m. P m mid') begun holds)
 
--- a sync that passes does its work where none has failed
-pub works : (file : MemoryFile) (turn : Turn) → file.sync_failed ≡ false → turn.fails ≡ false → does_work file turn ≡ true
-works file turn trusted passes =
-    ap (λ (b : Bool). if b then false else (if turn.fails then nat_lt 0 turn.most else true)) trusted ∙ ap (λ (b : Bool). if b then nat_lt 0 turn.most else true) passes
+-- a sync that passes does its work if no sync has failed before
+pub works : (file : MemoryFile) (outcome : CallOutcome) → file.sync_failed ≡ false → outcome.fails ≡ false → does_work file outcome ≡ true
+works file outcome trusted passes =
+    ap (λ (b : Bool). if b then false else (if outcome.fails then nat_lt 0 outcome.most else true)) trusted ∙ ap (λ (b : Bool). if b then nat_lt 0 outcome.most else true) passes
 
--- a call that keeps the sectors, and whose moment is past then
+-- A call that keeps the number of sectors, and adds its moment to the past.
 module _ (old new : MemoryFile) (past : new.past.items ≡ old.past.items ++ old.medium ∷ []) (sectors : (memory_facts new.medium).sectors ≡ (memory_facts old.medium).sectors) where
   is_call : (failed : Bool) → (memory_file_facts new).failures ≡ (if failed then (memory_file_facts old).failures + 1 else (memory_file_facts old).failures)
       → IsFileCall failed (memory_file_facts old) (memory_file_facts new)

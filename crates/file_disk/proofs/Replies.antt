@@ -1,4 +1,4 @@
--- What is said at success and at failure.
+-- What holds after a success and after a failure.
 use Rattle.std.proofs.Common.{◌≡◌, Bool, true, false, refl, Result, Ok, Err, OnOk, OnErr, is_ok, is_err}
 
 module _ {T E : Type 0} where
@@ -38,7 +38,7 @@ module _ {T E : Type 0} where
   err_is (Ok x) is = absurd cc
   err_is (Err e) is = refl
 
--- what leads to a failure wasn't so
+-- a flag that would have led to a failure wasn't set, if there was no failure
 pub not_so : (flag failed : Bool) → failed ≡ false → (flag ≡ true → failed ≡ true) → flag ≡ false
 not_so false failed is leads = refl
 not_so true failed is leads = absurd (let so = leads refl in cc)

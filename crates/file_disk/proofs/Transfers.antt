@@ -1,4 +1,4 @@
--- Calls of an honest file, one after the other.
+-- Several calls of an honest file, one after the other.
 use Rattle.std.proofs.Common.{◌≡◌, ◌<◌, ◌≤◌, ◌+◌, ◌-◌, inl, inr, ⊎_elim, ℕ, Bool, true, false, List, length, refl, ◌∙◌, ap, subst, arith, if◌then◌else◌}
 use Rattle.std.specs.Prelude.{◌==◌, Result}
 use Rattle.std.proofs.lemmas.Bool.{cases_lt, eqb-false}
@@ -16,7 +16,7 @@ turned : (b : Bool) (n m m' : ℕ) → (b ≡ false → 0 < n) → m' ≡ (if b 
 turned true n m m' some is = omega arith
 turned false n m m' some is = omega (arith, some refl)
 
--- no call was made
+-- if the present contents are allowed, making no call stays within what is allowed
 pub within_none : (Allowed : ℕ → Sector → Type 0) (old : FileFacts) → ((k : ℕ) (c : Sector) → MayHave old k c → Allowed k c) → StaysWithin Allowed old old
 within_none Allowed old now = record {
   sectors = refl;
@@ -26,7 +26,7 @@ within_none Allowed old now = record {
   each = λ u k c low high has. let is : u ≡ old.time = omega arith in now k c (subst (λ v. old.may_have v k c) is has);
 }
 
--- one call more
+-- one more call stays within what is allowed, if its contents are allowed
 pub within_more : (Allowed : ℕ → Sector → Type 0) (failed : Bool) (old mid new : FileFacts) → StaysWithin Allowed old mid → IsFileCall failed mid new
     → ((k : ℕ) (c : Sector) → MayHave new k c → Allowed k c) → StaysWithin Allowed old new
 within_more Allowed failed old mid new within call now = record {
@@ -40,7 +40,7 @@ within_more Allowed failed old mid new within call now = record {
       (cases_lt u new.time);
 }
 
--- more is allowed
+-- calls that stay within some contents also stay within more contents
 pub within_weaker : (Allowed Allowed' : ℕ → Sector → Type 0) (old new : FileFacts) → ((k : ℕ) (c : Sector) → Allowed k c → Allowed' k c) → StaysWithin Allowed old new
     → StaysWithin Allowed' old new
 within_weaker Allowed Allowed' old new weaker within = record {
@@ -51,7 +51,7 @@ within_weaker Allowed Allowed' old new weaker within = record {
   each = λ u k c low high has. weaker k c (within.each u k c low high has);
 }
 
--- some calls, and then some more
+-- some calls and then some more stay together within what is allowed
 pub within_then : (Allowed Allowed' : ℕ → Sector → Type 0) (old mid new : FileFacts) → ((k : ℕ) (c : Sector) → Allowed' k c → Allowed k c) → StaysWithin Allowed old mid
     → StaysWithin Allowed' mid new → StaysWithin Allowed old new
 within_then Allowed Allowed' old mid new weaker first second = record {
@@ -65,7 +65,7 @@ within_then Allowed Allowed' old mid new weaker first second = record {
       (cases_lt u mid.time);
 }
 
--- Sectors are written, as far as so many tries came.
+-- The sectors that were written in the first `tries` tries.
 pub record IsWrittenSoFar (at : ℕ) (from : List Sector) (done tries : ℕ) (old new : FileFacts) : Type 0 where
   pub written : IsWrittenAt at from done old new
   pub counted : tries + old.failures ≤ done + new.failures
@@ -104,7 +104,7 @@ module _ (at : ℕ) (from rest : List Sector) (done : ℕ) (places : (j : ℕ) �
         (cases_lt i done);
   }
 
-  -- one write more
+  -- one more write continues the sectors that were written so far
   pub written_more : {E : Type 0} (tries : ℕ) (old mid new : FileFacts) (result : Result ℕ E) → moved result ≤ length rest → IsWrittenSoFar at from done tries old mid
       → IsFileWrite mid new (at + done) rest result → IsWrittenSoFar at from (done + moved result) (tries + 1) old new
   written_more tries old mid new result few before step =
@@ -125,7 +125,7 @@ module _ (at : ℕ) (from rest : List Sector) (done : ℕ) (places : (j : ℕ) �
         );
       }
 
--- it is more than was said of fewer
+-- what is true after more sectors were moved is also true of fewer
 pub written_fewer : (at : ℕ) (from : List Sector) (done : ℕ) (old new : FileFacts) → IsWrittenAt at from done old new → IsWrittenAt at from 0 old new
 written_fewer at from done old new written = record {
   within = written.within;
@@ -133,7 +133,7 @@ written_fewer at from done old new written = record {
   now = record { size = written.now.size; either = written.now.either; moved = λ i lt. absurd (omega (arith, lt)) };
 }
 
--- Sectors are read, as far as so many tries came.
+-- The sectors that were read in the first `tries` tries.
 pub record IsReadSoFar (at : ℕ) (into : List Sector) (count tries : ℕ) (old new : FileFacts) : Type 0 where
   pub read : IsReadAt at into count old new
   pub counted : tries + old.failures ≤ count + new.failures
@@ -144,7 +144,7 @@ read_none at into old trusted = record {
   counted = omega arith;
 }
 
--- one read more, behind the sectors that came
+-- one more read continues the sectors that were read so far
 pub read_more : {E : Type 0} (at : ℕ) (into part into' : List Sector) (count tries : ℕ) (old mid new : FileFacts) (result : Result ℕ E)
     → ((i : ℕ) → i < count → sector into' i ≡ sector into i) → ((j : ℕ) → j < moved result → sector into' (count + j) ≡ sector part j)
     → IsReadSoFar at into count tries old mid → IsFileRead mid new (at + count) part result → IsReadSoFar at into' (count + moved result) (tries + 1) old new

@@ -1,21 +1,21 @@
--- A file with what waits to be given to it.
+-- A file with its write buffer.
 use Rattle.std.specs.Prelude.{◌≡◌, ◌⊎◌, ℕ, Option, Some, None}
 use Rattle.sector_disk.specs.Disk.{Sector, sector}
 use Rattle.file_disk.specs.declared.buffered.Buffered.{Buffered}
 use Rattle.file_disk.specs.declared.sector_file.SectorFile.{Ghosts}
-use Rattle.file_disk.specs.Gathered.{gathered_at}
+use Rattle.file_disk.specs.WriteBuffer.{write_buffer_at}
 use Rattle.file_disk.specs.SectorFile.{MayHave}
 
--- the content, or else another one
+-- the content if there is one, and otherwise the other content
 abbrev pub or_else : Option Sector → Sector → Sector
 or_else (Some content) other = content
 or_else None other = other
 
 module _ {F : Type 0} {g : Ghosts F} where
-  -- what reads give of sector k: what waits for it, else what the file has
+  -- what reads return of sector k: its content in the write buffer, otherwise that in the file
   abbrev pub shown_at : Buffered F g → ℕ → Sector
-  shown_at buffered k = or_else (gathered_at buffered.gathered k) (sector (g.facts buffered.file).now k)
+  shown_at buffered k = or_else (write_buffer_at buffered.write_buffer k) (sector (g.facts buffered.file).now k)
 
-  -- a content of sector k that waits, or that the file's medium may have
+  -- a content of sector k that is in the write buffer, or that the file's medium may have
   abbrev pub Leaves : Buffered F g → ℕ → Sector → Type 0
-  Leaves buffered k c = (gathered_at buffered.gathered k ≡ Some c) ⊎ MayHave (g.facts buffered.file) k c
+  Leaves buffered k c = (write_buffer_at buffered.write_buffer k ≡ Some c) ⊎ MayHave (g.facts buffered.file) k c

@@ -1,4 +1,4 @@
--- What is said of a disk over a file.
+-- The facts of a disk over a file.
 use Rattle.std.specs.Prelude.{◌≡◌, ◌≢◌, ◌⊎◌, ◌<◌, ◌≤◌, ℕ, Bool, false, List, [], map, slice_index_or, Option, None, Some, Ok, Err}
 use Rattle.std.specs.List.{range_with_len}
 use Rattle.sector_disk.specs.CallCount.{calls_made, calls_failed}
@@ -7,26 +7,27 @@ use Rattle.file_disk.specs.declared.disk.FileDisk.{FileDisk}
 use Rattle.file_disk.specs.declared.open.OpenFault.{OpenFault}
 use Rattle.file_disk.specs.declared.open.OpenFault.TheVariants.{OutOfMemory}
 use Rattle.file_disk.specs.declared.sector_file.SectorFile.{Ghosts}
-use Rattle.file_disk.specs.Ahead.{ahead_at}
-use Rattle.file_disk.specs.Gathered.{gathered_at}
+use Rattle.file_disk.specs.ReadAhead.{read_ahead_at}
+use Rattle.file_disk.specs.WriteBuffer.{write_buffer_at}
 use Rattle.file_disk.specs.Left.{LeftOf, shown_of, time_at}
 use Rattle.file_disk.specs.SectorFile.{FileFacts, MayHave, MediumAt, IsCounted, IsFoundWith}
 
--- Why no disk is made over a file: memory was refused, or a count of the file's sectors failed and
--- left the file as it is after.
+-- Why no disk is made over a file: memory was refused, or the file's sectors couldn't be counted. In the second case
+-- the failed count left the file `after`.
 abbrev pub HasCause : {F : Type 0} → (F → FileFacts) → F → OpenFault → Type 0
 HasCause {F} facts file fault = (fault ≡ OutOfMemory) ⊎ ((after : F) × IsCounted {E = OpenFault} (facts file) (facts after) (Err fault))
 
--- moment v of the disk is its moment at moment u of its file: the last one whose mark isn't past u
+-- moment v of the disk is the one that the disk was at when its file was at moment u: the last one whose mark isn't
+-- past u
 pub record IsMomentAt (disk : DiskFacts) (u v : ℕ) : Type 0 where
   pub up_to : v ≤ disk.time
   pub reached : disk.marks v ≤ u
   pub last : (w : ℕ) → v < w → w ≤ disk.time → u < disk.marks w
 
 module _ {F : Type 0} {g : Ghosts F} where
-  -- Reads give what waits over what the file has, as at the last moment at which no write or sync
-  -- had failed. A stop may leave what waited, or what the file's medium might have had, at the last
-  -- sync that succeeded or behind a write since. The mark of a moment is the file's time then.
+  -- Reads return the write buffer over the file's contents, as at the last moment at which no write or sync had
+  -- failed. A stop may leave what was in the write buffer, or what the file's medium might have had, at the last
+  -- successful sync or after a write since. The mark of a moment is the file's time at that moment.
   abbrev pub file_facts : FileDisk F g → DiskFacts
   file_facts disk = record {
     honest = g.is_honest;
@@ -44,42 +45,42 @@ module _ {F : Type 0} {g : Ghosts F} where
   abbrev pub has_failed : FileDisk F g → Bool
   has_failed disk = disk.buffered.failed
 
-  -- the file
+  -- the file under a disk
   abbrev pub file_of : FileDisk F g → F
   file_of disk = disk.buffered.file
 
-  -- what is said of the file
+  -- the facts of the file
   abbrev pub facts_below : FileDisk F g → FileFacts
   facts_below disk = g.facts disk.buffered.file
 
-  -- the content of sector k that was written and wasn't given to the file yet
+  -- the content of sector k in the write buffer: it was written, and isn't written to the file yet
   abbrev pub waiting : FileDisk F g → ℕ → Option Sector
-  waiting disk k = gathered_at disk.buffered.gathered k
+  waiting disk k = write_buffer_at disk.buffered.write_buffer k
 
-  -- what the file gave for sector k, where it is kept
+  -- the content that the file returned for sector k, if it is kept
   abbrev pub kept : FileDisk F g → ℕ → Option Sector
-  kept disk k = ahead_at disk.buffered.ahead k
+  kept disk k = read_ahead_at disk.buffered.read_ahead k
 
-  -- nothing waits
+  -- the write buffer is empty
   abbrev pub WaitsNot : FileDisk F g → Type 0
   WaitsNot disk = (k : ℕ) → waiting disk k ≡ None
 
-  -- what waits is the same
+  -- the write buffer is the same
   abbrev pub WaitsSame : FileDisk F g → FileDisk F g → Type 0
   WaitsSame old new = (k : ℕ) → waiting new k ≡ waiting old k
 
-  -- the same file; what waits is the same, and so is what is kept
+  -- the file, the write buffer and the read-ahead buffer are the same
   pub record IsSame (old new : FileDisk F g) : Type 0 where
     pub file : file_of new ≡ file_of old
     pub waits : WaitsSame old new
     pub kept : (k : ℕ) → kept new k ≡ kept old k
 
-  -- Sector `at` waits with this content; each other one waits as before, or not any more.
-  pub record IsGathered (old new : FileDisk F g) (at : ℕ) (content : Sector) : Type 0 where
+  -- Sector `at` is in the write buffer with this content. Each other sector is there as before, or no longer.
+  pub record IsBuffered (old new : FileDisk F g) (at : ℕ) (content : Sector) : Type 0 where
     pub here : waiting new at ≡ Some content
     pub others : (k : ℕ) → k ≢ at → (waiting new k ≡ waiting old k) ⊎ (waiting new k ≡ None)
 
-  -- As it starts: no call was made, none has failed, nothing waits, and nothing is kept.
+  -- A disk at its start: no call was made, none has failed, and both buffers are empty.
   pub record IsNew (disk : FileDisk F g) : Type 0 where
     pub time : (file_facts disk).time ≡ 0
     pub failures : (file_facts disk).failures ≡ 0
@@ -87,14 +88,14 @@ module _ {F : Type 0} {g : Ghosts F} where
     pub waits : WaitsNot disk
     pub kept : (k : ℕ) → kept disk k ≡ None
 
-  -- Reads give what the file has, and a stop may leave what its medium may have, and nothing else.
+  -- Reads return what the file has. A stop may leave what the file's medium may have, and nothing else.
   pub record IsAsTheFile (disk : FileDisk F g) : Type 0 where
     pub now : (k : ℕ) → sector (file_facts disk).now k ≡ sector (facts_below disk).now k
     pub medium : (k : ℕ) (c : Sector) → MayHave (facts_below disk) k c → MayLeave (file_facts disk) k c
     pub only : (k : ℕ) (c : Sector) → MayLeave (file_facts disk) k c → ∥ MayHave (facts_below disk) k c ∥₁
 
-  -- A disk that was made over a file: the file's sectors were counted and nothing else was done with
-  -- it. The disk has as many sectors, and reads give what the file had.
+  -- A disk that was made over a file: the file's sectors were counted, and nothing else was done with the file. The
+  -- disk has as many sectors as the file, and reads return what the file had.
   pub record IsOver (file : F) (disk : FileDisk F g) : Type 0 where
     pub counted : IsCounted {E = OpenFault} (g.facts file) (facts_below disk) (Ok (file_facts disk).sectors)
     pub sectors : (file_facts disk).sectors ≡ (g.facts file).sectors
@@ -104,22 +105,22 @@ module _ {F : Type 0} {g : Ghosts F} where
   abbrev pub StartsAsFound : F → FileDisk F g → Type 0
   StartsAsFound file disk = (contents : List Sector) → IsFoundWith (g.facts file) contents → StartsWith (file_facts disk) contents
 
-  -- Whatever the file's medium may have at a moment of the file from old to new, a stop of the disk
-  -- might have left since the moment before.
+  -- Whatever the file's medium may have at a moment of the file from `old` to `new`, a stop of the disk might have
+  -- left at some moment since `old`.
   pub record IsCovered (old new : FileDisk F g) : Type 0 where
     pub each : (u : ℕ) (m : List Sector) → (facts_below old).time ≤ u → u ≤ (facts_below new).time
         → MediumAt (facts_below new) u m → LeftSince (file_facts new) (file_facts old).time m
 
-  -- The mark of the present moment is the file's time. Whatever the file's medium may have had at a
-  -- moment of the file that came after some moment of the disk, a stop of the disk might have left
-  -- at the disk's moment then.
+  -- The mark of the present moment is the file's time. Consider what the file's medium may have had at a moment of
+  -- the file that came after some moment of the disk. A stop of the disk might have left this at the disk's moment
+  -- then.
   pub record FollowsTheFile (disk : FileDisk F g) : Type 0 where
     pub now : (file_facts disk).marks (file_facts disk).time ≡ (facts_below disk).time
     pub each : (since u : ℕ) (m : List Sector) → since ≤ (file_facts disk).time → (file_facts disk).marks since ≤ u → u ≤ (facts_below disk).time
         → MediumAt (facts_below disk) u m → (v : ℕ) × IsMomentAt (file_facts disk) u v × MixtureAt (file_facts disk) v m
 
-  -- If P holds of all that a stop of the disk may leave from an earlier moment to now, it holds of
-  -- whatever the file's medium may have had at each moment of the file between them.
+  -- If P holds of all that a stop of the disk may leave, from an earlier moment to now, P also holds of the file's
+  -- medium: of whatever it may have had at each moment of the file between them.
   abbrev pub HoldsOfTheMedium : FileDisk F g → (List Sector → Type 0) → Type 0
   HoldsOfTheMedium new P = (old : FileDisk F g) → LeavesOnly (file_facts old) (file_facts new) P
       → (u : ℕ) (m : List Sector) → (facts_below old).time ≤ u → u ≤ (facts_below new).time → MediumAt (facts_below new) u m → P m

@@ -1,9 +1,10 @@
-pub mod Ahead
 pub mod Buffered
 pub mod FileDisk
-pub mod Gathered
 pub mod Left
+pub mod Length
 pub mod Medium
 pub mod MemoryFile
+pub mod ReadAhead
 pub mod SectorFile
+pub mod WriteBuffer
 pub mod inside

@@ -1,9 +1,9 @@
--- What is written to a disk in memory, and read of it, sectors in a row.
+-- Writes and reads of adjacent sectors on a disk in memory.
 use Rattle.std.specs.Prelude.{◌≡◌, ◌<◌, ◌≤◌, ◌+◌, ◌↔◌, ◌⊎◌, ℕ, List, length}
 use Rattle.sector_disk.specs.Disk.{Sector, sector, DiskFacts, MayLeave, IsUnchanged}
 
--- Of the sectors that were given from sector `at` on so many were written, those in front: reads
--- give them, and the medium may have them or what it might have had before. All others stay.
+-- Of the sectors that were given from sector `at` on, the first `count` were written: reads return them. The medium
+-- may have them, or what it might have had before. All other sectors stay the same.
 pub record HasWritten (at : ℕ) (given : List Sector) (count : ℕ) (old new : DiskFacts) : Type 0 where
   pub sectors : new.sectors ≡ old.sectors
   pub size : length new.now ≡ length old.now
@@ -11,11 +11,11 @@ pub record HasWritten (at : ℕ) (given : List Sector) (count : ℕ) (old new : 
   pub others : (k : ℕ) → (k < at) ⊎ (at + count ≤ k) → sector new.now k ≡ sector old.now k
   pub medium : (k : ℕ) (c : Sector) → MayLeave new k c ↔ (MayLeave old k c ⊎ ((i : ℕ) × (i < count) × (k ≡ at + i) × (c ≡ sector given i)))
 
--- As many were written as were to be, unless a write failed.
+-- All `asked` sectors were written, unless a write failed.
 abbrev pub IsWholeUnlessFailed : ℕ → ℕ → DiskFacts → DiskFacts → Type 0
 IsWholeUnlessFailed count asked old new = (count ≡ asked) ⊎ (old.failures < new.failures)
 
--- Reads give the same, and the medium may have the same.
+-- Reads return the same, and the medium may have the same.
 pub record IsSameMedium (old new : DiskFacts) : Type 0 where
   pub sectors : new.sectors ≡ old.sectors
   pub same : IsUnchanged old new

@@ -1,4 +1,4 @@
--- A file in memory: what is said of it, and what becomes of each of its calls.
+-- The facts of a file in memory, and the outcome of each of its calls.
 use Rattle.std.specs.Prelude.{◌≡◌, ◌<◌, ◌≤◌, ◌+◌, ◌-◌, ◌^◌, ◌==◌, ◌&&◌, ℕ, nat_lt, Bool, true, false, if◌then◌else◌}
 use Rattle.std.specs.Prelude.{List, length, slice_index_or, min, Result, IfOk, is_err}
 use Rattle.sector_disk.specs.declared.memory.Memory.{Memory}
@@ -7,12 +7,12 @@ use Rattle.sector_disk.specs.Disk.{Sector, MayLeave, LeavesNowAlone}
 use Rattle.sector_disk.specs.Memory.{memory_facts}
 use Rattle.file_disk.specs.declared.memory_file.FilePlan.{FilePlan}
 use Rattle.file_disk.specs.declared.memory_file.MemoryFile.{MemoryFile}
-use Rattle.file_disk.specs.declared.memory_file.Turn.{Turn}
+use Rattle.file_disk.specs.declared.memory_file.CallOutcome.{CallOutcome}
 use Rattle.file_disk.specs.Medium.{HasWritten, IsWholeUnlessFailed}
 use Rattle.file_disk.specs.SectorFile.{FileFacts}
 
--- A file over a disk in memory, which at each moment that is past was one of these: its medium may
--- have what a stop of the disk then may leave.
+-- The facts of a file over a disk in memory, which was in the states `past` at the past moments. At each moment the
+-- medium may have what a stop of the disk at that moment may leave.
 abbrev pub facts_over : Memory → List Memory → ℕ → Bool → FileFacts
 facts_over medium past failures sync_failed = record {
   sectors = (memory_facts medium).sectors;
@@ -23,53 +23,54 @@ facts_over medium past failures sync_failed = record {
   may_have = λ u k c. (k < (memory_facts medium).sectors) × MayLeave (memory_facts (slice_index_or past u medium)) k c;
 }
 
--- what is said of a file in memory
+-- the facts of a file in memory
 abbrev pub memory_file_facts : MemoryFile → FileFacts
 memory_file_facts file = facts_over file.medium file.past.items (calls_failed file.calls) file.sync_failed
 
--- the disk that has what was written, and what the medium may have of it
+-- the disk under the file: it has what was written, and determines what the medium may have
 abbrev pub medium_of : MemoryFile → Memory
 medium_of file = file.medium
 
--- which of its calls doesn't do all that it was asked for
+-- the plan of a file: which of its calls doesn't do everything that it was asked for
 abbrev pub plan_of : MemoryFile → FilePlan
 plan_of file = file.plan
 
--- call n: the planned one has its turn; with `forever` later ones fail and move nothing; others pass
-abbrev pub turn_of : FilePlan → ℕ → Turn
-turn_of plan n =
+-- the outcome of call n: the planned call has its outcome; with `forever` later calls fail and move nothing; all others
+-- pass
+abbrev pub outcome_of : FilePlan → ℕ → CallOutcome
+outcome_of plan n =
     if n == plan.call
-    then plan.turn
+    then plan.outcome
     else (if plan.forever && nat_lt 0 plan.call && nat_lt plan.call n then record { most = 0; fails = true } else record { most = 2 ^ 64 - 1; fails = false })
 
--- what becomes of the next call
-abbrev pub next_turn : MemoryFile → Turn
-next_turn file = turn_of file.plan (length file.past.items + 1)
+-- the outcome of the next call
+abbrev pub next_outcome : MemoryFile → CallOutcome
+next_outcome file = outcome_of file.plan (length file.past.items + 1)
 
--- A call fails exactly where its turn says so.
-pub record TakesTurn {T E : Type 0} (old new : MemoryFile) (result : Result T E) : Type 0 where
-  pub fails : is_err result ≡ (next_turn old).fails
+-- A call fails exactly if its outcome says so.
+pub record HasOutcome {T E : Type 0} (old new : MemoryFile) (result : Result T E) : Type 0 where
+  pub fails : is_err result ≡ (next_outcome old).fails
   pub plan : plan_of new ≡ plan_of old
 
--- A read moves as many as its turn allows.
+-- A read moves as many sectors as its outcome allows.
 pub record IsMoved {E : Type 0} (old : MemoryFile) (asked : ℕ) (result : Result ℕ E) : Type 0 where
-  pub count : IfOk result (λ count. count ≡ min (next_turn old).most asked)
+  pub count : IfOk result (λ count. count ≡ min (next_outcome old).most asked)
 
--- A write has written as many sectors as its turn allows, or fewer where a write of the disk failed
--- for want of memory, and says how many where it doesn't fail.
+-- A write has written as many sectors as its outcome allows, or fewer if a write of the disk failed for lack of memory.
+-- If it succeeds, it returns their number.
 pub record IsCutWrite {E : Type 0} (old new : MemoryFile) (at : ℕ) (given : List Sector) (result : Result ℕ E) : Type 0 where
   pub count : ℕ
-  pub few : count ≤ min (next_turn old).most (length given)
-  pub cause : IsWholeUnlessFailed count (min (next_turn old).most (length given)) (memory_facts (medium_of old)) (memory_facts (medium_of new))
+  pub few : count ≤ min (next_outcome old).most (length given)
+  pub cause : IsWholeUnlessFailed count (min (next_outcome old).most (length given)) (memory_facts (medium_of old)) (memory_facts (medium_of new))
   pub ok : IfOk result (λ n. n ≡ count)
   pub written : HasWritten at given count (memory_facts (medium_of old)) (memory_facts (medium_of new))
 
--- A sync does its work unless one has failed before, or this one fails early.
-abbrev pub does_work : MemoryFile → Turn → Bool
-does_work file turn = if file.sync_failed then false else (if turn.fails then nat_lt 0 turn.most else true)
+-- A sync does its work unless a sync has failed before, or this one fails early.
+abbrev pub does_work : MemoryFile → CallOutcome → Bool
+does_work file outcome = if file.sync_failed then false else (if outcome.fails then nat_lt 0 outcome.most else true)
 
--- A sync brings all to the medium, or changes nothing there. Reads give the same.
+-- A sync brings everything to the medium, or changes nothing there. Reads return the same.
 pub record IsCutSync (old new : MemoryFile) : Type 0 where
   pub now : (memory_facts (medium_of new)).now ≡ (memory_facts (medium_of old)).now
-  pub done : does_work old (next_turn old) ≡ true → LeavesNowAlone (memory_facts (medium_of new))
-  pub not_done : does_work old (next_turn old) ≡ false → medium_of new ≡ medium_of old
+  pub done : does_work old (next_outcome old) ≡ true → LeavesNowAlone (memory_facts (medium_of new))
+  pub not_done : does_work old (next_outcome old) ≡ false → medium_of new ≡ medium_of old

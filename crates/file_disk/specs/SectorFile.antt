@@ -1,16 +1,17 @@
--- A file of sectors: what is said of it, and what each call of an honest one does (POSIX: pread, pwrite, fsync; and what kernels do where an fsync fails).
+-- A file of sectors: its facts, and what each call of an honest file does (POSIX: pread, pwrite, fsync; and what
+-- kernels do if an fsync fails).
 use Rattle.std.specs.Prelude.{◌≡◌, ◌<◌, ◌≤◌, ◌+◌, ◌==◌, ◌↔◌, ◌⊎◌, ℕ, Bool, false, true, List, [], length, Result, Ok, Err, IfOk, OnOk, OnErr, is_err, if◌then◌else◌}
 use Rattle.sector_disk.specs.Disk.{Sector, sector, IsWhole}
 
--- What is said of a file of sectors. Its moments are 0 to `time`, and each call makes one more.
+-- The facts of a file of sectors. Its moments are 0 to `time`, and each call makes one more.
 pub record FileFacts : Type 1 where
   pub sectors : ℕ
   pub time : ℕ
-  -- how many calls have failed
+  -- the number of calls that have failed
   pub failures : ℕ
   -- whether a sync has failed
   pub sync_failed : Bool
-  -- what reads give
+  -- the contents that reads return
   pub now : List Sector
   -- the set of a sector at a moment: the contents that the medium may have there
   pub may_have : ℕ → ℕ → Sector → Type 0
@@ -19,22 +20,22 @@ pub record FileFacts : Type 1 where
 abbrev pub MayHave : FileFacts → ℕ → Sector → Type 0
 MayHave file k c = file.may_have file.time k c
 
--- what the medium may have at a moment: in each sector, by itself, a content of its set
+-- what the medium may have at a moment: each sector, by itself, has a content of its set
 pub record MediumAt (file : FileFacts) (moment : ℕ) (m : List Sector) : Type 0 where
   pub size : length m ≡ file.sectors
   pub each : (k : ℕ) → k < file.sectors → file.may_have moment k (sector m k)
 
--- how many sectors a read or a write moved
+-- the number of sectors that a read or a write moved
 abbrev pub moved : {E : Type 0} → Result ℕ E → ℕ
 moved (Ok n) = n
 moved (Err e) = 0
 
--- sector k is one of those that were given from sector `at` on, with this content
+-- sector k is one of the sectors that were given from sector `at` on, with this content
 abbrev pub IsGivenTo : ℕ → List Sector → ℕ → Sector → Type 0
 IsGivenTo at given k c = (i : ℕ) × (i < length given) × (k ≡ at + i) × (c ≡ sector given i)
 
--- One call: time goes on by one, a failure is counted, and the size stays, as does what the medium
--- might have had at each moment before.
+-- One call: the time is greater by one, and a failure is counted. The size stays the same, and so does what the medium
+-- might have had at each earlier moment.
 pub record IsFileCall (failed : Bool) (old new : FileFacts) : Type 0 where
   pub sectors : new.sectors ≡ old.sectors
   pub time : new.time ≡ old.time + 1
@@ -46,38 +47,38 @@ pub record HasNoMore (old new : FileFacts) : Type 0 where
   pub medium : (k : ℕ) (c : Sector) → MayHave new k c → MayHave old k c
   pub sync_failed : new.sync_failed ≡ old.sync_failed
 
--- The sectors are counted. An answer is the number that there is; where it can't be told, the call failed.
+-- The sectors are counted. The answer is their number; if it can't be determined, the call fails.
 pub record IsCounted {E : Type 0} (old new : FileFacts) (result : Result ℕ E) : Type 0 where
   pub call : IsFileCall (is_err result) old new
   pub same : HasNoMore old new
   pub now : old.sync_failed ≡ false → new.now ≡ old.now
   pub ok : IfOk result (λ sectors. sectors ≡ old.sectors)
 
--- A read changes nothing, and the sectors that it moved are those that were written last. One that
--- moves none has failed. Once a sync has failed, nothing is said of what reads give.
+-- A read changes nothing, and the sectors that it moved have the contents that were written last. A read that moves
+-- no sector has failed. After a failed sync, nothing is stated about what reads return.
 pub record IsFileRead {E : Type 0} (old new : FileFacts) (at : ℕ) (into : List Sector) (result : Result ℕ E) : Type 0 where
   pub call : IsFileCall (moved result == 0) old new
   pub same : HasNoMore old new
   pub now : old.sync_failed ≡ false → new.now ≡ old.now
   pub moved : old.sync_failed ≡ false → (i : ℕ) → i < moved result → sector into i ≡ sector old.now (at + i)
 
--- each sector has what it had, or what it was given; those that were moved have what they were given
+-- each sector has its old content, or the one that it was given; those that were moved have the content that they
+-- were given
 pub record IsOldOrGiven (at : ℕ) (given : List Sector) (count : ℕ) (old new : List Sector) : Type 0 where
   pub size : length new ≡ length old
   pub either : (k : ℕ) → (sector new k ≡ sector old k) ⊎ IsGivenTo at given k (sector new k)
   pub moved : (i : ℕ) → i < count → sector new (at + i) ≡ sector given i
 
--- A write, whole, short or failed: reads give of each sector that was given the old content or the
--- new one, and of those that were moved the new one; and no set grows but by what was given there.
--- One that moves none has failed.
+-- A write, complete, short or failed. Of each given sector, reads return the old content or the new one; of those
+-- that were moved, the new one. No set grows except by what was given there. A write that moves no sector has failed.
 pub record IsFileWrite {E : Type 0} (old new : FileFacts) (at : ℕ) (given : List Sector) (result : Result ℕ E) : Type 0 where
   pub call : IsFileCall (moved result == 0) old new
   pub sync_failed : new.sync_failed ≡ old.sync_failed
   pub medium : (k : ℕ) (c : Sector) → MayHave new k c → MayHave old k c ⊎ IsGivenTo at given k c
   pub now : old.sync_failed ≡ false → IsOldOrGiven at given (moved result) old.now new.now
 
--- A sync: no set grows. Where it succeeds, and none has failed before, each set has what reads give
--- there, and no other content. Where it fails, no later one is said to make a set smaller.
+-- A sync: no set grows. If it succeeds, and no sync has failed before, each set contains only what reads return
+-- there. If it fails, nothing states that a later sync makes a set smaller.
 pub record IsFileSync {T E : Type 0} (old new : FileFacts) (result : Result T E) : Type 0 where
   pub call : IsFileCall (is_err result) old new
   pub medium : (k : ℕ) (c : Sector) → MayHave new k c → MayHave old k c
@@ -86,23 +87,23 @@ pub record IsFileSync {T E : Type 0} (old new : FileFacts) (result : Result T E)
   pub now : OnOk result (old.sync_failed ≡ false → new.now ≡ old.now)
   pub alone : OnOk result (old.sync_failed ≡ false → (k : ℕ) (c : Sector) → MayHave new k c → c ≡ sector new.now k)
 
--- what reads give is among what the medium may have
+-- what reads return is among what the medium may have
 pub record HoldsWhatIsRead (file : FileFacts) : Type 0 where
   pub size : length file.now ≡ file.sectors
   pub each : (k : ℕ) → k < file.sectors → MayHave file k (sector file.now k)
 
--- A file as it is found after a stop: reads give these sectors, its medium has them and nothing
--- else, and no sync has failed since.
+-- A file as it is found after a stop: reads return these sectors, its medium has exactly them, and no sync has failed
+-- since.
 pub record IsFoundWith (file : FileFacts) (contents : List Sector) : Type 0 where
   pub sectors : file.sectors ≡ length contents
   pub now : file.now ≡ contents
   pub alone : (k : ℕ) (c : Sector) → MayHave file k c → c ≡ sector contents k
   pub sync_failed : file.sync_failed ≡ false
 
--- all that the medium may have are whole sectors
+-- whatever the medium may have consists of whole sectors
 pub record HasWholeContents (file : FileFacts) : Type 0 where
   pub each : (k : ℕ) (c : Sector) → MayHave file k c → IsWhole c
 
--- a file of which nothing is known
+-- the facts of a file about which nothing is known
 abbrev pub unknown_file : FileFacts
 unknown_file = record { sectors = 0; time = 0; failures = 0; sync_failed = false; now = []; may_have = λ u k c. ⊥ }

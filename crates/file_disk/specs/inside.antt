@@ -1,4 +1,4 @@
--- What is kept apart, and some calls in a row. Nobody has to believe it.
+-- How the two buffers are kept apart, and several calls in a row. A reader needn't believe these definitions.
 pub mod Apart
 pub mod Buffered
 pub mod FileDiskLaws

@@ -1,45 +1,45 @@
-// A file with its two buffers: what waits to be given to it, and what was read of it ahead.
+// A file with its two buffers: the write buffer and the read-ahead buffer.
 ghost use Rattle.std.specs.Prelude.{◌≡◌, ◌≤◌, ◌<◌, ◌^◌, false, IsTrue};
-ghost use Rattle.file_disk.specs.Ahead.{KeepsOf};
-ghost use Rattle.file_disk.specs.Gathered.{gathered_end};
+ghost use Rattle.file_disk.specs.ReadAhead.{KeepsOf};
+ghost use Rattle.file_disk.specs.WriteBuffer.{write_buffer_end};
 ghost use Rattle.file_disk.specs.inside.Apart.{IsApart};
 
-use crate::ahead::Ahead;
-use crate::gathered::Gathered;
+use crate::read_ahead::ReadAhead;
 use crate::sector_file::SectorFile;
 use crate::transfer::write_all;
+use crate::write_buffer::WriteBuffer;
 use sector_disk::{DiskFault, SECTOR_BYTES};
 use std::alloc::{AllocError, Global};
 
-/// A file of so many sectors, with its two buffers.
+/// A file of `sectors` sectors, with its two buffers.
 #[derive(Drop)]
 pub(crate) struct Buffered<F: SectorFile> {
     pub(crate) file: F,
     pub(crate) sectors: u32,
-    pub(crate) gathered: Gathered,
-    pub(crate) ahead: Ahead,
-    // Whether a write or a sync has failed. Then the file isn't asked for anything any more.
+    pub(crate) write_buffer: WriteBuffer,
+    pub(crate) read_ahead: ReadAhead,
+    // Whether a write or a sync has failed. From then on no call of the file is made.
     pub(crate) failed: bool,
-    // Whether the file's length was compared since it was opened, or since the last sync.
+    // Whether the file's length was compared since the file was opened, or since the last sync.
     compared: bool,
-    // What is kept as the file gave it is never what a write has replaced.
-    ghost apart: { IsApart gathered ahead },
+    // The read-ahead buffer never keeps a content that a write has replaced.
+    ghost apart: { IsApart write_buffer read_ahead },
     ghost few: { sectors < 2 ^ 32 },
-    ghost inside: { gathered_end gathered ≤ sectors },
+    ghost inside: { write_buffer_end write_buffer ≤ sectors },
     ghost size: { IsTrue F.SectorFile.is_honest
         → (F.SectorFile.facts file).sectors ≡ sectors },
     ghost trusted: { IsTrue F.SectorFile.is_honest → failed ≡ false
         → (F.SectorFile.facts file).sync_failed ≡ false },
     ghost kept: { IsTrue F.SectorFile.is_honest → failed ≡ false
-        → KeepsOf ahead (F.SectorFile.facts file).now },
+        → KeepsOf read_ahead (F.SectorFile.facts file).now },
 }
 
 impl<F: SectorFile + Drop> Buffered<F> {
     ghost use Rattle.std.specs.Prelude.{ℕ, None, IfOk};
-    ghost use Rattle.file_disk.specs.Ahead.{ahead_at};
-    ghost use Rattle.file_disk.specs.Gathered.{gathered_at};
+    ghost use Rattle.file_disk.specs.ReadAhead.{read_ahead_at};
+    ghost use Rattle.file_disk.specs.WriteBuffer.{write_buffer_at};
 
-    /// Over a file that has so many sectors, none of them read or written.
+    /// Makes the buffers over a file that has `sectors` sectors. Nothing was read or written yet.
     pub(crate) fn new(alloc: Global, file: F, sectors: u32) -> Result<Buffered<F>, AllocError>
         requires sectors { IsTrue F.is_honest → (F.facts file).sectors ≡ sectors }
         requires trusted { IsTrue F.is_honest → (F.facts file).sync_failed ≡ false }
@@ -47,14 +47,15 @@ impl<F: SectorFile + Drop> Buffered<F> {
         ensures file { IfOk result (λ buffered. buffered.file ≡ file) }
         ensures failed { IfOk result (λ buffered. buffered.failed ≡ false) }
         ensures waits { IfOk result (λ buffered. (k : ℕ)
-            → gathered_at buffered.gathered k ≡ None) }
-        ensures kept { IfOk result (λ buffered. (k : ℕ) → ahead_at buffered.ahead k ≡ None) }
+            → write_buffer_at buffered.write_buffer k ≡ None) }
+        ensures kept { IfOk result (λ buffered. (k : ℕ)
+            → read_ahead_at buffered.read_ahead k ≡ None) }
     {
         Ok(Buffered {
             file,
             sectors,
-            gathered: Gathered::new(alloc, sectors)?,
-            ahead: Ahead::new(alloc, sectors)?,
+            write_buffer: WriteBuffer::new(alloc, sectors)?,
+            read_ahead: ReadAhead::new(alloc, sectors)?,
             failed: false,
             compared: false,
         })
@@ -64,12 +65,12 @@ impl<F: SectorFile + Drop> Buffered<F> {
 impl<F: SectorFile> Buffered<F> {
     ghost use Rattle.std.specs.Prelude.{◌≢◌, ◌⊎◌, [], ℕ, None, Some, true, IfSome, IsSome};
     ghost use Rattle.std.specs.Prelude.{OnOk, OnErr, is_err};
-    ghost use Rattle.file_disk.specs.Ahead.{ahead_at, IsForgotten};
-    ghost use Rattle.file_disk.specs.Gathered.{gathered_at, has_room};
-    ghost use Rattle.file_disk.specs.inside.Buffered.{IsStill, IsFailed, IsRefused, IsGiven, IsRoomy};
-    ghost use Rattle.file_disk.specs.inside.Buffered.{IsPut, IsSettled};
+    ghost use Rattle.file_disk.specs.ReadAhead.{read_ahead_at, IsForgotten};
+    ghost use Rattle.file_disk.specs.WriteBuffer.{write_buffer_at, has_room};
+    ghost use Rattle.file_disk.specs.inside.Buffered.{IsStill, IsFailed, IsRefused, IsWrittenBack, IsRoomy};
+    ghost use Rattle.file_disk.specs.inside.Buffered.{IsPut, IsSynced};
 
-    /// The file. What waits is lost.
+    /// Returns the file. The write buffer is lost.
     pub(crate) fn into_file(self) -> F
         ensures { result ≡ self.file }
     {
@@ -81,8 +82,8 @@ impl<F: SectorFile> Buffered<F> {
     fn check_length(&mut self) -> Result<(), DiskFault>
         requires { self.old.failed ≡ false }
         ensures sectors { self.new.sectors ≡ self.old.sectors }
-        ensures gathered { self.new.gathered ≡ self.old.gathered }
-        ensures ahead { self.new.ahead ≡ self.old.ahead }
+        ensures write_buffer { self.new.write_buffer ≡ self.old.write_buffer }
+        ensures read_ahead { self.new.read_ahead ≡ self.old.read_ahead }
         ensures ok { IsTrue F.is_honest → OnOk result (IsStill self.old self.new) }
         ensures err { IsTrue F.is_honest → OnErr result (IsFailed self.old self.new) }
         ensures failed { self.new.failed ≡ is_err result }
@@ -99,94 +100,94 @@ impl<F: SectorFile> Buffered<F> {
         }
     }
 
-    // Compares the length before the first write after the opening or a sync, so that a file that
-    // was cut isn't written, and before each write that reaches the file's end, which would hide a
-    // cut from the next sync.
+    // Compares the length before the first write after the opening or a sync, so that a truncated
+    // file isn't written. It is also compared before each write that reaches the file's end,
+    // because such a write would hide a truncation from the next sync.
     fn check_write(&mut self) -> Result<(), DiskFault>
         requires { self.old.failed ≡ false }
         ensures sectors { self.new.sectors ≡ self.old.sectors }
-        ensures gathered { self.new.gathered ≡ self.old.gathered }
-        ensures ahead { self.new.ahead ≡ self.old.ahead }
+        ensures write_buffer { self.new.write_buffer ≡ self.old.write_buffer }
+        ensures read_ahead { self.new.read_ahead ≡ self.old.read_ahead }
         ensures ok { IsTrue F.is_honest → OnOk result (IsStill self.old self.new) }
         ensures err { IsTrue F.is_honest → OnErr result (IsFailed self.old self.new) }
         ensures failed { self.new.failed ≡ is_err result }
     {
-        if self.compared && self.gathered.end() < self.sectors as usize {
+        if self.compared && self.write_buffer.end() < self.sectors as usize {
             return Ok(());
         }
         self.check_length()
     }
 
-    // Writes all that waits to the file. It waits on.
-    fn give(&mut self) -> Result<(), DiskFault>
+    // Writes the write buffer to the file. The buffer stays as it is.
+    fn write_back(&mut self) -> Result<(), DiskFault>
         requires { self.old.failed ≡ false }
         ensures sectors { self.new.sectors ≡ self.old.sectors }
-        ensures gathered { self.new.gathered ≡ self.old.gathered }
-        ensures ahead { self.new.ahead ≡ self.old.ahead }
-        ensures ok { IsTrue F.is_honest → OnOk result (IsGiven self.old self.new) }
+        ensures write_buffer { self.new.write_buffer ≡ self.old.write_buffer }
+        ensures read_ahead { self.new.read_ahead ≡ self.old.read_ahead }
+        ensures ok { IsTrue F.is_honest → OnOk result (IsWrittenBack self.old self.new) }
         ensures err { IsTrue F.is_honest → OnErr result (IsFailed self.old self.new) }
         ensures failed { self.new.failed ≡ is_err result }
     {
-        let start = self.gathered.start();
-        if write_all(&mut self.file, start, self.gathered.contents()).is_ok() {
+        let start = self.write_buffer.start();
+        if write_all(&mut self.file, start, self.write_buffer.contents()).is_ok() {
             return Ok(());
         }
         self.failed = true;
         Err(DiskFault::Failed)
     }
 
-    // Gives all that waits to the file, and has none of it wait any more.
+    // Writes the write buffer to the file, and clears it.
     fn flush(&mut self) -> Result<(), DiskFault>
         requires { self.old.failed ≡ false }
         ensures sectors { self.new.sectors ≡ self.old.sectors }
-        ensures ahead { self.new.ahead ≡ self.old.ahead }
-        ensures empty { OnOk result (self.new.gathered.contents.items ≡ []) }
-        ensures waits { OnOk result ((k : ℕ) → gathered_at self.new.gathered k ≡ None) }
-        ensures ok { IsTrue F.is_honest → OnOk result (IsGiven self.old self.new) }
+        ensures read_ahead { self.new.read_ahead ≡ self.old.read_ahead }
+        ensures empty { OnOk result (self.new.write_buffer.contents.items ≡ []) }
+        ensures waits { OnOk result ((k : ℕ) → write_buffer_at self.new.write_buffer k ≡ None) }
+        ensures ok { IsTrue F.is_honest → OnOk result (IsWrittenBack self.old self.new) }
         ensures err { IsTrue F.is_honest → OnErr result (IsFailed self.old self.new) }
-        ensures same { OnErr result (self.new.gathered ≡ self.old.gathered) }
+        ensures same { OnErr result (self.new.write_buffer ≡ self.old.write_buffer) }
         ensures failed { self.new.failed ≡ is_err result }
     {
         self.check_write()?;
-        self.give()?;
-        self.gathered.clear();
+        self.write_back()?;
+        self.write_buffer.clear();
         Ok(())
     }
 
-    // Gives what waits to the file where a sector has no room beside it.
+    // Writes the write buffer to the file if it has no room for sector `at`.
     fn make_room(&mut self, at: u32) -> Result<(), DiskFault>
         requires { self.old.failed ≡ false }
         ensures sectors { self.new.sectors ≡ self.old.sectors }
-        ensures ahead { self.new.ahead ≡ self.old.ahead }
-        ensures room { OnOk result (has_room self.new.gathered at ≡ true) }
+        ensures read_ahead { self.new.read_ahead ≡ self.old.read_ahead }
+        ensures room { OnOk result (has_room self.new.write_buffer at ≡ true) }
         ensures moved { OnOk result
-            (((self.new.file ≡ self.old.file) × (self.new.gathered ≡ self.old.gathered))
-            ⊎ ((k : ℕ) → gathered_at self.new.gathered k ≡ None)) }
+            (((self.new.file ≡ self.old.file) × (self.new.write_buffer ≡ self.old.write_buffer))
+            ⊎ ((k : ℕ) → write_buffer_at self.new.write_buffer k ≡ None)) }
         ensures ok { IsTrue F.is_honest → OnOk result (IsRoomy self.old self.new) }
         ensures err { IsTrue F.is_honest → OnErr result (IsFailed self.old self.new) }
-        ensures same { OnErr result (self.new.gathered ≡ self.old.gathered) }
+        ensures same { OnErr result (self.new.write_buffer ≡ self.old.write_buffer) }
         ensures failed { self.new.failed ≡ is_err result }
     {
-        if self.gathered.has_room(at) {
+        if self.write_buffer.has_room(at) {
             return Ok(());
         }
         self.flush()
     }
 
-    /// Has a sector wait with this content.
-    pub(crate) fn gather(&mut self, at: u32, from: &[u8; SECTOR_BYTES]) -> Result<(), DiskFault>
+    /// Puts the content `from` of sector `at` into the write buffer.
+    pub(crate) fn write(&mut self, at: u32, from: &[u8; SECTOR_BYTES]) -> Result<(), DiskFault>
         requires { at < self.old.sectors }
         ensures sectors { self.new.sectors ≡ self.old.sectors }
-        ensures here { OnOk result (gathered_at self.new.gathered at ≡ Some from.now) }
+        ensures here { OnOk result (write_buffer_at self.new.write_buffer at ≡ Some from.now) }
         ensures others { OnOk result ((k : ℕ) → k ≢ at
-            → (gathered_at self.new.gathered k ≡ gathered_at self.old.gathered k)
-            ⊎ (gathered_at self.new.gathered k ≡ None)) }
-        ensures forgotten { OnOk result (ahead_at self.new.ahead at ≡ None) }
-        ensures kept { (k : ℕ) → IsForgotten self.old.ahead self.new.ahead k }
+            → (write_buffer_at self.new.write_buffer k ≡ write_buffer_at self.old.write_buffer k)
+            ⊎ (write_buffer_at self.new.write_buffer k ≡ None)) }
+        ensures forgotten { OnOk result (read_ahead_at self.new.read_ahead at ≡ None) }
+        ensures kept { (k : ℕ) → IsForgotten self.old.read_ahead self.new.read_ahead k }
         ensures ok { IsTrue F.is_honest → OnOk result (IsPut at self.old self.new) }
         ensures err { IsTrue F.is_honest → OnErr result (IsRefused self.old self.new) }
-        ensures same { OnErr result (self.new.gathered ≡ self.old.gathered) }
-        ensures kept_err { OnErr result (self.new.ahead ≡ self.old.ahead) }
+        ensures same { OnErr result (self.new.write_buffer ≡ self.old.write_buffer) }
+        ensures kept_err { OnErr result (self.new.read_ahead ≡ self.old.read_ahead) }
         ensures failed { self.new.failed ≡ is_err result }
         ensures stays { self.old.failed ≡ true → is_err result ≡ true }
     {
@@ -194,19 +195,20 @@ impl<F: SectorFile> Buffered<F> {
             return Err(DiskFault::Failed);
         }
         self.make_room(at)?;
-        self.ahead.forget(at);
-        self.gathered.put(at, from);
+        self.read_ahead.forget(at);
+        self.write_buffer.put(at, from);
         Ok(())
     }
 
-    /// Brings all that was written to the medium. It waits until it is there.
-    pub(crate) fn settle(&mut self) -> Result<(), DiskFault>
+    /// Writes the write buffer to the file and syncs the file, so that the medium has all written
+    /// contents. The write buffer keeps its contents until then.
+    pub(crate) fn sync(&mut self) -> Result<(), DiskFault>
         ensures sectors { self.new.sectors ≡ self.old.sectors }
-        ensures ahead { self.new.ahead ≡ self.old.ahead }
-        ensures waits { OnOk result ((k : ℕ) → gathered_at self.new.gathered k ≡ None) }
-        ensures ok { IsTrue F.is_honest → OnOk result (IsSettled self.old self.new) }
+        ensures read_ahead { self.new.read_ahead ≡ self.old.read_ahead }
+        ensures waits { OnOk result ((k : ℕ) → write_buffer_at self.new.write_buffer k ≡ None) }
+        ensures ok { IsTrue F.is_honest → OnOk result (IsSynced self.old self.new) }
         ensures err { IsTrue F.is_honest → OnErr result (IsRefused self.old self.new) }
-        ensures same { OnErr result (self.new.gathered ≡ self.old.gathered) }
+        ensures same { OnErr result (self.new.write_buffer ≡ self.old.write_buffer) }
         ensures failed { self.new.failed ≡ is_err result }
         ensures stays { self.old.failed ≡ true → is_err result ≡ true }
     {
@@ -214,9 +216,9 @@ impl<F: SectorFile> Buffered<F> {
             return Err(DiskFault::Failed);
         }
         self.check_length()?;
-        self.give()?; // what waits is let go only once it is synced
+        self.write_back()?; // the buffer is cleared only after the sync
         if self.file.sync().is_ok() {
-            self.gathered.clear();
+            self.write_buffer.clear();
             self.compared = false;
             return Ok(());
         }
@@ -224,61 +226,63 @@ impl<F: SectorFile> Buffered<F> {
         Err(DiskFault::Failed)
     }
 
-    // Reads a sector from the file and some behind it, but none that waits.
-    fn read_ahead(&mut self, at: u32) -> Result<(), DiskFault>
+    // Reads sector `at` from the file and some sectors after it, but none that is in the write
+    // buffer.
+    fn fill_read_ahead(&mut self, at: u32) -> Result<(), DiskFault>
         requires inside { at < self.old.sectors }
         requires open { self.old.failed ≡ false }
-        requires waits_not { gathered_at self.old.gathered at ≡ None }
+        requires waits_not { write_buffer_at self.old.write_buffer at ≡ None }
         ensures sectors { self.new.sectors ≡ self.old.sectors }
-        ensures waits { self.new.gathered ≡ self.old.gathered }
+        ensures waits { self.new.write_buffer ≡ self.old.write_buffer }
         ensures failed { self.new.failed ≡ self.old.failed }
-        ensures some { OnOk result (IsSome (ahead_at self.new.ahead at)) }
+        ensures some { OnOk result (IsSome (read_ahead_at self.new.read_ahead at)) }
         ensures still { IsTrue F.is_honest → IsStill self.old self.new }
         ensures err { IsTrue F.is_honest → OnErr result
             ((F.facts self.old.file).failures < (F.facts self.new.file).failures) }
     {
         let sectors = self.sectors;
-        let start = self.gathered.start();
-        let end = if at < start && !self.gathered.is_empty() {
+        let start = self.write_buffer.start();
+        let end = if at < start && !self.write_buffer.is_empty() {
             start
         } else {
             sectors
         };
         let most = (end.max(at + 1) - at) as usize;
-        self.ahead.fill(&mut self.file, at, most)
+        self.read_ahead.fill(&mut self.file, at, most)
     }
 
-    /// Gives the content of a sector. After a failure the file isn't asked for it.
-    pub(crate) fn fetch(&mut self, at: u32, into: &mut [u8; SECTOR_BYTES]) -> Result<(), DiskFault>
+    /// Copies the content of sector `at` to `into`. After a failed write or sync, no call of the
+    /// file is made.
+    pub(crate) fn read(&mut self, at: u32, into: &mut [u8; SECTOR_BYTES]) -> Result<(), DiskFault>
         requires inside { at < self.old.sectors }
         ensures sectors { self.new.sectors ≡ self.old.sectors }
-        ensures waits { self.new.gathered ≡ self.old.gathered }
+        ensures waits { self.new.write_buffer ≡ self.old.write_buffer }
         ensures failed { self.new.failed ≡ self.old.failed }
-        ensures waiting { IfSome (gathered_at self.old.gathered at)
+        ensures waiting { IfSome (write_buffer_at self.old.write_buffer at)
             (λ content. (is_err result ≡ false) × (into.new ≡ content)) }
-        ensures kept { gathered_at self.old.gathered at ≡ None
-            → IfSome (ahead_at self.old.ahead at)
+        ensures kept { write_buffer_at self.old.write_buffer at ≡ None
+            → IfSome (read_ahead_at self.old.read_ahead at)
             (λ content. (is_err result ≡ false) × (into.new ≡ content)) }
-        ensures buffered { IsSome (gathered_at self.old.gathered at)
-            ⊎ IsSome (ahead_at self.old.ahead at) → self.new ≡ self.old }
+        ensures buffered { IsSome (write_buffer_at self.old.write_buffer at)
+            ⊎ IsSome (read_ahead_at self.old.read_ahead at) → self.new ≡ self.old }
         ensures over { self.old.failed ≡ true → self.new ≡ self.old }
-        ensures answer { OnOk result ((gathered_at self.old.gathered at ≡ Some into.new)
-            ⊎ (ahead_at self.new.ahead at ≡ Some into.new)) }
+        ensures answer { OnOk result ((write_buffer_at self.old.write_buffer at ≡ Some into.new)
+            ⊎ (read_ahead_at self.new.read_ahead at ≡ Some into.new)) }
         ensures still { IsTrue F.is_honest → IsStill self.old self.new }
         ensures err { IsTrue F.is_honest → OnErr result ((self.old.failed ≡ true)
             ⊎ ((F.facts self.old.file).failures < (F.facts self.new.file).failures)) }
     {
-        if let Some(content) = self.gathered.get(at) {
+        if let Some(content) = self.write_buffer.get(at) {
             *into = *content;
             return Ok(());
         }
-        if self.ahead.get(at).is_none() {
+        if self.read_ahead.get(at).is_none() {
             if self.failed {
                 return Err(DiskFault::Failed);
             }
-            self.read_ahead(at)?;
+            self.fill_read_ahead(at)?;
         }
-        match self.ahead.get(at) {
+        match self.read_ahead.get(at) {
             Some(content) => {
                 *into = *content;
                 Ok(())

@@ -2,9 +2,9 @@
 ghost use Rattle.std.specs.Prelude.{◌≡◌, ◌<◌, ℕ, false, Some, IsTrue, length};
 ghost use Rattle.sector_disk.specs.CallCount.{calls_made};
 ghost use Rattle.sector_disk.specs.Disk.{Sector};
-ghost use Rattle.file_disk.specs.Ahead.{ahead_at};
+ghost use Rattle.file_disk.specs.ReadAhead.{read_ahead_at};
 ghost use Rattle.file_disk.specs.Buffered.{shown_at, Leaves};
-ghost use Rattle.file_disk.specs.Gathered.{gathered_at};
+ghost use Rattle.file_disk.specs.WriteBuffer.{write_buffer_at};
 ghost use Rattle.file_disk.specs.Left.{LeftOf, shown_of, IsTimed, IsFollowed};
 
 use crate::buffered::Buffered;
@@ -13,32 +13,34 @@ use crate::sector_file::SectorFile;
 use sector_disk::{CallCount, Disk, DiskFault, Past, SECTOR_BYTES};
 use std::alloc::{AllocError, Global};
 
-/// A disk over a file: an honest disk where the file is honest.
+/// A disk over a file. It is an honest disk if the file is honest.
 ///
-/// What is written waits in memory until a sector that isn't its neighbour is written, until
-/// 128 KiB wait, or until the next sync; reads give it from the time of its write on. What waits
-/// when the disk is dropped is lost, as by a power cut. Once a write or a sync has failed, all
-/// later ones fail, and so do reads of what isn't in memory: the system may have dropped what it
-/// couldn't write, and say nothing of it at the next sync.
+/// Written sectors are buffered in memory until a sector is written that isn't a neighbour, until
+/// 128 KiB are buffered, or until the next sync. Reads return buffered sectors too. If the disk is
+/// dropped, the write buffer is lost, as in a power cut. After a failed write or sync, all later
+/// ones fail, and so do reads of sectors that aren't in memory. The reason is that the system may
+/// have dropped data that it couldn't write, without reporting it at the next sync.
 #[derive(Drop)]
 pub struct FileDisk<F: SectorFile> {
     buffered: Buffered<F>,
-    // The rest is for clauses alone. The last moment at which no write or sync had failed.
+    // The remaining fields are only for clauses. `latest` is the last moment at which no write or
+    // sync had failed.
     latest: Past<Buffered<F>>,
-    // The moment of the last sync that succeeded, and behind each write since.
+    // The moment of the last successful sync, followed by the moment of each write since.
     since: Past<Buffered<F>>,
-    // Of each moment that is past, what `since` was.
+    // For each past moment, the value of `since` at that moment.
     past: Past<Past<Buffered<F>>>,
-    // At each moment that is past, the file with its buffers.
+    // For each past moment, the file with its buffers.
     files: Past<Buffered<F>>,
     calls: CallCount,
     ghost counted: { length past.items ≡ calls_made calls },
     ghost shown: { IsTrue F.SectorFile.is_honest → buffered.failed ≡ false → (k : ℕ)
         → shown_at buffered k ≡ shown_of latest.items k },
     ghost waits: { IsTrue F.SectorFile.is_honest → (k : ℕ) (content : Sector)
-        → gathered_at buffered.gathered k ≡ Some content → content ≡ shown_of latest.items k },
+        → write_buffer_at buffered.write_buffer k ≡ Some content
+        → content ≡ shown_of latest.items k },
     ghost kept: { IsTrue F.SectorFile.is_honest → (k : ℕ) (content : Sector)
-        → ahead_at buffered.ahead k ≡ Some content → content ≡ shown_of latest.items k },
+        → read_ahead_at buffered.read_ahead k ≡ Some content → content ≡ shown_of latest.items k },
     ghost covered: { IsTrue F.SectorFile.is_honest → (k : ℕ) (content : Sector)
         → Leaves buffered k content → LeftOf since.items k content },
     ghost held: { IsTrue F.SectorFile.is_honest → (k : ℕ) → k < buffered.sectors
@@ -54,8 +56,8 @@ impl<F: SectorFile + Drop> FileDisk<F> {
     ghost use Rattle.std.specs.Prelude.{IfOk};
     ghost use Rattle.file_disk.specs.FileDisk.{file_facts, file_of, IsNew, IsAsTheFile};
 
-    /// A disk of so many sectors over an open file, which has them. Takes all the memory that the
-    /// disk ever has: twice what the file has, but at most 256 KiB.
+    /// Makes a disk over an open file of `sectors` sectors. Allocates all the memory that the disk
+    /// will ever use: twice the size of the file, but at most 256 KiB.
     pub(crate) fn new(alloc: Global, file: F, sectors: u32) -> Result<FileDisk<F>, AllocError>
         requires sectors { IsTrue F.is_honest → (F.facts file).sectors ≡ sectors }
         requires trusted { IsTrue F.is_honest → (F.facts file).sync_failed ≡ false }
@@ -81,19 +83,20 @@ impl<F: SectorFile + Drop> FileDisk<F> {
 impl<F: SectorFile> FileDisk<F> {
     ghost use Rattle.file_disk.specs.FileDisk.{file_of, FollowsTheFile, HoldsOfTheMedium};
 
-    /// A law: whatever the medium of an honest file may have had at some moment, within the disk's
-    /// calls too, a stop of the disk might have left at its moment then.
+    /// A law. The medium of an honest file has, at every moment, only contents that a stop of the
+    /// disk might have left at that time. This also holds within the disk's calls.
     pub fn follows_its_file(&self)
         ensures { IsTrue F.is_honest → FollowsTheFile self.now }
     {}
 
-    /// A law: a property that holds of all that a stop of the disk may leave, from an earlier moment
-    /// to now, holds of whatever the medium of an honest file may have had between them.
+    /// A law. Suppose a property holds of everything that a stop of the disk may leave, from an
+    /// earlier moment to now. Then it holds of everything that the medium of an honest file may
+    /// have had since that moment.
     pub fn holds_of_its_medium<P: Property>(&self)
         ensures { IsTrue F.is_honest → HoldsOfTheMedium self.now P.holds }
     {}
 
-    /// The file. What waits is lost.
+    /// Returns the file. The write buffer is lost.
     pub fn into_file(self) -> F
         ensures { result ≡ file_of self }
     {
@@ -107,7 +110,7 @@ impl<F: SectorFile> Disk for FileDisk<F> {
     ghost use Rattle.sector_disk.specs.Disk.{IsCall, IsRead, IsWrite, IsSync};
     ghost use Rattle.file_disk.specs.FileDisk.{file_facts, facts_below, has_failed};
     ghost use Rattle.file_disk.specs.FileDisk.{waiting, kept, IsSame, WaitsNot, WaitsSame};
-    ghost use Rattle.file_disk.specs.FileDisk.{IsGathered, IsCovered};
+    ghost use Rattle.file_disk.specs.FileDisk.{IsBuffered, IsCovered};
     ghost use Rattle.file_disk.specs.inside.FileDiskLaws.{disk_holds, disk_whole};
 
     ghost facts = { file_facts };
@@ -121,22 +124,24 @@ impl<F: SectorFile> Disk for FileDisk<F> {
         self.buffered.sectors
     }
 
-    /// Reads a sector: what waits for it, else what the file gave for it, else what the file
-    /// gives. A failure here lets later writes and syncs be.
+    /// Reads a sector from the write buffer; otherwise from the read-ahead buffer; otherwise from
+    /// the file. A failed read doesn't make later writes and syncs fail.
     fn read(&mut self, at: u32, into: &mut [u8; SECTOR_BYTES]) -> Result<(), DiskFault>
         requires { at < (file_facts self.old).sectors }
         ensures calls { IsCall (file_facts self.old) (file_facts self.new) result }
         ensures honest { IsTrue (file_facts self.old).honest
             → IsRead (file_facts self.old) (file_facts self.new) at into.new result }
 
-        // What the file's medium has meanwhile is what a stop may leave of the disk.
+        // During the call, the file's medium has only what a stop of the disk may leave.
         ensures any_moment { IsTrue F.is_honest → IsCovered self.old self.new }
 
-        // It fails where a call of the file did, or where a write or a sync had failed before.
+        // The read fails only if a call of the file failed, or if a write or a sync had failed
+        // before.
         ensures cause { IsTrue F.is_honest → OnErr result ((has_failed self.old ≡ true)
             ⊎ ((facts_below self.old).failures < (facts_below self.new).failures)) }
 
-        // What was written is read back before the file has it, and without the file.
+        // Written contents are read back before they are written to the file, and without a call of
+        // the file.
         ensures waiting { IfSome (waiting self.old at)
             (λ content. (is_err result ≡ false) × (into.new ≡ content)) }
         ensures kept { waiting self.old at ≡ None → IfSome (kept self.old at)
@@ -147,14 +152,14 @@ impl<F: SectorFile> Disk for FileDisk<F> {
         ensures failed { has_failed self.new ≡ has_failed self.old }
     {
         self.files = self.files.and(&self.buffered);
-        let reply = self.buffered.fetch(at, into);
+        let reply = self.buffered.read(at, into);
         self.past = self.past.and(&self.since);
         self.calls.end_call(&reply);
         reply
     }
 
-    /// Has a sector wait with this content. What waited is given to the file first where there is
-    /// no room for it; where that fails, so does this call.
+    /// Puts a sector into the write buffer. If the buffer has no room for it, the buffer is written
+    /// to the file first. If that fails, so does this call.
     fn write(&mut self, at: u32, from: &[u8; SECTOR_BYTES]) -> Result<(), DiskFault>
         requires { at < (file_facts self.old).sectors }
         ensures calls { IsCall (file_facts self.old) (file_facts self.new) result }
@@ -163,19 +168,19 @@ impl<F: SectorFile> Disk for FileDisk<F> {
         ensures any_moment { IsTrue F.is_honest → IsCovered self.old self.new }
         ensures cause { IsTrue F.is_honest → OnErr result ((has_failed self.old ≡ true)
             ⊎ ((facts_below self.old).failures < (facts_below self.new).failures)) }
-        ensures ok { OnOk result (IsGathered self.old self.new at from.now) }
+        ensures ok { OnOk result (IsBuffered self.old self.new at from.now) }
 
-        // No content from before it is kept.
+        // No earlier content of the sector is kept.
         ensures forgotten { OnOk result (kept self.new at ≡ None) }
         ensures kept { (k : ℕ) → (kept self.new k ≡ kept self.old k) ⊎ (kept self.new k ≡ None) }
         ensures same { OnErr result (WaitsSame self.old self.new) }
 
-        // Where it fails, all later writes and syncs fail.
+        // If this write fails, all later writes and syncs fail.
         ensures failed { has_failed self.new ≡ is_err result }
         ensures stays { has_failed self.old ≡ true → is_err result ≡ true }
     {
         self.files = self.files.and(&self.buffered);
-        let reply = self.buffered.gather(at, from);
+        let reply = self.buffered.write(at, from);
         self.past = self.past.and(&self.since);
         if reply.is_ok() {
             self.latest = Past::new().and(&self.buffered);
@@ -185,8 +190,8 @@ impl<F: SectorFile> Disk for FileDisk<F> {
         reply
     }
 
-    /// Gives all that waits to the file, and has the system bring it to the medium. It waits until
-    /// that is done.
+    /// Writes the write buffer to the file, and has the system bring it to the medium. The buffer
+    /// keeps its contents until that is done.
     fn sync(&mut self) -> Result<(), DiskFault>
         ensures calls { IsCall (file_facts self.old) (file_facts self.new) result }
         ensures honest { IsTrue (file_facts self.old).honest
@@ -197,13 +202,13 @@ impl<F: SectorFile> Disk for FileDisk<F> {
         ensures waits { OnOk result (WaitsNot self.new) }
         ensures kept { (k : ℕ) → kept self.new k ≡ kept self.old k }
 
-        // Where it fails, what waited is read back as before.
+        // If the sync fails, the write buffer is read back as before.
         ensures same { OnErr result (WaitsSame self.old self.new) }
         ensures failed { has_failed self.new ≡ is_err result }
         ensures stays { has_failed self.old ≡ true → is_err result ≡ true }
     {
         self.files = self.files.and(&self.buffered);
-        let reply = self.buffered.settle();
+        let reply = self.buffered.sync();
         self.past = self.past.and(&self.since);
         if reply.is_ok() {
             self.latest = Past::new().and(&self.buffered);

@@ -1,6 +1,7 @@
-// The file of the system that a disk is over.
+// A file of the system, over which a disk is made.
 
-ghost use Rattle.std.specs.Prelude.{◌≡◌, ◌/◌, false};
+ghost use Rattle.std.specs.Prelude.{◌≡◌, ◌/◌, IfErr, false};
+ghost use Rattle.file_disk.specs.Length.{IsLengthFault};
 ghost use Rattle.file_disk.specs.SectorFile.{unknown_file};
 
 use crate::open::{OpenFault, sectors_in};
@@ -11,29 +12,32 @@ use std::io;
 use std::io::{ErrorKind, Seek, SeekFrom};
 use std::os::unix::fs::{FileExt, FileTypeExt};
 
-/// What a disk is opened for.
+/// The purpose for which a disk is opened.
 #[derive(Clone, Copy)]
 pub enum Access {
-    /// For reading alone, so that nothing that this process does can write into it: its lock is
-    /// shared with others who read. Syncs succeed until a sector was written, and fail from then
+    /// Only for reading, so that nothing that this process does can write into the file. The lock
+    /// is shared with other readers. Syncs succeed until a sector is written, and fail from then
     /// on.
     Reading,
-    /// For changes: its lock is held alone. Where the file may not be written it is opened all the
-    /// same: syncs succeed until a sector was written.
+    /// For changes: the lock is held exclusively. If the file may not be written, it is opened all
+    /// the same, and syncs succeed until a sector is written.
     Changes,
 }
 
-/// A regular file or a block device, open, and locked until it is dropped.
+/// A regular file or a block device. It is open, and locked until it is dropped.
 #[derive(Drop)]
 pub struct DiskFile {
     file: File,
-    /// Whether it is open for reading alone.
+    /// Whether the file is open only for reading.
     is_read_only: bool,
 }
 
 impl DiskFile {
-    /// Of a file that is open and locked. Any other but a regular one or a block device is refused.
-    pub(crate) fn new(file: File, is_read_only: bool) -> Result<DiskFile, OpenFault> {
+    /// Makes a `DiskFile` of a file that is open and locked. Refuses every file that is neither a
+    /// regular file nor a block device.
+    pub(crate) fn new(file: File, is_read_only: bool) -> Result<DiskFile, OpenFault>
+        ensures { IfErr result IsLengthFault }
+    {
         match file.metadata() {
             Ok(found) if found.is_file() || found.file_type().is_block_device() => {
                 Ok(DiskFile { file, is_read_only })
@@ -42,33 +46,34 @@ impl DiskFile {
         }
     }
 
-    /// Its length in bytes: where it ends. The metadata of a block device doesn't have it, and
-    /// asking for those of a file takes three times as long.
+    /// Returns the length in bytes, which is the position of the file's end. The metadata of a
+    /// block device doesn't contain the length, and asking for the metadata of a file takes three
+    /// times as long.
     fn length(&mut self) -> io::Result<u64> {
         self.file.seek(SeekFrom::End(0))
     }
 }
 
-/// Whether a sync was answered that the file's system has none, since it can't be written. One that
-/// was made read-only by a failure has one, and answers otherwise.
+/// Returns whether a sync failed because the file system can't be written and so has no sync. A
+/// file system that a failure made read-only has a sync, and reports another error.
 fn has_no_sync(fault: &io::Error) -> bool {
     fault.kind() == ErrorKind::InvalidInput
 }
 
-/// How many whole sectors a call moved that moved so many bytes. Where that is a part of one, the
-/// file ends there, or may grow no further: it moved none.
+/// Returns the number of whole sectors that a call moved, if it moved `bytes` bytes. Part of a
+/// sector counts as none: the file ends there, or can't grow further.
 fn whole_sectors(bytes: usize) -> usize
     ensures { result ≡ bytes / 512 }
 {
     bytes / SECTOR_BYTES
 }
 
-/// The first byte of a sector.
+/// Returns the position of the first byte of sector `at`.
 fn place_of(at: u32) -> u64 {
     u64::from(at) * SECTOR_BYTES as u64
 }
 
-/// Of its honesty nothing is known.
+/// Nothing is known about the honesty of such a file.
 impl SectorFile for DiskFile {
     ghost is_honest = { false };
 
@@ -82,7 +87,10 @@ impl SectorFile for DiskFile {
         let Ok(length) = self.length() else {
             return Err(OpenFault::CannotOpen);
         };
-        sectors_in(length).ok_or(OpenFault::BadLength)
+        match sectors_in(length) {
+            Some(sectors) => Ok(sectors),
+            None => Err(OpenFault::BadLength(length)),
+        }
     }
 
     fn read_at(&mut self, at: u32, into: &mut [[u8; SECTOR_BYTES]]) -> io::Result<usize> {
@@ -95,8 +103,8 @@ impl SectorFile for DiskFile {
         Ok(whole_sectors(bytes))
     }
 
-    /// Of a file that is open for reading alone, on a file system that can't be written, there is
-    /// nothing to sync.
+    /// Syncs the file. If the file is open only for reading, on a file system that can't be
+    /// written, there is nothing to sync.
     fn sync(&mut self) -> io::Result<()> {
         match self.file.sync_all() {
             Err(fault) if self.is_read_only && has_no_sync(&fault) => Ok(()),

@@ -1,28 +1,28 @@
 //! A disk of sectors over a file.
 //!
-//! `FileDisk` is a `Disk` over a `SectorFile`, and an honest one where the file is. Neighbouring
-//! sectors are gathered into large writes and read ahead in large reads; a sync is one of the file;
-//! and once a write or a sync has failed all later ones fail, until the file is opened again.
+//! `FileDisk` is a `Disk` over a `SectorFile`. It is honest if the file is honest. Adjacent sectors
+//! are gathered into large writes, and read ahead in large reads. A sync of the disk is a sync of
+//! the file. After a failed write or sync, all later ones fail until the file is opened again.
 #![tactic(auto)]
 
-mod ahead;
 mod buffered;
 mod disk;
 mod disk_file;
-mod gathered;
 mod locked;
 mod medium;
 mod memory_file;
-mod new_name;
 mod open;
 mod property;
+mod read_ahead;
 mod sector_file;
 mod transfer;
+mod unnamed_file;
+mod write_buffer;
 
 pub use disk::FileDisk;
 pub use disk_file::{Access, DiskFile};
-pub use memory_file::{FilePlan, MemoryFile, Turn};
-pub use new_name::{NameFault, NewName};
+pub use memory_file::{CallOutcome, FilePlan, MemoryFile};
 pub use open::{Made, OpenFault};
 pub use property::Property;
 pub use sector_file::SectorFile;
+pub use unnamed_file::{NameFault, UnnamedFile};

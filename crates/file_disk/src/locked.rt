@@ -1,7 +1,8 @@
-// Opening a file under its lock.
+// Opens a file under its lock.
 
-ghost use Rattle.std.specs.Prelude.{◌≡◌, true};
+ghost use Rattle.std.specs.Prelude.{◌≡◌, IfErr, true};
 ghost use Rattle.std.specs.Fs.{new_options, with_read, with_write};
+ghost use Rattle.file_disk.specs.Length.{IsLengthFault};
 
 use crate::disk_file::{Access, DiskFile};
 use crate::open::OpenFault;
@@ -15,17 +16,17 @@ use std::thread::sleep;
 use std::time::Duration;
 use std::{fs, io};
 
-/// How often a file is opened anew that was replaced before it was locked, and another name tried
-/// anew that others make and take away.
+/// The number of tries to open a file that is replaced before it is locked, and to make a file
+/// under another name that other processes make and remove.
 pub(crate) const TRIES: u32 = 16;
 
-/// How often the lock of a device is tried, and how many milliseconds pass between two tries: two
-/// seconds in all. The system's udev holds it for a moment after each writer has let the device go.
+/// The number of tries to lock a device, and the milliseconds between two tries: two seconds in
+/// all. The system's udev locks the device for a moment after each writer has closed it.
 const DEVICE_TRIES: u32 = 200;
 
 const PAUSE: u64 = 10;
 
-/// Reading alone, of a file that stands.
+/// Returns the options to open an existing file only for reading.
 fn reading() -> OpenOptions
     ensures { result ≡ with_read new_options true }
 {
@@ -34,7 +35,8 @@ fn reading() -> OpenOptions
     how
 }
 
-/// Reading and writing, of a file that stands: it isn't made, and none of its bytes are cut.
+/// Returns the options to open an existing file for reading and writing. The file isn't created,
+/// and it isn't truncated.
 fn writing() -> OpenOptions
     ensures { result ≡ with_write (with_read new_options true) true }
 {
@@ -43,7 +45,7 @@ fn writing() -> OpenOptions
     how
 }
 
-/// Whether writing isn't allowed.
+/// Returns whether an error means that writing isn't allowed.
 fn is_denied(kind: ErrorKind) -> bool {
     matches!(
         kind,
@@ -51,8 +53,8 @@ fn is_denied(kind: ErrorKind) -> bool {
     )
 }
 
-/// Opens a file for what it is opened for; for reading alone where writing isn't allowed. Says
-/// whether it is open for reading alone.
+/// Opens a file for `access`, but only for reading if writing isn't allowed. Also returns whether
+/// the file is open only for reading.
 fn open_file<R: Files<File = File>>(
     rt: &R,
     path: &str,
@@ -68,12 +70,12 @@ fn open_file<R: Files<File = File>>(
     Ok((reading().open(rt, path)?, true))
 }
 
-/// Whether two names or descriptors lead to one file.
+/// Returns whether two names or descriptors lead to the same file.
 pub(crate) fn is_same_file(one: &Metadata, other: &Metadata) -> bool {
     one.dev() == other.dev() && one.ino() == other.ino()
 }
 
-/// Locks a file, without waiting: with others who read it, or alone for changes.
+/// Locks a file without waiting: shared with other readers, or exclusively for changes.
 fn try_lock(file: &File, access: Access) -> Result<(), TryLockError> {
     match access {
         Access::Reading => file.try_lock_shared(),
@@ -81,9 +83,11 @@ fn try_lock(file: &File, access: Access) -> Result<(), TryLockError> {
     }
 }
 
-/// Locks a device for changes, where that can be had within two seconds; anything else at once or
-/// not at all.
-fn lock<R: Clock>(rt: &R, file: &File, access: Access, is_device: bool) -> Result<(), OpenFault> {
+/// Locks a file. A device is locked for changes if that succeeds within two seconds; anything else
+/// is locked at once or not at all.
+fn lock<R: Clock>(rt: &R, file: &File, access: Access, is_device: bool) -> Result<(), OpenFault>
+    ensures { IfErr result IsLengthFault }
+{
     let tries = match access {
         Access::Changes if is_device => DEVICE_TRIES,
         _ => 0,
@@ -95,19 +99,24 @@ fn lock<R: Clock>(rt: &R, file: &File, access: Access, is_device: bool) -> Resul
             Err(TryLockError::Error(_)) => return Err(OpenFault::CannotOpen),
         }
     }
-    try_lock(file, access).map_err(|_| OpenFault::CannotOpen)
+    match try_lock(file, access) {
+        Ok(()) => Ok(()),
+        Err(_) => Err(OpenFault::CannotOpen),
+    }
 }
 
-/// Refuses a path that leads to neither a regular file nor a block device before it is opened: to
-/// open a pipe waits for its other end.
-fn look<R: Files>(rt: &R, path: &str) -> Result<(), OpenFault> {
+/// Refuses a path that leads to neither a regular file nor a block device, before it is opened.
+/// Opening a pipe would wait for its other end.
+fn check_kind<R: Files>(rt: &R, path: &str) -> Result<(), OpenFault>
+    ensures { IfErr result IsLengthFault }
+{
     match fs::metadata(rt, path) {
         Ok(found) if found.is_file() || found.file_type().is_block_device() => Ok(()),
         _ => Err(OpenFault::CannotOpen),
     }
 }
 
-/// Whether a path leads to an open file.
+/// Returns whether a path leads to an open file.
 fn leads_to<R: Files>(rt: &R, path: &str, open: &Metadata) -> bool {
     match fs::metadata(rt, path) {
         Ok(named) => is_same_file(&named, open),
@@ -116,15 +125,17 @@ fn leads_to<R: Files>(rt: &R, path: &str, open: &Metadata) -> bool {
 }
 
 /// Opens a regular file or a block device and locks it. A file that was replaced before it was
-/// locked is opened anew. A device that is in use isn't opened for changes.
+/// locked is opened again. A device that is in use isn't opened for changes.
 pub(crate) fn open_locked<R: Files<File = File> + Clock>(
     rt: &R,
     alloc: Global,
     path: &str,
     access: Access,
-) -> Result<DiskFile, OpenFault> {
+) -> Result<DiskFile, OpenFault>
+    ensures { IfErr result IsLengthFault }
+{
     for _ in 0..TRIES {
-        look(rt, path)?;
+        check_kind(rt, path)?;
         let Ok((file, is_read_only)) = open_file(rt, path, access) else {
             return Err(OpenFault::CannotOpen);
         };
@@ -145,7 +156,9 @@ pub(crate) fn open_locked<R: Files<File = File> + Clock>(
 }
 
 /// Refuses a device that is in use.
-fn refuse_in_use<R: Files<File = File>>(rt: &R, alloc: Global, rdev: u64) -> Result<(), OpenFault> {
+fn refuse_in_use<R: Files<File = File>>(rt: &R, alloc: Global, rdev: u64) -> Result<(), OpenFault>
+    ensures { IfErr result IsLengthFault }
+{
     match is_in_use(rt, alloc, rdev) {
         Ok(false) => Ok(()),
         Err(fault) if fault.kind() == ErrorKind::OutOfMemory => Err(OpenFault::OutOfMemory),

@@ -1,4 +1,4 @@
-// Sectors to and from a disk in memory.
+// Moves sectors to and from a disk in memory.
 ghost use Rattle.std.specs.Prelude.{◌≡◌, ◌<◌, ◌≤◌, ◌+◌, ℕ, true, false, length};
 ghost use Rattle.sector_disk.specs.Disk.{sector, LeavesNoMore, LeavesNowAlone};
 ghost use Rattle.sector_disk.specs.Memory.{memory_facts};
@@ -6,7 +6,8 @@ ghost use Rattle.file_disk.specs.Medium.{HasWritten, IsWholeUnlessFailed, IsSame
 
 use sector_disk::{Disk, Memory, SECTOR_BYTES};
 
-/// Writes sectors from this one on, as long as there is memory, and says how many.
+/// Writes the sectors `from` from sector `at` on, until memory is refused. Returns the number of
+/// sectors that were written.
 pub(crate) fn put(medium: &mut Memory, at: u32, from: &[[u8; SECTOR_BYTES]]) -> usize
     requires inside { at + length from.now ≤ (memory_facts medium.old).sectors }
     ensures few { result ≤ length from.now }
@@ -25,7 +26,7 @@ pub(crate) fn put(medium: &mut Memory, at: u32, from: &[[u8; SECTOR_BYTES]]) -> 
     done
 }
 
-/// Reads sectors from this one on.
+/// Reads sectors from sector `at` on into `into`.
 pub(crate) fn get(medium: &mut Memory, at: u32, into: &mut [[u8; SECTOR_BYTES]])
     requires inside { at + length into.old ≤ (memory_facts medium.old).sectors }
     ensures still { IsSameMedium (memory_facts medium.old) (memory_facts medium.new) }
@@ -37,8 +38,9 @@ pub(crate) fn get(medium: &mut Memory, at: u32, into: &mut [[u8; SECTOR_BYTES]])
     }
 }
 
-/// Brings all that was written to the medium, or does nothing.
-pub(crate) fn settle(medium: &mut Memory, works: bool)
+/// If `works` is true, syncs the medium, so that it has everything that was written. Otherwise does
+/// nothing.
+pub(crate) fn sync_if(medium: &mut Memory, works: bool)
     ensures sectors { (memory_facts medium.new).sectors ≡ (memory_facts medium.old).sectors }
     ensures now { (memory_facts medium.new).now ≡ (memory_facts medium.old).now }
     ensures stop { LeavesNoMore (memory_facts medium.old) (memory_facts medium.new) }

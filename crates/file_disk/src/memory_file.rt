@@ -1,43 +1,43 @@
-// A file in memory. Its test stops it, or has a call of it fail.
+// A file in memory. A test can stop it, or have one of its calls fail.
 ghost use Rattle.std.specs.Prelude.{◌≡◌, ◌-◌, length};
 
-use crate::medium::{get, put, settle};
+use crate::medium::{get, put, sync_if};
 use crate::open::OpenFault;
 use crate::sector_file::SectorFile;
 use sector_disk::{CallCount, Disk, DiskFault, Memory, Past, SECTOR_BYTES};
 use std::io;
 use std::io::ErrorKind;
 
-/// What becomes of a call of a `MemoryFile`.
+/// The outcome of a call of a `MemoryFile`.
 #[derive(Clone, Copy)]
-pub struct Turn {
-    /// How many sectors a read or a write moves at most. A sync that fails has done its work
-    /// where this isn't 0.
+pub struct CallOutcome {
+    /// The maximum number of sectors that a read or a write moves. A sync that fails has done its
+    /// work if this isn't 0.
     pub most: usize,
-    /// Whether it fails, behind what it moved.
+    /// Whether the call fails, after it has moved its sectors.
     pub fails: bool,
 }
 
-/// Which call of a `MemoryFile` doesn't do all that it was asked for: number `call`, counted from
-/// 1, and none where that is 0. With `forever` all later ones fail and move nothing: the system
-/// has stopped.
+/// Which call of a `MemoryFile` doesn't do everything that it was asked for: call number `call`,
+/// counted from 1; none if `call` is 0. With `forever` all later calls fail and move nothing, as if
+/// the system had stopped.
 #[derive(Clone, Copy)]
 pub struct FilePlan {
     pub call: u64,
-    pub turn: Turn,
+    pub outcome: CallOutcome,
     pub forever: bool,
 }
 
-/// An honest file in memory. Its medium is a disk that can be stopped: what was written since its
-/// last sync comes there sector by sector, in any order, or not at all. Once a sync has failed,
-/// later ones succeed and bring nothing to the medium.
+/// An honest file in memory. Its medium is a disk that can be stopped. Contents that were written
+/// since the last sync reach the medium sector by sector, in any order, or not at all. After a
+/// failed sync, later syncs succeed and bring nothing to the medium.
 pub struct MemoryFile {
     medium: Memory,
     plan: FilePlan,
-    // How many calls there are up to the planned one, 0 after it.
+    // The number of calls up to and including the planned one; 0 after it.
     wait: u64,
     sync_failed: bool,
-    // The medium at each moment that is past.
+    // The medium at each past moment.
     past: Past<Memory>,
     calls: CallCount,
     ghost waits: { wait ≡ plan.call - length past.items },
@@ -46,12 +46,12 @@ pub struct MemoryFile {
 impl MemoryFile {
     ghost use Rattle.std.specs.Prelude.{◌++◌, ◌∷◌, ◌+◌, ◌==◌, ◌≤◌, [], false, if◌then◌else◌, List, IfOk, is_err};
     ghost use Rattle.file_disk.specs.MemoryFile.{memory_file_facts, medium_of, plan_of};
-    ghost use Rattle.file_disk.specs.MemoryFile.{next_turn, does_work};
+    ghost use Rattle.file_disk.specs.MemoryFile.{next_outcome, does_work};
     ghost use Rattle.file_disk.specs.SectorFile.{moved, IsFoundWith};
     ghost use Rattle.sector_disk.specs.Disk.{Sector, StartsWith};
     ghost use Rattle.sector_disk.specs.Memory.{memory_facts};
 
-    /// A file of what this disk has, with this plan of its calls.
+    /// Makes a file with the contents of the disk `medium`, and with this plan for its calls.
     pub fn new(medium: Memory, plan: FilePlan) -> MemoryFile
         ensures medium { medium_of result ≡ medium }
         ensures plan { plan_of result ≡ plan }
@@ -59,7 +59,7 @@ impl MemoryFile {
         ensures failures { (memory_file_facts result).failures ≡ 0 }
         ensures sync_failed { (memory_file_facts result).sync_failed ≡ false }
 
-        // Over a disk as it starts, the file is found with the sectors of the disk.
+        // If the disk is at its start, the file is found with the disk's sectors.
         ensures reopen { (contents : List Sector) → StartsWith (memory_facts medium) contents
             → IsFoundWith (memory_file_facts result) contents }
     {
@@ -73,14 +73,14 @@ impl MemoryFile {
         }
     }
 
-    /// How many calls there are up to the planned one, and 0 once it was made.
+    /// Returns the number of calls up to and including the planned one; 0 after it.
     pub fn calls_left(&self) -> u64
         ensures { result ≡ (plan_of self.now).call - (memory_file_facts self.now).time }
     {
         self.wait
     }
 
-    /// The medium, which can be stopped, with what was written to it since it was synced.
+    /// Returns the medium, which can be stopped. It has what was written to it since it was synced.
     pub fn into_medium(self) -> Memory
         ensures { result ≡ medium_of self }
     {
@@ -95,41 +95,41 @@ impl MemoryFile {
         medium
     }
 
-    // Begins a call, and says what becomes of it.
-    fn begin_call(&mut self) -> Turn
-        ensures turn { result ≡ next_turn self.old }
+    // Begins a call, and returns its outcome.
+    fn begin_call(&mut self) -> CallOutcome
+        ensures outcome { result ≡ next_outcome self.old }
         ensures past { self.new.past.items ≡ self.old.past.items ++ self.old.medium ∷ [] }
         ensures medium { self.new.medium ≡ self.old.medium }
         ensures plan { self.new.plan ≡ self.old.plan }
         ensures calls { self.new.calls ≡ self.old.calls }
         ensures sync_failed { self.new.sync_failed ≡ self.old.sync_failed }
     {
-        let turn = if self.wait == 1 {
-            self.plan.turn
+        let outcome = if self.wait == 1 {
+            self.plan.outcome
         } else if self.wait == 0 && self.plan.call > 0 && self.plan.forever {
-            Turn {
+            CallOutcome {
                 most: 0,
                 fails: true,
             }
         } else {
-            Turn {
+            CallOutcome {
                 most: usize::MAX,
                 fails: false,
             }
         };
         self.past = self.past.and(&self.medium);
         self.wait = self.wait.saturating_sub(1);
-        turn
+        outcome
     }
 
-    // Whether a sync with this turn does its work.
-    fn does_work(&self, turn: Turn) -> bool
-        ensures { result ≡ does_work self.now turn }
+    // Returns whether a sync with this outcome does its work.
+    fn does_work(&self, outcome: CallOutcome) -> bool
+        ensures { result ≡ does_work self.now outcome }
     {
-        !self.sync_failed && (turn.most > 0 || !turn.fails)
+        !self.sync_failed && (outcome.most > 0 || !outcome.fails)
     }
 
-    // Ends a call that moved so many sectors, and fails or not.
+    // Ends a call that moved `count` sectors, with an error if `fails` is true.
     fn end_call(&mut self, fails: bool, count: usize) -> io::Result<usize>
         ensures ok { IfOk result (λ moved. moved ≡ count) }
         ensures few { moved result ≤ count }
@@ -169,10 +169,11 @@ impl Drop for MemoryFile {
 }
 
 impl SectorFile for MemoryFile {
-    ghost use Rattle.std.specs.Prelude.{◌≤◌, ◌+◌, true, IsTrue};
+    ghost use Rattle.std.specs.Prelude.{◌≤◌, ◌+◌, true, IfErr, IsTrue};
+    ghost use Rattle.file_disk.specs.Length.{IsLengthFault};
     ghost use Rattle.file_disk.specs.SectorFile.{moved, IsCounted, IsFileRead};
     ghost use Rattle.file_disk.specs.SectorFile.{IsFileWrite, IsFileSync};
-    ghost use Rattle.file_disk.specs.MemoryFile.{memory_file_facts, medium_of, TakesTurn, IsMoved};
+    ghost use Rattle.file_disk.specs.MemoryFile.{memory_file_facts, medium_of, HasOutcome, IsMoved};
     ghost use Rattle.file_disk.specs.MemoryFile.{IsCutWrite, IsCutSync};
     ghost use Rattle.sector_disk.specs.Memory.{memory_facts};
     ghost use Rattle.file_disk.specs.Medium.{IsSameMedium};
@@ -189,11 +190,12 @@ impl SectorFile for MemoryFile {
     fn count_sectors(&mut self) -> Result<u32, OpenFault>
         ensures honest { IsTrue true
             → IsCounted (memory_file_facts self.old) (memory_file_facts self.new) result }
-        ensures turn { TakesTurn self.old self.new result }
+        ensures length { IfErr result IsLengthFault }
+        ensures outcome { HasOutcome self.old self.new result }
         ensures medium { medium_of self.new ≡ medium_of self.old }
     {
-        let turn = self.begin_call();
-        match self.end_call(turn.fails, 1) {
+        let outcome = self.begin_call();
+        match self.end_call(outcome.fails, 1) {
             Ok(_) => Ok(self.medium.sectors()),
             Err(_) => Err(OpenFault::CannotOpen),
         }
@@ -205,15 +207,15 @@ impl SectorFile for MemoryFile {
         ensures bound { moved result ≤ length into.old }
         ensures honest { IsTrue true → IsFileRead (memory_file_facts self.old)
             (memory_file_facts self.new) at into.new result }
-        ensures turn { TakesTurn self.old self.new result }
+        ensures outcome { HasOutcome self.old self.new result }
         ensures count { IsMoved self.old (length into.old) result }
         ensures medium { IsSameMedium (memory_facts (medium_of self.old))
             (memory_facts (medium_of self.new)) }
     {
-        let turn = self.begin_call();
-        let count = turn.most.min(into.len());
+        let outcome = self.begin_call();
+        let count = outcome.most.min(into.len());
         get(&mut self.medium, at, &mut into[..count]);
-        self.end_call(turn.fails, count)
+        self.end_call(outcome.fails, count)
     }
 
     fn write_at(&mut self, at: u32, from: &[[u8; SECTOR_BYTES]]) -> io::Result<usize>
@@ -222,28 +224,28 @@ impl SectorFile for MemoryFile {
         ensures bound { moved result ≤ length from.now }
         ensures honest { IsTrue true → IsFileWrite (memory_file_facts self.old)
             (memory_file_facts self.new) at from.now result }
-        ensures turn { TakesTurn self.old self.new result }
+        ensures outcome { HasOutcome self.old self.new result }
         ensures written { IsCutWrite self.old self.new at from.now result }
     {
-        let turn = self.begin_call();
-        let most = turn.most.min(from.len());
+        let outcome = self.begin_call();
+        let most = outcome.most.min(from.len());
         let count = put(&mut self.medium, at, &from[..most]);
-        self.end_call(turn.fails, count)
+        self.end_call(outcome.fails, count)
     }
 
     fn sync(&mut self) -> io::Result<()>
         ensures honest { IsTrue true → IsFileSync (memory_file_facts self.old)
             (memory_file_facts self.new) result }
-        ensures turn { TakesTurn self.old self.new result }
+        ensures outcome { HasOutcome self.old self.new result }
         ensures synced { IsCutSync self.old self.new }
     {
-        let turn = self.begin_call();
-        let works = self.does_work(turn);
-        settle(&mut self.medium, works);
-        if turn.fails {
+        let outcome = self.begin_call();
+        let works = self.does_work(outcome);
+        sync_if(&mut self.medium, works);
+        if outcome.fails {
             self.sync_failed = true;
         }
-        match self.end_call(turn.fails, 1) {
+        match self.end_call(outcome.fails, 1) {
             Ok(_) => Ok(()),
             Err(fault) => Err(fault),
         }

@@ -1,15 +1,16 @@
-// Opening and making the file of a disk.
-ghost use Rattle.std.specs.Prelude.{◌≡◌, ◌≢◌, ◌*◌, ◌<◌, ◌^◌, ℕ, IfOk, IfErr, IfSome, IfNone};
-ghost use Rattle.std.specs.Prelude.{false, IsTrue};
+// Opens and makes the file of a disk.
+ghost use Rattle.std.specs.Prelude.{◌≡◌, ◌*◌, IfOk, IfErr, IfSome, IfNone};
+ghost use Rattle.std.specs.Prelude.{false, IsTrue, MatchResult};
 ghost use Rattle.file_disk.specs.FileDisk.{file_facts, IsNew, IsAsTheFile, IsOver, HasCause};
 ghost use Rattle.file_disk.specs.FileDisk.{StartsAsFound};
+ghost use Rattle.file_disk.specs.Length.{IsDiskLength, IsLengthFault};
 ghost use Rattle.file_disk.specs.declared.open.OpenFault.TheVariants.{OutOfMemory};
 
 use crate::disk::FileDisk;
 use crate::disk_file::{Access, DiskFile};
 use crate::locked::open_locked;
-use crate::new_name::NewName;
 use crate::sector_file::SectorFile;
+use crate::unnamed_file::UnnamedFile;
 use sector_disk::{Disk, SECTOR_BYTES};
 use std::alloc::{AllocError, Global};
 use std::fs::File;
@@ -22,14 +23,14 @@ use thiserror::Error;
 /// Why a file isn't opened as a disk.
 #[derive(Clone, Copy, Debug, PartialEq, Eq, Error)]
 pub enum OpenFault {
-    /// It can't be opened, locked, made or measured, or it is neither a regular file nor a block
-    /// device, or one that is in use.
+    /// The file can't be opened, locked, made or measured. Or it is neither a regular file nor a
+    /// block device, or it is a device in use.
     #[error("the file can't be opened")]
     CannotOpen,
-    /// Its length isn't that of whole sectors, or not that of the sectors that it was to have, or
-    /// that of 2^32 sectors or more.
+    /// The file's length, in bytes. It isn't that of a whole number of sectors, or not that of the
+    /// number of sectors that was asked for, or it is that of 2^32 sectors or more.
     #[error("the file hasn't the length of a disk")]
-    BadLength,
+    BadLength(u64),
     /// Memory was refused.
     #[error("out of memory")]
     OutOfMemory,
@@ -43,11 +44,11 @@ impl From<AllocError> for OpenFault {
     }
 }
 
-/// How many sectors a file of this length has, in bytes; none where they aren't whole, or are 2^32
-/// or more.
+/// Returns the number of sectors of a file of `length` bytes. Returns nothing if that isn't a whole
+/// number, or is 2^32 or more.
 pub(crate) fn sectors_in(length: u64) -> Option<u32>
     ensures some { IfSome result (λ sectors. length ≡ 512 * sectors) }
-    ensures none { IfNone result ((n : ℕ) → n < 2 ^ 32 → length ≢ 512 * n) }
+    ensures none { IfNone result (IsDiskLength length → ⊥) }
 {
     if length % SECTOR_BYTES as u64 == 0 {
         u32::try_from(length / SECTOR_BYTES as u64).ok()
@@ -56,7 +57,13 @@ pub(crate) fn sectors_in(length: u64) -> Option<u32>
     }
 }
 
-/// Opens the folder in which a path's file is.
+/// Returns the fault of a file that is a disk, but has another number of sectors than was asked
+/// for.
+fn other_length(disk: &FileDisk<DiskFile>) -> OpenFault {
+    OpenFault::BadLength(u64::from(disk.sectors()) * SECTOR_BYTES as u64)
+}
+
+/// Opens the folder that contains the file of `path`.
 pub(crate) fn open_folder<R: Files<File = File>>(rt: &R, path: &str) -> io::Result<File> {
     let folder = match Path::new(path).parent() {
         Some(folder) if !folder.as_str().is_empty() => folder.as_str(),
@@ -65,7 +72,7 @@ pub(crate) fn open_folder<R: Files<File = File>>(rt: &R, path: &str) -> io::Resu
     File::open(rt, folder)
 }
 
-/// Brings the name of a file to the medium: its folder is synced.
+/// Brings the name of a file to the medium, by syncing its folder.
 fn sync_folder<R: Files<File = File>>(rt: &R, path: &str) -> Result<(), OpenFault> {
     match open_folder(rt, path) {
         Ok(folder) if folder.sync_all().is_ok() => Ok(()),
@@ -73,7 +80,7 @@ fn sync_folder<R: Files<File = File>>(rt: &R, path: &str) -> Result<(), OpenFaul
     }
 }
 
-/// Whether nothing stands under a name, no link either.
+/// Returns whether nothing exists under a name, not even a symbolic link.
 pub(crate) fn is_free<R: Files>(rt: &R, path: &str) -> bool {
     match fs::symlink_metadata(rt, path) {
         Err(fault) => fault.kind() == ErrorKind::NotFound,
@@ -82,7 +89,7 @@ pub(crate) fn is_free<R: Files>(rt: &R, path: &str) -> bool {
 }
 
 impl<F: SectorFile + Drop> FileDisk<F> {
-    /// Makes a disk over an open file. It has as many sectors as the file has now.
+    /// Makes a disk over an open file. The disk has as many sectors as the file has now.
     pub fn over(alloc: Global, file: F) -> Result<FileDisk<F>, OpenFault>
         requires { IsTrue F.is_honest → (F.facts file).sync_failed ≡ false }
         ensures new { IfOk result (λ disk. IsNew disk) }
@@ -92,8 +99,11 @@ impl<F: SectorFile + Drop> FileDisk<F> {
         // Over a file that is found after a stop, the disk starts with the sectors of its medium.
         ensures reopen { IsTrue F.is_honest → IfOk result (λ disk. StartsAsFound file disk) }
 
-        // It fails only if memory is refused or the file's sectors can't be counted.
+        // The call fails only if memory is refused or the file's sectors can't be counted.
         ensures cause { IsTrue F.is_honest → IfErr result (λ fault. HasCause F.facts file fault) }
+
+        // Any file, honest or not, is refused for its length only if no disk has this length.
+        ensures length { IfErr result IsLengthFault }
     {
         let mut file = file;
         let sectors = file.count_sectors()?;
@@ -101,32 +111,34 @@ impl<F: SectorFile + Drop> FileDisk<F> {
     }
 }
 
-/// A disk of zeros or of whatever a file has, and the name that the file has yet to get.
+/// A disk of zeros that was made, or a disk over an existing file; and the name that a new file is
+/// still to get.
 #[derive(Drop)]
 pub struct Made<'a> {
     /// The disk.
     pub disk: FileDisk<DiskFile>,
-    /// The name, where the file was made.
-    pub name: Option<NewName<'a>>,
+    /// The name, if the file was made.
+    pub name: Option<UnnamedFile<'a>>,
 }
 
 impl FileDisk<DiskFile> {
-    /// Opens the disk that a regular file or a block device is, for reading or for changes. Its
-    /// lock is held until the disk is dropped.
+    /// Opens a regular file or a block device as a disk, for reading or for changes. The file stays
+    /// locked until the disk is dropped.
     pub fn open<R: Files<File = File> + Clock>(
         rt: &R,
         alloc: Global,
         path: &str,
         access: Access,
     ) -> Result<FileDisk<DiskFile>, OpenFault>
-        ensures { IfOk result (λ disk. IsNew disk) }
+        ensures { MatchResult result (λ disk. IsNew disk) IsLengthFault }
     {
         FileDisk::over(alloc, open_locked(rt, alloc, path, access)?)
     }
 
-    /// Opens the disk of so many sectors that a file is, for changes, and makes one of zeros where
-    /// nothing stands. One that stands is on the medium under its name then: its folder is synced.
-    /// One that was made gets its name by `NewName::give`, once what it is to hold is synced.
+    /// Opens the file at `path` as a disk of `sectors` sectors, for changes. If no file exists
+    /// there, makes a disk of zeros. An existing file is then on the medium under its name, because
+    /// its folder is synced. A file that was made gets its name by `UnnamedFile::publish`, once its
+    /// contents are synced.
     pub fn make<'a, R: Files<File = File> + Clock>(
         rt: &R,
         alloc: Global,
@@ -141,14 +153,14 @@ impl FileDisk<DiskFile> {
         }
         let disk = FileDisk::open(rt, alloc, path, Access::Changes)?;
         if disk.sectors() != sectors {
-            return Err(OpenFault::BadLength);
+            return Err(other_length(&disk));
         }
         sync_folder(rt, path)?;
         Ok(Made { disk, name: None })
     }
 }
 
-/// Makes a disk of zeros that has yet to get its name.
+/// Makes a disk of zeros that is still to get its name.
 fn make_new<'a, R: Files<File = File>>(
     rt: &R,
     alloc: Global,
@@ -159,7 +171,7 @@ fn make_new<'a, R: Files<File = File>>(
     ensures sectors { IfOk result (λ made. (file_facts made.disk).sectors ≡ sectors) }
 {
     let length = u64::from(sectors) * SECTOR_BYTES as u64;
-    let (file, name) = NewName::make(rt, alloc, path, length)?;
+    let (file, name) = UnnamedFile::make(rt, alloc, path, length)?;
     match over_made(alloc, file, sectors) {
         Ok(disk) => Ok(Made {
             disk,
@@ -172,14 +184,14 @@ fn make_new<'a, R: Files<File = File>>(
     }
 }
 
-/// The disk over a file that was made.
+/// Makes the disk over a file that was just made.
 fn over_made(alloc: Global, file: File, sectors: u32) -> Result<FileDisk<DiskFile>, OpenFault>
     ensures new { IfOk result (λ disk. IsNew disk) }
     ensures sectors { IfOk result (λ disk. (file_facts disk).sectors ≡ sectors) }
 {
     let disk = FileDisk::over(alloc, DiskFile::new(file, false)?)?;
     if disk.sectors() != sectors {
-        return Err(OpenFault::BadLength);
+        return Err(other_length(&disk));
     }
     Ok(disk)
 }

@@ -1,16 +1,17 @@
-// A property of sectors, which laws speak of.
+// A property of lists of sectors, which laws use.
 ghost use Rattle.std.specs.Prelude.{List};
 ghost use Rattle.sector_disk.specs.Disk.{Sector};
 
 use std::marker::Brand;
 
-/// Any property of a list of sectors. A law that is generic in it holds of each.
+/// Any property of a list of sectors. A law that is generic in the property holds for each
+/// property.
 pub trait Property {
-    /// It holds of these sectors.
+    /// The property holds of these sectors.
     ghost holds: { List Sector → Type 0 };
 }
 
-/// A caller of a law picks the property in its proof.
+/// The property that a caller of a law picks in the proof.
 impl Property for Brand {
     ghost holds = { λ sectors. ⊥ };
 }

@@ -1,4 +1,4 @@
-// Sectors to and from a file, in as many calls as it takes.
+// Moves sectors to and from a file, in as many calls as are needed.
 ghost use Rattle.std.specs.Prelude.{◌≡◌, ◌<◌, ◌≤◌, ◌+◌, ◌^◌, false, IsTrue, OnOk, OnErr, length};
 ghost use Rattle.file_disk.specs.inside.Transfer.{IsWrittenAt, IsReadAt};
 
@@ -6,8 +6,8 @@ use crate::sector_file::SectorFile;
 use sector_disk::{DiskFault, SECTOR_BYTES};
 use std::io::ErrorKind;
 
-/// Writes all sectors from this one on, also where the file takes few at a time or a signal
-/// interrupts.
+/// Writes all sectors of `from`, from sector `at` on, even if the file accepts only a few at a time
+/// or a signal interrupts a call.
 pub(crate) fn write_all<F: SectorFile>(
     file: &mut F,
     at: u32,
@@ -42,8 +42,8 @@ pub(crate) fn write_all<F: SectorFile>(
     Err(DiskFault::Failed)
 }
 
-/// Reads until so many sectors are there, the file gives none or a read fails, and says how many
-/// came.
+/// Reads until `most` sectors are there, the file returns none, or a read fails. Returns the number
+/// of sectors that were read.
 pub(crate) fn read_most<F: SectorFile>(
     file: &mut F,
     at: u32,

@@ -1,4 +1,4 @@
-// Commands as data, each with its answer in a word.
+// Commands as values, and their answers as words.
 
 use crate::listed::listed;
 use image::{BindRefusal, Image};
@@ -13,21 +13,21 @@ pub(crate) const BASE: u64 = 0x10000;
 /// A registry on a disk whose calls are counted.
 pub(crate) type OnMemory = Registry<Fuse<Memory>>;
 
-/// A command. Names have one byte.
+/// A command. Each name has one byte.
 #[derive(Clone, Copy)]
 pub(crate) enum Asked {
-    /// Installs the library of this name and version.
+    /// Installs the library with this name and this version.
     Install(u8, u8),
-    /// Puts this library in the place of the one of its name.
+    /// Replaces the library with this name by this version.
     Replace(u8, u8),
     Remove(&'static [u8]),
     Preload(&'static [&'static [u8]]),
-    /// Binds a program that needs the library of this name.
+    /// Binds a program that needs the library with this name.
     Bind(u8),
     List,
 }
 
-// Whether an image has an object's bytes at an address.
+// Returns whether an image has the bytes of `file` at `address`.
 fn has_at(image: &Image, address: u64, file: &[u8; SIZE]) -> bool {
     let mut same = true;
     for (at, byte) in file.iter().enumerate() {
@@ -36,15 +36,15 @@ fn has_at(image: &Image, address: u64, file: &[u8; SIZE]) -> bool {
     same
 }
 
-// Whether an image is that of the program that needs a, over the second a and with b as preload:
-// each file unchanged, one page after the other.
+// Returns whether an image is that of the program that needs a, with version 2 of a, and b as a
+// preload. Each file is in the image unchanged, one page after the other.
 fn is_whole(image: &Image) -> bool {
     has_at(image, BASE, &program(b'a'))
         && has_at(image, BASE.wrapping_add(0x1000), &library(b'b', 0))
         && has_at(image, BASE.wrapping_add(0x2000), &library(b'a', 1))
 }
 
-// The number of a refusal.
+// Returns the code of a refusal, such as `S1`.
 fn number_of(refusal: &Refusal) -> &'static str {
     match refusal {
         Refusal::Object(_) => "C1",
@@ -60,7 +60,7 @@ fn number_of(refusal: &Refusal) -> &'static str {
     }
 }
 
-/// What is answered.
+/// Returns the word for a reply, such as `ok` or a refusal's code.
 pub(crate) fn word(reply: &Reply) -> &'static str {
     match reply {
         Reply::Done => "ok",
@@ -76,7 +76,7 @@ pub(crate) fn word(reply: &Reply) -> &'static str {
     }
 }
 
-// The file of a library or of a program that a command has; zeros where it has none.
+// Returns the file of a command's library or program, or zeros if the command needs no file.
 fn file_of(asked: Asked) -> [u8; SIZE] {
     match asked {
         Asked::Install(name, version) | Asked::Replace(name, version) => library(name, version),
@@ -85,7 +85,7 @@ fn file_of(asked: Asked) -> [u8; SIZE] {
     }
 }
 
-// The command, with its file.
+// Returns the command as a registry accepts it. `file` is its file.
 fn command_of(asked: Asked, file: &[u8]) -> Command<'_> {
     match asked {
         Asked::Install(_, _) => Command::Install(file),
@@ -100,12 +100,12 @@ fn command_of(asked: Asked, file: &[u8]) -> Command<'_> {
     }
 }
 
-/// Gives a command.
+/// Gives a command to a registry, and returns its reply.
 pub(crate) fn give(registry: &mut OnMemory, asked: Asked) -> Reply {
     registry.apply(&command_of(asked, &file_of(asked)))
 }
 
-/// What a command is answered.
+/// Gives a command to a registry, and returns the word for its reply.
 pub(crate) fn ask(registry: &mut OnMemory, asked: Asked) -> &'static str {
     word(&give(registry, asked))
 }

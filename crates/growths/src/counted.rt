@@ -2,15 +2,15 @@
 
 use sector_disk::{Disk, Fuse, Memory, SECTOR_BYTES};
 
-// More calls than a part makes.
+// A number of calls that is greater than that of any part of the run.
 const MANY: u64 = 1_000;
 
-/// This disk: its call number `MANY` is the first that fails.
+/// Returns the disk with a counter of its calls: call number `MANY` is the first that fails.
 pub(crate) fn counted(disk: Memory) -> Fuse<Memory> {
     Fuse::new(disk, MANY, true, false)
 }
 
-/// How many calls were made of a disk: it is read until it fails.
+/// Returns how many calls of a disk have been made. Reads the disk until it fails to find this out.
 pub(crate) fn calls(disk: &mut Fuse<Memory>) -> u64 {
     let mut sector = [0; SECTOR_BYTES];
     for more in 1..=MANY {
@@ -21,7 +21,7 @@ pub(crate) fn calls(disk: &mut Fuse<Memory>) -> u64 {
     0
 }
 
-// So many calls as the place in the list says, each in a word.
+// The numbers of calls in words, by number.
 const CALLS: [&str; 12] = [
     "no call of the disk,",
     "1 call of the disk,",
@@ -37,7 +37,7 @@ const CALLS: [&str; 12] = [
     "11 calls of the disk,",
 ];
 
-/// So many calls, in a word.
+/// Returns the number of calls in words.
 pub(crate) fn calls_word(calls: u64) -> &'static str {
     match CALLS.get(calls as usize) {
         Some(word) => word,

@@ -11,7 +11,7 @@ use samples::{library, program};
 use sector_disk::Memory;
 use std::alloc::{AllocError, Global};
 
-/// Puts a line: what it says, and a file's bytes as hexadecimal after it.
+/// Puts a line that begins with the text `said` and ends with a file's bytes in hexadecimal.
 pub(crate) fn put_line(
     alloc: Global,
     lines: &mut Vec<u8>,
@@ -24,7 +24,7 @@ pub(crate) fn put_line(
     Ok(())
 }
 
-// The script, for the registry after all commands.
+// Returns the script. It is for the registry that all commands of `STEPS` have made.
 fn script_lines(alloc: Global) -> Result<Vec<u8>, AllocError> {
     let (a, c, other_c) = (library(b'a', 2), library(b'c', 0), library(b'c', 1));
     let (needs_a, needs_d) = (program(b'a'), program(b'd'));
@@ -53,13 +53,13 @@ fn script_lines(alloc: Global) -> Result<Vec<u8>, AllocError> {
     Ok(lines)
 }
 
-// What its lines are answered.
+// The answers to the script's lines, as words.
 const ANSWERS: [&str; 16] = [
     "list", "ok", "ok", "ok", "image", "B3", "slot", "slot", "ok", "going", "ok", "C2", "ok", "L1",
     "C3", "L2",
 ];
 
-// What a script wrote, whether it ended early, and the disk.
+// The output of a script, the fault if one ended it, and the disk.
 #[derive(Drop)]
 struct Ran {
     text: Vec<u8>,
@@ -67,7 +67,7 @@ struct Ran {
     disk: Memory,
 }
 
-// Runs a script over a disk, to a writer that has room.
+// Runs a script over a disk, with a writer that has enough room.
 fn run(alloc: Global, disk: Memory, lines: &[u8]) -> Result<Ran, AllocError> {
     let mut text = Vec::with_capacity(alloc, 32768)?;
     let mut binders = Binders::new(alloc, opened(alloc, disk)?);
@@ -80,7 +80,8 @@ fn run(alloc: Global, disk: Memory, lines: &[u8]) -> Result<Ran, AllocError> {
     })
 }
 
-// The lines that were done, by their replies, and these.
+// Returns the lines that were carried out, and the replies to them. `told` has the replies to all
+// lines.
 fn done(alloc: Global, lines: &[u8], told: &[Vec<u8>]) -> Result<[Vec<u8>; 2], AllocError> {
     let mut done = [Vec::new(alloc), Vec::new(alloc)];
     for (line, reply) in lines.split_inclusive(ends_line).zip(told) {
@@ -92,7 +93,8 @@ fn done(alloc: Global, lines: &[u8], told: &[Vec<u8>]) -> Result<[Vec<u8>; 2], A
     Ok(done)
 }
 
-// Whether the script of the lines that were done has the same replies, and leaves the same.
+// Returns whether a script of only the lines that were carried out has the same replies, and leaves
+// the same state.
 fn is_as_without(
     alloc: Global,
     lines: &[u8],
@@ -106,7 +108,7 @@ fn is_as_without(
     Ok(same && seen(alloc, without.disk)? == seen(alloc, disk)?)
 }
 
-// Whether all was answered as where no growth is refused.
+// Returns whether all answers are those of a run in which no growth is refused.
 fn is_whole(ran: &Ran, told: &[Vec<u8>]) -> bool {
     let mut same = ran.fault.is_none() && told.len() == ANSWERS.len();
     for (reply, wanted) in told.iter().zip(&ANSWERS) {
@@ -115,7 +117,7 @@ fn is_whole(ran: &Ran, told: &[Vec<u8>]) -> bool {
     same
 }
 
-// What a script ended with.
+// Returns the words that say how a script ended.
 fn end_word(fault: Option<ScriptFault>) -> &'static str {
     match fault {
         None => "to the end;",
@@ -125,7 +127,7 @@ fn end_word(fault: Option<ScriptFault>) -> &'static str {
     }
 }
 
-// What is told of a script that was answered otherwise.
+// Returns the report about a script with another answer than expected.
 fn otherwise(
     alloc: Global,
     lines: &[u8],
@@ -146,7 +148,7 @@ fn otherwise(
     Ok(words)
 }
 
-/// Runs the script.
+/// Runs the script. Returns a report if an answer isn't the expected one.
 pub(crate) fn script(alloc: Global, disk: Memory) -> Result<Option<Words>, AllocError> {
     let lines = script_lines(alloc)?;
     let ran = run(alloc, disk, &lines)?;

@@ -1,4 +1,4 @@
-// Making a registry.
+// Formatting a disk.
 
 use crate::counted::{calls, calls_word, counted};
 use crate::run::Went;
@@ -8,15 +8,15 @@ use sector_disk::{Fuse, Memory};
 use std::alloc::{AllocError, Global};
 use store::StoreRefusal;
 
-/// How many sectors each disk has.
+/// The number of sectors of each disk.
 const SECTORS: u32 = 16;
 
-/// A disk of zeros.
+/// Makes a disk of zeros.
 pub(crate) fn zeros(alloc: Global) -> Result<Memory, AllocError> {
     Memory::new(alloc, SECTORS)
 }
 
-/// The number of a refusal of an opening or a format.
+/// Returns the code of the refusal of an opening or a format.
 pub(crate) fn refusal_word(refusal: StoreRefusal) -> &'static str {
     match refusal {
         StoreRefusal::Device => "S1",
@@ -26,7 +26,7 @@ pub(crate) fn refusal_word(refusal: StoreRefusal) -> &'static str {
     }
 }
 
-// What a format of a disk is answered.
+// Formats a disk after a refused format, and returns the answer.
 fn again(alloc: Global, disk: Memory) -> &'static str {
     match Registry::format(alloc, counted(disk)) {
         Ok(registry) => {
@@ -37,7 +37,7 @@ fn again(alloc: Global, disk: Memory) -> &'static str {
     }
 }
 
-// What is told of a format that was refused.
+// Returns the report about a format that was refused.
 fn refused(alloc: Global, refusal: StoreRefusal, disk: Fuse<Memory>) -> Words {
     let mut disk = disk;
     let mut words = Words::of("format:");
@@ -48,7 +48,7 @@ fn refused(alloc: Global, refusal: StoreRefusal, disk: Fuse<Memory>) -> Words {
     words
 }
 
-/// Makes a registry.
+/// Formats a disk, and returns it, or a report if the format was refused.
 pub(crate) fn format(alloc: Global) -> Result<Went, AllocError> {
     match Registry::format(alloc, counted(zeros(alloc)?)) {
         Ok(registry) => Ok(Went::On(registry.into_disk().into_inner())),

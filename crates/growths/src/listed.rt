@@ -1,8 +1,8 @@
-// What a listing says, in a word.
+// Listings in words.
 
 use requests::Listing;
 
-// Names of libraries, names of preloads, and the word for a listing of them.
+// The names of libraries, the names of preloads, and the words for a listing of these.
 type Line = (&'static [u8], &'static [u8], &'static str);
 
 const LINES: [Line; 5] = [
@@ -13,7 +13,8 @@ const LINES: [Line; 5] = [
     (b"abc", b"b", "list a b c preload b"),
 ];
 
-// Whether these libraries and preloads are listed, in this order. Names have one byte.
+// Returns whether a listing has these libraries and these preloads, in this order. Each name has
+// one byte.
 fn is_listed(listing: &Listing, libraries: &[u8], preloads: &[u8]) -> bool {
     let mut same = listing.libraries.len() == libraries.len()
         && listing.preloads.len() == preloads.len();
@@ -26,7 +27,7 @@ fn is_listed(listing: &Listing, libraries: &[u8], preloads: &[u8]) -> bool {
     same
 }
 
-/// What is listed.
+/// Returns the words for a listing.
 pub(crate) fn listed(listing: &Listing) -> &'static str {
     for (libraries, preloads, word) in &LINES {
         if is_listed(listing, libraries, preloads) {

@@ -1,5 +1,6 @@
-//! The program `growths`: takes a registry on a disk in memory through each of its calls, and tells
-//! what is answered, and what stands afterwards, where a growth of memory is refused.
+//! The program `growths`: makes each call of a registry on a disk in memory while one growth (a
+//! request for memory) is refused. It prints the first unexpected answer, and the state of the
+//! registry after it.
 #![tactic(auto)]
 
 mod asked;

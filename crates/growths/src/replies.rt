@@ -2,7 +2,7 @@
 
 use std::alloc::{AllocError, Global};
 
-// How a reply of one line begins, and its word.
+// The beginnings of replies of one line, and the words for these replies.
 const LINES: [(&[u8], &str); 13] = [
     (b"ok\n", "ok"),
     (b"slot ", "slot"),
@@ -19,7 +19,7 @@ const LINES: [(&[u8], &str); 13] = [
     (b"refused L2 ", "L2"),
 ];
 
-// The word of a line that is a whole reply.
+// Returns the word for a reply that is one complete line.
 fn line_word(line: &[u8]) -> Option<&'static str> {
     for (front, word) in &LINES {
         if line.starts_with(front) {
@@ -29,7 +29,7 @@ fn line_word(line: &[u8]) -> Option<&'static str> {
     None
 }
 
-/// The word of a reply.
+/// Returns the word for a reply.
 pub(crate) fn reply_word(reply: &[u8]) -> &'static str {
     match line_word(reply) {
         Some(word) => word,
@@ -38,12 +38,12 @@ pub(crate) fn reply_word(reply: &[u8]) -> &'static str {
     }
 }
 
-/// Whether a byte ends a line.
+/// Returns whether a byte ends a line.
 pub(crate) fn ends_line(byte: &u8) -> bool {
     *byte == b'\n'
 }
 
-/// The replies of a text. A listing and an image end with their line `end`.
+/// Splits a text into replies. The reply to a listing or an image ends with the line `end`.
 pub(crate) fn replies(alloc: Global, text: &[u8]) -> Result<Vec<Vec<u8>>, AllocError> {
     let mut all = Vec::new(alloc);
     let mut reply = Vec::new(alloc);
@@ -57,8 +57,8 @@ pub(crate) fn replies(alloc: Global, text: &[u8]) -> Result<Vec<Vec<u8>>, AllocE
     Ok(all)
 }
 
-/// Whether a reply says that its line wasn't done for want of memory, or for a disk that found
-/// none.
+/// Returns whether a reply says that its line wasn't carried out because memory was refused, to the
+/// registry or to the disk.
 pub(crate) fn is_not_done(reply: &[u8]) -> bool {
     matches!(reply_word(reply), "S1" | "S2" | "S11")
 }

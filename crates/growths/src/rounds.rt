@@ -1,4 +1,4 @@
-// Rounds of commands, with a stop after each.
+// Rounds of commands, with a stop after each round.
 
 use crate::asked::{Asked, BASE, ask, word};
 use crate::format::refusal_word;
@@ -10,7 +10,8 @@ use samples::{library, program};
 use sector_disk::Memory;
 use std::alloc::{AllocError, Global};
 
-// A round of two commands, of which this call is cut; at the stop each sector has its last content.
+// Makes a round of two commands. Its call number `cut` is cut. At the stop each sector keeps its
+// last content.
 fn round<'a>(alloc: Global, commands: [Command<'a>; 2], cut: u64) -> Result<Round<'a>, AllocError> {
     Ok(Round {
         commands: Vec::from_slice(alloc, &commands)?,
@@ -20,7 +21,7 @@ fn round<'a>(alloc: Global, commands: [Command<'a>; 2], cut: u64) -> Result<Roun
     })
 }
 
-// The three rounds: with the file of a library, its name, and a program.
+// Returns the three rounds. `file` is the file of a library, and `name` is its name.
 fn all_rounds<'a>(
     alloc: Global,
     file: &'a [u8],
@@ -38,7 +39,8 @@ fn all_rounds<'a>(
     Ok(all)
 }
 
-// Tells what the rounds are told: the number of each reply, or why there are none.
+// Adds words for the replies of the rounds: a word for each reply, or the refusal if a round wasn't
+// run.
 fn tell(words: &mut Vec<&'static str>, all: &[RoundReplies]) -> Result<(), AllocError> {
     for told in all {
         match told {
@@ -57,10 +59,10 @@ fn tell(words: &mut Vec<&'static str>, all: &[RoundReplies]) -> Result<(), Alloc
     Ok(())
 }
 
-// What is told where no growth is refused.
+// The words for the replies if no growth is refused.
 const TOLD: &str = "ok, list a b c preload b, |, S1, S2, |, list a b preload b, image, |";
 
-// What a disk lists.
+// Returns the listing of the registry on a disk, in words.
 fn left(alloc: Global, disk: Memory) -> Result<&'static str, AllocError> {
     let mut registry = opened(alloc, disk)?;
     let list = ask(&mut registry, Asked::List);
@@ -68,7 +70,7 @@ fn left(alloc: Global, disk: Memory) -> Result<&'static str, AllocError> {
     Ok(list)
 }
 
-// Whether these are the words where no growth is refused.
+// Returns whether these are the words of a run in which no growth is refused.
 fn is_whole(words: &[&'static str]) -> bool {
     let mut wanted = TOLD.split(", ");
     let mut same = true;
@@ -78,7 +80,7 @@ fn is_whole(words: &[&'static str]) -> bool {
     same && wanted.next().is_none()
 }
 
-// What is told where a growth is refused.
+// Returns the report about rounds with other words than expected.
 fn otherwise(
     alloc: Global,
     title: &'static str,
@@ -94,8 +96,9 @@ fn otherwise(
     Ok(said)
 }
 
-/// Runs three rounds: a library is installed and listed; it is removed, and the last sync fails, so
-/// that the root's new content is found after the stop; a listing and a bind show what stands.
+/// Runs three rounds. The first installs a library, and lists. The second removes it, and its last
+/// sync fails, but the stop keeps the new content of the root. The third shows the state with a
+/// listing and a bind.
 pub(crate) fn rounds(alloc: Global, disk: Memory) -> Result<Option<Words>, AllocError> {
     let file = library(b'c', 0);
     let needing = program(b'a');

@@ -1,4 +1,5 @@
-// The whole run: a registry is made, each command is given, and what else grows comes after.
+// The whole run: it makes a registry, gives it each command, and then runs the other parts that
+// allocate.
 
 use crate::asked::{Asked, OnMemory, ask};
 use crate::counted::{calls, calls_word, counted};
@@ -14,15 +15,14 @@ use sector_disk::{Fuse, Memory};
 use std::alloc::{AllocError, Global};
 use store::StoreRefusal;
 
-/// How a part went: on, with the disk after it; or otherwise than where no growth is refused, and
-/// then how.
+/// The result of a part: the disk after it, or a report if an answer isn't the expected one.
 #[derive(Drop)]
 pub(crate) enum Went {
     On(Memory),
     Otherwise(Words),
 }
 
-/// The registry that a disk holds.
+/// Opens the registry on a disk.
 pub(crate) fn opened(alloc: Global, disk: Memory) -> Result<OnMemory, AllocError> {
     match Registry::open(alloc, counted(disk)) {
         Ok(registry) => Ok(registry),
@@ -30,13 +30,13 @@ pub(crate) fn opened(alloc: Global, disk: Memory) -> Result<OnMemory, AllocError
     }
 }
 
-// How many calls an opening makes before a command.
+// Returns the number of calls of the disk that an opening makes before command number `at`.
 fn opening_calls(alloc: Global, at: usize) -> Result<u64, AllocError> {
     let mut disk = opened(alloc, before(alloc, at)?)?.into_disk();
     Ok(calls(&mut disk))
 }
 
-// What the command at a place of the list is answered by the registry that a disk holds.
+// Opens the registry on a disk, gives it command number `at`, and returns the answer.
 fn again(alloc: Global, disk: Memory, at: usize) -> Result<&'static str, AllocError> {
     let mut registry = opened(alloc, disk)?;
     let asked = match STEPS.get(at) {
@@ -48,8 +48,9 @@ fn again(alloc: Global, disk: Memory, at: usize) -> Result<&'static str, AllocEr
     Ok(answer)
 }
 
-// Tells more of a disk that a command or its opening was refused on: the calls that were made of
-// it since `opened`, whether it stands as before, and what the command is answered then.
+// Adds three facts to the report about a refused command or opening. They are the number of calls
+// of the disk after the first `opened_calls`, whether the registry is as before, and the answer if
+// the command is given again.
 fn tell(
     alloc: Global,
     words: Words,
@@ -68,7 +69,8 @@ fn tell(
     Ok(words)
 }
 
-// What is told of an answer that isn't the one that is wanted. After S1 the same is asked at once.
+// Returns the report about an unexpected answer. After S1 the same command is also given again at
+// once.
 fn otherwise(
     alloc: Global,
     registry: OnMemory,
@@ -88,7 +90,7 @@ fn otherwise(
     tell(alloc, words, at, disk, opening_calls(alloc, at)?)
 }
 
-// What is told of an opening that was refused.
+// Returns the report about an opening that was refused.
 fn not_opened(
     alloc: Global,
     refusal: StoreRefusal,
@@ -102,7 +104,8 @@ fn not_opened(
     tell(alloc, words, at, disk, 0)
 }
 
-// Opens a copy of the disk, so that its next write grows, and gives a command.
+// Opens a copy of the disk, and gives its registry command number `at`. On a copy, the next write
+// has to allocate.
 fn go(alloc: Global, disk: &Memory, step: Step, at: usize) -> Result<Went, AllocError> {
     match Registry::open(alloc, counted(disk.copy()?)) {
         Ok(mut registry) => {
@@ -117,7 +120,7 @@ fn go(alloc: Global, disk: &Memory, step: Step, at: usize) -> Result<Went, Alloc
     }
 }
 
-// All commands.
+// Gives all commands.
 fn steps(alloc: Global, disk: Memory) -> Result<Went, AllocError> {
     let mut disk = disk;
     for (at, step) in STEPS.iter().enumerate() {
@@ -129,7 +132,7 @@ fn steps(alloc: Global, disk: Memory) -> Result<Went, AllocError> {
     Ok(Went::On(disk))
 }
 
-// What grows besides commands.
+// Runs the parts that come after the commands.
 fn besides(alloc: Global, disk: Memory) -> Result<Option<Words>, AllocError> {
     if let Some(words) = text(alloc, disk.copy()?)? {
         return Ok(Some(words));
@@ -140,8 +143,8 @@ fn besides(alloc: Global, disk: Memory) -> Result<Option<Words>, AllocError> {
     rounds(alloc, disk)
 }
 
-/// Runs all: what is told where something is otherwise than without a refused growth. `Err` is a
-/// growth of this program's own that was refused.
+/// Runs everything. Returns a report about the first unexpected answer, if there is one. `Err`
+/// means that a growth of this program itself was refused.
 pub(crate) fn run(alloc: Global) -> Result<Option<Words>, AllocError> {
     let disk = match format(alloc)? {
         Went::On(disk) => disk,

@@ -1,4 +1,4 @@
-// What a registry on a disk lists and binds.
+// The listing and the binds of a registry on a disk.
 
 use crate::asked::ask;
 use crate::counted::counted;
@@ -13,7 +13,7 @@ use samples::{library, program};
 use sector_disk::Memory;
 use std::alloc::{AllocError, Global};
 
-/// A disk before the command at a place of the list, where nothing is refused.
+/// Returns the disk before command number `at`, as it is if no growth is refused.
 pub(crate) fn before(alloc: Global, at: usize) -> Result<Memory, AllocError> {
     let Ok(mut registry) = Registry::format(alloc, counted(zeros(alloc)?)) else {
         return Err(AllocError);
@@ -24,7 +24,8 @@ pub(crate) fn before(alloc: Global, at: usize) -> Result<Memory, AllocError> {
     Ok(registry.into_disk().into_inner())
 }
 
-// The script of a listing and two binds: of a program that needs a, and of one that needs none.
+// Returns a script of a listing and two binds: of a program that needs the library a, and of a
+// program that needs no library.
 fn looks(alloc: Global) -> Result<Vec<u8>, AllocError> {
     let mut lines = Vec::new(alloc);
     put_line(alloc, &mut lines, b"list", b"")?;
@@ -33,7 +34,7 @@ fn looks(alloc: Global) -> Result<Vec<u8>, AllocError> {
     Ok(lines)
 }
 
-/// The listing and the texts of these binds.
+/// Returns the answers to this script, as text.
 pub(crate) fn seen(alloc: Global, disk: Memory) -> Result<Vec<u8>, AllocError> {
     let lines = looks(alloc)?;
     let mut binders = Binders::new(alloc, opened(alloc, disk)?);
@@ -46,7 +47,8 @@ pub(crate) fn seen(alloc: Global, disk: Memory) -> Result<Vec<u8>, AllocError> {
     }
 }
 
-/// Whether a disk lists and binds what one does before the command at a place of the list.
+/// Returns words that say whether the registry on a disk lists and binds as the registry before
+/// command number `at` does.
 pub(crate) fn is_as_before(
     alloc: Global,
     disk: Memory,

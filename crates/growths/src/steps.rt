@@ -1,11 +1,11 @@
-// The commands, one after the other, with what each is answered where no growth is refused.
+// The commands, in their order, with their answers if no growth is refused.
 
 use crate::asked::Asked;
 
-/// A command's name, the command, and what it is answered.
+/// The name of a command, the command, and its answer.
 pub(crate) type Step = (&'static str, Asked, &'static str);
 
-/// The commands, in their order. At the end a and b are installed, and b is the preload.
+/// The commands, in their order. After them a and b are installed, and b is the preload.
 pub(crate) const STEPS: [Step; 11] = [
     ("install a:", Asked::Install(b'a', 0), "ok"),
     ("install b:", Asked::Install(b'b', 0), "ok"),

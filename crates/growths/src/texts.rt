@@ -1,4 +1,4 @@
-// The text of an image, to a writer that grows.
+// The text of an image, written to a writer whose memory grows.
 
 use crate::asked::{Asked, give};
 use crate::run::opened;
@@ -7,8 +7,8 @@ use requests::Reply;
 use sector_disk::Memory;
 use std::alloc::{AllocError, Global};
 
-/// Writes the image of the program that needs a. `write_text` takes no memory: the growths are its
-/// writer's.
+/// Writes the text of the image of the program that needs a. `write_text` allocates nothing: only
+/// its writer does.
 pub(crate) fn text(alloc: Global, disk: Memory) -> Result<Option<Words>, AllocError> {
     let mut registry = opened(alloc, disk)?;
     let reply = give(&mut registry, Asked::Bind(b'a'));

@@ -1,9 +1,9 @@
-// What is told, word by word.
+// Reports, as lists of words.
 
-// How many words are told at most: more than any run tells.
+// The maximum number of words in a report, which is more than any report needs.
 const MOST: usize = 48;
 
-/// Words, in their order. They take no memory, so that none of the growths is theirs.
+/// Words, in their order. They allocate nothing, so the refused growth is never theirs.
 #[derive(Clone, Copy)]
 pub(crate) struct Words {
     list: [&'static str; MOST],
@@ -11,7 +11,7 @@ pub(crate) struct Words {
 }
 
 impl Words {
-    /// This word alone.
+    /// Makes a report of one word.
     pub(crate) fn of(word: &'static str) -> Words {
         let mut words = Words {
             list: [""; MOST],
@@ -21,7 +21,7 @@ impl Words {
         words
     }
 
-    /// Tells a word more. Where there is no place for it, the last place says so.
+    /// Adds a word. If there is no room for it, the last word becomes one that says this.
     pub(crate) fn push(&mut self, word: &'static str) {
         let count = self.count;
         match self.list.get_mut(count) {
@@ -33,7 +33,7 @@ impl Words {
         }
     }
 
-    /// What was told.
+    /// Returns the words.
     pub(crate) fn told(&self) -> &[&'static str] {
         self.list.get(..self.count).unwrap_or(&self.list)
     }

@@ -1,4 +1,4 @@
--- Strings in order, and what they begin with.
+-- The order of strings that begin in the same way.
 use Rattle.std.proofs.Common.{◌≡◌, ℕ, ◌≤◌, true, false, List, [], ◌∷◌, length, take, arith, refl, ◌∙◌, sym, ap, suc, zero}
 use Rattle.std.specs.Cmp.Lexicographic.{slice_cmp}
 use Rattle.std.specs.Ordering.{nat_cmp, ordering_then, is_lt}
@@ -22,7 +22,7 @@ tied a b r e = ap (λ k. ordering_then (nat_cmp a k) r) (sym e) ∙ ap (λ o. or
 rest-not-less : (a b : ℕ) (r : Ordering) → a ≡ b → is_lt (ordering_then (nat_cmp a b) r) ≡ false → is_lt r ≡ false
 rest-not-less a b r e h = ap is_lt (sym (tied a b r e)) ∙ h
 
--- what two strings in order begin with, the ones between do too
+-- if two strings begin with `p`, a string between them in the order begins with `p` too
 pub front-stays : (p r s : List ℕ) → is_lt (slice_cmp nat_cmp r p) ≡ false → is_lt (slice_cmp nat_cmp s r) ≡ false → take (length p) s ≡ p → take (length p) r ≡ p
 front-stays [] r s low high front = refl
 front-stays (x ∷ p) [] s low high front = let wrong : true ≡ false = low in absurd (cc)
@@ -39,7 +39,7 @@ front-stays (x ∷ p) (y ∷ r) (z ∷ s) low high front =
     front-stays p r s (rest-not-less y x (slice_cmp nat_cmp r p) same low) (rest-not-less z y (slice_cmp nat_cmp s r) same_above high) rest in
     ap (λ k. k ∷ take (length p) r) same ∙ ap (λ t. x ∷ t) tail
 
--- the front of a string isn't behind it
+-- the first n bytes of a string don't come after the string in the order, and the order is transitive
 pub front-before : (n : ℕ) (s : List ℕ) → is_lt (slice_cmp nat_cmp s (take n s)) ≡ false
 front-before zero [] = refl
 front-before zero (x ∷ s) = refl

@@ -1,11 +1,11 @@
--- What a search in a table of names finds, and how a table is filled.
+-- The result of a search in a table of names, and how the table is filled.
 use Rattle.std.proofs.Common.{◌≡◌, ◌≢◌, ℕ, List, arith, ◌∙◌, sym, ap, inl, inr, get_or, set, subst}
 use Rattle.std.proofs.lemmas.Bool.{cases_lt}
 use Rattle.std.proofs.lemmas.List.{get_or-set_other}
 use Rattle.hash_check.specs.inside.NameTable.{IsOther, HoldOthers, Reaches}
 
 module _ (text : ℕ → List ℕ) (cells name : List ℕ) (from : ℕ) where
-  -- a name is found at one place
+  -- a search finds a name at only one place
   pub one-place : (at place : ℕ) → Reaches text cells name from at → Reaches text cells name from place → place ≡ at
   one-place at place a b = elim (cases_lt place at) [
     | inl less ↦ absurd ((a.others place b.behind less).differs b.same)

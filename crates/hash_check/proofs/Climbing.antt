@@ -1,4 +1,4 @@
--- One step of a climb to a depth, by a jump or by a chain word.
+-- One step towards a depth, by a jump or by a chain word.
 use Rattle.std.proofs.Common.{◌≡◌, ℕ, ◌<◌, ◌≤◌, ◌+◌, ◌-◌, List, length, arith, ◌∙◌, sym, ap, subst, Some, inl, inr, ◌⊎◌}
 use Rattle.std.specs.Prelude.{Option, slice_index}
 use Rattle.hash_check.specs.Walk.{walk}
@@ -8,18 +8,19 @@ use Rattle.hash_check.specs.declared.place.Place.{Place}
 use Rattle.hash_check.proofs.Walks.{walk-zero, walk-add, walk-next, walk-suc, depth-along, depth-unique}
 use Rattle.hash_check.proofs.Knowing.{known-index, jump_known, jump_depth}
 
--- from an index on the walk from another a climb has come so far that at least `depth` steps are left
+-- `at` is on the walk from `from`, and the walk has at least `depth` steps left there
 pub record Climbs (c : List ℕ) (from depth at : ℕ) : Type 0 where
   pub on : (d : ℕ) → Depth c from d → (k : ℕ) × (at ≡ walk c from k) × (k ≤ d - depth)
 
--- what a step of a climb has to give
+-- `next`, the index after a step, has a place, is on the walk with at least `depth` steps left, and has
+-- fewer steps left than the index before
 pub record Step (c : List ℕ) (ps : List (Option Place)) (from depth : ℕ) (p : Place) (next : ℕ) : Type 0 where
   pub within : next < length c
   pub known : Known ps next
   pub climbs : Climbs c from depth next
   pub falls : (q : Place) → place_at ps next ≡ Some q → q.depth < p.depth
 
--- the steps that are left where a climb has come
+-- if the walk from `from` has d steps, it has d - k steps left after k steps
 left : (c : List ℕ) (from at d k e : ℕ) → Depth c from d → at ≡ walk c from k → k ≤ d → Depth c at e → e ≡ d - k
 left c from at d k e h is le g = depth-unique c at e (d - k) g (subst (λ w. Depth c w (d - k)) (sym is) (depth-along c from d k h le))
 
@@ -62,7 +63,8 @@ step-single c ps from depth at p words lt sound size is h more =
       falls = λ q at-next. omega (arith, depth-unique c (slice_index c at) q.depth (p.depth - 1) ((sound.says (slice_index c at) q at-next).depth) below);
     }
 
--- where a climb stops
+-- if `at` is on the walk and has at most `depth` steps left, it is the index with exactly `depth` steps
+-- left
 pub arrived : (c : List ℕ) (ps : List (Option Place)) (from depth at d : ℕ) (p : Place) → Sound c ps → place_at ps at ≡ Some p
     → Climbs c from depth at → p.depth ≤ depth → Depth c from d → at ≡ walk c from (d - depth)
 arrived c ps from depth at d p sound is h low top =

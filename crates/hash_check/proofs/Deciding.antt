@@ -1,4 +1,4 @@
--- The tests of admission decide what they stand for.
+-- The tests of admission decide the conditions that they are named for.
 use Rattle.std.proofs.Common.{◌≡◌, ◌≢◌, ℕ, ◌<◌, ◌+◌, ◌%◌, Bool, true, false, List, length, arith, refl, ◌∙◌, sym, ap, inl, inr, get_or, eqb, None, [], ◌∷◌}
 use Rattle.std.specs.Prelude.{◌&&◌, not, nat_lt}
 use Rattle.std.specs.List.{list_any, range_with_len}
@@ -73,7 +73,7 @@ not-true : (b : Bool) → not b ≡ true → b ≡ false
 not-true true e = sym e
 not-true false e = refl
 
--- the words
+-- the test of the words passes exactly if there is a bucket and every word is an index
 words-true : (file : List ℕ) → has_good_words file ≡ true → HasBucket file × HasIndexWords file
 unfolding has_good_words
 words-true file is =
@@ -90,7 +90,7 @@ words_test file h =
     let none : not (eqb (length (buckets file)) 0) ≡ true = elim (eqb_tells (length (buckets file)) 0) [ inl t ↦ absurd (some t.1) | inr f ↦ ap not f.0 ] in
     both_true none (both_true (indices-test (length (chains file)) (buckets file) h.1.bucket_words) (indices-test (length (chains file)) (chains file) h.1.chain_words))
 
--- the walks
+-- if the test of the walks passes, the walk from every bucket ends
 walks-true : (file : List ℕ) → has_ending_walks file ≡ true → HasEndingWalks file
 unfolding has_ending_walks
 walks-true file is k d lt = ends-true (chains file) (get_or (buckets file) k d) (AllPass-from_list_all (ends_soon (chains file)) (buckets file) is k d lt)
@@ -100,7 +100,7 @@ unfolding has_ending_walks
 walks-test file words h =
     list_all-from_AllPass (ends_soon (chains file)) (buckets file) (λ k d lt. ends-test (chains file) (get_or (buckets file) k d) words.chain_words (words.bucket_words k d lt) (h k d lt))
 
--- the exported symbols
+-- if the test of the exported symbols passes, every exported symbol is met on its walk
 exports-true : (file : List ℕ) → HasBucket file → HasIndexWords file → HasEndingWalks file → meets_exports file ≡ true → MeetsExports file
 unfolding meets_exports is_met
 exports-true file some words ends is i here =
@@ -129,7 +129,7 @@ not-false : (b : Bool) → not b ≡ false → b ≡ true
 not-false true e = refl
 not-false false e = absurd (cc)
 
--- a table that the test doesn't find bad is good
+-- a table that the test doesn't find bad can be trusted
 pub good-from-test : (file : List ℕ) → has_bad_hash_table file ≡ false → HasGoodTable file
 unfolding has_bad_hash_table
 good-from-test file is =
@@ -140,7 +140,7 @@ good-from-test file is =
     let ends : HasEndingWalks file = walks-true file q.0 in
     record { some_bucket = words.0; words = words.1; ends = ends; met = exports-true file words.0 words.1 ends q.1 }
 
--- an answer that is true exactly where the table is good
+-- an answer that is true exactly if the table can be trusted is the opposite of the test
 pub bad_test : (file : List ℕ) (good : Bool) → (good ≡ true → HasGoodTable file) → (HasGoodTable file → good ≡ true) → not good ≡ has_bad_hash_table file
 bad_test file true to from = sym (good-test file (to refl))
 bad_test file false to from =
@@ -149,7 +149,8 @@ bad_test file false to from =
       | false ↦ λ e. let wrong : false ≡ true = from (good-from-test file e) in cc
     ] refl
 
--- what stands of an admitted object
+-- if admission refuses nothing, neither of its tests applies, no two exported symbols share a name, and
+-- the hash table can be trusted
 refused-no-more : (a b : Bool) → first_of ((DuplicateDefinition when a) ∷ (BadHashTable when b) ∷ []) ≡ None → (a ≡ false) × (b ≡ false)
 refused-no-more true b e = absurd (cc)
 refused-no-more false true e = absurd (cc)

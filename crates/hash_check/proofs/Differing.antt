@@ -1,4 +1,4 @@
--- Names that differ are those of which each has its own number.
+-- Names differ exactly if the number of each of them is its own position.
 use Rattle.std.proofs.Common.{◌≡◌, ◌<◌, ◌≤◌, ◌+◌, ◌-◌, ◌∙◌, ℕ, zero, suc, Bool, List, [], length, map, arith, sym, ap, subst, get_or, inl, inr}
 use Rattle.std.specs.Prelude.{◌↔◌, IsTrue}
 use Rattle.std.proofs.lemmas.Bool.{cases_lt}
@@ -39,7 +39,7 @@ module _ (file symbols numbers : List ℕ) (h : AreNumbers (map (name_of file) s
         ];
   }
 
--- the names of symbols differ where each has its own number
+-- the names of symbols differ exactly if the number of each is its own position, counted from 1
 pub own-tells : (file symbols : List ℕ) (names : List (List ℕ)) (numbers : List ℕ) (b : Bool) → names ≡ map (name_of file) symbols → AreNumbers names numbers → IsTrue b ↔ AreOwn numbers
     → IsTrue b ↔ AllDiffer file symbols
 own-tells file symbols names numbers b is h own =
@@ -59,7 +59,7 @@ shorter names j (suc n) h lt =
     let rest : length (nth_text names (j + n + 1)) < length (nth_text names j) = shorter names j n h (omega (arith, lt)) in
     omega (arith, one, rest)
 
--- names that are each shorter than the one before differ
+-- if each name is shorter than the one before it, the names differ
 pub differ-from-fall : (file symbols : List ℕ) (names : List (List ℕ)) → names ≡ map (name_of file) symbols → Fall names → AllDiffer file symbols
 differ-from-fall file symbols names is h = record {
   differ = λ i j less lt same.

@@ -1,4 +1,4 @@
--- The exported symbols in any order, with their names.
+-- The exported symbols in another order, and their names.
 use Rattle.std.proofs.Common.{◌≡◌, ℕ, Bool, true, false, List, ◌∙◌, sym, ap, subst, get_or, eqb, map}
 use Rattle.std.specs.Prelude.{not}
 use Rattle.std.specs.List.{All, list_any}
@@ -13,7 +13,7 @@ use Rattle.hash_check.specs.Export.{is_exported, exported_symbols}
 use Rattle.hash_check.specs.inside.Names.{AllDiffer, AreExports, IsWhole}
 use Rattle.hash_check.proofs.SharedNames.{stands, exported-passes, not-differ}
 
--- each exported symbol stands in the list that they were moved in
+-- if the exported symbols were reordered, the list has all of them, and the names are theirs
 pub whole-moved : (file ys : List ℕ) → IsPermutation (exported_symbols file) ys → IsWhole file ys
 whole-moved file ys moved = record {
   stands = λ i is.
@@ -30,7 +30,7 @@ exports-moved file ys names moved is = record {
   named = is;
 }
 
--- all of them in their order
+-- if a list is equal to that of the exported symbols, it has all of them, and the names are theirs
 pub whole-all : (file ys : List ℕ) → ys ≡ exported_symbols file → IsWhole file ys
 whole-all file ys is = subst (IsWhole file) (sym is) (whole-moved file (exported_symbols file) (IsPermutation-refl (exported_symbols file)))
 
@@ -40,7 +40,8 @@ exports-all file ys names is named = record {
   named = named;
 }
 
--- what is told of symbols that were moved is told of the file
+-- if `b` says whether the names of the reordered exported symbols differ, the test for duplicates is the
+-- opposite of `b`
 told : (file ys : List ℕ) → IsPermutation (exported_symbols file) ys → (b : Bool) → (b ≡ true → AllDiffer file ys) → (AllDiffer file ys → b ≡ true) → has_duplicate_definition file ≡ not b
 told file ys moved b to from = sym (not-differ file ys moved b to from)
 

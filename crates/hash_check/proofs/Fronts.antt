@@ -1,4 +1,4 @@
--- The front of a string of the string table, and that it tells the string from others.
+-- The first bytes of a string of the string table are enough to recognize the string.
 use Rattle.std.proofs.Common.{◌≡◌, ◌≢◌, ℕ, ◌<◌, ◌≤◌, ◌+◌, ◌-◌, Bool, true, false, cond, List, [], ◌∷◌, length, drop, take, min, arith, refl, ◌∙◌, sym, ap, suc, zero, eqb, get_or, inl, inr}
 use Rattle.std.specs.Prelude.{not}
 use Rattle.std.specs.List.{take_while, prefix_len}
@@ -21,7 +21,7 @@ text-other : (b : ℕ) → b ≢ 0 → is_text b ≡ true
 unfolding is_text
 text-other b ne = elim (eqb_tells b 0) [ inl t ↦ absurd (ne t.1) | inr f ↦ ap not f.0 ]
 
--- how many bytes stand before the first zero byte
+-- if the first zero byte of a list is at index i, i bytes come before it
 stops : (xs : List ℕ) (i : ℕ) → i < length xs → ((k : ℕ) → k < i → get_or xs k 0 ≢ 0) → get_or xs i 0 ≡ 0 → prefix_len is_text xs ≡ i
 stops [] i lt h z = absurd (omega arith)
 stops (x ∷ xs) zero lt h z = let here : is_text x ≡ false = ap is_text z ∙ text-zero in ap (λ b. cond b (1 + prefix_len is_text xs) 0) here
@@ -41,7 +41,7 @@ long-step : (b : Bool) (n m k : ℕ) → suc n ≤ cond b (1 + m) 0 → (n ≤ m
 long-step true n m k le h = let less : n ≤ m = omega arith in omega (arith, h less)
 long-step false n m k le h = absurd (omega arith)
 
--- a cut before the first zero byte, and one behind it
+-- a list that is cut to n bytes has min(n, k) bytes before its first zero byte if the whole list has k
 long : (n : ℕ) (xs : List ℕ) → n ≤ prefix_len is_text xs → prefix_len is_text (take n xs) ≡ n
 long zero xs le = refl
 long (suc n) [] le = let wrong : suc n ≤ 0 = le in absurd (omega arith)
@@ -93,7 +93,8 @@ front-never t at limit front is h =
     let whole : length front ≤ prefix_len is_text front = omega (arith, never front h) in
     sym (take_all (prefix_len is_text front) front whole) ∙ ap texts is ∙ sym (front-of-texts limit (drop at t)) ∙ ap (take limit) (sym (string-texts t at))
 
--- the front that two slices give
+-- the bytes that the code slices from the table at an offset are the first `limit` bytes from this
+-- offset
 pub front-is : (t : List ℕ) (at m limit n : ℕ) → m ≡ min at (length t) → n ≡ min limit (length (take (length t - m) (drop m t)))
     → take n (take (length t - m) (drop m t)) ≡ take limit (drop at t)
 front-is t at m limit n e size =
@@ -114,7 +115,7 @@ both-ways true b to from = sym (to refl)
 both-ways false true to from = from refl
 both-ways false false to from = refl
 
--- one byte more than a name has tells the string from all others
+-- one byte more than a name has is enough to decide whether a string is the name
 pub front_tells : (s name : List ℕ) → bytes_eq (take (length name + 1) s) name ≡ bytes_eq s name
 front_tells s name = both-ways (bytes_eq (take (length name + 1) s) name) (bytes_eq s name)
     (λ e. (bytes_eq-Decides s name).1 (whole-from-front s name ((bytes_eq-Decides (take (length name + 1) s) name).0 e)))
@@ -125,12 +126,12 @@ ends-step true x n m xs b is lt rest = let at : n ≡ suc m = omega (arith, is) 
 ends-step false x n m xs b is lt rest =
     ap (λ k. get_or (x ∷ xs) k 0) (sym is) ∙ elim (cases_eq x 0) [ inl e ↦ e | inr ne ↦ let wrong : true ≡ false = sym (text-other x ne) ∙ b in absurd (cc) ]
 
--- what stands behind the bytes before the first zero byte
+-- if there is a byte after those before the first zero byte, it is 0
 ends-there : (xs : List ℕ) → prefix_len is_text xs < length xs → get_or xs (prefix_len is_text xs) 0 ≡ 0
 ends-there [] lt = absurd (omega (arith, lt))
 ends-there (x ∷ xs) lt = ends-step (is_text x) x (prefix_len is_text (x ∷ xs)) (prefix_len is_text xs) xs refl refl lt (ends-there xs)
 
--- a string that ends before the table does has a zero byte behind it
+-- if the byte after `size` bytes isn't 0, the string isn't `size` bytes long
 pub no-end : (table : List ℕ) (off m size : ℕ) → m ≡ min off (length table) → size < length (take (length table - m) (drop m table))
     → eqb (get_or (take (length table - m) (drop m table)) size 0) 0 ≡ false
     → length (string_at table off) ≡ size → ⊥

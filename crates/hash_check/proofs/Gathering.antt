@@ -1,4 +1,4 @@
--- The endings of symbols' names while they are gathered.
+-- The endings of symbols' names, while the endings are collected.
 use Rattle.std.proofs.Common.{◌≡◌, ℕ, ◌<◌, ◌≤◌, ◌+◌, List, [], ◌∷◌, ◌++◌, length, map, take, reverse, arith, ◌∙◌, sym, ap, inl, inr, subst, get_or}
 use Rattle.std.specs.List.{All, Any}
 use Rattle.std.proofs.lemmas.Bool.{cases_lt}
@@ -15,7 +15,7 @@ use Rattle.hash_check.proofs.Stretches.{back-in-stretch}
 abbrev pub texts : List ℕ → List ℕ → List (List ℕ)
 texts file symbols = map (name_of file) symbols
 
--- names up to the one before a number begin in a stretch, those from the first on, and the others stand in endings
+-- of the names before number `n`, those from number `first` begin in the stretch, and the others are in `endings`
 pub record IsOpen (file symbols : List ℕ) (n first : ℕ) (s : Stretch) (endings : List Ending) : Type 0 where
   pub stretch : IsStretch file s
   pub order : first ≤ n
@@ -23,7 +23,8 @@ pub record IsOpen (file symbols : List ℕ) (n first : ℕ) (s : Stretch) (endin
   pub each : All (IsEnding (texts file symbols)) endings
   pub before : (k : ℕ) → k < first → Any (IsIn k) endings
 
--- an ending that is made of a stretch
+-- the ending has the bytes of the stretch and the names from number `first` up to, but not including,
+-- number `n`
 pub record IsMade (file : List ℕ) (n first : ℕ) (s : Stretch) (e : Ending) : Type 0 where
   pub string : e.string.now ≡ stretch_bytes file s
   pub first_is : e.first ≡ first
@@ -38,7 +39,7 @@ same-stretch file s t hs ht e =
     let make : ℕ → ℕ → Stretch = λ f l. record { from = f; length = l } in
     ap (λ f. make f s.length) e ∙ ap (make t.from) lengths
 
--- a name that begins in a stretch is a tail of it
+-- a name that begins in a stretch is a tail of the stretch's bytes
 tail-of : (file : List ℕ) (i : ℕ) (s : Stretch) (string : List ℕ) → IsSymbol file i → IsStretch file s → BeginsIn file i s → string ≡ stretch_bytes file s
     → take (length (reverse (name_of file i))) (reverse string) ≡ reverse (name_of file i)
 unfolding stretch_back
@@ -68,7 +69,7 @@ all-before file symbols n first s endings e o made k lt = elim (cases_lt k first
   | inr late ↦ Any-push (IsIn k) endings e (omega (arith, late, made.first_is), omega (arith, lt, made.past_is))
 ]
 
--- one more name in the same stretch
+-- if name number `n` begins in a stretch with the same beginning, `IsOpen` is true after this name too
 pub open-on : (file symbols : List ℕ) (n first : ℕ) (s next : Stretch) (endings : List Ending) → IsOpen file symbols n first s endings
     → IsStretch file next → BeginsIn file (get_or symbols n 0) next → s.from ≡ next.from → IsOpen file symbols (n + 1) first next endings
 open-on file symbols n first s next endings o h b from =
@@ -84,7 +85,8 @@ open-on file symbols n first s next endings o h b from =
       before = o.before;
     }
 
--- one more name in another stretch
+-- if name number `n` begins in another stretch, `IsOpen` is true after this name with the ending of the
+-- stretch before added
 pub open-next : (file symbols : List ℕ) (n first : ℕ) (s next : Stretch) (endings : List Ending) (e : Ending) → All (IsSymbol file) symbols → n < length symbols → IsOpen file symbols n first s endings
     → IsStretch file next → BeginsIn file (get_or symbols n 0) next → IsMade file n first s e → IsOpen file symbols (n + 1) n next (endings ++ e ∷ [])
 open-next file symbols n first s next endings e valid lt o h b made = record {
@@ -95,7 +97,7 @@ open-next file symbols n first s next endings e valid lt o h b made = record {
   before = all-before file symbols n first s endings e o made;
 }
 
--- all were gathered
+-- after the last name, the endings are those of all names
 pub gathered : (file symbols : List ℕ) (n first : ℕ) (s : Stretch) (endings : List Ending) (e : Ending) → All (IsSymbol file) symbols → n ≡ length symbols → IsOpen file symbols n first s endings
     → IsMade file n first s e → AreEndings (texts file symbols) (endings ++ e ∷ [])
 gathered file symbols n first s endings e valid all o made = record {

@@ -14,7 +14,7 @@ use Rattle.hash_check.specs.inside.Lanes.{between, IsLane, AllMet, IsMet}
 use Rattle.hash_check.proofs.Exported.{exported_some, exported_within}
 use Rattle.hash_check.proofs.NameLengths.{text-is-name}
 
--- a hash after so many bytes more of what stands from a place on
+-- hashing i bytes and then the next n is hashing i + n bytes
 pub hash-more : (table : List ℕ) (hash place i n : ℕ)
     → fold hash_step (fold hash_step hash (take i (drop place table))) (take n (drop (place + i) table)) ≡ fold hash_step hash (take (i + n) (drop place table))
 hash-more table hash place i n =
@@ -27,7 +27,7 @@ split table place end count le =
     ap (λ n. take n (drop place table)) whole ∙ take-add count (end - (place + count)) (drop place table)
     ∙ ap (λ xs. take count (drop place table) ++ take (end - (place + count)) xs) (drop-drop count place table)
 
--- a lane after so many bytes more of its name
+-- a lane is still right after `count` more bytes of its name were hashed
 pub lane-on : (file : List ℕ) (symbol hash place end count : ℕ) → IsLane file symbol hash place end → place + count ≤ end
     → IsLane file symbol (fold hash_step hash (take count (drop place (string_table file)))) (place + count) end
 lane-on file symbol hash place end count h le = record {
@@ -39,7 +39,8 @@ lane-on file symbol hash place end count h le = record {
       ∙ ap (fold hash_step hash) (sym (split (string_table file) place end count le)) ∙ h.rest some;
 }
 
--- the symbols of all lanes are met where those are after one was put in the place of one that is met, and so is the new one
+-- if lane k is met and all lanes are met after it was assigned to symbol i, all were met before, and
+-- symbol i is met
 pub met-before : (file symbols : List ℕ) (k i : ℕ) → k < 8 → length symbols ≡ 8 → (get_or symbols k 0 ≢ 0 → IsMet file (get_or symbols k 0)) → AllMet file (set symbols k i) → AllMet file symbols
 met-before file symbols k i lt size here all = record {
   met = λ j less some. elim (cases_eq j k) [
@@ -62,7 +63,7 @@ whole-name file symbol place n table is same at size =
     let number : IsSymbol file symbol = record { some = exported_some file symbol is; within = exported_within file symbol is } in
     ap (take n) (sym (take_rest table place)) ∙ text-is-name file symbol n place table number size same at
 
--- the lane of a symbol of whose name nothing was hashed
+-- a lane is right if it has hash 0 and the whole name of an exported symbol is left
 pub lane-of : (file : List ℕ) (symbol place n : ℕ) (table : List ℕ) → is_exported file symbol ≡ true → table ≡ string_table file → place ≡ min (offset_of file symbol) (length table)
     → n ≡ length (name_of file symbol) → IsLane file symbol 0 place (place + n)
 unfolding elf_hash
@@ -80,7 +81,7 @@ same-lane : (file : List ℕ) (s h p e s' h' p' e' : ℕ) → s' ≡ s → h' �
 same-lane file s h p e s' h' p' e' is-s is-h is-p is-e lane =
     subst (λ x. IsLane file x h' p' e') (sym is-s) (subst (λ x. IsLane file s x p' e') (sym is-h) (subst (λ x. IsLane file s h x e') (sym is-p) (subst (λ x. IsLane file s h p x) (sym is-e) lane)))
 
--- the lanes after one of them was given to a symbol
+-- all lanes are still right after one of them was assigned to a symbol
 pub lane-put : (file symbols hashes places ends : List ℕ) (k symbol place end : ℕ) → k < length symbols → k < length hashes → k < length places → k < length ends
     → ((j : ℕ) → j < 8 → IsLane file (get_or symbols j 0) (get_or hashes j 0) (get_or places j 0) (get_or ends j 0)) → IsLane file symbol 0 place end → (j : ℕ) → j < 8
     → IsLane file (get_or (set symbols k symbol) j 0) (get_or (set hashes k 0) j 0) (get_or (set places k place) j 0) (get_or (set ends k end) j 0)
@@ -100,7 +101,7 @@ bytes-of : (a b c d n : ℕ) → a < 256 → b < 256 → c < 256 → d < 256 →
     → (n % 256 ≡ a) × (n / 256 % 256 ≡ b) × (n / 65536 % 256 ≡ c) × (n / 16777216 ≡ d)
 bytes-of a b c d n la lb lc ld is = (omega arith, omega arith, omega arith, omega arith)
 
--- a hash after the four bytes of a number more
+-- four hash steps with the four bytes of a number are the hash of these bytes
 word-hash : (xs : List ℕ) (hash n : ℕ) → 4 ≤ length xs → ((i : ℕ) → get_or xs i 0 < 256) → n ≡ get_or xs 0 0 + 256 * (get_or xs 1 0 + 256 * (get_or xs 2 0 + 256 * (get_or xs 3 0 + 256 * 0)))
     → hash_step (hash_step (hash_step (hash_step hash (n % 256)) (n / 256 % 256)) (n / 65536 % 256)) (n / 16777216) ≡ fold hash_step hash (take 4 xs)
 word-hash [] hash n le small is = absurd (omega arith)

@@ -1,4 +1,4 @@
--- Names that get their numbers string by string, while those of one length are marked.
+-- Names get their numbers string by string, while marks record the numbers of names by their lengths.
 use Rattle.std.proofs.Common.{◌≡◌, ◌≢◌, ℕ, ◌<◌, ◌≤◌, ◌+◌, ◌-◌, ◌⊎◌, false, List, [], length, take, reverse, arith, ◌∙◌, sym, ap, subst, inl, inr, get_or, set}
 use Rattle.std.specs.Cmp.Lexicographic.{slice_cmp}
 use Rattle.std.specs.Ordering.{nat_cmp, is_lt}
@@ -11,7 +11,7 @@ use Rattle.hash_check.specs.inside.Endings.{back, IsIn, IsEnding, AreEndings, Ar
 use Rattle.hash_check.specs.declared.endings.Ending.{Ending}
 use Rattle.hash_check.proofs.Backs.{front-stays, front-before, order-through}
 
--- endings in another order
+-- reordered endings are endings of the same names
 pub endings-moved : (names : List (List ℕ)) (xs ys : List Ending) → IsPermutation xs ys → AreEndings names xs → AreEndings names ys
 endings-moved names xs ys moved h = record {
   each = All-permutation (IsEnding names) xs ys moved h.each;
@@ -21,14 +21,14 @@ endings-moved names xs ys moved h = record {
       (c.0, a.1, c.1, c.2, a.4);
 }
 
--- where a front of a list has its own length, the list is as long
+-- a list whose first elements are another list is at least as long as that list
 front-fits : (xs p : List ℕ) → take (length p) xs ≡ p → length p ≤ length xs
 front-fits xs p is = omega (arith, length-take (length p) xs, ap length is)
 
 cut-twice : (m n : ℕ) (xs ys : List ℕ) → m ≤ n → take n xs ≡ take n ys → take m xs ≡ take m ys
 cut-twice m n xs ys le same = sym (take-take m n xs le) ∙ ap (take m) same ∙ take-take m n ys le
 
--- before the first string
+-- if there are no marks and no numbers, `AreHeld` is true of the empty string
 pub held-none : (names : List (List ℕ)) (marks numbers : List ℕ) → length numbers ≡ length names → AreNone marks → AreNone numbers → AreHeld names [] marks numbers
 held-none names marks numbers size no-marks none = record {
   size = size;
@@ -42,7 +42,8 @@ held-none names marks numbers size no-marks none = record {
   one = λ j k some other same. absurd (some (none j));
 }
 
--- from a string to one that doesn't come before it
+-- `AreHeld` stays true from one string to one that doesn't come before it, if the marks for more bytes
+-- than both have in common are removed
 pub held-cut : (names : List (List ℕ)) (last next old new numbers : List ℕ) (common : ℕ) → AreHeld names last old numbers → is_lt (slice_cmp nat_cmp next last) ≡ false
     → common ≤ length next → take common last ≡ take common next → ((n : ℕ) → n ≤ length last → n ≤ length next → take n last ≡ take n next → n ≤ common)
     → ((n : ℕ) → n < common + 1 → get_or new n 0 ≡ get_or old n 0) → ((n : ℕ) → common + 1 ≤ n → n < length last + 1 → get_or new n 0 ≡ 0)
@@ -83,7 +84,7 @@ held-cut names last next old new numbers common h ordered fits agree most low cl
       one = h.one;
     }
 
--- the same of strings that are read from their beginnings
+-- the same for strings that are stored from their first byte on
 pub held-next : (names : List (List ℕ)) (last next old new numbers : List ℕ) (common past : ℕ) → past ≡ length last + 1
     → AreHeld names (reverse last) old numbers → is_lt (slice_cmp nat_cmp (reverse next) (reverse last)) ≡ false
     → common ≤ length next → take common (reverse last) ≡ take common (reverse next) → ((n : ℕ) → n ≤ length last → n ≤ length next → take n (reverse last) ≡ take n (reverse next) → n ≤ common)
@@ -95,17 +96,17 @@ held-next names last next old new numbers common past is h ordered fits agree mo
     held-cut names (reverse last) (reverse next) old new numbers common h ordered (omega (arith, fits, b)) agree (λ n x y same. most n (omega (arith, x, a)) (omega (arith, y, b)) same) low
     (λ n x y. cleared n x (omega (arith, y, a, is))) (λ n x. high n (omega (arith, x, a, is)))
 
--- the length of a name, as it is read from its end
+-- a name has the same length if it is read from its end
 pub back-length : (names : List (List ℕ)) (k : ℕ) → length (nth_text names k) ≡ length (back names k)
 unfolding back
 back-length names k = sym (length-reverse (nth_text names k))
 
--- a name of an ending isn't longer than the string
+-- a name of an ending isn't longer than the ending's string
 pub room-for : (names : List (List ℕ)) (e : Ending) (k room : ℕ) (bytes : List ℕ) → IsEnding names e → IsIn k e → bytes ≡ nth_text names k → length e.string.now < room → length bytes < room
 room-for names e k room bytes ending is text fits =
     omega (arith, ap length text, back-length names k, front-fits (reverse e.string.now) (back names k) (ending.tails k is), length-reverse e.string.now, fits)
 
--- what is read of a name
+-- the bytes that the code reads for name number `k` are those of the name
 pub text-read : (names : List (List ℕ)) (e : Ending) (k : ℕ) (bytes read : List ℕ) → IsEnding names e → k < e.past → bytes ≡ read → read ≡ get_or names k read → bytes ≡ nth_text names k
 text-read names e k bytes read ending lt same is = same ∙ is ∙ get_or_default names k read [] (omega (arith, lt, ending.within))
 
@@ -121,7 +122,7 @@ some-told marks k n told own marked = elim (cases_eq (get_or marks n 0) 0) [
   | inr mark ↦ λ zero. mark (sym (marked mark) ∙ zero)
 ]
 
--- the name that is given a number has one, and who had one has one still
+-- name number k has a number after it was assigned one, and each name that had a number still has it
 pub told-here : (marks numbers : List ℕ) (k n told j : ℕ) → k < length numbers → (get_or marks n 0 ≡ 0 → told ≡ k + 1) → (get_or marks n 0 ≢ 0 → told ≡ get_or marks n 0) → j ≡ k
     → get_or (set numbers k told) j 0 ≢ 0
 told-here marks numbers k n told j lt own marked same = elim (put-case numbers k told j lt) [
@@ -136,7 +137,7 @@ told-still marks numbers k n told j lt own marked some = elim (put-case numbers 
   | inr other ↦ λ none. some (sym other.1 ∙ none)
 ]
 
--- a name that is a tail of the last string gets the number that is marked for its length, or its own
+-- a name that is a tail of the last string gets the mark for its length, or its own number if there is no mark
 pub held-on : (names : List (List ℕ)) (last marks numbers : List ℕ) (k n told : ℕ) → AreHeld names last marks numbers → k < length names → n ≡ length (back names k) → n < length marks
     → take (length (back names k)) last ≡ back names k → (get_or marks n 0 ≡ 0 → told ≡ k + 1) → (get_or marks n 0 ≢ 0 → told ≡ get_or marks n 0)
     → AreHeld names last (set marks n told) (set numbers k told)
@@ -204,7 +205,7 @@ held-on names last marks numbers k n told h lt long room front own marked =
       ];
     }
 
--- when all names have numbers, these tell them
+-- when all names have numbers, the numbers distinguish the names
 pub numbers-from-held : (names : List (List ℕ)) (last marks numbers : List ℕ) → AreHeld names last marks numbers → ((k : ℕ) → k < length names → get_or numbers k 0 ≢ 0) → AreNumbers names numbers
 unfolding back
 numbers-from-held names last marks numbers h all = record {

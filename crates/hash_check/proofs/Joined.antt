@@ -1,4 +1,4 @@
--- Endings of names that stand behind others.
+-- Endings of names that come after other names.
 use Rattle.std.proofs.Common.{◌≡◌, ℕ, ◌<◌, ◌≤◌, ◌+◌, ◌-◌, List, [], ◌++◌, length, map, take, reverse, arith, ◌∙◌, sym, ap, inl, inr, subst, get_or}
 use Rattle.std.specs.List.{Any}
 use Rattle.std.proofs.Math.ListN.{get_or-append}

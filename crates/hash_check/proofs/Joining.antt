@@ -1,4 +1,4 @@
--- Walks that come together.
+-- Walks that meet in one index.
 use Rattle.std.proofs.Common.{◌≡◌, ◌≢◌, ℕ, ◌<◌, ◌≤◌, ◌+◌, ◌-◌, List, length, arith, ◌∙◌, sym, ap, subst, inl, inr}
 use Rattle.std.specs.Prelude.{Option, slice_index, ◌%◌}
 use Rattle.std.specs.Option.{option_map_or}
@@ -18,7 +18,7 @@ meets-self c i some = record {
   before = λ k le z. let none : k ≡ 0 = omega arith in some (sym (walk-zero c i) ∙ ap (walk c i) (sym none) ∙ z);
 }
 
--- a walk that meets an index doesn't begin at 0
+-- a walk that meets an index before 0 doesn't begin at 0, and meets the next index unless that is 0
 pub meets-some : (c : List ℕ) (from i : ℕ) → Meets c from i → from ≢ 0
 meets-some c from i h z = let least : 0 ≤ h.steps = omega arith in h.before 0 least (walk-zero c from ∙ z)
 
@@ -34,7 +34,7 @@ meets-next c from i h some = record {
   ];
 }
 
--- a walk meets what is met from an index that it meets
+-- if a walk meets `via`, and the walk from `via` meets `i`, the walk meets `i`
 pub meets-through : (c : List ℕ) (from via i : ℕ) → Meets c from via → Meets c via i → Meets c from i
 meets-through c from via i first second = record {
   steps = first.steps + second.steps;
@@ -49,7 +49,7 @@ meets-through c from via i first second = record {
   ];
 }
 
--- the steps from an index to 0
+-- the number of steps from an index to 0
 pub steps_left : List (Option Place) → ℕ → ℕ
 steps_left places i = option_map_or (λ p. p.depth) (place_at places i) 0
 
@@ -74,7 +74,7 @@ next-nearer c ps at sound h some =
     let below : Depth c (slice_index c at) (h.place.depth - 1) = subst (λ w. Depth c w (h.place.depth - 1)) (walk-one c at) (depth-along c at h.place.depth 1 s.depth one) in
     omega (arith, rest, depth-unique c (slice_index c at) next.place.depth (h.place.depth - 1) n.depth below, left-is ps at h, left-is ps (slice_index c at) next)
 
--- what is met from the joint is met from the bucket of each hash
+-- an index that is met from the joint is met from the bucket of each hash
 pub joint-meets : (buckets c : List ℕ) (ps : List (Option Place)) (joint hash i : ℕ) → 1 ≤ length buckets → IsJoint buckets c ps joint → Meets c joint i → Meets c (bucket_of buckets hash) i
 joint-meets buckets c ps joint hash i some h m =
     let room : 0 < length buckets = omega (arith, some) in

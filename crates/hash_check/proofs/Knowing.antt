@@ -1,4 +1,4 @@
--- What sound places give: bounds, jumps, and the place of one index more.
+-- Sound places have right bounds and jumps, and stay sound with the place of one more index.
 use Rattle.std.proofs.Common.{◌≡◌, ◌≢◌, ℕ, ◌<◌, ◌≤◌, ◌+◌, ◌-◌, List, length, arith, refl, ◌∙◌, sym, ap, subst, Some, None, get_or, set, inl, inr, suc, zero}
 use Rattle.std.specs.Prelude.{Option, slice_index}
 use Rattle.std.proofs.lemmas.Bool.{cases_lt, cases_eq}
@@ -63,7 +63,7 @@ single c head v p = record {
   jump = let none : p.depth - p.depth ≡ 0 = omega arith in ap (walk c v) none ∙ walk-zero c v;
 }
 
--- what has a place keeps one where another is given
+-- after a place was stored for an index, this index has a place, and so has each index that had one
 pub known-set : (ps : List (Option Place)) (i : ℕ) (new : Place) (k : ℕ) → Known ps k → Known (set ps i (Some new)) k
 known-set ps i new k h = elim (cases_eq k i) [
   | inl is ↦ record { place = new; is = ap (λ j. get_or (set ps i (Some new)) j None) is ∙ get_or-set_same ps i (Some new) None (subst (λ j. j < length ps) is (known-index ps k h)) }
@@ -94,7 +94,7 @@ says-before c ps head i next new some lt s b met = record {
   along = λ j le. along-before c ps i next new lt s j (omega (arith, b.depth));
 }
 
--- one index more
+-- places stay sound after the right place of one more index is stored
 pub sound-set : (c : List ℕ) (ps : List (Option Place)) (head i : ℕ) (new : Place) → Sound c ps → i ≢ 0 → i < length ps → Known ps (slice_index c i)
     → ((p : Place) → place_at ps (slice_index c i) ≡ Some p → IsBefore c head (slice_index c i) p new) → Meets c head i → Sound c (set ps i (Some new))
 sound-set c ps head i new sound some lt h b met = record {

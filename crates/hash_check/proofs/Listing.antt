@@ -1,4 +1,4 @@
--- The symbols of several objects and their names while they are gathered.
+-- The symbols of several objects and their names, while they are collected.
 use Rattle.std.proofs.Common.{◌≡◌, ℕ, ◌<◌, ◌≤◌, ◌+◌, ◌-◌, List, [], ◌++◌, length, map, arith, ◌∙◌, sym, ap, inl, inr, subst, get_or}
 use Rattle.std.specs.List.{All}
 use Rattle.std.specs.List.Sorted.{IsPermutation}
@@ -22,7 +22,7 @@ use Rattle.hash_check.proofs.AllSymbols.{all-symbols}
 abbrev none : NumberedSymbol
 none = record { object = 0; symbol = 0; number = 0 }
 
--- each symbol but number 0 is one of these
+-- each symbol except number 0 is in the list
 abbrev pub HasAll : List ℕ → List ℕ → Type 0
 HasAll file own = (i : ℕ) → 1 ≤ i → i < length (symbols file) → (k : ℕ) × (k < length own) × (get_or own k 0 ≡ i)
 
@@ -51,7 +51,7 @@ module _ (n : ℕ) (all : List NumberedSymbol) (own : List ℕ) where
   long : length (all ++ map (unnumbered n) own) ≡ length all + length own
   long = length-append all (map (unnumbered n) own) ∙ ap (λ k. length all + k) (length-map own (unnumbered n))
 
-  -- what holds of the symbols from before and of the new ones holds of all
+  -- a fact that is true of the old and of the new symbols is true of all
   each-of : (P : NumberedSymbol → Type 0) → ((k : ℕ) → k < length all → P (nth_symbol all k)) → ((m : ℕ) → m < length own → P (unnumbered n (get_or own m 0)))
       → (k : ℕ) → k < length (all ++ map (unnumbered n) own) → P (nth_symbol (all ++ map (unnumbered n) own) k)
   each-of P old new k lt = elim (cases_lt k (length all)) [
@@ -111,7 +111,8 @@ module _ (n : ℕ) (all : List NumberedSymbol) (own : List ℕ) where
         omega (arith, high, (each j below).there)
   ]
 
--- the symbols of one object more
+-- if the symbols and the names of object number `n` are appended, the lists have those of the first n +
+-- 1 objects
 pub gathered-more : (files : List (List ℕ)) (n : ℕ) (all : List NumberedSymbol) (names : List (List ℕ)) (own : List ℕ) → AreGathered files n all names
     → All (IsSymbol (nth_file files n)) own → HasAll (nth_file files n) own
     → AreGathered files (n + 1) (all ++ map (unnumbered n) own) (names ++ map (name_of (nth_file files n)) own)
@@ -127,7 +128,7 @@ gathered-more files n all names own g valid has =
           ∙ sym (map-append (name_in files) all (map (unnumbered n) own) ∙ ap (λ l. map (name_in files) all ++ l) (map-map (name_in files) (unnumbered n) own));
     }
 
--- the same, of symbols in any order
+-- the same for the symbols of the object in any order
 pub gathered-on : (files : List (List ℕ)) (n : ℕ) (all more : List NumberedSymbol) (names texts : List (List ℕ)) (file own : List ℕ) → nth_file files n ≡ file → AreGathered files n all names
     → IsPermutation (all_symbols file) own → more ≡ all ++ map (unnumbered n) own → texts ≡ names ++ map (name_of file) own → AreGathered files (n + 1) more texts
 gathered-on files n all more names texts file own e g moved symbols_are names_are =
@@ -136,7 +137,7 @@ gathered-on files n all more names texts file own e g moved symbols_are names_ar
     subst (λ l. AreGathered files (n + 1) l texts) (sym symbols_are)
     (subst (λ l. AreGathered files (n + 1) (all ++ map (unnumbered n) own) l) (sym (names_are ∙ ap (λ f. names ++ map (name_of f) own) (sym e))) whole)
 
--- symbols with the numbers of their names
+-- the collected symbols with their numbers make `AreNumbered` true, if the numbers distinguish the names
 pub numbered : (files : List (List ℕ)) (all told : List NumberedSymbol) (names : List (List ℕ)) (numbers : List ℕ) → AreGathered files (length files) all names → AreNumbers names numbers
     → length told ≡ length all → ((k : ℕ) → k < length all → nth_symbol told k ≡ with_number (nth_symbol all k) (get_or numbers k 0)) → AreNumbered files told
 numbered files all told names numbers g are size given =

@@ -1,4 +1,4 @@
--- Whether the names of symbols differ doesn't hang on the order of these.
+-- Whether the names of symbols differ doesn't depend on the order of the symbols.
 use Rattle.std.proofs.Common.{◌≡◌, ◌≢◌, ℕ, ◌<◌, Bool, true, false, List, length, arith, refl, ◌∙◌, sym, ap, get_or}
 use Rattle.std.specs.List.{IsDistinct}
 use Rattle.std.specs.List.Sorted.{IsPermutation}

@@ -1,4 +1,4 @@
--- The path of a walk: one index more, one index less, and a path through all indices.
+-- The path of a walk: with one more index, with one less, and with as many as there are indices.
 use Rattle.std.proofs.Common.{◌≡◌, ◌≢◌, ℕ, true, false, ◌<◌, ◌+◌, List, [], ◌∷◌, ◌++◌, length, arith, refl, ◌∙◌, sym, ap, subst, Some, None, inl, inr}
 use Rattle.std.specs.Prelude.{Option, slice_index}
 use Rattle.std.specs.Option.{is_some}
@@ -25,7 +25,7 @@ path-push c from path at h is some = record {
   ];
 }
 
--- the last index of a path, and the path without it
+-- the last index of a path is the one that its walk reaches after all the others, and isn't 0
 pub path-last : (c : List ℕ) (from : ℕ) (front : List ℕ) (i : ℕ) → IsPath c from (front ++ i ∷ []) → i ≡ walk c from (length front)
 path-last c from front i h = let lt : length front < length (front ++ i ∷ []) = omega (arith, length_push front i) in
     sym (get_or_push front i 0 (length front) refl) ∙ h.walked (length front) lt
@@ -34,7 +34,7 @@ pub path-last-some : (c : List ℕ) (from : ℕ) (front : List ℕ) (i : ℕ) �
 path-last-some c from front i h z = let lt : length front < length (front ++ i ∷ []) = omega (arith, length_push front i) in
     h.before (length front) lt (sym (path-last c from front i h) ∙ z)
 
--- the walk meets the last index
+-- the walk of a path meets the last index, and the path without it is a path of the same walk
 pub path-meets : (c : List ℕ) (from : ℕ) (front : List ℕ) (i : ℕ) → IsPath c from (front ++ i ∷ []) → Meets c from i
 path-meets c from front i h = record {
   steps = length front;
@@ -48,14 +48,15 @@ path-front c from front i h = record {
   before = λ k lt. let less : k < length (front ++ i ∷ []) = omega (arith, length_push front i) in h.before k less;
 }
 
--- a path through as many indices as there are isn't that of a walk that ends
+-- if a path has as many indices as there are chain words, its walk doesn't end
 pub path-full : (c : List ℕ) (from : ℕ) (path : List ℕ) → AreIndices (length c) c → from < length c → IsPath c from path → length path ≡ length c → Ends c from → ⊥
 path-full c from path words lt h full ends =
     let d = depth-from-ends c from ends in
     let small : d.0 < length path = omega (arith, depth-small c from d.0 words lt d.1) in
     h.before d.0 small d.1.arrives
 
--- the index that is taken from a path
+-- an index that is removed from the end of a path is an index of the table, and the next index of its
+-- walk has a place
 pub popped-index : (c : List ℕ) (from : ℕ) (path front : List ℕ) (i : ℕ) → AreIndices (length c) c → from < length c → IsPath c from path → path ≡ front ++ i ∷ [] → i < length c
 popped-index c from path front i words lt h e =
     subst (λ j. j < length c) (sym (path-last c from front i (subst (IsPath c from) e h))) (walk-index c from (length front) words lt)
@@ -66,7 +67,8 @@ popped-known c ps from path front i h known e =
     let longer : length path ≡ length front + 1 = ap length e ∙ length_push front i in
     subst (Known ps) (ap (walk c from) longer ∙ walk-next c from (length front) ∙ ap (slice_index c) (sym (path-last c from front i (subst (IsPath c from) e h)))) known
 
--- what has no place isn't 0
+-- if `place_at` returns a place for an index, the index is known; if it returns none and 0 is known, the
+-- index isn't 0
 pub known-tested : (ps : List (Option Place)) (i : ℕ) (o : Option Place) → o ≡ place_at ps i → is_some o ≡ true → Known ps i
 known-tested ps i None e t = let f : false ≡ true = t in absurd (cc)
 known-tested ps i (Some p) e t = record { place = p; is = sym e }

@@ -1,4 +1,4 @@
--- The refusal of a file, from those of its object and of admission.
+-- The refusal of a file follows from that of its object and that of admission.
 use Rattle.std.proofs.Common.{◌≡◌, ℕ, Bool, true, false, List, [], ◌∷◌, Option, Some, None, refl, ap, ◌∙◌, inr}
 use Rattle.std.specs.Prelude.{◌&&◌, not}
 use Rattle.std.specs.Option.{option_map}
@@ -13,7 +13,7 @@ use Rattle.hash_check.specs.declared.refusal.AdmitRefusal.TheVariants as admit
 use Rattle.hash_check.specs.declared.file_refusal.FileRefusal.{FileRefusal}
 use Rattle.hash_check.specs.declared.file_refusal.FileRefusal.TheVariants.{Object, DuplicateDefinition, BadHashTable}
 
--- the tests behind that of the object, by what the two of admission give
+-- the two tests of admission: `d` and `b` are whether they apply
 abbrev later : Bool → Bool → List (Option FileRefusal)
 later d b = (DuplicateDefinition when d) ∷ (BadHashTable when b) ∷ []
 
@@ -34,30 +34,30 @@ table-by true b h = cc
 table-by false true h = refl
 table-by false false h = cc
 
--- where no test of the object applies, the others decide
+-- if no test of the object applies, only the tests of admission decide
 behind : (o : Option ObjectRefusal) (rest : List (Option FileRefusal)) → o ≡ None → first_of (option_map Object o ∷ rest) ≡ first_of rest
 behind o rest h = ap (λ o. first_of (option_map Object o ∷ rest)) h
 
--- a file is taken where its object is, and admitted
+-- a file is accepted if its object is accepted and admitted
 pub taken : (file : List ℕ) → first_refusal file ≡ None → admission_refusal file ≡ None → first_file_refusal file ≡ None
 unfolding first_file_refusal admission_refusal
 taken file read admitted =
     behind (first_refusal file) (later (has_duplicate_definition file) (has_bad_hash_table file)) read
     ∙ taken-by (has_duplicate_definition file) (has_bad_hash_table file) admitted
 
--- it is refused as its object is
+-- if a test of the object applies, the file is refused with the object's refusal
 pub of_object : (file : List ℕ) (refusal : ObjectRefusal) → first_refusal file ≡ Some refusal → first_file_refusal file ≡ Some (Object refusal)
 unfolding first_file_refusal
 of_object file refusal h = ap (λ o. first_of (option_map Object o ∷ later (has_duplicate_definition file) (has_bad_hash_table file))) h
 
--- it is refused as admission does, for two exports of one name
+-- if admission refuses two exports of one name, the file is refused for this
 pub of_names : (file : List ℕ) → first_refusal file ≡ None → admission_refusal file ≡ Some admit.DuplicateDefinition → first_file_refusal file ≡ Some DuplicateDefinition
 unfolding first_file_refusal admission_refusal
 of_names file read refused =
     behind (first_refusal file) (later (has_duplicate_definition file) (has_bad_hash_table file)) read
     ∙ names-by (has_duplicate_definition file) (has_bad_hash_table file) refused
 
--- and for its hash table
+-- if admission refuses the hash table, the file is refused for this
 pub of_table : (file : List ℕ) → first_refusal file ≡ None → admission_refusal file ≡ Some admit.BadHashTable → first_file_refusal file ≡ Some BadHashTable
 unfolding first_file_refusal admission_refusal
 of_table file read refused =
@@ -76,7 +76,7 @@ good-words : (file : List ℕ) → has_bad_hash_table file ≡ false → has_goo
 unfolding has_bad_hash_table
 good-words file h = good (has_good_words file) (has_ending_walks file && meets_exports file) h
 
--- a file that is taken is refused by no test of its object,
+-- the tests of its object don't refuse an accepted file
 pub object_taken : (file : List ℕ) → first_file_refusal file ≡ None → first_refusal file ≡ None
 unfolding first_file_refusal
 object_taken file h = unrefused (first_refusal file) (none_at (file_tests file) 0 h)
@@ -90,7 +90,7 @@ admitted-by false false one two = refl
 admitted-by true b one two = cc
 admitted-by false true one two = cc
 
--- and by none of admission,
+-- the tests of admission don't refuse an accepted file
 pub admission_taken : (file : List ℕ) → first_file_refusal file ≡ None → admission_refusal file ≡ None
 unfolding first_file_refusal admission_refusal
 admission_taken file h =
@@ -99,9 +99,9 @@ admission_taken file h =
 
 pub ruleset accepted_tests = (object_taken, admission_taken)
 
--- and it isn't taken without memory
+-- reading an accepted file needs memory
 pub taken_with_memory : (file : List ℕ) → first_file_refusal file ≡ None → ReadNeedsMemory file
 taken_with_memory file h = (object_taken file h, inr (good-words file (table-good file h)))
 
--- for each answer of reading a file
+-- the rules about the answers of `read`
 pub ruleset first_refusals = (taken, of_object, of_names, of_table)

@@ -1,4 +1,4 @@
--- The indices on a walk that ends, and how far a search along it has come.
+-- The indices on a walk that ends, and the progress of a search along it.
 use Rattle.std.proofs.Common.{◌≡◌, ◌≢◌, ℕ, ◌<◌, ◌≤◌, ◌+◌, Bool, true, false, cond, List, length, map, take, arith, refl, ◌∙◌, sym, ap, inl, inr, suc, zero, eqb, below_more}
 use Rattle.std.specs.Prelude.{not}
 use Rattle.std.specs.List.{take_while, prefix_len, range_with_len}
@@ -12,7 +12,8 @@ use Rattle.hash_check.specs.Search.{up_to}
 use Rattle.hash_check.specs.inside.Places.{Depth}
 use Rattle.hash_check.proofs.Walks.{depth-small, depth-from-ends}
 
--- a test along the values of a function, by its answers before the d-th and there
+-- if a function's values pass a test before position d, and the value at d fails, d values pass at the
+-- front
 prefix : (p : ℕ → Bool) (f : ℕ → ℕ) (a n d : ℕ) → d < n → ((k : ℕ) → k < d → p (f (a + k)) ≡ true) → p (f (a + d)) ≡ false → prefix_len p (map f (range_with_len a n)) ≡ d
 prefix p f a zero d lt before at = absurd (omega arith)
 prefix p f a (suc n) zero lt before at =
@@ -53,7 +54,7 @@ miss p f a (suc n) before =
 unequal : (a : ℕ) → a ≢ 0 → eqb a 0 ≡ false
 unequal a ne = elim (eqb_tells a 0) [ inl t ↦ absurd (ne t.1) | inr f ↦ f.0 ]
 
--- the indices on a walk that ends
+-- if the walk ends after d steps, `walked` has its first d indices
 pub walked-is : (c : List ℕ) (from d : ℕ) → AreIndices (length c) c → from < length c → Depth c from d → walked c from ≡ map (walk c from) (range_with_len 0 d)
 unfolding walked
 walked-is c from d words lt h =
@@ -62,7 +63,7 @@ walked-is c from d words lt h =
     (λ k less. ap (λ j. not (eqb (walk c from j) 0)) (bare k) ∙ ap not (unequal (walk c from k) (h.before k less)))
     (ap (λ j. not (eqb (walk c from j) 0)) (bare d) ∙ ap (λ w. not (eqb w 0)) h.arrives)
 
--- what is known where a search has compared so many names and found nothing: they were those of the walk before 0
+-- a search has compared `n` symbols and found none: they are the first `n` of the walk, before 0
 pub record Searching (c : List ℕ) (from n : ℕ) (p : ℕ → Bool) : Type 0 where
   pub before : (k : ℕ) → k < n → walk c from k ≢ 0
   pub missed : (k : ℕ) → k < n → p (walk c from k) ≡ false
@@ -102,7 +103,7 @@ compared-miss c from n p words lt h z =
     let bare : (k : ℕ) → 0 + k ≡ k = λ k. omega arith in
     sym (ap (up_to p) (walked-is c from n words lt (depth-here c from n p h z)) ∙ miss p (walk c from) 0 n (λ k lt. ap (λ j. p (walk c from j)) (bare k) ∙ h.missed k lt))
 
--- one index more that isn't the one
+-- if the next symbol of the walk isn't the one, the search has compared one more and found none
 pub searching-more : (c : List ℕ) (from n : ℕ) (p : ℕ → Bool) → Searching c from n p → walk c from n ≢ 0 → p (walk c from n) ≡ false → Searching c from (n + 1) p
 searching-more c from n p h some missed = record {
   before = below_more (λ k. walk c from k ≢ 0) n h.before some;

@@ -1,4 +1,4 @@
--- What the test of names that are exported twice says, and how it is decided.
+-- The meaning of the test for names that are exported twice, and proofs for the code that decides it.
 use Rattle.std.proofs.Common.{◌≡◌, ℕ, ◌<◌, ◌≤◌, ◌+◌, ◌-◌, Bool, true, false, cond, List, ◌∷◌, length, arith, refl, ◌∙◌, sym, ap, inl, inr, suc, zero, get_or}
 use Rattle.std.specs.Prelude.{◌&&◌, not}
 use Rattle.std.specs.List.{filter, list_any, range_with_len, All, AllPairs}
@@ -20,7 +20,7 @@ use Rattle.hash_check.specs.inside.Names.{IsSymbol, AllDiffer}
 use Rattle.hash_check.proofs.Exported.{exported_some, exported_within}
 use Rattle.hash_check.proofs.Moved.{all-differ-moved}
 
--- the parts of the test of one symbol
+-- if a symbol is exported under a name, it is exported and has this name, and the other way round
 pub exported-as : (file name : List ℕ) (i : ℕ) → is_exported_as file name i ≡ true → is_exported file i ≡ true
 unfolding is_exported_as
 exported-as file name i is = (and_parts (is_exported file i) (bytes_eq (name_of file i) name) is).0
@@ -36,7 +36,7 @@ as-exported file name i is same = both_true is ((bytes_eq-Decides (name_of file 
 shared_before : List ℕ → ℕ → Bool
 shared_before file j = is_exported file j && list_any (is_exported_as file (name_of file j)) (range_with_len 1 (j - 1))
 
--- the test finds two symbols
+-- if the test finds two symbols, two exported symbols share a name
 pub shared-from-test : (file : List ℕ) → has_duplicate_definition file ≡ true → HasSharedName file
 unfolding has_duplicate_definition
 shared-from-test file is =
@@ -62,7 +62,7 @@ in-range p n i low high is =
     let same : 1 + (i - 1) ≡ i = omega arith in
     list_any_at p (range_with_len 1 n) (i - 1) 0 (omega (arith, room, length-range_with_len 1 n)) (ap p (at ∙ same) ∙ is)
 
--- and misses none
+-- if two exported symbols share a name, the test finds two symbols
 pub test-from-shared : (file : List ℕ) → HasSharedName file → has_duplicate_definition file ≡ true
 unfolding has_duplicate_definition
 test-from-shared file h =
@@ -89,7 +89,7 @@ unique-from-test file none = record {
   ];
 }
 
--- the list of the exported symbols
+-- the list of the exported symbols has only exported symbols
 pub exported-passes : (file : List ℕ) → All (λ i. is_exported file i ≡ true) (exported_symbols file)
 unfolding exported_symbols
 exported-passes file = filter_passes (is_exported file) (range_with_len 1 (length (symbols file) - 1))
@@ -111,7 +111,7 @@ exported-symbols file = λ k d lt.
     let is : is_exported file (get_or (exported_symbols file) k d) ≡ true = exported-passes file k d lt in
     record { some = exported_some file (get_or (exported_symbols file) k d) is; within = exported_within file (get_or (exported_symbols file) k d) is }
 
--- a number stands in a list
+-- a number is in a list
 pub record StandsIn (i : ℕ) (xs : List ℕ) : Type 0 where
   pub place : ℕ
   pub within : place < length xs
@@ -125,7 +125,7 @@ first : (i x : ℕ) (xs : List ℕ) (b : Bool) → b ≡ true → x ≡ i → St
 first i x xs true t e = record { place = 0; within = omega arith; is = e }
 first i x xs false t e = let wrong : false ≡ true = t in absurd (cc)
 
--- what passes a test stands in what is left of a range
+-- a number of a range that passes a test is in the filtered range
 kept : (p : ℕ → Bool) (a n i : ℕ) → a ≤ i → i < a + n → p i ≡ true → StandsIn i (filter p (range_with_len a n))
 kept p a zero i low high is = absurd (omega arith)
 kept p a (suc n) i low high is = elim (cases_eq a i) [
@@ -140,7 +140,7 @@ stands file i is =
     let within : i < length (symbols file) = exported_within file i is in
     kept (is_exported file) 1 (length (symbols file) - 1) i some (omega arith) is
 
--- where no test finds two, the exported symbols differ
+-- if the test finds no two symbols, the names of the exported symbols differ
 differ-from-test : (file : List ℕ) → has_duplicate_definition file ≡ false → AllDiffer file (exported_symbols file)
 differ-from-test file none = record {
   differ = λ i j less lt same.
@@ -172,28 +172,29 @@ shared-doesn't-differ file h s =
       ]
     ]
 
--- the test finds none where the exported symbols differ
+-- if the names of the exported symbols differ, the test finds no two symbols
 pub test-none : (file : List ℕ) → AllDiffer file (exported_symbols file) → has_duplicate_definition file ≡ false
 test-none file h = elim (has_duplicate_definition file) as (λ b. has_duplicate_definition file ≡ b → b ≡ false) [
   | true ↦ λ e. absurd (shared-doesn't-differ file h (shared-from-test file e))
   | false ↦ λ e. refl
 ] refl
 
--- and two where they don't
+-- if the names of the exported symbols don't all differ, the test finds two symbols
 pub test-some : (file : List ℕ) → (AllDiffer file (exported_symbols file) → ⊥) → has_duplicate_definition file ≡ true
 test-some file h = elim (has_duplicate_definition file) as (λ b. has_duplicate_definition file ≡ b → b ≡ true) [
   | true ↦ λ e. refl
   | false ↦ λ e. absurd (h (differ-from-test file e))
 ] refl
 
--- fewer than two differ
+-- the names of fewer than two symbols differ
 pub few-differ : (file : List ℕ) → length (exported_symbols file) < 2 → AllDiffer file (exported_symbols file)
 few-differ file few = record { differ = λ i j less lt same. absurd (omega arith) }
 
 pub symbols-moved : (file xs ys : List ℕ) → IsPermutation xs ys → All (IsSymbol file) xs → All (IsSymbol file) ys
 symbols-moved file xs ys moved h = All-permutation (IsSymbol file) xs ys moved h
 
--- the answer of a test of symbols that have changed their places
+-- if `b` says whether the names of reordered exported symbols differ, the opposite of `b` is the test
+-- for duplicates
 pub not-differ : (file moved_symbols : List ℕ) → IsPermutation (exported_symbols file) moved_symbols → (b : Bool)
     → (b ≡ true → AllDiffer file moved_symbols) → (AllDiffer file moved_symbols → b ≡ true) → not b ≡ has_duplicate_definition file
 not-differ file ys moved true to from = sym (test-none file (all-differ-moved file ys (exported_symbols file) (IsPermutation-sym (exported_symbols file) ys moved) (to refl)))

@@ -1,4 +1,4 @@
--- The places before any walk, and after all of them.
+-- The places before any walk is followed, and after all walks are.
 use Rattle.std.proofs.Common.{◌≡◌, ◌≢◌, ℕ, ◌<◌, List, length, arith, refl, ◌∙◌, sym, ap, subst, Some, None, inl, inr, get_or}
 use Rattle.std.specs.Prelude.{Option}
 use Rattle.std.specs.List.{All}
@@ -56,13 +56,13 @@ first-sound c n lt = record {
   ];
 }
 
--- the walk from what has a place ends
+-- the walk from an index that has a place ends
 pub ends-from-known : (c : List ℕ) (ps : List (Option Place)) (i : ℕ) → Sound c ps → Known ps i → Ends c i
 ends-from-known c ps i sound known = record { steps = known.place.depth; arrives = ((sound.says i known.place known.is).depth).arrives }
 
 pub all-ends : (buckets c : List ℕ) (ps : List (Option Place)) → Placed buckets c ps → All (Ends c) buckets
 all-ends buckets c ps h k d lt = ends-from-known c ps (get_or buckets k d) h.sound (h.known k d lt)
 
--- a fact of each element at the default 0 is one at every default
+-- if a fact is true of each element of a list, read with the default 0, `All` has it
 pub all-at : (P : ℕ → Type 0) (xs : List ℕ) → ((k : ℕ) → k < length xs → P (get_or xs k 0)) → All P xs
 all-at P xs h k d lt = subst P (get_or_default xs k 0 d lt) (h k lt)

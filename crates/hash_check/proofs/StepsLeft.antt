@@ -1,4 +1,4 @@
--- Which index a walk meets, by the number of steps that are left.
+-- Whether a walk meets an index, decided by the numbers of steps that are left.
 use Rattle.std.proofs.Common.{◌≡◌, ◌≢◌, ℕ, ◌<◌, ◌≤◌, ◌-◌, List, arith, ◌∙◌, sym, ap, subst, inl, inr}
 use Rattle.std.specs.Prelude.{Option}
 use Rattle.std.proofs.lemmas.Bool.{cases_lt}
@@ -13,7 +13,8 @@ depth-some c v d some h = elim (cases_lt 0 d) [
   | inr none ↦ let z : d ≡ 0 = omega arith in absurd (some (sym (walk-zero c v) ∙ ap (walk c v) (sym z) ∙ h.arrives))
 ]
 
--- the index with as many steps left is met
+-- if the walk reaches an index when the index's own number `e` of steps are left, the walk meets the
+-- index
 pub meets-from-depth : (c : List ℕ) (from index d e : ℕ) → Depth c from d → Depth c index e → index ≢ 0 → walk c from (d - e) ≡ index → Meets c from index
 meets-from-depth c from index d e top low some is =
     let rest : 0 < e = depth-some c index e some low in
@@ -25,7 +26,7 @@ meets-from-depth c from index d e top low some is =
     ] in
     record { steps = d - e; arrives = is; before = here }
 
--- an index that is met has as many steps left
+-- if a walk meets an index with `e` steps left, the walk reaches it when `e` steps are left
 pub depth-from-meets : (c : List ℕ) (from index d e : ℕ) → Depth c from d → Depth c index e → Meets c from index → walk c from (d - e) ≡ index
 depth-from-meets c from index d e top low h = elim (cases_lt h.steps d) [
   | inl lt ↦

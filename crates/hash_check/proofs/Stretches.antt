@@ -12,12 +12,12 @@ use Rattle.hash_check.proofs.NameLengths.{name-is-string, length-in-stretch}
 own-front : (n : ℕ) (xs : List ℕ) → take n xs ≡ take (length (take n xs)) xs
 own-front n xs = sym (take_min n xs) ∙ ap (λ k. take k xs) (sym (length-take n xs))
 
--- a string of the table is so many bytes of it as it is long
+-- a string of the table has the bytes of the table from its offset up to its length
 pub string-bytes : (t : List ℕ) (at : ℕ) → string_at t at ≡ take (length (string_at t at)) (drop at t)
 unfolding string_at
 string-bytes t at = own-front _ (drop at t)
 
--- the last bytes, read from the last one on, are the first ones so read
+-- the last bytes of a list, read backwards, are the first bytes of the list read backwards
 pub reverse-drop : (k : ℕ) (xs : List ℕ) → reverse (drop k xs) ≡ take (length (drop k xs)) (reverse xs)
 reverse-drop k xs =
     let parts : reverse (drop k xs) ++ reverse (take k xs) ≡ reverse xs = sym (reverse-append (take k xs) (drop k xs)) ∙ ap reverse (take-append-drop k xs) in
@@ -25,7 +25,7 @@ reverse-drop k xs =
     ∙ ap (λ n. take n (reverse (drop k xs) ++ reverse (take k xs))) (length-reverse (drop k xs))
     ∙ ap (take (length (drop k xs))) parts
 
--- the last bytes of a front
+-- the last n - k of n bytes from one offset are the n - k bytes from an offset that is greater by k
 end-of-front : (k n off at : ℕ) (t : List ℕ) → k ≤ n → at + k ≡ off → take (n - k) (drop off t) ≡ drop k (take n (drop at t))
 end-of-front k n off at t le e =
     let size : k + (n - k) ≡ n = omega (arith, le) in
@@ -34,7 +34,7 @@ end-of-front k n off at t le e =
     ∙ sym (drop-take k (n - k) (drop at t))
     ∙ ap (λ m. drop k (take m (drop at t))) size
 
--- a name that begins in a stretch is the end of it
+-- a name that begins in a stretch is the end of the stretch's bytes
 name-in-stretch : (file : List ℕ) (i : ℕ) (s : Stretch) → IsSymbol file i → IsStretch file s → BeginsIn file i s
     → name_of file i ≡ drop (offset_of file i - s.from) (stretch_bytes file s)
 unfolding stretch_bytes

@@ -1,4 +1,4 @@
--- How a table of names is filled, and what the numbers of its cells tell.
+-- How a table of names is filled, and the meaning of the numbers in its cells.
 use Rattle.std.proofs.Common.{◌≡◌, ℕ, ◌<◌, ◌+◌, List, [], ◌∷◌, ◌++◌, length, arith, ◌∙◌, sym, ap, get_or, subst, inl, inr}
 use Rattle.std.proofs.lemmas.List.{get_or_append_left}
 use Rattle.std.proofs.lemmas.Bool.{cases_lt}
@@ -9,7 +9,7 @@ use Rattle.hash_check.specs.inside.NameTable.{home, home_of, Reaches, Stands, Is
 use Rattle.hash_check.proofs.Cells.{one-place}
 
 module _ (names : List (List ℕ)) (cells : List ℕ) where
-  -- the numbers of the cells, of one name more
+  -- the numbers of all names are in their cells after one more name was put
   pub stand-more : (new numbers : List ℕ) (number told : ℕ) → IsPut names cells new number told → length numbers ≡ number → ((k : ℕ) → k < number → Stands names cells k (get_or numbers k 0))
       → (k : ℕ) → k < number + 1 → Stands names new k (get_or (numbers ++ told ∷ []) k 0)
   stand-more new numbers number told put size stand k lt = elim (cases_lt k number) [
@@ -20,7 +20,7 @@ module _ (names : List (List ℕ)) (cells : List ℕ) where
         subst (Stands names new k) (sym last) (subst (λ i. Stands names new i told) at put.stands)
   ]
 
-  -- names that are the same stand in one cell
+  -- equal names are found in the same cell
   stand-together : (j k a b : ℕ) → nth_text names j ≡ nth_text names k → Stands names cells j a → Stands names cells k b → a ≡ b
   stand-together j k a b same s t =
       let moved : Reaches (nth_text names) cells (nth_text names k) (home_of names cells k) s.place =

@@ -1,4 +1,4 @@
--- Walks: their sums, their ends, and that a walk that ends meets no index twice.
+-- Walks: their sums and their ends, and why a walk that ends meets no index twice.
 use Rattle.std.proofs.Common.{◌≡◌, ◌≢◌, ℕ, ◌<◌, ◌≤◌, ◌+◌, ◌-◌, false, List, length, arith, refl, ◌∙◌, sym, ap, subst, map, suc, zero, zero-add, get_or, eqb, inl, inr}
 use Rattle.std.specs.Prelude.{slice_index}
 use Rattle.std.specs.List.{range_with_len, IsDistinct}
@@ -33,12 +33,12 @@ walk-one c v = refl
 pub walk-next : (c : List ℕ) (v n : ℕ) → walk c v (n + 1) ≡ slice_index c (walk c v n)
 walk-next c v n = walk-add c v n 1 ∙ walk-one c (walk c v n)
 
--- a walk through indices stays at indices
+-- if every word is an index, a walk from an index meets only indices
 pub walk-index : (c : List ℕ) (v n : ℕ) → AreIndices (length c) c → v < length c → walk c v n < length c
 walk-index c v zero words lt = rw (walk-zero c v) lt
 walk-index c v (suc n) words lt = rw (walk-suc c v n) (walk-index c (slice_index c v) n words (words v 0 lt))
 
--- the walk from further along
+-- if a walk reaches 0 after d steps, the walk from its index number k does so after d - k steps
 pub depth-along : (c : List ℕ) (v d k : ℕ) → Depth c v d → k ≤ d → Depth c (walk c v k) (d - k)
 depth-along c v d k h le = record {
   arrives = let e : k + (d - k) ≡ d = omega arith in sym (walk-add c v k (d - k)) ∙ ap (walk c v) e ∙ h.arrives;
@@ -48,7 +48,8 @@ depth-along c v d k h le = record {
 pub depth-zero : (c : List ℕ) → Depth c 0 0
 depth-zero c = record { arrives = walk-zero c 0; before = λ k lt z. absurd (omega arith) }
 
--- one index more in front of a walk
+-- if the walk from the next index ends after e steps, the walk from an index other than 0 ends after e +
+-- 1 steps; a walk has only one such number
 nonzero-before : (c : List ℕ) (v e : ℕ) → v ≢ 0 → Depth c (slice_index c v) e → (k : ℕ) → k < e + 1 → walk c v k ≢ 0
 nonzero-before c v e some h zero lt z = some (sym (walk-zero c v) ∙ z)
 nonzero-before c v e some h (suc k) lt z = let below : k < e = omega arith in h.before k below (sym (walk-suc c v k) ∙ z)
@@ -68,7 +69,7 @@ depth-unique c v d e h i = elim (cases_lt d e) [
   ]
 ]
 
--- a walk that ends has a first 0
+-- a walk that ends reaches 0 a first time
 pub depth-from-steps : (c : List ℕ) (v n : ℕ) → walk c v n ≡ 0 → (d : ℕ) × Depth c v d
 depth-from-steps c v zero z = (0, subst (λ w. Depth c w 0) (sym (sym (walk-zero c v) ∙ z)) (depth-zero c))
 depth-from-steps c v (suc n) z = elim (cases_eq v 0) [

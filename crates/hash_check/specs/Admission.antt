@@ -1,6 +1,5 @@
--- The tests of admission, which are made of an object after its own tests (own; of gABI chapter 5,
--- "Hash Table"). A walk that ends does so in fewer steps than there are chain words, so these tests
--- decide what HashTable.antt says.
+-- The tests of admission, which follow an object's own tests (own; of gABI chapter 5, "Hash Table"). A walk that ends does so in fewer steps than
+-- there are chain words. So these tests decide the conditions of HashTable.antt.
 use Rattle.std.specs.Prelude.{ℕ, List, [], ◌∷◌, Bool, true, Option, Some, ◌≡◌, ◌≤◌}
 use Rattle.std.specs.Prelude.{◌==◌, ◌&&◌, ◌⊎◌, not, nat_lt, length, map, take_while}
 use Rattle.std.specs.List.{list_any, list_all, range_with_len}
@@ -15,15 +14,16 @@ use Rattle.hash_check.specs.HashTable.{bucket_of, HasGoodTable}
 use Rattle.hash_check.specs.declared.refusal.AdmitRefusal.{AdmitRefusal}
 use Rattle.hash_check.specs.declared.refusal.AdmitRefusal.TheVariants.{DuplicateDefinition, BadHashTable, OutOfMemory}
 
--- the indices on the walk from one, before it comes to 0, and at most as many as the chain words
+-- the indices on the walk from `from` before it reaches 0, but no more of them than there are chain
+-- words
 unfoldable pub walked : List ℕ → ℕ → List ℕ
 walked words from = take_while (λ i. not (i == 0)) (map (walk words from) (range_with_len 0 (length words)))
 
--- every word is the index of one of n symbols
+-- every word is the index of one of `n` symbols
 abbrev pub are_indices : ℕ → List ℕ → Bool
 are_indices n words = list_all (λ w. nat_lt w n) words
 
--- fewer steps than there are chain words reach 0
+-- the walk reaches 0 in fewer steps than there are chain words
 unfoldable pub ends_soon : List ℕ → ℕ → Bool
 ends_soon words from = list_any (λ k. walk words from k == 0) (range_with_len 0 (length words))
 
@@ -32,39 +32,40 @@ unfoldable pub has_good_words : List ℕ → Bool
 has_good_words file = not (length (buckets file) == 0)
     && (are_indices (length (chains file)) (buckets file) && are_indices (length (chains file)) (chains file))
 
--- from every bucket the walk ends
+-- the walk from every bucket ends
 unfoldable pub has_ending_walks : List ℕ → Bool
 has_ending_walks file = list_all (ends_soon (chains file)) (buckets file)
 
--- a symbol stands on the walk from the bucket of its own name's hash
+-- a symbol is on the walk from the bucket of its own name's hash
 unfoldable pub is_met : List ℕ → ℕ → Bool
 is_met file i = list_any (λ j. j == i) (walked (chains file) (bucket_of (buckets file) (elf_hash (name_of file i))))
 
--- every exported symbol does
+-- every exported symbol is on the walk from the bucket of its own name's hash
 unfoldable pub meets_exports : List ℕ → Bool
 meets_exports file = list_all (is_met file) (exported_symbols file)
 
--- E29, as a test
+-- E29, as a test: there is no bucket, a word isn't an index, a walk doesn't end, or an exported symbol isn't on the walk from its own bucket
 unfoldable pub has_bad_hash_table : List ℕ → Bool
 has_bad_hash_table file = not (has_good_words file && (has_ending_walks file && meets_exports file))
 
--- the refusal of an object by the first of these tests, or none where it is admitted (own)
+-- the refusal of an object by the first of these tests, or none if the object is admitted (own)
 unfoldable pub admission_refusal : List ℕ → Option AdmitRefusal
 admission_refusal file =
     first_of ((DuplicateDefinition when has_duplicate_definition file) ∷ (BadHashTable when has_bad_hash_table file) ∷ [])
 
--- what takes memory: to look for two symbols of one name where there are two, and to follow the
--- walks where every word is an index (own)
+-- admission may need memory: to compare the names of exported symbols if there are two or more, and to
+-- follow the walks if every word is an index (own)
 abbrev pub NeedsMemory : List ℕ → Type 0
 NeedsMemory file = (2 ≤ length (exported_symbols file)) ⊎ (has_good_words file ≡ true)
 
--- where a refusal is answered (own)
+-- admission may return this refusal: OutOfMemory if memory may be needed, and any other refusal if its
+-- test is the first that applies (own)
 abbrev pub IsRefusedBy : List ℕ → AdmitRefusal → Type 0
 IsRefusedBy file OutOfMemory = NeedsMemory file
 IsRefusedBy file refusal = admission_refusal file ≡ Some refusal
 
--- what a refusal says in the words of the definitions: two exported symbols share a name; or none
--- do, and the table isn't good
+-- what a refusal means: two exported symbols share a name; or no two do, and the table can't be trusted;
+-- or memory may be needed
 abbrev pub Says : List ℕ → AdmitRefusal → Type 0
 Says file DuplicateDefinition = HasSharedName file
 Says file BadHashTable = HasUniqueNames file × (¬ HasGoodTable file)

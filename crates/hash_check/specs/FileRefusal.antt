@@ -1,5 +1,5 @@
--- Why a file isn't taken: the tests of an object by itself, and then those of admission (own: all
--- of them in one order).
+-- Why a file is refused: by the tests of its object, and then by those of admission (own: all of them in
+-- one order).
 use Rattle.std.specs.Prelude.{ℕ, List, [], ◌∷◌, Option, Some, None, ◌≡◌}
 use Rattle.std.specs.Option.{option_map}
 use Rattle.elf_file.specs.FirstOf.{◌when◌, first_of}
@@ -11,7 +11,7 @@ use Rattle.hash_check.specs.declared.file_refusal.FileRefusal.TheVariants.{Objec
 use Rattle.hash_check.specs.declared.file_refusal.ReadRefusal.{ReadRefusal}
 use Rattle.hash_check.specs.declared.file_refusal.ReadRefusal.TheVariants.{File, OutOfMemory}
 
--- E1 to E27 and E30 to E32, then E28 and E29
+-- the tests of a file, in their order: E1 to E27 and E30 to E32, then E28 and E29
 abbrev pub file_tests : List ℕ → List (Option FileRefusal)
 file_tests file =
     option_map Object (first_refusal file)
@@ -19,15 +19,16 @@ file_tests file =
     ∷ (BadHashTable when has_bad_hash_table file)
     ∷ []
 
--- the refusal of a file by the first of these tests, or none where it is taken
+-- the refusal of a file by the first of these tests, or none if the file is accepted
 unfoldable pub first_file_refusal : List ℕ → Option FileRefusal
 first_file_refusal file = first_of (file_tests file)
 
--- what takes memory: admission, where no test of the object by itself applies
+-- reading a file may need memory: no test of the object applies, and admission may need memory
 abbrev pub ReadNeedsMemory : List ℕ → Type 0
 ReadNeedsMemory file = (first_refusal file ≡ None) × NeedsMemory file
 
--- where a refusal is answered
+-- reading may return this refusal: OutOfMemory if reading the file may need memory, and the refusal of a
+-- test if this test is the first that applies
 abbrev pub IsReadRefusal : List ℕ → ReadRefusal → Type 0
 IsReadRefusal file (File refusal) = first_file_refusal file ≡ Some refusal
 IsReadRefusal file OutOfMemory = ReadNeedsMemory file

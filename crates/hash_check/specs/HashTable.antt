@@ -7,7 +7,7 @@ use Rattle.hash_check.specs.Hash.{elf_hash}
 use Rattle.hash_check.specs.Export.{is_exported}
 use Rattle.hash_check.specs.Walk.{Ends, Meets}
 
--- every word is the index of one of n symbols
+-- every word is the index of one of `n` symbols
 abbrev pub AreIndices : ℕ → List ℕ → Type 0
 AreIndices n words = All (λ w. w < n) words
 
@@ -24,7 +24,7 @@ pub record HasIndexWords (file : List ℕ) : Type 0 where
   pub bucket_words : AreIndices (length (chains file)) (buckets file)
   pub chain_words : AreIndices (length (chains file)) (chains file)
 
--- from every bucket some number of chain steps reaches 0
+-- the walk from every bucket reaches 0 after some number of chain steps
 abbrev pub HasEndingWalks : List ℕ → Type 0
 HasEndingWalks file = All (Ends (chains file)) (buckets file)
 
@@ -32,8 +32,7 @@ HasEndingWalks file = All (Ends (chains file)) (buckets file)
 abbrev pub MeetsExports : List ℕ → Type 0
 MeetsExports file = (i : ℕ) → is_exported file i ≡ true → Meets (chains file) (bucket_of (buckets file) (elf_hash (name_of file i))) i
 
--- a table that can be trusted: it has a bucket, its words are indices, its walks end, and they meet
--- every exported symbol
+-- the table can be trusted: it has a bucket, its words are indices, its walks end, and they meet every exported symbol
 pub record HasGoodTable (file : List ℕ) : Type 0 where
   pub some_bucket : HasBucket file
   pub words : HasIndexWords file

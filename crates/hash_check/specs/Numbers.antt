@@ -1,11 +1,12 @@
--- Numbers that tell names from one another (own).
+-- Numbers that distinguish names (own).
 use Rattle.std.specs.Prelude.{ℕ, List, [], ◌≡◌, ◌<◌, ◌≤◌, ◌+◌, ◌-◌, length, slice_index, slice_index_or}
 
--- the name of a number
+-- name number `k`
 abbrev pub nth_text : List (List ℕ) → ℕ → List ℕ
 nth_text names k = slice_index_or names k []
 
--- each name has the number of one that is the same, counted from 1, and the same names have the same number
+-- names have the same number exactly if they are the same, and the number of a name is the position,
+-- counted from 1, of a name that is the same
 pub record AreNumbers (names : List (List ℕ)) (numbers : List ℕ) : Type 0 where
   pub size : length numbers ≡ length names
   pub some : (k : ℕ) → k < length names → 1 ≤ slice_index numbers k
@@ -13,7 +14,7 @@ pub record AreNumbers (names : List (List ℕ)) (numbers : List ℕ) : Type 0 wh
   pub same : (k : ℕ) → k < length names → nth_text names (slice_index numbers k - 1) ≡ nth_text names k
   pub one : (j k : ℕ) → j < length names → k < length names → nth_text names j ≡ nth_text names k → slice_index numbers j ≡ slice_index numbers k
 
--- each name has its own number
+-- the number of each name is its own position, counted from 1
 pub record AreOwn (numbers : List ℕ) : Type 0 where
   pub own : (k : ℕ) → k < length numbers → slice_index numbers k ≡ k + 1
 

@@ -1,16 +1,16 @@
--- How many names a search by the hash table compares (gABI chapter 5, "Hash Table").
+-- The number of symbols that a search by the hash table compares (gABI chapter 5, "Hash Table").
 use Rattle.std.specs.Prelude.{ℕ, List, [], ◌∷◌, Bool, ◌+◌, if◌then◌else◌}
 use Rattle.elf_dynamic.specs.HashTable.{buckets, chains}
 use Rattle.hash_check.specs.Definition.{is_exported_as}
 use Rattle.hash_check.specs.HashTable.{bucket_of}
 use Rattle.hash_check.specs.Admission.{walked}
 
--- how many elements there are up to and with the first that passes, or all of them
+-- the number of elements up to and including the first that passes the test, or of all elements if none passes
 abbrev pub up_to : (ℕ → Bool) → List ℕ → ℕ
 up_to test [] = 0
 up_to test (x ∷ xs) = if test x then 1 else up_to test xs + 1
 
--- how many symbols a search for a name looks at: those on the walk from the hash's bucket, up to
--- the one that is exported under the name
+-- the number of symbols that a search for a name compares: those on the walk from the hash's bucket, up
+-- to and including the symbol that is exported under the name
 abbrev pub compared : List ℕ → List ℕ → ℕ → ℕ
 compared file name hash = up_to (is_exported_as file name) (walked (chains file) (bucket_of (buckets file) hash))

@@ -2,16 +2,16 @@
 use Rattle.std.specs.Prelude.{ℕ, List, ◌≡◌, ◌≢◌, ◌≤◌, slice_index}
 use Rattle.std.specs.Fn.{iterate}
 
--- the index that the walk from an index has come to after n chain steps
+-- the index that the walk from an index reaches after `n` chain steps
 unfoldable pub walk : List ℕ → ℕ → ℕ → ℕ
 walk chains from n = iterate (slice_index chains) n from
 
--- some number of chain steps reaches 0
+-- the walk reaches 0 after some number of chain steps
 pub record Ends (chains : List ℕ) (from : ℕ) : Type 0 where
   pub steps : ℕ
   pub arrives : walk chains from steps ≡ 0
 
--- the walk meets an index before 0: so many steps give it, and none up to there gives 0
+-- the walk reaches an index after some number of steps, and doesn't reach 0 before it or at it
 pub record Meets (chains : List ℕ) (from index : ℕ) : Type 0 where
   pub steps : ℕ
   pub arrives : walk chains from steps ≡ index

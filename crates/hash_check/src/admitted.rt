@@ -48,16 +48,17 @@ impl<'a> Model for Admitted<'a> {
 }
 
 impl<'a> Admitted<'a> {
-    /// Admits an object, or gives the refusal of the first test that applies. It takes some 52
-    /// bytes a symbol, which it gives back. Every step is linear in the file up to a logarithm,
-    /// but one: an exported name is hashed unless the walks from all buckets meet its symbol, so
-    /// names that share bytes of the string table cost the sum of their lengths.
+    /// Admits an object, or returns the refusal of the first test that applies. Allocates about 52
+    /// bytes a symbol, and frees them before it returns. Except for one step, the time is linear in
+    /// the file up to a logarithm. The exception is that an exported name is hashed unless the
+    /// walks from all buckets meet its symbol. So names that share bytes of the string table cost
+    /// the sum of their lengths.
     #[tactic(auto, unfolding(crate::specs::Admission::admission_refusal))]
     pub fn admit(alloc: Global, object: Object<'a>) -> Result<Admitted<'a>, AdmitRefusal>
         ensures ok { OnOk result (admission_refusal object.entry ≡ None) }
         ensures same { IfOk result (λ admitted. admitted ≡ object.entry) }
 
-        // Want of memory is answered only where the answer takes memory to be found.
+        // Returns OutOfMemory only if admission may need memory.
         ensures refused { IfErr result (IsRefusedBy object.entry) }
         ensures says { IfErr result (Says object.entry) }
     {
@@ -70,8 +71,8 @@ impl<'a> Admitted<'a> {
         Ok(Admitted { object })
     }
 
-    /// The admitted object that a file is which no test refuses: only E22 is made again. It costs
-    /// what `Object::of_accepted` costs.
+    /// Makes the admitted object of a file that no test refuses. Makes only the test E22 again.
+    /// Costs as much as `Object::of_accepted`.
     #[tactic(auto, using(crate::proofs::Reading::accepted_tests))]
     pub fn of_accepted(file: &'a [u8]) -> Admitted<'a>
         requires { first_file_refusal file.now ≡ None }
@@ -87,7 +88,7 @@ impl<'a> Admitted<'a> {
     pub fn object(&self) -> &Object<'a>
         ensures same { result.now ≡ self.now }
 
-        // A file that is held as an admitted object is refused by no test.
+        // No test refuses the file of an admitted object.
         ensures accepted { first_refusal self.now ≡ None }
         ensures admitted { admission_refusal self.now ≡ None }
         ensures unique { HasUniqueNames self.now }
@@ -96,14 +97,14 @@ impl<'a> Admitted<'a> {
         &self.object
     }
 
-    /// The name of the symbol of a number; the empty one where there is no such symbol.
+    /// Returns the name of symbol number `i`, or the empty name if there is no such symbol.
     pub fn name_at(&self, i: u32) -> &'a [u8]
         ensures { result.now ≡ name_of self.now i }
     {
         name_at(self.object(), i)
     }
 
-    /// Whether the symbol of a number is exported.
+    /// Returns whether symbol number `i` is exported.
     pub fn is_exported(&self, i: u32) -> bool
         requires { i < length (symbols self.now) }
         ensures { result ≡ is_exported self.now i }
@@ -111,7 +112,7 @@ impl<'a> Admitted<'a> {
         is_exported(self.object(), i)
     }
 
-    /// The name of a library: its SONAME, or E33.
+    /// Returns the name of the library, which is its SONAME, or E33.
     #[tactic(auto, unfolding(crate::specs::Soname::has_bad_soname))]
     pub fn library_name(&self) -> Result<&'a [u8], ObjectRefusal>
         ensures ok { OnOk result (has_bad_soname self.now ≡ false) }
@@ -125,15 +126,16 @@ impl<'a> Admitted<'a> {
         }
     }
 
-    /// The number of the symbol that is exported under a name. It hashes the name and follows
-    /// one walk.
+    /// Returns the number of the symbol that is exported under `name`, if there is one. Hashes the
+    /// name and follows one walk.
     pub fn find(&self, name: &[u8]) -> Option<u32>
         ensures { result ≡ definition_of self.now name.now }
     {
         self.find_hashed(name, elf_hash(name)).symbol
     }
 
-    /// The same where the name's hash is known, with the number of symbols that were looked at.
+    /// Makes the search of `find` for a name whose hash is `hash`. Also returns the number of
+    /// symbols that were compared.
     pub fn find_hashed(&self, name: &[u8], hash: u32) -> Found
         requires { hash ≡ elf_hash name.now }
         ensures symbol { result.symbol ≡ definition_of self.now name.now }

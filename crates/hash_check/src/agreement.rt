@@ -1,4 +1,4 @@
-// Strings compared from their last bytes on.
+// Comparing strings from their last bytes.
 
 ghost use Rattle.std.specs.Prelude.{◌≡◌, ◌≤◌, ℕ, length, take, reverse};
 ghost use Rattle.std.specs.Cmp.Lexicographic.{slice_cmp};
@@ -6,7 +6,7 @@ ghost use Rattle.std.specs.Ordering.{nat_cmp};
 
 use std::cmp::Ordering;
 
-/// In how many of their last bytes two strings agree.
+/// Returns how many bytes at their ends two strings have in common.
 pub(crate) fn common_end(a: &[u8], b: &[u8]) -> usize
     ensures first { result ≤ length a.now }
     ensures second { result ≤ length b.now }
@@ -23,7 +23,7 @@ pub(crate) fn common_end(a: &[u8], b: &[u8]) -> usize
     shorter
 }
 
-/// The order of two strings by their bytes from the last one on.
+/// Returns the order of two strings by their bytes, read from the last byte.
 pub(crate) fn compare_ends(a: &[u8], b: &[u8]) -> Ordering
     ensures { result ≡ slice_cmp nat_cmp (reverse a.now) (reverse b.now) }
 {

@@ -23,21 +23,21 @@ impl<'o, 'a> Model for Buckets<'o, 'a> {
 }
 
 impl<'o, 'a> Buckets<'o, 'a> {
-    /// Those of an object.
+    /// Returns the buckets of an object.
     pub(crate) fn new(object: &'o Object<'a>) -> Buckets<'o, 'a>
         ensures { result ≡ buckets object.now }
     {
         Buckets { object }
     }
 
-    /// How many there are.
+    /// The number of buckets.
     pub(crate) fn count(&self) -> u32
         ensures { result ≡ length self.now }
     {
         self.object.bucket_count()
     }
 
-    /// The word of the bucket number `i`.
+    /// Returns the word of bucket number `i`.
     pub(crate) fn word(&self, i: u32) -> u32
         requires { i < length self.now }
         ensures { result ≡ slice_index self.now i }
@@ -45,7 +45,7 @@ impl<'o, 'a> Buckets<'o, 'a> {
         self.object.bucket(i)
     }
 
-    /// The word of the bucket of a hash: the index at which its walk begins.
+    /// Returns the word of the bucket for `hash`: the index at which the walk for this hash begins.
     pub(crate) fn of_hash(&self, hash: u32) -> u32
         requires { 1 ≤ length self.now }
         ensures { result ≡ bucket_of self.now hash }
@@ -53,7 +53,7 @@ impl<'o, 'a> Buckets<'o, 'a> {
         self.word(hash % self.count())
     }
 
-    /// Whether each is the index of one of `n` symbols.
+    /// Returns whether each word is the index of one of `n` symbols.
     pub(crate) fn are_indices(&self, n: u32) -> bool
         ensures { IsTrue result ↔ AreIndices n self.now }
     {

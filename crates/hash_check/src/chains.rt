@@ -8,7 +8,7 @@ ghost use Rattle.hash_check.specs.HashTable.{AreIndices};
 use elf_dynamic::Object;
 use std::marker::Model;
 
-/// The chain words of an object's hash table. Contracts see them as a list.
+/// The chain words of an object's hash table. Contracts see them as a list of words.
 #[derive(Drop)]
 pub(crate) struct Chains<'o, 'a> {
     object: &'o Object<'a>,
@@ -27,7 +27,7 @@ impl<'o, 'a> Model for Chains<'o, 'a> {
 }
 
 impl<'o, 'a> Chains<'o, 'a> {
-    /// Those of an object, one for each symbol.
+    /// Returns the chain words of an object. There is one for each symbol.
     pub(crate) fn new(object: &'o Object<'a>) -> Chains<'o, 'a>
         ensures words { result ≡ chains object.now }
         ensures symbols { length result ≡ length (symbols object.now) }
@@ -37,14 +37,14 @@ impl<'o, 'a> Chains<'o, 'a> {
         Chains { object, count }
     }
 
-    /// How many there are.
+    /// The number of chain words.
     pub(crate) fn count(&self) -> u32
         ensures { result ≡ length self.now }
     {
         self.count
     }
 
-    /// The chain word of an index.
+    /// Returns the chain word of index `i`.
     pub(crate) fn next(&self, i: u32) -> u32
         requires { i < length self.now }
         ensures { result ≡ slice_index self.now i }
@@ -52,7 +52,7 @@ impl<'o, 'a> Chains<'o, 'a> {
         self.object.chain(i)
     }
 
-    /// Whether each is the index of a symbol.
+    /// Returns whether each chain word is the index of a symbol.
     pub(crate) fn are_indices(&self) -> bool
         ensures { IsTrue result ↔ AreIndices (length self.now) self.now }
     {

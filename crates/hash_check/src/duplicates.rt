@@ -1,4 +1,4 @@
-// Whether a name is exported twice.
+// Whether two exported symbols share a name.
 
 ghost use Rattle.std.specs.Prelude.{◌≡◌, ◌≢◌, ◌≤◌, ◌↔◌, [], true, false, length, map};
 ghost use Rattle.std.specs.Prelude.{IsTrue, IfOk, IfSome, OnErr, MatchOption};
@@ -19,7 +19,7 @@ use crate::strings::endings_of;
 use elf_dynamic::Object;
 use std::alloc::{AllocError, Global};
 
-/// Whether each name has its own number.
+/// Returns whether the number of each name is its own position, counted from 1.
 fn are_own(numbers: &[u32]) -> bool
     ensures { IsTrue result ↔ AreOwn numbers.now }
 {
@@ -31,8 +31,8 @@ fn are_own(numbers: &[u32]) -> bool
     true
 }
 
-/// The names of symbols, and whether no two of them are the same, by a table of them in any order;
-/// none where that doesn't tell.
+/// Returns the names of `symbols`, and whether all of them differ. Puts the names into a table to
+/// find this out. The symbols may be in any order. Returns `None` if the table can't decide it.
 fn names_in_table<'a>(
     alloc: Global,
     object: &Object<'a>,
@@ -52,7 +52,8 @@ fn names_in_table<'a>(
     }
 }
 
-/// Whether each name is shorter than the one before it, as tails of one string are by their places.
+/// Returns whether each name is shorter than the one before it, as are tails of one string that are
+/// sorted by their places.
 fn lengths_fall(names: &[Name<'_>]) -> bool
     ensures { IsTrue result → Fall names.now }
 {
@@ -65,8 +66,8 @@ fn lengths_fall(names: &[Name<'_>]) -> bool
     true
 }
 
-/// Whether no two symbols that are sorted by the places of their names share one, by the strings
-/// that these are tails of.
+/// Returns whether the names of the symbols differ. Compares the strings whose tails the names are.
+/// The symbols are sorted by the places of their names.
 fn differ_in_strings(
     alloc: Global,
     object: &Object<'_>,
@@ -85,8 +86,8 @@ fn differ_in_strings(
     Ok(are_own(&numbers))
 }
 
-/// None of the exported symbols, where fewer than two are exported, so that none share a name; else
-/// want of memory.
+/// Returns an empty list of exports if fewer than two symbols are exported, because then no two
+/// share a name. Otherwise returns `AllocError`.
 fn few_exports<'a>(alloc: Global, object: &Object<'a>) -> Result<Option<Exports<'a>>, AllocError>
     ensures ok { IfOk result (λ found. MatchOption found
         (has_duplicate_definition object.now ≡ true)
@@ -102,10 +103,11 @@ fn few_exports<'a>(alloc: Global, object: &Object<'a>) -> Result<Option<Exports<
     }
 }
 
-/// The exported symbols, unless two of them share a name; none of them where fewer than two are.
-/// Where the table doesn't tell, as where many names are tails of others or a file was made to fill
-/// few cells, the strings that they are tails of do. It takes some 40 bytes an exported symbol
-/// while it runs, of which some 28 are kept.
+/// Returns the exported symbols, or `None` if two of them share a name. If fewer than two symbols
+/// are exported, the list is empty. Usually a table of the names decides whether two are the same.
+/// It can't if many names are tails of others, or if the file was made to crowd the table. Then the
+/// strings that the names are tails of are compared. Allocates about 40 bytes an exported symbol
+/// while it runs, of which about 28 are kept.
 pub(crate) fn unique_exports<'a>(
     alloc: Global,
     object: &Object<'a>,

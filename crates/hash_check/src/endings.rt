@@ -1,4 +1,4 @@
-// Names told by numbers, where they are tails of strings and share the bytes of these.
+// Numbers that distinguish names, for names that are tails of strings and share the bytes of these.
 
 ghost use Rattle.std.specs.Prelude.{ℕ, ◌≡◌, ◌≢◌, ◌<◌, ◌≤◌, ◌^◌, length, reverse, slice_index, IfOk};
 ghost use Rattle.std.specs.Cmp.Lexicographic.{slice_cmp};
@@ -12,8 +12,8 @@ use crate::agreement::{common_end, compare_ends};
 use crate::name::Name;
 use std::alloc::{AllocError, Global};
 
-/// Names of a list that are tails of one string, from the first number up to the one before the
-/// last.
+/// The names of a list with the numbers from `first` up to, but not including, `past`. They are
+/// tails of one string.
 #[derive(Clone, Copy)]
 pub(crate) struct Ending<'a> {
     pub(crate) string: &'a [u8],
@@ -21,7 +21,8 @@ pub(crate) struct Ending<'a> {
     pub(crate) past: usize,
 }
 
-/// Takes the marks of a range away, as far as there are any.
+/// Removes the marks for lengths from `from` up to, but not including, `past`, if there are marks
+/// for them.
 fn unmark(marks: &mut [u32], from: usize, past: usize)
     ensures cleared { (n : ℕ) → from ≤ n → n < past → slice_index marks.new n ≡ 0 }
     ensures low { (n : ℕ) → n < from → slice_index marks.new n ≡ slice_index marks.old n }
@@ -32,7 +33,8 @@ fn unmark(marks: &mut [u32], from: usize, past: usize)
     }
 }
 
-/// The number of a name: the one that is marked for its length, or else its own.
+/// Returns the number of a name: `mark`, the mark for its length, or `own`, its own number, if the
+/// mark is 0.
 fn picked(own: u32, mark: u32) -> u32
     ensures own { mark ≡ 0 → result ≡ own }
     ensures marked { mark ≢ 0 → result ≡ mark }
@@ -40,7 +42,7 @@ fn picked(own: u32, mark: u32) -> u32
     if mark == 0 { own } else { mark }
 }
 
-/// Gives the names of an ending their numbers, and marks these for their lengths.
+/// Gives the names of an ending their numbers, and marks each name's length with the name's number.
 fn number_ending(names: &[Name<'_>], ending: Ending<'_>, marks: &mut [u32], numbers: &mut [u32])
     requires few { length names.now < 2 ^ 32 }
     requires ending { IsEnding names.now ending }
@@ -58,9 +60,9 @@ fn number_ending(names: &[Name<'_>], ending: Ending<'_>, marks: &mut [u32], numb
     }
 }
 
-/// Gives all names their numbers, ending by ending. From one to the next a mark stays where both
-/// have as many last bytes in common: so marks are the numbers of the names that the next ending
-/// has too.
+/// Gives all names their numbers, ending by ending. A mark is kept for the next ending if both
+/// strings have at least as many last bytes in common as the mark's length. So the marks are the
+/// numbers of the names that are tails of the next string too.
 fn number_all(names: &[Name<'_>], endings: &[Ending<'_>], marks: &mut [u32], numbers: &mut [u32])
     requires few { length names.now < 2 ^ 32 }
     requires endings { AreSorted names.now endings.now }
@@ -81,7 +83,7 @@ fn number_all(names: &[Name<'_>], endings: &[Ending<'_>], marks: &mut [u32], num
     }
 }
 
-/// How many lengths the names of endings may have, 0 among them.
+/// Returns the number of lengths that names of the endings may have, including 0.
 fn count_of_lengths(endings: &[Ending<'_>]) -> usize
     ensures { All (λ e. length e.string.now < result) endings.now }
 {
@@ -92,10 +94,10 @@ fn count_of_lengths(endings: &[Ending<'_>]) -> usize
     count
 }
 
-/// The numbers of names that are tails of strings, in a time that hangs on the strings and the
-/// number of names, however many bytes these share. Strings that share no byte are compared some
-/// log n times each. They take 4 bytes a name, and while they are made as many for each byte of the
-/// longest string; of 2^32 names and more there are too many for them.
+/// Returns the numbers of names that are tails of strings. The time depends on the strings and on
+/// the number of names, not on how many bytes the names share. If n strings share no bytes, each of
+/// them is compared about log n times. Allocates 4 bytes a name, and while it runs 4 bytes more for
+/// each byte of the longest string. Returns an error if there are 2^32 names or more.
 pub(crate) fn numbers_of_endings(
     alloc: Global,
     names: &[Name<'_>],

@@ -7,7 +7,7 @@ ghost use Rattle.hash_check.specs.Export.{exports, is_exported, exported_symbols
 use elf_dynamic::{Object, Symbol};
 use std::alloc::{AllocError, Global};
 
-/// Whether a symbol is exported, unless it is number 0.
+/// Returns whether a symbol is exported, unless it is symbol number 0.
 #[tactic(auto, unfolding(crate::specs::Export::exports))]
 fn exports(symbol: Symbol) -> bool
     ensures { result ≡ exports symbol }
@@ -18,7 +18,7 @@ fn exports(symbol: Symbol) -> bool
         && symbol.is_visible()
 }
 
-/// Whether the symbol number `i` is exported.
+/// Returns whether symbol number `i` is exported.
 #[tactic(auto, unfolding(crate::specs::Export::is_exported))]
 pub(crate) fn is_exported(object: &Object<'_>, i: u32) -> bool
     requires { i < length (symbols object.now) }
@@ -27,7 +27,7 @@ pub(crate) fn is_exported(object: &Object<'_>, i: u32) -> bool
     i != 0 && exports(object.symbol(i))
 }
 
-/// How many symbols are exported.
+/// Returns the number of exported symbols.
 #[tactic(auto, unfolding(crate::specs::Export::exported_symbols))]
 pub(crate) fn exported_count(object: &Object<'_>) -> usize
     ensures { result ≡ length (exported_symbols object.now) }
@@ -37,7 +37,7 @@ pub(crate) fn exported_count(object: &Object<'_>) -> usize
         .count()
 }
 
-/// The numbers of the exported symbols.
+/// Returns the numbers of the exported symbols.
 #[tactic(auto, unfolding(crate::specs::Export::exported_symbols))]
 pub(crate) fn exported_symbols(alloc: Global, object: &Object<'_>) -> Result<Vec<u32>, AllocError>
     ensures { IfOk result (λ numbers. numbers.items ≡ exported_symbols object.now) }

@@ -1,4 +1,4 @@
-// The exported symbols of an object with their names.
+// The exported symbols of an object, with their names.
 
 ghost use Rattle.std.specs.Prelude.{◌≡◌, ◌≢◌, [], IfOk};
 ghost use Rattle.hash_check.specs.inside.Names.{AreExports, IsWhole};
@@ -9,8 +9,8 @@ use crate::names::names_of;
 use elf_dynamic::Object;
 use std::alloc::{AllocError, Global};
 
-/// Exported symbols of an object with their names: all of them, or none, where fewer than two are
-/// exported and no memory is taken for them yet.
+/// Exported symbols of an object with their names. These are all of them, or none if fewer than two
+/// are exported and nothing has been allocated for them yet.
 #[derive(Drop)]
 pub(crate) struct Exports<'a> {
     pub(crate) symbols: Vec<u32>,
@@ -18,7 +18,7 @@ pub(crate) struct Exports<'a> {
 }
 
 impl<'a> Exports<'a> {
-    /// None of them.
+    /// Returns an empty list of exports.
     pub(crate) fn none(alloc: Global, object: &Object<'a>) -> Exports<'a>
         ensures none { result.symbols.items ≡ [] }
         ensures exports { AreExports object.now result.symbols.items result.names.items }
@@ -29,7 +29,7 @@ impl<'a> Exports<'a> {
         }
     }
 
-    /// All of them.
+    /// Returns all exported symbols with their names.
     pub(crate) fn whole(self, alloc: Global, object: &Object<'a>) -> Result<Exports<'a>, AllocError>
         requires exports { AreExports object.now self.symbols.items self.names.items }
         requires whole { self.symbols.items ≢ [] → IsWhole object.now self.symbols.items }

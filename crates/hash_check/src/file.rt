@@ -10,14 +10,14 @@ use elf_dynamic::Object;
 use std::alloc::Global;
 
 impl<'a> Admitted<'a> {
-    /// Reads a file and admits it, or gives the refusal of the first of all tests that applies. It
-    /// costs what `Object::read` and `Admitted::admit` cost.
+    /// Reads a file and admits it, or returns the refusal of the first of all tests that applies.
+    /// Costs as much as `Object::read` and `Admitted::admit`.
     #[tactic(auto, using(crate::proofs::Reading::first_refusals))]
     pub fn read(alloc: Global, file: &'a [u8]) -> Result<Admitted<'a>, ReadRefusal>
         ensures ok { OnOk result (first_file_refusal file.now ≡ None) }
         ensures same { IfOk result (λ admitted. admitted ≡ file.now) }
 
-        // Want of memory is answered only where admission takes memory.
+        // Returns OutOfMemory only if admission may need memory.
         ensures refused { IfErr result (IsReadRefusal file.now) }
     {
         match Admitted::admit(alloc, Object::read(file)?) {

@@ -1,24 +1,24 @@
-// Why a file isn't taken.
+// The reasons why a file is refused.
 
 use elf_dynamic::ObjectRefusal;
 
-/// Why a file isn't taken: the first of all tests on files that applies.
+/// The reason why a file is refused: the first of all tests on files that applies.
 #[derive(Clone, Copy, Debug, PartialEq, Eq)]
 pub enum FileRefusal {
-    /// E1 to E27 and E30 to E33: what is tested of an object without memory.
+    /// E1 to E27 and E30 to E33: the tests of an object that need no memory.
     Object(ObjectRefusal),
     /// E28: two exported symbols share a name.
     DuplicateDefinition,
-    /// E29: the hash table isn't good.
+    /// E29: the hash table can't be trusted.
     BadHashTable,
 }
 
-/// Why a file isn't read as an admitted object.
+/// The reason why a file isn't read as an admitted object.
 #[derive(Clone, Copy, Debug, PartialEq, Eq)]
 pub enum ReadRefusal {
-    /// A test on files applies.
+    /// The file is refused, for this reason.
     File(FileRefusal),
-    /// The memory that admission takes was refused.
+    /// The memory that admission needs was refused.
     OutOfMemory,
 }
 

@@ -3,7 +3,7 @@
 ghost use Rattle.std.specs.Prelude.{◌≡◌, fold};
 ghost use Rattle.hash_check.specs.Hash.{hash_step, elf_hash};
 
-/// The hash after one byte more.
+/// Returns the hash after one more byte.
 #[tactic(auto, unfolding(crate::specs::Hash::hash_step))]
 pub(crate) fn hash_step(hash: u32, byte: u8) -> u32
     ensures { result ≡ hash_step hash byte }
@@ -13,14 +13,16 @@ pub(crate) fn hash_step(hash: u32, byte: u8) -> u32
     (sum ^ (high >> 24)) & !high
 }
 
-/// The hash of a name whose beginning has a hash, with the bytes that are left of it.
+/// Returns the hash of a name whose first bytes have the hash `hash` and whose other bytes are
+/// `rest`.
 pub(crate) fn hash_rest(hash: u32, rest: &[u8]) -> u32
     ensures { result ≡ fold hash_step hash rest.now }
 {
     rest.iter().fold(hash, |hash, byte| hash_step(hash, *byte))
 }
 
-/// The hash of a name (gABI chapter 5, "Hash Table"): its lowest 28 bits, over each byte once.
+/// Returns the hash of a name (gABI chapter 5, "Hash Table"), which has 28 bits. Reads each byte
+/// once.
 #[tactic(auto, unfolding(crate::specs::Hash::elf_hash))]
 pub fn elf_hash(name: &[u8]) -> u32
     ensures { result ≡ elf_hash name.now }

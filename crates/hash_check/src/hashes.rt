@@ -1,4 +1,4 @@
-// The hashes of several names at a time.
+// Hashing several names at a time.
 
 ghost use Rattle.std.specs.Prelude.{ℕ, ◌≡◌, ◌<◌, ◌≤◌, ◌+◌, ◌*◌, length};
 ghost use Rattle.std.specs.Prelude.{take, drop, slice_index, fold};
@@ -7,14 +7,14 @@ ghost use Rattle.hash_check.specs.Hash.{hash_step};
 use crate::hash::hash_step;
 use elf_file::u32_at;
 
-/// How many names are hashed at a time. A step of a hash waits for the one before it, those of
-/// other names don't.
+/// The number of names that are hashed at a time. Each step of a hash has to wait for the step
+/// before it, but not for the steps of other names' hashes.
 pub(crate) const LANES: usize = 8;
 
-/// How many bytes are read at once.
+/// The number of bytes that are read at once.
 const WORD: usize = 4;
 
-/// The hash of a name after one byte more of it, which stands at a place in a table.
+/// Returns the hash of a name after one more byte, which is at `place` in the table.
 fn hash_byte(table: &[u8], place: usize, hash: u32) -> u32
     requires { place < length table.now }
     ensures { result ≡ fold hash_step hash (take 1 (drop place table.now)) }
@@ -22,7 +22,7 @@ fn hash_byte(table: &[u8], place: usize, hash: u32) -> u32
     hash_step(hash, table[place])
 }
 
-/// The hash of a name after four bytes more of it, which are read as one number.
+/// Returns the hash of a name after four more bytes, which are read as one number.
 fn hash_word(table: &[u8], place: usize, hash: u32) -> u32
     requires { place + 4 ≤ length table.now }
     ensures { result ≡ fold hash_step hash (take 4 (drop place table.now)) }
@@ -34,7 +34,8 @@ fn hash_word(table: &[u8], place: usize, hash: u32) -> u32
     hash_step(third, (word / 16_777_216) as u8)
 }
 
-/// Adds one byte more of each name to its hash: the byte number `i` from its place in a table.
+/// Adds one more byte of each name to the name's hash: byte number `i` after the name's place in
+/// the table.
 fn add_byte(table: &[u8], places: &[usize; LANES], i: usize, hashes: &mut [u32; LANES])
     requires { (k : ℕ) → k < 8 → slice_index places.now k + i < length table.now }
     ensures { (k : ℕ) → k < 8 → slice_index hashes.new k
@@ -46,7 +47,8 @@ fn add_byte(table: &[u8], places: &[usize; LANES], i: usize, hashes: &mut [u32; 
     }
 }
 
-/// Adds four bytes more of each name to its hash: those from number `i` on from its place.
+/// Adds four more bytes of each name to the name's hash, starting with byte number `i` after the
+/// name's place in the table.
 fn add_word(table: &[u8], places: &[usize; LANES], i: usize, hashes: &mut [u32; LANES])
     requires { (k : ℕ) → k < 8 → slice_index places.now k + i + 4 ≤ length table.now }
     ensures { (k : ℕ) → k < 8 → slice_index hashes.new k
@@ -58,7 +60,8 @@ fn add_word(table: &[u8], places: &[usize; LANES], i: usize, hashes: &mut [u32; 
     }
 }
 
-/// Adds so many words more of each name to its hash: those from its place in a table on.
+/// Adds `words` more words of each name to the name's hash, starting at the name's place in the
+/// table.
 fn add_words(table: &[u8], places: &[usize; LANES], words: usize, hashes: &mut [u32; LANES])
     requires { (k : ℕ) → k < 8 → slice_index places.now k + 4 * words ≤ length table.now }
     ensures { (k : ℕ) → k < 8 → slice_index hashes.new k
@@ -72,8 +75,8 @@ fn add_words(table: &[u8], places: &[usize; LANES], words: usize, hashes: &mut [
     *hashes = made;
 }
 
-/// Adds so many bytes more of each name to its hash: those from its place in a table on. A step
-/// for all names is made before the next one.
+/// Adds `count` more bytes of each name to the name's hash, starting at the name's place in the
+/// table. Makes one step for all names before the next step.
 pub(crate) fn add_bytes(
     table: &[u8],
     places: &[usize; LANES],

@@ -1,4 +1,4 @@
-// Where the walks from all buckets have come together.
+// The index at which the walks from all buckets join.
 
 ghost use Rattle.std.specs.Prelude.{◌≡◌, ◌≢◌, ◌<◌, ◌≤◌, length};
 ghost use Rattle.hash_check.specs.Walk.{Meets};
@@ -10,7 +10,7 @@ use crate::chains::Chains;
 use crate::meeting::is_met;
 use crate::place::Place;
 
-/// The first index on the walk from one index that the walk from another one meets too, or 0 where
+/// Returns the first index on the walk from `from` that the walk from `other` meets too, or 0 if
 /// there is none.
 fn joint_of_two(places: &[Option<Place>], chains: &Chains<'_, '_>, from: u32, other: u32) -> u32
     requires words { AreIndices (length chains.now) chains.now }
@@ -35,8 +35,8 @@ fn joint_of_two(places: &[Option<Place>], chains: &Chains<'_, '_>, from: u32, ot
     at
 }
 
-/// An index that the walks from all buckets meet, the first that there is, or 0. Each step along
-/// the walk from the first bucket is made once.
+/// Returns the first index that the walks from all buckets meet, or 0 if there is none. Makes each
+/// step along the walk from the first bucket only once.
 pub(crate) fn joint_of_all(
     places: &[Option<Place>],
     buckets: &Buckets<'_, '_>,

@@ -1,4 +1,4 @@
-// The place of an index from that of the next one on its walk.
+// The place of an index, computed from the place of the next index on its walk.
 
 ghost use Rattle.std.specs.Prelude.{◌≡◌, ◌<◌, ◌^◌, Some, length};
 ghost use Rattle.hash_check.specs.HashTable.{AreIndices};
@@ -7,9 +7,10 @@ ghost use Rattle.hash_check.specs.inside.Places.{Known, Sound, IsBefore, place_a
 use crate::chains::Chains;
 use crate::place::{Place, known_place};
 
-/// The place of an index on the walk from a head, from that of the next one. The jump joins two
-/// jumps of the same length and is else a single step, so a walk of n steps is climbed by some
-/// log n jumps.
+/// Returns the place of an index on the walk from `head`. The next index on this walk is `next`. If
+/// the jump of `next` and the jump after it have the same length, the new jump leads over both.
+/// Otherwise the new jump is a single step. So a walk of n steps can be followed with about log n
+/// jumps.
 pub(crate) fn place_before(
     places: &[Option<Place>],
     chains: &Chains<'_, '_>,

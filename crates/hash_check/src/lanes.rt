@@ -1,4 +1,4 @@
-// Names whose hashes are made together.
+// Names that are hashed together, each in its lane.
 
 ghost use Rattle.std.specs.Prelude.{ℕ, List, true, ◌≡◌, ◌≢◌, ◌<◌, ◌≤◌, ◌-◌};
 ghost use Rattle.std.specs.Prelude.{◌+◌, ◌^◌, slice_index, set};
@@ -13,8 +13,9 @@ use crate::hashes::{LANES, add_bytes};
 use crate::names::offset_of;
 use elf_dynamic::Object;
 
-/// The names of some exported symbols, which are hashed together: where what is left of each stands
-/// in the string table, and the hash of what stands before. A lane of symbol number 0 is free.
+/// Up to eight exported symbols whose names are hashed together. A lane has the symbol's number,
+/// the hash of the name's first bytes, and the place and the end of the bytes that are left in the
+/// string table. A lane with symbol number 0 is free.
 #[derive(Clone, Copy)]
 pub(crate) struct Lanes {
     pub(crate) symbols: [u32; LANES],
@@ -23,7 +24,7 @@ pub(crate) struct Lanes {
     ends: [usize; LANES],
 }
 
-/// The number of a lane of which no other has less left.
+/// Returns the number of a lane that has the fewest bytes left.
 fn shortest(places: &[usize; LANES], ends: &[usize; LANES]) -> usize
     requires { AreOrdered places.now ends.now }
     ensures within { result < 8 }
@@ -39,7 +40,7 @@ fn shortest(places: &[usize; LANES], ends: &[usize; LANES]) -> usize
     best
 }
 
-/// Moves each place on by so many bytes.
+/// Adds `count` to each place.
 fn move_on(places: &mut [usize; LANES], count: usize)
     requires { (k : ℕ) → k < 8 → slice_index places.old k + count < 2 ^ 64 }
     ensures { (k : ℕ) → k < 8 → slice_index places.new k ≡ slice_index places.old k + count }
@@ -50,7 +51,7 @@ fn move_on(places: &mut [usize; LANES], count: usize)
 }
 
 impl Lanes {
-    /// Free lanes.
+    /// Makes lanes that are all free.
     pub(crate) fn new() -> Lanes
         ensures { (file : List ℕ) → AreLanes file result }
     {
@@ -62,7 +63,8 @@ impl Lanes {
         }
     }
 
-    /// Hashes all names on as far as the shortest rest goes, and gives the number of its lane.
+    /// Hashes the same number of bytes of each name: as many as the lane with the fewest bytes left
+    /// has. Returns the number of this lane.
     pub(crate) fn run(&mut self, object: &Object<'_>) -> usize
         requires { AreLanes object.now self.old }
         ensures within { result < 8 }
@@ -76,7 +78,7 @@ impl Lanes {
         k
     }
 
-    /// Gives a lane to an exported symbol, where the length of its name is known.
+    /// Assigns lane number `k` to exported symbol number `symbol`, whose name has `length` bytes.
     pub(crate) fn put(&mut self, object: &Object<'_>, k: usize, symbol: u32, length: usize)
         requires within { k < 8 }
         requires lanes { AreLanes object.now self.old }
@@ -92,7 +94,8 @@ impl Lanes {
         self.ends[k] = place + length;
     }
 
-    /// The hash of the name of a lane's symbol. It costs what is left of the name.
+    /// Returns the hash of the name of lane number `k`. The time depends on the number of bytes of
+    /// the name that aren't hashed yet.
     pub(crate) fn hash(&self, object: &Object<'_>, k: usize) -> u32
         requires within { k < 8 }
         requires lanes { AreLanes object.now self.now }

@@ -1,8 +1,8 @@
 //! Admission of a shared object, and the search for a name by its hash table (System V gABI
 //! chapters 4 and 5).
 //!
-//! `Admitted::admit` takes an object exactly where it exports no name twice and its hash table can
-//! be trusted: then `find` gives, for every list of bytes, the symbol that the object exports
+//! `Admitted::admit` accepts an object exactly if it exports no name twice and its hash table can
+//! be trusted. Then `find` returns, for every list of bytes, the symbol that the object exports
 //! under that name.
 #![tactic(auto)]
 
@@ -24,12 +24,12 @@ mod key;
 mod lanes;
 mod meeting;
 mod name;
+mod name_budget;
 mod name_table;
 mod names;
 mod numbered;
 mod place;
 mod refusal;
-mod room;
 mod search;
 mod soname;
 mod strings;
@@ -39,7 +39,7 @@ mod walk;
 pub use admitted::Admitted;
 pub use file_refusal::{FileRefusal, ReadRefusal};
 pub use hash::elf_hash;
+pub use name_budget::NameBudget;
 pub use numbered::{NumberedSymbol, numbered_symbols};
 pub use refusal::AdmitRefusal;
-pub use room::Room;
 pub use search::Found;

@@ -1,4 +1,4 @@
-// Which indices a walk meets.
+// The indices that a walk meets.
 
 ghost use Rattle.std.specs.Prelude.{◌≡◌, ◌<◌, ◌≤◌, ◌-◌, ◌↔◌, ℕ, length, IsTrue};
 ghost use Rattle.hash_check.specs.Walk.{walk, Meets};
@@ -8,8 +8,8 @@ ghost use Rattle.hash_check.specs.inside.Places.{Depth, Known, Sound};
 use crate::chains::Chains;
 use crate::place::{Place, known_place, place_of};
 
-/// The index on the walk from an index at which so many steps are left, or this index where fewer
-/// are.
+/// Returns the index on the walk from `from` that has `depth` steps left, or `from` if fewer steps
+/// are left there.
 fn at_depth(places: &[Option<Place>], chains: &Chains<'_, '_>, from: u32, depth: u32) -> u32
     requires words { AreIndices (length chains.now) chains.now }
     requires size { length places.now ≡ length chains.now }
@@ -31,8 +31,9 @@ fn at_depth(places: &[Option<Place>], chains: &Chains<'_, '_>, from: u32, depth:
     at
 }
 
-/// Whether the walk from an index meets another one before 0: at once where that one is known to be
-/// met from it, as where no two walks share an index.
+/// Returns whether the walk from `from` meets `index` before 0. Takes constant time if `head` of
+/// the place of `index` is `from`. If no two walks share an index, this is so for every index that
+/// the walk meets.
 pub(crate) fn is_met(
     places: &[Option<Place>],
     chains: &Chains<'_, '_>,

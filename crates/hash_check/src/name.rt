@@ -1,4 +1,4 @@
-// The bytes of a name with their key.
+// A name with its key.
 
 ghost use Rattle.std.specs.Prelude.{◌≡◌, ◌↔◌, IsTrue};
 ghost use Rattle.hash_check.specs.inside.Key.{key_of};
@@ -25,7 +25,7 @@ impl<'a> Model for Name<'a> {
 }
 
 impl<'a> Name<'a> {
-    /// A name of these bytes.
+    /// Returns the name with these bytes.
     pub(crate) fn new(bytes: &'a [u8]) -> Name<'a>
         ensures { result ≡ bytes.now }
     {
@@ -35,21 +35,21 @@ impl<'a> Name<'a> {
         }
     }
 
-    /// Its bytes.
+    /// The bytes of the name.
     pub(crate) fn bytes(&self) -> &'a [u8]
         ensures { result.now ≡ self.now }
     {
         self.bytes
     }
 
-    /// Its key.
+    /// The key of the name.
     pub(crate) fn key(&self) -> u64
         ensures { result ≡ key_of self.now }
     {
         self.key
     }
 
-    /// Whether another name has the same bytes. These are compared only where the keys are the
+    /// Returns whether another name has the same bytes. Compares them only if the keys are the
     /// same.
     pub(crate) fn is(&self, other: &Name<'_>) -> bool
         ensures { IsTrue result ↔ (self.now ≡ other.now) }

@@ -1,4 +1,5 @@
-// Names told by numbers, by a table in which each is looked for near the cell that its key gives.
+// Numbers that distinguish names. They are found with a table in which each name is stored near the
+// cell that its key determines.
 
 ghost use Rattle.std.specs.Prelude.{ℕ, ◌≡◌, ◌<◌, ◌≤◌, ◌+◌, ◌^◌, length, slice_index, IfOk, IfSome};
 ghost use Rattle.hash_check.specs.Numbers.{AreNumbers};
@@ -7,12 +8,12 @@ ghost use Rattle.hash_check.specs.inside.NameTable.{home, IsPut};
 use crate::name::Name;
 use std::alloc::{AllocError, Global};
 
-/// How many cells a name may stand in, from its home on. Half of all are empty, so that keys which
-/// nobody chose need a few.
+/// The number of cells, counted from its home, in which a name may be stored. More than half of all
+/// cells are empty, so keys that weren't chosen on purpose need only a few of these cells.
 const FARTHEST: usize = 128;
 
-/// The home of a key in a table of so many cells: the first of those in which a name of it may
-/// stand.
+/// Returns the home of a key in a table of `count` cells: the first cell in which a name with this
+/// key may be stored.
 #[tactic(auto, using(crate::proofs::Homes::near), unfolding(crate::specs::inside::NameTable::home))]
 fn home(count: usize, key: u64) -> usize
     requires many { 128 < count }
@@ -25,8 +26,9 @@ fn home(count: usize, key: u64) -> usize
     (spread * cells >> 32) as usize
 }
 
-/// Puts a name into a table of those before it, unless the same one is there. Gives the number of
-/// the one that is there then, or none where it would stand too far from its home.
+/// Puts name number `number` into a table of the names before it, unless the table has an equal
+/// name. Returns the number in the name's cell, or `None` if the name would be stored too far from
+/// its home.
 fn put(names: &[Name<'_>], cells: &mut [u32], number: usize) -> Option<u32>
     requires number { number < length names.now }
     requires many { length names.now < 2 ^ 32 }
@@ -51,8 +53,9 @@ fn put(names: &[Name<'_>], cells: &mut [u32], number: usize) -> Option<u32>
     None
 }
 
-/// The numbers of names; none where one would stand too far from its home, as in files that were
-/// made for it. They take 12 bytes a name while they are made, of which 4 are kept.
+/// Returns the numbers of names, or `None` if a name would be stored too far from its home. This
+/// happens in files that were made for it. Allocates 12 bytes a name while it runs; the result has
+/// 4 of them.
 pub(crate) fn numbers_in_table(
     alloc: Global,
     names: &[Name<'_>],

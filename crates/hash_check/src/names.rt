@@ -6,12 +6,13 @@ ghost use Rattle.elf_dynamic.specs.Strings.{name_of};
 ghost use Rattle.hash_check.specs.inside.Names.{IsSymbol, IsLengthOf, offset_of};
 
 use crate::name::Name;
-use crate::room::Room;
+use crate::name_budget::NameBudget;
 use crate::strings::stretch_of;
 use elf_dynamic::Object;
 use std::alloc::{AllocError, Global};
 
-/// Where the name of a symbol begins in the string table; 0 for a number that is no symbol's.
+/// Returns the offset of the name of symbol number `i` in the string table, or 0 if there is no
+/// such symbol.
 pub(crate) fn offset_of(object: &Object<'_>, i: u32) -> u32
     ensures { result ≡ offset_of object.now i }
 {
@@ -22,7 +23,7 @@ pub(crate) fn offset_of(object: &Object<'_>, i: u32) -> u32
     }
 }
 
-/// The name of a symbol; the empty one for a number that is no symbol's.
+/// Returns the name of symbol number `i`, or the empty name if there is no such symbol.
 pub(crate) fn name_at<'a>(object: &Object<'a>, i: u32) -> &'a [u8]
     ensures { result.now ≡ name_of object.now i }
 {
@@ -33,7 +34,7 @@ pub(crate) fn name_at<'a>(object: &Object<'a>, i: u32) -> &'a [u8]
     }
 }
 
-/// The name of a symbol, where its length is known: its end isn't looked for.
+/// Returns the name of a symbol, given the name's length. Doesn't search for the name's end.
 fn text_of<'a>(object: &Object<'a>, symbol: u32, length: usize) -> &'a [u8]
     requires symbol { IsSymbol object.now symbol }
     requires length { IsLengthOf object.now symbol length }
@@ -45,8 +46,8 @@ fn text_of<'a>(object: &Object<'a>, symbol: u32, length: usize) -> &'a [u8]
     &rest[..length]
 }
 
-/// The names of symbols. Where these are sorted by the places of their names, each byte is looked
-/// at once: a name that begins within the one before it ends where that one does.
+/// Returns the names of symbols. If the symbols are sorted by the places of their names, each byte
+/// is read only once: a name that begins within the name before it ends where that name ends.
 pub(crate) fn names_of<'a>(
     alloc: Global,
     object: &Object<'a>,
@@ -68,8 +69,8 @@ pub(crate) fn names_of<'a>(
     Ok(names)
 }
 
-/// The names of symbols in any order, each read to its end; none where they have so many bytes
-/// that many of them are tails of others.
+/// Returns the names of symbols in any order, each read to its end. Returns `None` if the names
+/// have so many bytes that many of them have to be tails of others.
 pub(crate) fn short_names<'a>(
     alloc: Global,
     object: &Object<'a>,
@@ -79,11 +80,11 @@ pub(crate) fn short_names<'a>(
     ensures { IfOk result (λ found. IfSome found (λ names.
         names.items ≡ map (name_of object.now) symbols.now)) }
 {
-    let mut room = Room::new(object.string_table().len());
+    let mut budget = NameBudget::new(object.string_table().len());
     let mut names = Vec::with_capacity(alloc, symbols.len())?;
     for symbol in symbols {
         let name = object.name_of(*symbol);
-        if !room.take(name.len()) {
+        if !budget.take(name.len()) {
             return Ok(None);
         }
         names.push_reserved(Name::new(name));

@@ -1,4 +1,4 @@
-// The names of all symbols of several objects, told by numbers.
+// Numbers that distinguish the names of all symbols of several objects.
 
 ghost use Rattle.std.specs.Prelude.{◌≡◌, ◌<◌, ◌≤◌, ◌+◌, ◌^◌, ◌++◌, ℕ, length, map, slice_index};
 ghost use Rattle.std.specs.Prelude.{IfOk, IfSome, OnOk};
@@ -21,22 +21,22 @@ use std::alloc::{AllocError, Global};
 /// A symbol of one of several objects, with the number of its name.
 #[derive(Clone, Copy, PartialEq, Eq)]
 pub struct NumberedSymbol {
-    /// The place of the object.
+    /// The number of the object in the list of objects.
     pub object: usize,
-    /// The symbol's number in the object.
+    /// The number of the symbol in the object.
     pub symbol: u32,
-    /// The number of its name.
+    /// The number of the symbol's name.
     pub number: u32,
 }
 
-/// Symbols of objects, which have no numbers yet, and their names.
+/// Symbols of objects, without the numbers of their names, and the names of these symbols.
 #[derive(Drop)]
 struct Gathered<'a> {
     symbols: Vec<NumberedSymbol>,
     names: Vec<Name<'a>>,
 }
 
-/// Adds symbols of the object at a place, and their names.
+/// Adds the symbols of object number `place`, and their names.
 fn add_symbols<'a>(
     gathered: &mut Gathered<'a>,
     place: usize,
@@ -60,7 +60,7 @@ fn add_symbols<'a>(
     Ok(())
 }
 
-/// The numbers of all symbols but number 0.
+/// Returns the numbers of all symbols except number 0.
 #[tactic(auto, unfolding(crate::specs::inside::Names::all_symbols))]
 fn all_symbols(alloc: Global, object: &Object<'_>) -> Result<Vec<u32>, AllocError>
     ensures { IfOk result (λ numbers. numbers.items ≡ all_symbols object.now) }
@@ -68,7 +68,8 @@ fn all_symbols(alloc: Global, object: &Object<'_>) -> Result<Vec<u32>, AllocErro
     (1..object.symbol_count()).collect(alloc)
 }
 
-/// The same, in the order of the places of their names in the string table.
+/// Returns the numbers of all symbols except number 0, sorted by the places of their names in the
+/// string table.
 fn symbols_by_name_place(alloc: Global, object: &Object<'_>) -> Result<Vec<u32>, AllocError>
     ensures { IfOk result (λ numbers. IsPermutation (all_symbols object.now) numbers.items) }
 {
@@ -77,8 +78,8 @@ fn symbols_by_name_place(alloc: Global, object: &Object<'_>) -> Result<Vec<u32>,
     Ok(symbols)
 }
 
-/// The names of all symbols of objects, each read to its end; none where those of an object have so
-/// many bytes that many of them are tails of others.
+/// Returns all symbols of the objects with their names, each read to its end. Returns `None` if the
+/// names of an object have so many bytes that many of them have to be tails of others.
 fn all_short_names<'a>(
     alloc: Global,
     objects: &[&'a Admitted<'a>],
@@ -102,7 +103,7 @@ fn all_short_names<'a>(
     Ok(Some(gathered))
 }
 
-/// Adds endings of names that stand behind some others.
+/// Adds endings of names that come after `before` other names.
 #[tactic(auto, unfolding(crate::specs::inside::Numbered::behind))]
 fn add_endings<'a>(
     all: &mut Vec<Ending<'a>>,
@@ -124,7 +125,8 @@ fn add_endings<'a>(
     Ok(())
 }
 
-/// The names of all symbols of objects by their places, and the strings that they are tails of.
+/// Returns all symbols of the objects with their names, sorted by the names' places, and the
+/// endings of these names.
 fn all_names_by_place<'a>(
     alloc: Global,
     objects: &[&'a Admitted<'a>],
@@ -150,8 +152,8 @@ fn all_names_by_place<'a>(
     Ok((gathered, all))
 }
 
-/// Gives symbols their numbers.
-fn give_numbers(mut symbols: Vec<NumberedSymbol>, numbers: &[u32]) -> Vec<NumberedSymbol>
+/// Returns the symbols with the numbers of their names.
+fn set_numbers(mut symbols: Vec<NumberedSymbol>, numbers: &[u32]) -> Vec<NumberedSymbol>
     requires { length numbers.now ≡ length symbols.items }
     ensures size { length result.items ≡ length symbols.items }
     ensures given { (k : ℕ) → k < length symbols.items → nth_symbol result.items k
@@ -163,7 +165,7 @@ fn give_numbers(mut symbols: Vec<NumberedSymbol>, numbers: &[u32]) -> Vec<Number
     symbols
 }
 
-/// All symbols but number 0 of objects with the numbers of their names.
+/// Returns all symbols of the objects, except those with number 0, with the numbers of their names.
 pub fn numbered_symbols(
     alloc: Global,
     objects: &[&Admitted<'_>],
@@ -172,10 +174,10 @@ pub fn numbered_symbols(
 {
     if let Some(gathered) = all_short_names(alloc, objects)? {
         if let Some(numbers) = numbers_in_table(alloc, &gathered.names)? {
-            return Ok(give_numbers(gathered.symbols, &numbers));
+            return Ok(set_numbers(gathered.symbols, &numbers));
         }
     }
     let (gathered, endings) = all_names_by_place(alloc, objects)?;
     let numbers = numbers_of_endings(alloc, &gathered.names, endings)?;
-    Ok(give_numbers(gathered.symbols, &numbers))
+    Ok(set_numbers(gathered.symbols, &numbers))
 }

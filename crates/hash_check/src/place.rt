@@ -1,4 +1,4 @@
-// Where the indices that have been walked over stand.
+// The places of the indices that have been followed.
 
 ghost use Rattle.std.specs.Prelude.{◌≡◌, ◌<◌, ◌≤◌, ◌^◌, Some, length, IfOk};
 ghost use Rattle.hash_check.specs.HashTable.{AreIndices};
@@ -6,8 +6,9 @@ ghost use Rattle.hash_check.specs.inside.Places.{Known, place_at, none_but_zero}
 
 use std::alloc::{AllocError, Global};
 
-/// Where an index stands on its walk: how many chain steps lead from it to 0, an index further
-/// along the walk with its own number of steps, and an index from which a walk meets it.
+/// The place of an index on its walk. `depth` is the number of chain steps from the index to 0.
+/// `jump` is an index further along the walk, and `landing` is that index's own number of steps to
+/// 0. `head` is an index from which a walk meets this one.
 #[derive(Clone, Copy)]
 pub(crate) struct Place {
     pub(crate) depth: u32,
@@ -16,7 +17,7 @@ pub(crate) struct Place {
     pub(crate) head: u32,
 }
 
-/// The place of an index, where it has one.
+/// Returns the place of an index, if it has one.
 pub(crate) fn place_of(places: &[Option<Place>], i: u32) -> Option<Place>
     requires { i < length places.now }
     ensures { result ≡ place_at places.now i }
@@ -24,7 +25,7 @@ pub(crate) fn place_of(places: &[Option<Place>], i: u32) -> Option<Place>
     places[i as usize]
 }
 
-/// The place of an index that has one.
+/// Returns the place of an index that has one.
 pub(crate) fn known_place(places: &[Option<Place>], i: u32) -> Place
     requires within { i < length places.now }
     requires known { Known places.now i }
@@ -36,7 +37,7 @@ pub(crate) fn known_place(places: &[Option<Place>], i: u32) -> Place
     }
 }
 
-/// Places for `n` indices, of which 0 has one.
+/// Returns places for `n` indices, of which only index 0 has one.
 #[tactic(auto, unfolding(crate::specs::inside::Places::none_but_zero))]
 pub(crate) fn first_places(alloc: Global, n: usize) -> Result<Vec<Option<Place>>, AllocError>
     requires { 0 < n }

@@ -1,17 +1,17 @@
-// Why an object isn't admitted.
+// The reasons why an object isn't admitted.
 
 use std::alloc::AllocError;
 
-/// Why an object isn't admitted.
+/// The reason why an object isn't admitted.
 #[derive(Clone, Copy, Debug, PartialEq, Eq)]
 pub enum AdmitRefusal {
     /// E28: two exported symbols share a name.
     DuplicateDefinition,
-    /// E29: the hash table has no bucket, or a word of it isn't the index of a symbol, or a walk
-    /// from a bucket doesn't end, or an exported symbol isn't met on the walk from the bucket of
-    /// its name's hash.
+    /// E29: the hash table has no bucket, or a word that isn't the index of a symbol; or a walk
+    /// from a bucket doesn't end; or an exported symbol isn't on the walk from the bucket of its
+    /// name's hash.
     BadHashTable,
-    /// The memory that the tests take was refused.
+    /// The memory that the tests need was refused.
     OutOfMemory,
 }
 

@@ -14,16 +14,16 @@ use crate::chains::Chains;
 use crate::export::is_exported;
 use elf_dynamic::Object;
 
-/// What a search found, and how many symbols it looked at.
+/// The result of a search, and the number of symbols that it compared.
 #[derive(Clone, Copy, PartialEq, Eq)]
 pub struct Found {
-    /// The number of the symbol that is exported under the name.
+    /// The number of the symbol that is exported under the name, if there is one.
     pub symbol: Option<u32>,
-    /// How many symbols of the walk were looked at, the one that was found among them.
+    /// The number of symbols of the walk that were compared, including the one that was found.
     pub compared: u32,
 }
 
-/// At most so many bytes of the string at an offset of a string table.
+/// Returns the string at an offset of a string table, but at most `limit` bytes of it.
 fn string_front(table: &[u8], offset: u32, limit: usize) -> &[u8]
     ensures { result.now ≡ take limit (string_at table.now offset) }
 {
@@ -37,8 +37,8 @@ fn string_front(table: &[u8], offset: u32, limit: usize) -> &[u8]
     front
 }
 
-/// Whether a string at an offset of a string table may have so many bytes: where one more stands,
-/// it is 0.
+/// Returns whether the string at an offset of a string table may have exactly `size` bytes. It may
+/// if the byte after them is 0, or if the table ends before that byte.
 fn may_end(table: &[u8], offset: u32, size: usize) -> bool
     ensures { result ≡ false → length (string_at table.now offset) ≢ size }
 {
@@ -46,8 +46,9 @@ fn may_end(table: &[u8], offset: u32, size: usize) -> bool
     size >= rest.len() || rest[size] == 0
 }
 
-/// Whether the name of the symbol number `i` is this one. One byte tells most names of other
-/// lengths: so of names that are tails of one string, one alone is read.
+/// Returns whether the name of symbol number `i` is `name`. First tests the byte that would follow
+/// the name, which excludes most names of other lengths. So of names that are tails of one string,
+/// usually only one is read whole.
 fn is_named(object: &Object<'_>, i: u32, name: &[u8]) -> bool
     requires { IsSymbol object.now i }
     ensures { result ≡ bytes_eq (name_of object.now i) name.now }
@@ -59,7 +60,7 @@ fn is_named(object: &Object<'_>, i: u32, name: &[u8]) -> bool
     string_front(table, offset, name.len() + 1) == name
 }
 
-/// Whether the symbol number `i` is exported under the name.
+/// Returns whether symbol number `i` is exported under `name`.
 #[tactic(auto, unfolding(crate::specs::Definition::is_exported_as))]
 fn is_exported_as(object: &Object<'_>, name: &[u8], i: u32) -> bool
     requires { IsSymbol object.now i }

@@ -1,4 +1,4 @@
-// The strings of the string table that names are tails of.
+// The strings of the string table whose tails are names.
 
 ghost use Rattle.std.specs.Prelude.{◌≡◌, map, IfOk};
 ghost use Rattle.std.specs.List.{All};
@@ -12,14 +12,14 @@ use crate::names::offset_of;
 use elf_dynamic::Object;
 use std::alloc::{AllocError, Global};
 
-/// A string of the string table: where it begins, and how many bytes it has.
+/// A string of the string table: its offset and its length, in bytes.
 #[derive(Clone, Copy)]
 pub(crate) struct Stretch {
     pub(crate) from: u32,
     pub(crate) length: usize,
 }
 
-/// The bytes of a stretch.
+/// Returns the bytes of a stretch.
 fn stretch_bytes<'a>(object: &Object<'a>, stretch: Stretch) -> &'a [u8]
     ensures { result.now ≡ stretch_bytes object.now stretch }
 {
@@ -28,8 +28,8 @@ fn stretch_bytes<'a>(object: &Object<'a>, stretch: Stretch) -> &'a [u8]
     &rest[..stretch.length.min(rest.len())]
 }
 
-/// A stretch in which the name of a symbol begins: that of the symbol before, where it does, and
-/// else its own.
+/// Returns the stretch in which the name of symbol number `i` begins. This is `last`, the stretch
+/// of the symbol before, if the name begins in it, and otherwise the string that the name is.
 pub(crate) fn stretch_of(object: &Object<'_>, last: Option<Stretch>, i: u32) -> Stretch
     requires symbol { IsSymbol object.now i }
     requires last { ForSome last (IsStretch object.now) }
@@ -48,8 +48,8 @@ pub(crate) fn stretch_of(object: &Object<'_>, last: Option<Stretch>, i: u32) -> 
     }
 }
 
-/// The endings of the names of symbols. Where these are sorted by the places of their names, there
-/// are as many as the names have last bytes.
+/// Returns the endings of the names of symbols. If the symbols are sorted by the places of their
+/// names, there is one ending for each place at which names end.
 pub(crate) fn endings_of<'a>(
     alloc: Global,
     object: &Object<'a>,

@@ -1,4 +1,4 @@
-// Whether a hash table is good.
+// Whether a hash table can be trusted.
 
 ghost use Rattle.std.specs.Prelude.{◌≡◌, ◌≢◌, ◌<◌, ◌≤◌, ◌↔◌, true, false, [], length, slice_index};
 ghost use Rattle.std.specs.Prelude.{IsTrue, IfOk, OnErr};
@@ -29,11 +29,11 @@ use crate::walk::follow;
 use elf_dynamic::Object;
 use std::alloc::{AllocError, Global};
 
-/// From how many bytes on a name is hashed together with others: a shorter one is hashed sooner
-/// than it is given a lane.
+/// The minimum length of a name that is hashed together with others, in bytes. Hashing a shorter
+/// name takes less time than giving it a lane.
 const LONG: usize = 24;
 
-/// Whether there is a bucket, and every word of the table is the index of a symbol.
+/// Returns whether there is a bucket, and every word of the table is the index of a symbol.
 fn has_index_words(object: &Object<'_>) -> bool
     ensures { IsTrue result ↔ (HasBucket object.now × HasIndexWords object.now) }
 {
@@ -42,8 +42,8 @@ fn has_index_words(object: &Object<'_>) -> bool
     buckets.count() > 0 && buckets.are_indices(chains.count()) && chains.are_indices()
 }
 
-/// The places of all indices that the walks from the buckets meet, or `None` where a walk doesn't
-/// end.
+/// Returns the places of all indices that the walks from the buckets meet, or `None` if a walk
+/// doesn't end.
 fn follow_all(
     alloc: Global,
     buckets: &Buckets<'_, '_>,
@@ -66,8 +66,8 @@ fn follow_all(
     Ok(Some(places))
 }
 
-/// Whether an exported symbol is met on all walks, so that the one that has to meet it doesn't hang
-/// on the hash of its name.
+/// Returns whether exported symbol `i` is met on the walk from `joint`, and therefore on the walks
+/// from all buckets. Then its name doesn't have to be hashed.
 fn is_met_by_all(object: &Object<'_>, places: &[Option<Place>], joint: u32, i: u32) -> bool
     requires some { HasBucket object.now }
     requires words { HasIndexWords object.now }
@@ -79,7 +79,7 @@ fn is_met_by_all(object: &Object<'_>, places: &[Option<Place>], joint: u32, i: u
     is_met(places, &Chains::new(object), joint, i)
 }
 
-/// Whether a symbol is met on the walk from the bucket of a hash.
+/// Returns whether symbol `i` is met on the walk from the bucket of `hash`.
 fn is_met_by_hash(object: &Object<'_>, places: &[Option<Place>], hash: u32, i: u32) -> bool
     requires some { HasBucket object.now }
     requires words { HasIndexWords object.now }
@@ -93,8 +93,8 @@ fn is_met_by_hash(object: &Object<'_>, places: &[Option<Place>], hash: u32, i: u
     is_met(places, &Chains::new(object), from, i)
 }
 
-/// Whether the symbol of a lane is met on the walk from the bucket of its name's hash, or there is
-/// none.
+/// Returns whether lane number `k` is free, or its symbol is met on the walk from the bucket of its
+/// name's hash.
 fn is_lane_met(object: &Object<'_>, places: &[Option<Place>], lanes: &Lanes, k: usize) -> bool
     requires some { HasBucket object.now }
     requires words { HasIndexWords object.now }
@@ -108,8 +108,9 @@ fn is_lane_met(object: &Object<'_>, places: &[Option<Place>], lanes: &Lanes, k: 
     symbol == 0 || is_met_by_hash(object, places, lanes.hash(object, k), symbol)
 }
 
-/// Takes an exported symbol in among those whose names are hashed, in the place of one whose hash
-/// is made, and answers whether that one is met on the walk from its bucket.
+/// Finishes the hash of one lane, and returns whether the lane was free or its symbol is met on the
+/// walk from its bucket. If so, assigns the lane to exported symbol `i`, whose name has `length`
+/// bytes.
 fn take_in(
     object: &Object<'_>,
     places: &[Option<Place>],
@@ -137,8 +138,9 @@ fn take_in(
     met
 }
 
-/// Tests an exported symbol by its name's hash: at once where the name is short, and else when its
-/// hash is made. Answers whether each symbol that was tested is met on the walk from its bucket.
+/// Tests exported symbol `i` by its name's hash: at once if the name is short, and otherwise in a
+/// lane, when its hash is finished. Returns whether each symbol that this call tested is met on the
+/// walk from its bucket.
 fn test_by_name(
     object: &Object<'_>,
     places: &[Option<Place>],
@@ -165,7 +167,7 @@ fn test_by_name(
     }
 }
 
-/// Whether the symbols of all lanes are met on the walks from their buckets.
+/// Returns whether the symbols of all lanes are met on the walks from their buckets.
 fn are_met(object: &Object<'_>, places: &[Option<Place>], lanes: &Lanes) -> bool
     requires some { HasBucket object.now }
     requires words { HasIndexWords object.now }
@@ -181,8 +183,8 @@ fn are_met(object: &Object<'_>, places: &[Option<Place>], lanes: &Lanes) -> bool
     true
 }
 
-/// Whether each exported symbol is met on the walk from the bucket of its name's hash: where not
-/// all walks meet it, its name is hashed. Long names are hashed several at a time.
+/// Returns whether each exported symbol is met on the walk from the bucket of its name's hash.
+/// Hashes a name only if its symbol isn't met on all walks. Hashes long names several at a time.
 fn meets_exports(object: &Object<'_>, places: &[Option<Place>], exports: &Exports<'_>) -> bool
     requires some { HasBucket object.now }
     requires words { HasIndexWords object.now }
@@ -204,7 +206,7 @@ fn meets_exports(object: &Object<'_>, places: &[Option<Place>], exports: &Export
     are_met(object, places, &lanes)
 }
 
-/// Whether the hash table is good.
+/// Returns whether the hash table can be trusted.
 fn has_good_table<'a>(
     alloc: Global,
     object: &Object<'a>,
@@ -213,7 +215,7 @@ fn has_good_table<'a>(
     requires exports { AreExports object.now exports.symbols.items exports.names.items }
     requires whole { exports.symbols.items ≢ [] → IsWhole object.now exports.symbols.items }
     ensures ok { IfOk result (λ good. IsTrue good ↔ HasGoodTable object.now) }
-    // The memory is for the walks: the words are tested before.
+    // Only the walks need memory. The words are tested before them.
     ensures err { OnErr result (HasBucket object.now × HasIndexWords object.now) }
 {
     if !has_index_words(object) {
@@ -226,9 +228,10 @@ fn has_good_table<'a>(
     }
 }
 
-/// Whether the hash table isn't good. It takes some 24 bytes a symbol while it runs, follows each
-/// chain word once, and looks an exported symbol up in one step on the walk that met it first, on
-/// others in some log n; its name is hashed only where not all walks meet it.
+/// Returns whether the hash table can't be trusted. Allocates about 24 bytes a symbol while it
+/// runs, and follows each chain word once. An exported symbol is looked up in one step on the walk
+/// that met it first, and in about log n steps on other walks of n steps. Hashes its name only if
+/// it isn't met on all walks.
 #[tactic(auto, using(crate::proofs::Deciding::bad_test, crate::proofs::Deciding::words_test))]
 pub(crate) fn has_bad_hash_table<'a>(
     alloc: Global,

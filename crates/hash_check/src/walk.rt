@@ -1,4 +1,4 @@
-// The walks of a hash table, each chain word followed once.
+// Following the walks of a hash table. Each chain word is followed once.
 
 ghost use Rattle.std.specs.Prelude.{◌≡◌, ◌<◌, ◌^◌, [], length, IsTrue, IfOk};
 ghost use Rattle.std.specs.Prelude.{MatchBool};
@@ -11,9 +11,9 @@ use crate::jump::place_before;
 use crate::place::{Place, place_of};
 use std::alloc::AllocError;
 
-/// Follows the walk from an index up to one that has a place, and puts the indices before it on the
-/// path. Answers whether the walk ends: one that doesn't fills the path with as many indices as
-/// there are chain words.
+/// Follows the walk from `from` up to an index that has a place, and puts the indices before it on
+/// the path. Returns whether the walk ends. A walk that doesn't end fills the path with as many
+/// indices as there are chain words.
 fn climb(
     places: &[Option<Place>],
     path: &mut Vec<u32>,
@@ -41,8 +41,9 @@ fn climb(
     Ok(true)
 }
 
-/// Gives places to the indices of the path from an index, the last one first.
-fn settle(places: &mut [Option<Place>], path: &mut Vec<u32>, chains: &Chains<'_, '_>, from: u32)
+/// Stores the places of the indices of the path, which begins at `from`. Begins with the last
+/// index, because each place is computed from the next index's place.
+fn place_path(places: &mut [Option<Place>], path: &mut Vec<u32>, chains: &Chains<'_, '_>, from: u32)
     requires words { AreIndices (length chains.now) chains.now }
     requires size { length places.old ≡ length chains.now }
     requires limit { length chains.now < 2 ^ 32 }
@@ -61,7 +62,8 @@ fn settle(places: &mut [Option<Place>], path: &mut Vec<u32>, chains: &Chains<'_,
     }
 }
 
-/// Gives places to all indices on the walk from an index, and answers whether it ends.
+/// Stores the places of all indices on the walk from `from` if the walk ends, and returns whether
+/// it ends.
 pub(crate) fn follow(
     places: &mut [Option<Place>],
     path: &mut Vec<u32>,
@@ -85,7 +87,7 @@ pub(crate) fn follow(
 {
     let ends = climb(places, path, chains, from)?;
     if ends {
-        settle(places, path, chains, from);
+        place_path(places, path, chains, from);
     }
     Ok(ends)
 }

@@ -1,4 +1,4 @@
--- The answers for a program, from those of its parts.
+-- The answers of binding a program follow from the answers of its steps.
 use Rattle.std.proofs.Common.{◌≡◌, ℕ, Bool, true, false, List, [], ◌∷◌, Option, Some, None, refl, ap, ◌∙◌, inl, inr}
 use Rattle.std.specs.Prelude.{not}
 use Rattle.std.specs.Option.{option_map}
@@ -23,7 +23,7 @@ behind-by (Some r) good rest taken at = cc
 behind-by None false rest taken at = cc
 behind-by None true rest taken at = refl
 
--- where the file is taken and the base is good, the others decide
+-- if the file is accepted and the base is good, only the tests B3 to B5 decide
 pub behind : (file : List ℕ) (base : ℕ) (libraries : List Named) (preloads : List ℕ) → first_file_refusal file ≡ None → is_good_base file base ≡ true
     → bind_refusal file base libraries preloads
     ≡ first_of (option_map missing_by (missing file libraries preloads) ∷ placed_refusal (objects_of file base libraries preloads) ∷ [])
@@ -36,7 +36,7 @@ alone-by : (o : Option BindRefusal) → first_of (o ∷ []) ≡ o
 alone-by None = refl
 alone-by (Some e) = refl
 
--- a program that is taken by itself
+-- if `program_refusal` refuses nothing, the program's file is accepted and the base is good
 pub program-taken : (file : List ℕ) (base : ℕ) → program_refusal file base ≡ None → first_file_refusal file ≡ None
 unfolding program_refusal
 program-taken file base h = by (first_file_refusal file) (is_good_base file base) h
@@ -66,7 +66,7 @@ own-first file base libraries preloads e h =
     by None false rest h = h
     by None true rest h = cc
 
--- the answer where a program isn't taken by itself
+-- an answer of `admit_program` is also an answer of the whole bind
 pub program-answer : (file : List ℕ) (base : ℕ) (libraries : List Named) (preloads : List ℕ) (e : BindRefusal) → IsProgramAnswer file base e
     → IsAnswer file base libraries preloads e
 program-answer file base libraries preloads (Program r) h = own-first file base libraries preloads (Program r) h
@@ -76,14 +76,14 @@ program-answer file base libraries preloads NoRoom h = own-first file base libra
 program-answer file base libraries preloads (Undefined object symbol) h = own-first file base libraries preloads (Undefined object symbol) h
 program-answer file base libraries preloads OutOfMemory h = h
 
--- a library is missing
+-- if a library is missing, the bind's refusal names it
 missing-is : (file : List ℕ) (base : ℕ) (libraries : List Named) (preloads : List ℕ) (need : Need) → first_file_refusal file ≡ None → is_good_base file base ≡ true
     → missing file libraries preloads ≡ Some need → bind_refusal file base libraries preloads ≡ Some (missing_by need)
 missing-is file base libraries preloads need taken good h =
     behind file base libraries preloads taken good
     ∙ ap (λ m. first_of (option_map missing_by m ∷ placed_refusal (objects_of file base libraries preloads) ∷ [])) h
 
--- none is
+-- if no library is missing, the bind's refusal is that of the placed objects
 pub placed-is : (file : List ℕ) (base : ℕ) (libraries : List Named) (preloads : List ℕ) → first_file_refusal file ≡ None → is_good_base file base ≡ true
     → missing file libraries preloads ≡ None → bind_refusal file base libraries preloads ≡ placed_refusal (objects_of file base libraries preloads)
 placed-is file base libraries preloads taken good h =
@@ -91,7 +91,7 @@ placed-is file base libraries preloads taken good h =
     ∙ ap (λ m. first_of (option_map missing_by m ∷ placed_refusal (objects_of file base libraries preloads) ∷ [])) h
     ∙ alone-by (placed_refusal (objects_of file base libraries preloads))
 
--- the answer where there is no load order
+-- if there is no load order, the bind answers with the load order's refusal
 pub order-answer : (file : List ℕ) (base : ℕ) (libraries : List Named) (preloads : List ℕ) (e : OrderRefusal) → first_file_refusal file ≡ None
     → is_good_base file base ≡ true → IsRefusal (missing file libraries preloads) e → IsAnswer file base libraries preloads (of_order e)
 order-answer file base libraries preloads (order.Missing needer name) taken good h =
@@ -116,14 +116,14 @@ memory-by file base libraries preloads NoRoom w h = cc
 memory-by file base libraries preloads (Undefined object symbol) w h = cc
 memory-by file base libraries preloads OutOfMemory w h = w
 
--- the answer where its objects aren't bound
+-- an answer of binding the placed objects is also an answer of the whole bind
 pub placed-answer : (file : List ℕ) (base : ℕ) (libraries : List Named) (preloads : List ℕ) (e : BindRefusal) → first_file_refusal file ≡ None
     → bind_refusal file base libraries preloads ≡ placed_refusal (objects_of file base libraries preloads)
     → IsPlacedAnswer (objects_of file base libraries preloads) e → IsAnswer file base libraries preloads e
 placed-answer file base libraries preloads e taken is (inl h) = answer-by file base libraries preloads e (taken_with_memory file taken) (is ∙ h)
 placed-answer file base libraries preloads e taken is (inr h) = memory-by file base libraries preloads e (taken_with_memory file taken) h.0
 
--- an answer of the tests behind those of the program
+-- an answer of the tests B3 to B5 is also an answer of the whole bind, if B1 and B2 don't apply
 pub later-answer : (file : List ℕ) (base : ℕ) (libraries : List Named) (preloads : List ℕ) (e : BindRefusal) → first_file_refusal file ≡ None → is_good_base file base ≡ true
     → IsFirstOrWantsMemory (first_of (option_map missing_by (missing file libraries preloads) ∷ placed_refusal (objects_of file base libraries preloads) ∷ [])) e
     → IsAnswer file base libraries preloads e
@@ -131,7 +131,7 @@ later-answer file base libraries preloads e taken good (inl h) =
     answer-by file base libraries preloads e (taken_with_memory file taken) (behind file base libraries preloads taken good ∙ h)
 later-answer file base libraries preloads e taken good (inr h) = memory-by file base libraries preloads e (taken_with_memory file taken) h
 
--- the first object is the program
+-- the first object of a load order is the program
 pub program-first : (file : List ℕ) (libraries : List Named) (preloads : List ℕ) → file_at (load_order file libraries preloads) 0 ≡ file
 unfolding load_order load_places joined_levels levels
 program-first file libraries preloads = refl

@@ -1,4 +1,4 @@
--- Objects at bases, and where placement puts them.
+-- Objects at bases, and the bases that a placement chooses.
 use Rattle.std.proofs.Common.{◌≡◌, ℕ, ◌+◌, ◌<◌, ◌≤◌, Bool, true, false, List, [], ◌∷◌, length, map, drop, get_or, refl, sym, ap, ◌∙◌, subst, arith, suc, zero, nat_lt}
 use Rattle.std.specs.Prelude.{◌||◌}
 use Rattle.std.specs.Int.{next_multiple_of}
@@ -46,7 +46,7 @@ names-with [] bs h = refl
 names-with (o ∷ os) [] h = absurd (omega (arith, h))
 names-with (o ∷ os) (b ∷ bs) h = ap (λ l. o.name ∷ l) (names-with os bs (omega (arith, h)))
 
--- the base, the file and the name of the object at a place
+-- object number i at its base has the base of the list, and its file and its name are unchanged
 pub base-kept : (os : List Named) (bs : List ℕ) (i : ℕ) → length bs ≡ length os → base_at (with_bases os bs) i ≡ get_or bs i 0
 base-kept os bs i h = ap (λ l. get_or l i 0) (bases-with os bs h)
 
@@ -62,7 +62,7 @@ with-after end (o ∷ os) =
     let b = next_multiple_of end (unit o.file) in
     ap (λ l. placed_at b o ∷ l) (with-after (b + reach o.file) os)
 
--- objects at the bases that placement gives
+-- the objects of an order, at the bases that `place` returns, are the objects that `place` returns
 pub with-place : (base : ℕ) (os : List Named) → with_bases os (bases_of (place base os)) ≡ place base os
 with-place base [] = refl
 with-place base (o ∷ os) = ap (λ l. placed_at base o ∷ l) (with-after (base + reach o.file) os)
@@ -75,7 +75,7 @@ length-place : (base : ℕ) (os : List Named) → length (bases_of (place base o
 length-place base [] = refl
 length-place base (o ∷ os) = ap suc (length-after (base + reach o.file) os)
 
--- how many there are, and the file of each
+-- a placement keeps the number of objects and the file of each
 pub length-placed : (base : ℕ) (os : List Named) → length (place base os) ≡ length os
 length-placed base os = sym (length-map (place base os) (λ (p : Placed). p.base)) ∙ length-place base os
 
@@ -112,7 +112,7 @@ accepted-with (o ∷ os) (b ∷ bs) taken zero d lt = (taken 0 o (omega arith)).
 accepted-with (o ∷ os) (b ∷ bs) taken (suc k) d lt =
     accepted-with os bs (λ j e l. taken (suc j) e (omega (arith, l))) k d (omega (arith, lt))
 
--- the bases that placement gives, where there is room
+-- if there is room, the bases that `place` returns make `IsPlaced` true
 pub is-placed : (base : ℕ) (os : List Named) (bs : List ℕ) → IsOrder os → bs ≡ bases_of (place base os) → lacks_room (place base os) ≡ false → IsPlaced os bs
 is-placed base os bs taken is room =
     let same : with_bases os bs ≡ place base os = ap (with_bases os) is ∙ with-place base os in
@@ -122,12 +122,13 @@ is-placed base os bs taken is room =
       accepted = accepted-with os bs taken.taken;
     }
 
--- an order has the program at least
+-- an order has at least one object, the program
 pub order-some : (os : List Named) → IsOrder os → 0 < length os
 order-some [] h = let p = h.program in cc
 order-some (o ∷ os) h = omega arith
 
--- the program stands at the given base
+-- the first base of a placement is the given one; the other bases and their room are those of the
+-- placement after the program
 pub first-base : (base : ℕ) (os : List Named) → 0 < length os
     → bases_of (place base os) ≡ base ∷ bases_of (place_after (base + reach (order.file_at os 0)) (drop 1 os))
 first-base base [] h = absurd (omega (arith, h))
@@ -148,7 +149,8 @@ next-after end i os h = ap (place_after end) (drop_more os i nobody h)
 file-of : (i : ℕ) (os : List Named) → i < length os → (get_or os i nobody).file ≡ order.file_at os i
 file-of i os h = sym (get_or-map (λ (o : Named). o.file) os i nobody [] h)
 
--- each next one stands behind the one before it
+-- the base of object number i is the next multiple of its unit; the other bases and their room are those
+-- of the placement after this object
 pub next-base : (end i : ℕ) (os : List Named) → i < length os
     → bases_of (place_after end (drop i os))
     ≡ next_multiple_of end (unit (order.file_at os i))
@@ -165,11 +167,12 @@ next-room end i os h =
     ap lacks_room (next-after end i os h)
     ∙ ap (λ f. nat_lt MEMORY_LIMIT (next_multiple_of end (unit f) + reach f) || lacks_room (place_after (next_multiple_of end (unit f) + reach f) (drop (i + 1) os))) (file-of i os h)
 
--- behind the last one there is none
+-- after the last object, nothing is left to place
 pub none-behind : (end i : ℕ) (os : List Named) → length os ≤ i → place_after end (drop i os) ≡ []
 none-behind end i os h = ap (place_after end) (drop_all i os h)
 
--- how many of them there are
+-- if placed objects are the objects of an order at the bases of a list, they have the order's files and
+-- names and the list's bases, number by number
 pub count-kept : (os : List Named) (bs : List ℕ) (objects : List Placed) → length bs ≡ length os → with_bases os bs ≡ objects → length objects ≡ length bs
 count-kept os bs objects h is = ap length (sym is) ∙ length-with os bs h
 
@@ -191,7 +194,8 @@ below n m h = grind (arith, nat_tests)
 above : (n m : ℕ) → m < n → nat_lt m n ≡ true
 above n m h = grind (arith, nat_tests)
 
--- the bases and the room that are left behind the program, which ends at `end`
+-- the bases and the room of a placement: those of the program, which is at `base` and ends at `end`, and
+-- those of the objects that are placed after it
 pub init-bases : (base end : ℕ) (os : List Named) → 0 < length os → end ≡ base + reach (order.file_at os 0)
     → bases_of (place base os) ≡ base ∷ bases_of (place_after end (drop 1 os))
 init-bases base end os some is = first-base base os some ∙ ap (λ n. base ∷ bases_of (place_after n (drop 1 os))) (sym is)
@@ -202,13 +206,14 @@ init-room base end os some is low =
     first-room base os some ∙ ap (λ n. nat_lt MEMORY_LIMIT n || lacks_room (place_after n (drop 1 os))) (sym is)
     ∙ ap (λ b. b || lacks_room (place_after end (drop 1 os))) (below end MEMORY_LIMIT low)
 
--- the program by itself has room
+-- if the program doesn't end above the limit, `PlacesWantMemory` is true
 pub first-fits : (base end : ℕ) (os : List Named) → 0 < length os → end ≡ base + reach (order.file_at os 0) → end ≤ MEMORY_LIMIT
     → PlacesWantMemory (place base os)
 first-fits base end [] some is low = absurd (omega (arith, some))
 first-fits base end (o ∷ os) some is low = ap (λ n. nat_lt MEMORY_LIMIT n || false) (sym is) ∙ ap (λ b. b || false) (below end MEMORY_LIMIT low)
 
--- and behind the next object, which stands at `base` and ends at `new`
+-- the bases and the room that are left: those of the next object, which is at `base` and ends at `new`,
+-- and those of the objects that are placed after it
 pub step-bases : (end base new i : ℕ) (os : List Named) → i < length os → base ≡ next_multiple_of end (unit (order.file_at os i)) → new ≡ base + reach (order.file_at os i)
     → bases_of (place_after end (drop i os)) ≡ base ∷ bases_of (place_after new (drop (i + 1) os))
 step-bases end base new i os within at is =

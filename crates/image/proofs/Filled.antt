@@ -1,4 +1,4 @@
--- Images of the first so many objects, and one object more.
+-- Images of the first objects, and how one more object extends such an image.
 use Rattle.std.proofs.Common.{◌≡◌, ℕ, ◌+◌, ◌-◌, ◌<◌, ◌≤◌, Bool, true, false, cond}
 use Rattle.std.proofs.Common.{List, [], ◌∷◌, ◌++◌, length, map, take, get_or, slice_index, Option, Some, None, refl, sym, ap, ◌∙◌, subst, arith, suc, reverse}
 use Rattle.std.specs.Prelude.{sum_by, ◌==◌, ◌||◌, ◌%◌, ◌^◌}
@@ -35,7 +35,7 @@ read-or : {X Y : Type 0} (f : X → Y) (o p : Option X) → option_map f (option
 read-or f None p = refl
 read-or f (Some x) p = refl
 
--- the byte at an address among segments and others behind them
+-- the byte at an address in `ss` followed by `ts`: that of `ss` if there is one, or else that of `ts`
 pub segments_byte-append : (ss ts : List ImageSegment) (a : ℕ) → segments_byte (ss ++ ts) a ≡ option_or (segments_byte ss a) (segments_byte ts a)
 segments_byte-append ss ts a =
     let p = λ (s : ImageSegment). holds a (heading s) in
@@ -54,7 +54,7 @@ below-by : (s : ImageSegment) (ss : List ImageSegment) (a end v : ℕ) (b : Bool
 below-by s ss a end v true e h more is = omega (arith, within-true s.address (length s.bytes) a e, h)
 below-by s ss a end v false e h more is = more is
 
--- a segment holds no address behind its end
+-- if no segment ends above `end`, an address that has a byte is below `end`
 byte-below : (ss : List ImageSegment) (a end v : ℕ) → All (λ s. s.address + length s.bytes ≤ end) ss → segments_byte ss a ≡ Some v → a < end
 byte-below [] a end v h is = cc
 byte-below (s ∷ ss) a end v h is =
@@ -71,13 +71,14 @@ none-by (Some v) place a ws h none =
     ap (find p) (reverse-append (w ∷ []) ws) ∙ find-append p (reverse ws) (w ∷ [])
     ∙ ap (λ o. option_or o (find p (w ∷ []))) none ∙ ap (λ b. cond b (Some w) None) (within-below place 8 a h)
 
--- no relocation writes below its object
+-- the relocations of an object write nothing below its base
 none-written : (base : ℕ) (values : ℕ → Option ℕ) (rs : List Relocation) (a : ℕ) → a < base → last_write_at (filter_map (write_with base values) rs) a ≡ None
 none-written base values [] a h = refl
 none-written base values (r ∷ rs) a h =
     none-by (value_with base values r) (base + r.offset) a (filter_map (write_with base values) rs) (omega (arith, h)) (none-written base values rs a h)
 
--- what lies in memory before isn't written over
+-- if `v` doesn't write to an address that has a byte already, writing `w` and `v` into their own parts
+-- is writing them into both parts together
 joined : (w v : Option Write) (x y : Option ℕ) (a : ℕ) → ((n : ℕ) → written_or w x a ≡ Some n → v ≡ None)
     → option_or (written_or w x a) (written_or v y a) ≡ written_or v (written_or w (option_or x y) a) a
 joined (Some w) v x y a h = ap (λ o. written_or o (Some (byte_at (a - w.place) w.value)) a) (sym (h (byte_at (a - w.place) w.value) refl))
@@ -97,7 +98,7 @@ value-same base f g r h =
     ap (λ o. cond (r.kind == R_X86_64_RELATIVE) (Some ((base + r.addend) % 2 ^ 64)) o)
     (same-by r.kind (λ value. (value + r.addend) % 2 ^ 64) (f r.symbol) (g r.symbol) (r.kind == R_X86_64_64) (uses_symbol r.kind) refl refl h)
 
--- relocations write the same where the symbols that they name have the same values
+-- relocations write the same if the symbols that they name have the same values
 writes-same : (base : ℕ) (f g : ℕ → Option ℕ) (rs : List Relocation) → All (λ r. uses_symbol r.kind ≡ true → g r.symbol ≡ f r.symbol) rs
     → filter_map (write_with base f) rs ≡ filter_map (write_with base g) rs
 writes-same base f g [] h = refl
@@ -105,17 +106,17 @@ writes-same base f g (r ∷ rs) h =
     ap (λ o. cons_option (option_map (write_at (base + r.offset)) o) (filter_map (write_with base f) rs)) (value-same base f g r (h 0 r (omega arith)))
     ∙ ap (λ ws. cons_option (write_with base g r) ws) (writes-same base f g rs (λ i d l. h (suc i) d (omega (arith, l))))
 
--- none of the objects
+-- the empty image is the image of the first 0 objects
 pub filled-none : (objects : List Placed) → IsFilled objects 0 (record { objects = []; segments = [] })
 filled-none objects = record { objects_are = refl; headings = refl; bytes = λ a. refl }
 
 module _ (objects : List Placed) (own : ℕ) (b : Bound) (file : List ℕ) (inside : own < length objects) (stacked : Stacked 0 objects)
     (bound : IsBound objects own b) (same : file ≡ file_at objects own) where
-  -- the next object has room,
+  -- the next object ends at or below the limit
   pub next-fits : b.base + reach file ≤ MEMORY_LIMIT
   next-fits = omega (arith, low-at 0 objects own stacked inside, bound.base, ap reach same)
 
-  -- lies above those before it,
+  -- the next object lies above the segments of the objects before it
   pub next-above : (image : MemoryImage) → IsFilled objects own image → All (λ s. s.address + length s.bytes ≤ b.base) image.segments
   next-above image before k d l =
       let hs = headings_of (take own objects) in
@@ -136,7 +137,8 @@ module _ (objects : List Placed) (own : ℕ) (b : Bound) (file : List ℕ) (insi
       ∙ ap (λ f. filter_map (write_with (base_at objects own) (value_in b.values)) (relocations f)) same
       ∙ writes-same (base_at objects own) (value_in b.values) (symbol_value objects own) (relocations_of objects own) bound.ready
 
-  -- and makes an image of one more
+  -- if `old` is an image of the first objects, and `new` adds the next object, `new` is an image of one
+  -- object more
   pub filled-more : (old new : MemoryImage) → IsFilled objects own old → new.objects ≡ old.objects ++ object_of (placed_as b file) ∷ []
       → map heading new.segments ≡ map heading old.segments ++ map (heading_at b.base) (loads file)
       → ((a : ℕ) → image_byte new a ≡ option_or (image_byte old a) (byte_after (loaded_of (placed_as b file)) (bound_writes b file) a))
@@ -168,7 +170,7 @@ module _ (objects : List Placed) (own : ℕ) (b : Bound) (file : List ℕ) (insi
             ∙ ap (λ l. byte_after l (flat_map (writes_of objects) (range_with_len 0 (own + 1))) a) (sym (loaded-more objects own inside));
       }
 
--- all of them
+-- an image of the first `count` objects is the whole image if there are no more objects
 pub filled-all : (objects : List Placed) (image : MemoryImage) (count : ℕ) → count ≡ length objects → Stacked 0 objects → AllAccepted objects → IsFilled objects count image
     → (image ≡ image_of objects) × ((a : ℕ) → image_byte image a ≡ byte_of objects a)
 unfolding byte_of image_of
@@ -187,7 +189,7 @@ filled-all objects image count is stacked accepted full =
 abbrev nowhere : ImageSegment
 nowhere = record { address = 0; permissions = 0; bytes = [] }
 
--- no segment of an object whose memory doesn't reach above the limit ends above it
+-- if an object's memory doesn't reach above the limit, none of its segments ends above it
 low-own : (base : ℕ) (file : List ℕ) (ts : List ImageSegment) → base + reach file ≤ MEMORY_LIMIT → map heading ts ≡ map (heading_at base) (loads file)
     → All (λ s. s.address + length s.bytes ≤ MEMORY_LIMIT) ts
 low-own base file ts fits hs k d l =
@@ -195,13 +197,13 @@ low-own base file ts fits hs k d l =
     let is : get_or (map heading ts) k (heading d) ≡ heading (get_or ts k d) = get_or-map heading ts k d (heading d) l in
     omega (arith, subst (λ (h : Heading). h.address + h.size ≤ base + reach file) is high, fits)
 
--- segments whose headings rise, and of which none ends above the limit, rise
+-- segments rise within the limit if their headings rise and none of them ends above the limit
 pub rising-segments : (from : ℕ) (ss : List ImageSegment) → Rising from (map heading ss) → All (λ s. s.address + length s.bytes ≤ MEMORY_LIMIT) ss → AreRising from ss
 rising-segments from [] rising low = tt
 rising-segments from (s ∷ ss) rising low =
     (rising.0, low 0 s (omega arith), rising-segments (s.address + length s.bytes) ss rising.1 (λ k d l. low (suc k) d (omega (arith, l))))
 
--- an image and an object above it are whole
+-- if an image is whole and the next object lies above it, the image with this object is whole
 pub whole-more : (os : List ImageObject) (ss ts : List ImageSegment) (o : ImageObject) (base : ℕ) (file : List ℕ) → IsWhole os ss → first_refusal file ≡ None
     → base + reach file ≤ MEMORY_LIMIT → All (λ s. s.address + length s.bytes ≤ base) ss → map heading ts ≡ map (heading_at base) (loads file) → o.segment_count ≡ length (loads file)
     → IsWhole (os ++ o ∷ []) (ss ++ ts)

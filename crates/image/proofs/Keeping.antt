@@ -15,7 +15,7 @@ none-known zero k h = let wrong : None ≡ Some true = h in absurd (cc)
 none-known (suc n) zero h = let wrong : Some false ≡ Some true = h in absurd (cc)
 none-known (suc n) (suc k) h = none-known n k h
 
--- none at first
+-- at first, no value is known
 pub values-unknown : (objects : List Placed) (own n : ℕ) (values : List ℕ) (known : List Bool)
     → values ≡ replicate n 0 → known ≡ replicate n false → n ≡ length (symbols (file_at objects own)) → AreValues objects own values known
 values-unknown objects own n values known is none count =
@@ -26,7 +26,7 @@ values-unknown objects own n values known is none count =
       are = λ k there. absurd (none-known n k (sym (ap (λ l. slice_get l k) none) ∙ there));
     }
 
--- one object more whose values are known
+-- if the first objects are bound and the next one is, the list with the next one is bound
 pub first-more : (objects : List Placed) (all : List Bound) (b : Bound) → FirstBound objects all → IsBound objects (length all) b → FirstBound objects (all ++ b ∷ [])
 first-more objects all b before is own d h =
     elim (cases_lt own (length all)) [

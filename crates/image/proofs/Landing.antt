@@ -46,7 +46,7 @@ there-by : (uses : Bool) (count symbol : ℕ) → (uses && nat_le count symbol) 
 there-by true count symbol h e = grind (arith, nat_tests)
 there-by false count symbol h e = cc
 
--- the symbol that a relocation of an accepted file names is there
+-- the symbol that a relocation of an accepted file names exists
 pub symbol-there : (file : List ℕ) (i : ℕ) (r : Relocation) → first_refusal file ≡ None → slice_get (relocations file) i ≡ Some r → uses_symbol r.kind ≡ true
     → r.symbol < length (chains file)
 symbol-there file i r accepted at uses =
@@ -71,7 +71,7 @@ lands-by : (hs : List Heading) (place : ℕ) (o : Option ℕ) → (is_none o ≡
 lands-by hs place None h = tt
 lands-by hs place (Some v) h = h refl
 
--- what a relocation writes lands in the memory of its object
+-- a relocation of an accepted file writes within the memory of its object
 pub relocation-lands : (base : ℕ) (file : List ℕ) (values : ℕ → Option ℕ) (i : ℕ) (r : Relocation) → base + reach file ≤ MEMORY_LIMIT → first_refusal file ≡ None
     → slice_get (relocations file) i ≡ Some r → IfSome (write_with base values r) (Lands (map (heading_at base) (loads file)))
 relocation-lands base file values i r low accepted at =
@@ -103,7 +103,7 @@ uses-by kind w rest false false e f h =
     let i : is_writing kind ≡ true = and-left (is_writing kind) (is_none rest) h in
     cc
 
--- a relocation that is undefined names a symbol
+-- a relocation whose value is undefined names a symbol
 pub undefined-uses : (objects : List Placed) (own : ℕ) (r : Relocation) → is_undefined objects own r ≡ true → uses_symbol r.kind ≡ true
 undefined-uses objects own r h =
     uses-by r.kind ((base_at objects own + r.addend) % 2 ^ 64)

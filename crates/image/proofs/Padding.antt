@@ -1,4 +1,4 @@
--- Bytes with zeros behind them.
+-- Bytes with zeros after them.
 use Rattle.std.proofs.Common.{◌≡◌, ℕ, ◌+◌, ◌-◌, ◌≤◌, List, ◌++◌, length, take, sym, ap, ◌∙◌, arith, append-nil, inl, inr, min}
 use Rattle.std.specs.Prelude.{replicate}
 use Rattle.std.proofs.Math.Seq.{take-append-add}
@@ -26,7 +26,7 @@ take-beyond front size n h l =
     ∙ sym (take-append-add front (zeros (size - length front)) (n - length front))
     ∙ ap (λ k. take k (padded front size)) at
 
--- the first so many
+-- the first n bytes of padded bytes are the kept ones among them, followed by zeros
 pub padded-take : (front : List ℕ) (size n kept : ℕ) → n ≤ size → kept ≡ min (length front) n → take kept front ++ zeros (n - kept) ≡ take n (padded front size)
 padded-take front size n kept h e =
     elim (cases_lt n (length front)) [

@@ -1,4 +1,4 @@
--- What relocations write, one after others.
+-- The writes of a list of relocations that grows.
 use Rattle.std.proofs.Common.{◌≡◌, ℕ, ◌-◌, Bool, true, false, cond, List, [], ◌∷◌, ◌++◌, Option, Some, None, refl, ap, sym, ◌∙◌, append-nil, ◌+◌, reverse, arith}
 use Rattle.std.proofs.lemmas.List.{reverse-append, map-id}
 use Rattle.std.proofs.lemmas.List.Concat.{flat_map-append}
@@ -25,7 +25,8 @@ one-more ws (Some w) old a =
     ap (λ l. written_or (find (λ w. within w.place 8 a) l) old a) (reverse-append ws (w ∷ []))
     ∙ last-by w (last_write_at ws a) old a (within w.place 8 a)
 
--- the last write after one relocation more: that relocation's, where it writes at the address
+-- the byte at an address after one more relocation: the byte of its write if it covers the address, or
+-- else the byte before
 pub written_or-more : (f : Relocation → Option Write) (rs : List Relocation) (r : Relocation) (old : Option ℕ) (a : ℕ)
     → written_or (last_write_at (filter_map f (rs ++ r ∷ [])) a) old a ≡ after (f r) (written_or (last_write_at (filter_map f rs) a) old a) a
 written_or-more f rs r old a =
@@ -36,7 +37,7 @@ then-by : (o old : Option Write) (loaded : Option ℕ) (a : ℕ) → written_or 
 then-by (Some w) old loaded a = refl
 then-by None old loaded a = refl
 
--- the last write of some, and of others behind them
+-- the writes `ws` followed by `vs` leave the byte that `vs` leave after `ws`
 pub written_or-then : (ws vs : List Write) (old : Option ℕ) (a : ℕ)
     → written_or (last_write_at (ws ++ vs) a) old a ≡ written_or (last_write_at vs a) (written_or (last_write_at ws a) old a) a
 written_or-then ws vs old a =
@@ -45,13 +46,13 @@ written_or-then ws vs old a =
     ∙ ap (λ o. written_or o old a) (find-append p (reverse vs) (reverse ws))
     ∙ then-by (last_write_at vs a) (last_write_at ws a) old a
 
--- so many places, and the next one
+-- the first n + 1 numbers are the first n followed by n
 pub places-more : (n : ℕ) → range_with_len 0 (n + 1) ≡ range_with_len 0 n ++ n ∷ []
 places-more n =
     sym (map-id (range_with_len 0 (n + 1))) ∙ map-range_with_len_more (λ (k : ℕ). k) 0 n n (omega arith)
     ∙ ap (λ ks. ks ++ n ∷ []) (map-id (range_with_len 0 n))
 
--- what the relocations of so many objects write, and those of the next one
+-- the writes of the first n + 1 objects are those of the first n, followed by those of object number n
 pub writes-more : (f : ℕ → List Write) (n : ℕ) → flat_map f (range_with_len 0 (n + 1)) ≡ flat_map f (range_with_len 0 n) ++ f n
 writes-more f n =
     ap (flat_map f) (places-more n) ∙ flat_map-append f (range_with_len 0 n) (n ∷ [])

@@ -16,7 +16,7 @@ use Rattle.image.specs.Relocating.{base_at, file_at, name_at}
 use Rattle.image.specs.inside.Segments.{Rising}
 use Rattle.image.proofs.Placing.{loads-rising, loads-end}
 
--- where the PT_LOADs of all objects lie
+-- the headings of the PT_LOADs of all objects
 abbrev pub headings_of : List Placed → List Heading
 headings_of objects = map (λ l. l.heading) (all_loaded objects)
 
@@ -31,13 +31,14 @@ pub rising-weaken : (from m : ℕ) (hs : List Heading) → from ≤ m → Rising
 rising-weaken from m [] l r = tt
 rising-weaken from m (h ∷ hs) l r = (omega (arith, r.0, l), r.1)
 
--- segments and others above them rise
+-- if headings `hs` rise and end at or below m, and headings `ks` rise from m, then `hs` followed by `ks`
+-- rise
 pub rising-append : (from m : ℕ) (hs ks : List Heading) → Rising from hs → from ≤ m → All (λ h. h.address + h.size ≤ m) hs → Rising m ks → Rising from (hs ++ ks)
 rising-append from m [] ks r l e k = rising-weaken from m ks l k
 rising-append from m (h ∷ hs) ks r l e k =
     (r.0, rising-append (h.address + h.size) m hs ks r.1 (e 0 h (omega arith)) (λ i d j. e (suc i) d (omega (arith, j))) k)
 
--- they rise
+-- the headings of all objects rise
 pub stack-rising : (from : ℕ) (objects : List Placed) → Stacked from objects → AllAccepted objects → Rising from (headings_of objects)
 stack-rising from [] s a = tt
 stack-rising from (p ∷ ps) s a =
@@ -46,19 +47,19 @@ stack-rising from (p ∷ ps) s a =
     (rising-append from (end_of p) hs (headings_of ps) (rising-weaken from p.base hs s.0 (loads-rising p.base p.file (a 0 p (omega arith))))
     (omega (arith, s.0)) (loads-end p.base p.file) (stack-rising (end_of p) ps s.2 (λ k d l. a (suc k) d (omega (arith, l)))))
 
--- the object at a place ends below the limit
+-- object number i ends at or below the limit
 pub low-at : (from : ℕ) (objects : List Placed) (i : ℕ) → Stacked from objects → i < length objects → base_at objects i + reach (file_at objects i) ≤ MEMORY_LIMIT
 low-at from [] i s h = absurd (omega (arith, h))
 low-at from (p ∷ ps) zero s h = s.1
 low-at from (p ∷ ps) (suc i) s h = low-at (end_of p) ps i s.2 (omega (arith, h))
 
--- and its file is accepted
+-- the file of object number i is accepted
 pub accepted-at : (objects : List Placed) (i : ℕ) → AllAccepted objects → i < length objects → first_refusal (file_at objects i) ≡ None
 accepted-at [] i a h = absurd (omega (arith, h))
 accepted-at (p ∷ ps) zero a h = a 0 p (omega arith)
 accepted-at (p ∷ ps) (suc i) a h = accepted-at ps i (λ k d l. a (suc k) d (omega (arith, l))) (omega (arith, h))
 
--- the object at a place
+-- object number i
 abbrev pub placed_of : List Placed → ℕ → Placed
 placed_of objects i = record { name = name_at objects i; file = file_at objects i; base = base_at objects i }
 
@@ -72,7 +73,7 @@ base-above from [] i s h = absurd (omega (arith, h))
 base-above from (p ∷ ps) zero s h = s.0
 base-above from (p ∷ ps) (suc i) s h = omega (arith, s.0, base-above (end_of p) ps i s.2 (omega (arith, h)))
 
--- the PT_LOADs of all objects before a place end at or below the base of the object there
+-- the PT_LOADs of all objects before number i end at or below the base of object number i
 pub stack-ends : (from : ℕ) (objects : List Placed) (i : ℕ) → Stacked from objects → i < length objects → All (λ h. h.address + h.size ≤ base_at objects i) (headings_of (take i objects))
 stack-ends from [] i s h = absurd (omega (arith, h))
 stack-ends from (p ∷ ps) zero s h = λ k d l. absurd (omega (arith, l))
@@ -83,7 +84,7 @@ stack-ends from (p ∷ ps) (suc i) s h =
     (All-append ends (map (heading_at p.base) (loads p.file)) (headings_of (take i ps))
     (λ k d l. omega (arith, loads-end p.base p.file k d l, high)) (stack-ends (end_of p) ps i s.2 (omega (arith, h))))
 
--- so many of the objects, and the next one
+-- the PT_LOADs of the first i + 1 objects are those of the first i, followed by those of object number i
 pub loaded-more : (objects : List Placed) (i : ℕ) → i < length objects → all_loaded (take (i + 1) objects) ≡ all_loaded (take i objects) ++ loaded_of (placed_of objects i)
 loaded-more objects i h =
     let d = placed_of objects i in

@@ -1,4 +1,4 @@
--- The symbol that a symbol is bound to is there.
+-- The symbol to which a symbol is bound exists.
 use Rattle.std.proofs.Common.{◌≡◌, ℕ, ◌-◌, ◌<◌, Bool, true, false, cond, List, [], ◌∷◌, length, get_or, Option, Some, None, map, refl, ap, subst, arith, suc}
 use Rattle.std.specs.Prelude.{slice_get, ◌==◌, ◌&&◌}
 use Rattle.std.specs.Option.{option_and_then, option_map, option_or}
@@ -25,7 +25,7 @@ use Rattle.image.specs.Placement.{Placed, named}
 use Rattle.image.specs.Relocating as memory
 use Rattle.image.proofs.Holding.{find-passes}
 
--- the object that a target names, and its symbol, are there
+-- the object that a target names, and its symbol, exist
 abbrev pub IsThere : List Named → Option Target → Type 0
 IsThere objects None = Unit {0}
 IsThere objects (Some Zero) = Unit {0}
@@ -98,7 +98,7 @@ pub target-there : (objects : List Named) (own i : ℕ) → own < length objects
 unfolding target
 target-there objects own i within = symbol-by objects own i (i == 0) (slice_get (symbols (file_at objects own)) i) within refl
 
--- the same of objects in memory
+-- if a symbol of placed objects is bound to a target, the target's object and its symbol exist
 pub placed-there : (objects : List Placed) (own i object symbol : ℕ) → own < length objects → target (map named objects) own i ≡ Some (At object symbol)
     → (object < length objects) × (symbol < length (symbols (memory.file_at objects object)))
 placed-there objects own i object symbol within is =

@@ -1,7 +1,7 @@
--- The numbers of memory and of segments, with their values.
+-- The constants of memory and of segments.
 use Rattle.std.specs.Prelude.{ℕ, ◌-◌, ◌^◌}
 
--- a page, in bytes (psABI, the smallest)
+-- the size of a page in bytes (psABI: the smallest page)
 abbrev pub PAGE : ℕ
 PAGE = 4096
 
@@ -13,10 +13,10 @@ MEMORY_LIMIT = 2 ^ 47 - 4096
 abbrev pub PF_X : ℕ
 PF_X = 1
 
--- p_flags: it may be written (gABI chapter 5)
+-- p_flags: the segment may be written (gABI chapter 5)
 abbrev pub PF_W : ℕ
 PF_W = 2
 
--- p_flags: it may be read (gABI chapter 5)
+-- p_flags: the segment may be read (gABI chapter 5)
 abbrev pub PF_R : ℕ
 PF_R = 4

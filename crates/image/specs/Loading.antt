@@ -1,4 +1,4 @@
--- What loading puts into memory (gABI chapter 5, segment contents).
+-- The bytes that loading puts into memory (gABI chapter 5, segment contents).
 use Rattle.std.specs.Prelude.{ℕ, ◌+◌, ◌-◌, nat_lt, if◌then◌else◌, List, length, map, slice_index, Option}
 use Rattle.std.specs.List.{find, flat_map}
 use Rattle.std.specs.Option.{option_map}
@@ -8,7 +8,7 @@ use Rattle.image.specs.Heading.{Heading, holds}
 use Rattle.image.specs.Permissions.{permission_bits}
 use Rattle.image.specs.Placement.{Placed}
 
--- a PT_LOAD in memory: its heading, and the first of its bytes, which the file has
+-- a PT_LOAD in memory: its heading, and the bytes from the file, with which it begins
 pub record Loaded : Type 0 where
   pub heading : Heading
   pub contents : List ℕ
@@ -17,7 +17,7 @@ pub record Loaded : Type 0 where
 abbrev pub heading_at : ℕ → ProgramHeader → Heading
 heading_at base h = record { address = base + h.address; permissions = permission_bits h.flags; size = h.memory_size }
 
--- a PT_LOAD of a file at a base
+-- the PT_LOAD of a program header, in memory at a base
 abbrev pub loaded_at : ℕ → List ℕ → ProgramHeader → Loaded
 loaded_at base file h = record { heading = heading_at base h; contents = contents file h }
 
@@ -29,11 +29,11 @@ loaded_of object = map (loaded_at object.base object.file) (loads object.file)
 abbrev pub all_loaded : List Placed → List Loaded
 all_loaded objects = flat_map loaded_of objects
 
--- byte i of a PT_LOAD: the file's, and 0 behind the file's bytes
+-- byte i of a PT_LOAD: the file's byte, or 0 if i is past the file's bytes
 abbrev pub loaded_byte : Loaded → ℕ → ℕ
 loaded_byte s i = if nat_lt i (length s.contents) then slice_index s.contents i else 0
 
--- the byte that loading puts at an address, where a PT_LOAD holds it
+-- the byte that loading puts at an address, if a PT_LOAD has this address
 abbrev pub loaded_byte_at : List Loaded → ℕ → Option ℕ
 loaded_byte_at segments address =
     option_map (λ s. loaded_byte s (address - s.heading.address)) (find (λ s. holds address s.heading) segments)

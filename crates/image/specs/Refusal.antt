@@ -1,4 +1,4 @@
--- Why a program isn't bound, and where want of memory may be answered.
+-- Why a program isn't bound, and when a bind may answer that memory was refused.
 use Rattle.std.specs.Prelude.{ℕ, ◌≡◌, ◌⊎◌, List, [], ◌∷◌, ◌++◌, map, length, take, not, true, false, Option, Some}
 use Rattle.std.specs.List.{range_with_len}
 use Rattle.std.specs.Option.{option_map}
@@ -15,44 +15,47 @@ use Rattle.image.specs.Relocating.{name_at, file_at, first_undefined}
 use Rattle.image.specs.declared.refusal.BindRefusal.{BindRefusal}
 use Rattle.image.specs.declared.refusal.BindRefusal.TheVariants.{Program, BadBase, Missing, NoRoom, Undefined, OutOfMemory}
 
--- the refusal of a relocation of the object at a place: the names of the object and of the symbol
+-- the refusal for relocation r of object number `own`, whose value is undefined: the names of the object
+-- and of the symbol
 abbrev pub undefined_by : List Placed → ℕ → Relocation → BindRefusal
 undefined_by objects own r = Undefined (name_at objects own) (name_of (file_at objects own) r.symbol)
 
--- the refusal of the first relocation of the object at a place that is undefined
+-- the refusal for the first relocation of object number `own` whose value is undefined, if there is one
 unfoldable pub undefined_in : List Placed → ℕ → Option BindRefusal
 undefined_in objects own = option_map (undefined_by objects own) (first_undefined objects own)
 
--- the refusal of the first relocation that is undefined, object by object in load order
+-- the refusal for the first relocation whose value is undefined, in the first object in load order that
+-- has one
 unfoldable pub undefined_refusal : List Placed → Option BindRefusal
 undefined_refusal objects = first_of (map (undefined_in objects) (range_with_len 0 (length objects)))
 
--- B4: the memory of an object ends too high; B5: the first relocation whose value is undefined
+-- the tests B4 (the memory of an object ends too high) and B5 (the first relocation whose value is undefined)
 abbrev pub placed_tests : List Placed → List (Option BindRefusal)
 placed_tests objects = (NoRoom when lacks_room objects) ∷ undefined_refusal objects ∷ []
 
--- the refusal of objects in memory: that of the first test that applies
+-- the refusal of placed objects: that of the first test that applies
 unfoldable pub placed_refusal : List Placed → Option BindRefusal
 placed_refusal objects = first_of (placed_tests objects)
 
--- a library that isn't there, with who needs it
+-- the refusal for a needed library that is missing, with the object that needs it
 abbrev pub missing_by : Need → BindRefusal
 missing_by need = Missing need.needer need.name
 
--- the refusal where there is no load order
+-- the refusal of a bind that has no load order
 abbrev pub of_order : OrderRefusal → BindRefusal
 of_order (order.Missing needer name) = Missing needer name
 of_order order.OutOfMemory = OutOfMemory
 
--- B1: the first test of the file that applies; B2: the base is no multiple of the program's unit
+-- the tests B1 (the first test of the file that applies) and B2 (the base is no multiple of the program's unit)
 abbrev pub program_tests : List ℕ → ℕ → List (Option BindRefusal)
 program_tests file base = option_map Program (first_file_refusal file) ∷ (BadBase when not (is_good_base file base)) ∷ []
 
--- the refusal of a program by itself: that of the first of these that applies
+-- the refusal of a program's file and base: that of the first of these tests that applies
 unfoldable pub program_refusal : List ℕ → ℕ → Option BindRefusal
 program_refusal file base = first_of (program_tests file base)
 
--- B1, B2; then B3: the first needed library that isn't installed; then B4, B5 of the placed objects
+-- all tests of a bind: B1 and B2; then B3, the first needed library that isn't installed; then B4 and B5 of the placed
+-- objects
 abbrev pub bind_tests : List ℕ → ℕ → List Named → List ℕ → List (Option BindRefusal)
 bind_tests file base libraries preloads =
     program_tests file base
@@ -64,40 +67,44 @@ bind_tests file base libraries preloads =
 unfoldable pub bind_refusal : List ℕ → ℕ → List Named → List ℕ → Option BindRefusal
 bind_refusal file base libraries preloads = first_of (bind_tests file base libraries preloads)
 
--- that of a program alone: without libraries and preloads
+-- the refusal of a program without libraries and preloads
 abbrev pub alone_refusal : List ℕ → ℕ → Option BindRefusal
 alone_refusal file base = bind_refusal file base [] []
 
--- where a bind may be answered with want of memory: where admission, which comes first, takes some
+-- a bind may answer that memory was refused: the tests before admission don't apply, and admission
+-- allocates
 abbrev pub WantsMemory : List ℕ → Type 0
 WantsMemory file = ReadNeedsMemory file
 
--- an answer where a program isn't taken by itself
+-- `admit_program` may return this refusal
 abbrev pub IsProgramAnswer : List ℕ → ℕ → BindRefusal → Type 0
 IsProgramAnswer file base OutOfMemory = WantsMemory file
 IsProgramAnswer file base answer = program_refusal file base ≡ Some answer
 
--- an answer where no image is given: the refusal, or want of memory where memory is wanted
+-- a bind may return this refusal: it is that of the first test that applies, or refused memory if
+-- `WantsMemory`
 abbrev pub IsAnswer : List ℕ → ℕ → List Named → List ℕ → BindRefusal → Type 0
 IsAnswer file base libraries preloads OutOfMemory = WantsMemory file
 IsAnswer file base libraries preloads answer = bind_refusal file base libraries preloads ≡ Some answer
 
--- a refusal, or want of memory in its place since its names take memory
+-- the answer is the refusal, or refused memory, because the names of a refusal are allocated
 abbrev pub IsOrWantsMemory : BindRefusal → BindRefusal → Type 0
 IsOrWantsMemory refusal answer = (answer ≡ refusal) ⊎ (answer ≡ OutOfMemory)
 
--- where placing may be answered with want of memory: where the first object doesn't end too high
+-- a placement may answer that memory was refused: the first object doesn't end too high
 abbrev pub PlacesWantMemory : List Placed → Type 0
 PlacesWantMemory objects = lacks_room (take 1 objects) ≡ false
 
--- no room for objects in memory, or want of memory where memory is wanted
+-- a placement may return this refusal: there is no room for the objects, or memory was refused and
+-- `PlacesWantMemory`
 abbrev pub IsPlaceAnswer : List Placed → BindRefusal → Type 0
 IsPlaceAnswer objects answer = ((answer ≡ NoRoom) × (lacks_room objects ≡ true)) ⊎ ((answer ≡ OutOfMemory) × PlacesWantMemory objects)
 
--- the refusal of objects in memory, or want of memory where memory is wanted
+-- a bind of placed objects may return this refusal: that of the first test that applies, or refused
+-- memory if `PlacesWantMemory`
 abbrev pub IsPlacedAnswer : List Placed → BindRefusal → Type 0
 IsPlacedAnswer objects answer = (placed_refusal objects ≡ Some answer) ⊎ ((answer ≡ OutOfMemory) × PlacesWantMemory objects)
 
--- the first refusal, or want of memory in place of any answer
+-- the answer is the first refusal, or refused memory
 abbrev pub IsFirstOrWantsMemory : Option BindRefusal → BindRefusal → Type 0
 IsFirstOrWantsMemory first answer = (first ≡ Some answer) ⊎ (answer ≡ OutOfMemory)

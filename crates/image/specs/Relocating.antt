@@ -1,4 +1,5 @@
--- Symbols and what relocations write (gABI chapter 4, symbol values; psABI, relocation types).
+-- The values of symbols, and the writes of relocations (gABI chapter 4, symbol values; psABI, relocation
+-- types).
 use Rattle.std.specs.Prelude.{ℕ, ◌+◌, ◌-◌, ◌%◌, ◌^◌, ◌==◌, Bool, ◌&&◌, is_none, if◌then◌else◌}
 use Rattle.std.specs.Prelude.{List, [], length, map, reverse, get_or, slice_get, slice_index, Option, Some, None}
 use Rattle.std.specs.List.{find, flat_map, filter_map, range_with_len}
@@ -15,59 +16,60 @@ use Rattle.scope.specs.declared.target.Target.TheVariants.{Zero, At}
 use Rattle.image.specs.Heading.{within}
 use Rattle.image.specs.Placement.{Placed, named}
 
--- An object is told from others by its place in load order: two may have the same bytes.
--- No definition here asks for a place behind the last object.
+-- An object is identified by its number, which is its place in load order: two objects may have the same bytes. No
+-- definition here uses a number after the last object's.
 
--- the base of the object at a place
+-- the base of object number `own`
 abbrev pub base_at : List Placed → ℕ → ℕ
 base_at objects own = slice_index (map (λ o. o.base) objects) own
 
--- its file's bytes
+-- the file's bytes of object number `own`
 abbrev pub file_at : List Placed → ℕ → List ℕ
 file_at objects own = get_or (map (λ o. o.file) objects) own []
 
--- its name
+-- the name of object number `own`
 abbrev pub name_at : List Placed → ℕ → List ℕ
 name_at objects own = get_or (map (λ o. o.name) objects) own []
 
--- its relocations
+-- the relocations of object number `own`
 abbrev pub relocations_of : List Placed → ℕ → List Relocation
 relocations_of objects own = relocations (file_at objects own)
 
--- the address of an object's symbol at a base: its value, added to the base unless it is absolute
+-- the address of a symbol of an object at `base`: the symbol's value, plus the base unless the symbol is
+-- absolute
 abbrev pub address_of : ℕ → Symbol → ℕ
 address_of base symbol = if is_absolute symbol then symbol.value else (base + symbol.value) % 2 ^ 64
 
--- the address of the symbol of a number of the object at a place
+-- the address of symbol number `symbol` of object number `object`
 abbrev pub own_address : List Placed → ℕ → ℕ → ℕ
 own_address objects object symbol = option_map_or (address_of (base_at objects object)) (slice_get (symbols (file_at objects object)) symbol) 0
 
--- the value of what a symbol is bound to
+-- the value of a target: 0, or the address of the symbol
 abbrev pub target_value : List Placed → Target → ℕ
 target_value objects Zero = 0
 target_value objects (At object symbol) = own_address objects object symbol
 
--- the value of the symbol of a number of the object at a place; none where it is undefined
+-- the value of symbol number `symbol` of object number `own`; none if it is undefined
 unfoldable pub symbol_value : List Placed → ℕ → ℕ → Option ℕ
 symbol_value objects own symbol = option_map (target_value objects) (target (map named objects) own symbol)
 
--- the value that a relocation of an object at a base writes, with the values of symbols by number;
--- none where its symbol is undefined or its type writes nothing
+-- the value that relocation r of an object at `base` writes, with the values that `values` returns for
+-- symbols' numbers; none if the symbol has none or the type writes nothing
 abbrev pub value_with : ℕ → (ℕ → Option ℕ) → Relocation → Option ℕ
 value_with base values r =
     if r.kind == R_X86_64_RELATIVE then Some ((base + r.addend) % 2 ^ 64)
     else (if r.kind == R_X86_64_64 then option_map (λ value. (value + r.addend) % 2 ^ 64) (values r.symbol)
     else (if uses_symbol r.kind then values r.symbol else None))
 
--- the value that a relocation of the object at a place writes
+-- the value that relocation r of object number `own` writes
 abbrev pub value_of : List Placed → ℕ → Relocation → Option ℕ
 value_of objects own r = value_with (base_at objects own) (symbol_value objects own) r
 
--- a relocation of a type that writes, whose value is undefined
+-- relocation r has a type that writes, and its value is undefined
 abbrev pub is_undefined : List Placed → ℕ → Relocation → Bool
 is_undefined objects own r = is_writing r.kind && is_none (value_of objects own r)
 
--- the first relocation of the object at a place that is undefined
+-- the first relocation of object number `own` whose value is undefined
 abbrev pub first_undefined : List Placed → ℕ → Option Relocation
 first_undefined objects own = find (is_undefined objects own) (relocations_of objects own)
 
@@ -76,23 +78,24 @@ pub record Write : Type 0 where
   pub place : ℕ
   pub value : ℕ
 
--- what a relocation of an object at a base writes, with the values of symbols by number
+-- the write of relocation r of an object at `base`, with the values that `values` returns for symbols'
+-- numbers
 abbrev pub write_with : ℕ → (ℕ → Option ℕ) → Relocation → Option Write
 write_with base values r = option_map (λ value. record { place = base + r.offset; value = value }) (value_with base values r)
 
--- what the relocations of the object at a place write, in their order
+-- the writes of the relocations of object number `own`, in their order
 abbrev pub writes_of : List Placed → ℕ → List Write
 writes_of objects own = filter_map (write_with (base_at objects own) (symbol_value objects own)) (relocations_of objects own)
 
--- what all relocations write, in load order
+-- the writes of all relocations, object by object in load order
 abbrev pub all_writes : List Placed → List Write
 all_writes objects = flat_map (writes_of objects) (range_with_len 0 (length objects))
 
--- the last of the writes, in their order, whose eight bytes hold an address
+-- the last of the writes that covers an address with its eight bytes
 abbrev pub last_write_at : List Write → ℕ → Option Write
 last_write_at writes address = find (λ w. within w.place 8 address) (reverse writes)
 
--- the byte that a write puts at an address, or what was there
+-- the byte that the write puts at an address; if there is no write, the loaded byte
 abbrev pub written_or : Option Write → Option ℕ → ℕ → Option ℕ
 written_or (Some w) loaded address = Some (byte_at (address - w.place) w.value)
 written_or None loaded address = loaded

@@ -13,22 +13,26 @@ use crate::refusal::BindRefusal;
 use scope::Order;
 use std::alloc::Global;
 
-/// Binds a program and its libraries in load order, the program at a good base: their image, or the
-/// first of these refusals: memory would end above 2^47 - 4,096 (B4), a relocation's symbol is
-/// undefined (B5). Linear in the files and in their memory, apart from a search for each symbol by
-/// its name, and from the halving that relocations need where they go from segment to segment.
+/// Binds a program and its libraries, which `order` has in load order, the program at `base`.
+///
+/// Returns their image, or the first of these refusals: memory would end above 2^47 - 4,096 (B4); a
+/// relocation's symbol is undefined (B5).
+///
+/// The time is linear in the files and in their memory, with two exceptions: a search for each
+/// symbol by its name, and a binary search for each relocation that goes to another segment than
+/// the relocation before it.
 pub fn bind(alloc: Global, order: &Order<'_>, base: u64) -> Result<Image, BindRefusal>
     requires { is_good_base (file_at order.now 0) base ≡ true }
 
-    // An image only where no test applies; else the refusal of the first that does, or want of
-    // memory where the program's own memory doesn't end too high.
+    // Returns an image only if no test applies. Otherwise returns the refusal of the first test
+    // that applies, or refused memory if the program's own memory doesn't end too high.
     ensures accepted { OnOk result (placed_refusal (place base order.now) ≡ None) }
     ensures refused { IfErr result (IsPlacedAnswer (place base order.now)) }
 
-    // Its objects and its segments, with their bytes.
+    // The image has the defined objects and segments, and their defined bytes.
     ensures ok { IfOk result (λ image. image ≡ image_of (place base order.now)) }
 
-    // Every address has in it the byte that is defined for that address, or none where none is.
+    // The image has the defined byte at every address, or none if none is defined.
     ensures bytes { IfOk result (λ image.
         (a : ℕ) → image_byte image a ≡ byte_of (place base order.now) a) }
 {

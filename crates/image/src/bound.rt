@@ -19,13 +19,14 @@ use scope::Order;
 use std::alloc::{AllocError, Global};
 use std::marker::Model;
 
-/// An object at its base, with the values of the symbols that its relocations name: with these its
-/// segments are made from its file alone. Contracts see all three.
+/// An object at its base, with the values of the symbols that its relocations name. With these
+/// values, its segments are made from its file only. Contracts see the name, the base and the
+/// values.
 #[derive(Drop)]
 pub struct BoundObject {
     name: Name,
     base: u64,
-    // By number, eight bytes a symbol.
+    // The values by symbol number, eight bytes for each symbol.
     values: Vec<u64>,
 }
 
@@ -38,21 +39,21 @@ impl Model for BoundObject {
 }
 
 impl BoundObject {
-    /// Its base.
+    /// The base of the object.
     pub(crate) fn base(&self) -> u64
         ensures { result ≡ self.now.base }
     {
         self.base
     }
 
-    /// The values of its symbols, by number.
+    /// The values of the object's symbols, by number.
     pub(crate) fn values(&self) -> &[u64]
         ensures { result.now ≡ self.now.values }
     {
         &self.values
     }
 
-    /// The object of an image that it is with its file.
+    /// Returns this object as an image lists it. `object` is the object's file.
     pub(crate) fn image_object(
         &self,
         alloc: Global,
@@ -72,8 +73,8 @@ impl BoundObject {
     }
 }
 
-/// The values of the symbols that the relocations of the object at a place name, or the refusal of
-/// the first relocation that is undefined. Each symbol is looked up once.
+/// Returns the values of the symbols that the relocations of object number `own` name, or the
+/// refusal for its first relocation whose symbol is undefined. Looks up each symbol once.
 fn symbol_values(
     alloc: Global,
     objects: &PlacedOrder<'_>,
@@ -98,8 +99,8 @@ fn symbol_values(
     Ok(values)
 }
 
-/// The object at a place with the values of its symbols, or the refusal of its first relocation
-/// that is undefined.
+/// Returns object number `own` with the values of its symbols, or the refusal for its first
+/// relocation whose symbol is undefined.
 fn bound_object(
     alloc: Global,
     objects: &PlacedOrder<'_>,
@@ -116,8 +117,8 @@ fn bound_object(
     Ok(BoundObject { name, base, values })
 }
 
-/// All objects with the values of their symbols, or the refusal of the first relocation that is
-/// undefined.
+/// Returns all objects with the values of their symbols, or the refusal for the first relocation
+/// whose symbol is undefined.
 fn all_bound(alloc: Global, objects: &PlacedOrder<'_>) -> Result<Vec<BoundObject>, BindRefusal>
     ensures ok { OnOk result (undefined_refusal objects.now ≡ None) }
     ensures bound { IfOk result (λ all. AreBound objects.now all.items) }
@@ -132,10 +133,14 @@ fn all_bound(alloc: Global, objects: &PlacedOrder<'_>) -> Result<Vec<BoundObject
     Ok(bound)
 }
 
-/// Places a program and its libraries in load order, the program at a good base, and finds the
-/// values of the symbols that their relocations name, or the first of these refusals: memory would
-/// end above 2^47 - 4,096 (B4), a relocation's symbol is undefined (B5). Linear in the relocations,
-/// apart from a search for each symbol by its name. It takes eight bytes a symbol.
+/// Places a program and its libraries, which `order` has in load order, the program at `base`, and
+/// finds the values of the symbols that their relocations name.
+///
+/// Returns the objects, or the first of these refusals: memory would end above 2^47 - 4,096 (B4); a
+/// relocation's symbol is undefined (B5).
+///
+/// The time is linear in the relocations, except for a search for each symbol by its name.
+/// Allocates eight bytes for each symbol.
 pub fn bound_objects(
     alloc: Global,
     order: &Order<'_>,
@@ -143,12 +148,12 @@ pub fn bound_objects(
 ) -> Result<Vec<BoundObject>, BindRefusal>
     requires { is_good_base (file_at order.now 0) base ≡ true }
 
-    // Only where no test applies; else the refusal of the first that does, or want of memory where
-    // the program's own memory doesn't end too high.
+    // Returns objects only if no test applies. Otherwise returns the refusal of the first test that
+    // applies, or refused memory if the program's own memory doesn't end too high.
     ensures accepted { OnOk result (placed_refusal (place base order.now) ≡ None) }
     ensures refused { IfErr result (IsPlacedAnswer (place base order.now)) }
 
-    // The objects in their order, each at its base and with the values of its symbols.
+    // Returns the objects in load order, each at its base and with the values of its symbols.
     ensures bound { IfOk result (λ all. AreBound (place base order.now) all.items) }
 {
     let objects = PlacedOrder::of(alloc, order, base)?;

@@ -13,8 +13,8 @@ use crate::segment::Segment;
 use elf_dynamic::Object;
 use std::alloc::{AllocError, Global};
 
-/// The segments of an object at a base before any relocation. One pass over its PT_LOADs; the
-/// file's bytes are copied once.
+/// Returns the segments of `object` at `base`, before any relocation. Makes one pass over the
+/// PT_LOADs, and copies the file's bytes once.
 pub(crate) fn load(
     alloc: Global,
     object: &Object<'_>,

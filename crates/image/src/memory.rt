@@ -7,8 +7,8 @@ ghost use Rattle.image.specs.inside.Segments.{padded};
 use std::alloc::AllocError;
 use std::marker::Model;
 
-/// The bytes of a segment: those that are kept, and zeros behind them, which take no memory.
-/// Contracts see all of them.
+/// The bytes of a segment: a slice of kept bytes, and the zeros after them, which take no memory.
+/// Contracts see all of the bytes.
 #[derive(Drop)]
 pub struct Memory<'a> {
     front: &'a [u8],
@@ -27,7 +27,7 @@ impl<'a> Model for Memory<'a> {
 }
 
 impl<'a> Memory<'a> {
-    /// So many bytes, which begin with these and go on with zeros.
+    /// Makes `size` bytes, which begin with `front` and continue with zeros.
     pub fn new(front: &'a [u8], size: u32) -> Memory<'a>
         requires { length front.now ≤ size }
         ensures { result ≡ padded front.now size }
@@ -35,7 +35,7 @@ impl<'a> Memory<'a> {
         Memory { front, size }
     }
 
-    /// How many bytes there are.
+    /// Returns the number of bytes.
     #[tactic(auto, using(crate::proofs::Padding::length_padded))]
     pub fn len(&self) -> usize
         ensures len { result ≡ length self.now }
@@ -44,7 +44,7 @@ impl<'a> Memory<'a> {
         self.size as usize
     }
 
-    /// Those that are kept: all behind them are zeros.
+    /// Returns the bytes that are kept. All bytes after them are zeros.
     #[tactic(auto, using(crate::proofs::Padding::length_padded))]
     pub fn front(&self) -> &'a [u8]
         ensures within { length result.now ≤ length self.now }
@@ -54,7 +54,7 @@ impl<'a> Memory<'a> {
         self.front
     }
 
-    /// The bytes behind the first so many.
+    /// Returns the bytes after the first `count`.
     pub fn skip(&self, count: usize) -> Memory<'a>
         requires { count ≤ length self.now }
         ensures { result ≡ drop count self.now }
@@ -66,7 +66,7 @@ impl<'a> Memory<'a> {
         }
     }
 
-    /// Copies the first of them, as many as have room.
+    /// Copies the first bytes to `out`, as many as `out` has room for.
     pub fn copy_to(&self, out: &mut [u8])
         requires { length out.old ≤ length self.now }
         ensures { out.new ≡ take (length out.old) self.now }
@@ -77,7 +77,7 @@ impl<'a> Memory<'a> {
         zeros.fill(0);
     }
 
-    /// Appends all of them.
+    /// Appends all bytes to `out`.
     pub fn append_to(&self, out: &mut Vec<u8>) -> Result<(), AllocError>
         ensures { OnOk result (out.new.items ≡ out.old.items ++ self.now) }
     {

@@ -1,21 +1,21 @@
-// Where many segments begin, part by part of their memory.
+// An index of the segments' first addresses, for objects that have many segments.
 
 ghost use Rattle.std.specs.Prelude.{◌<◌, ◌^◌};
 
 use crate::segment::Segment;
 use std::alloc::{AllocError, Global};
 
-/// Up to so many segments are halved over as they are.
+/// The maximum number of segments of an object for which no index is made.
 const FEW: usize = 16;
-/// How many bytes of memory a part has.
+/// The number of bytes of memory in a part.
 const PART: u64 = 1024;
-/// How many parts there are at most: those of the 64 MiB that an object's memory reaches.
+/// The maximum number of parts: they cover the 64 MiB that the memory of an object may reach.
 const PARTS: u64 = 65536;
 
-/// A guess which of an object's many segments has a place: the memory from the first of them on is
-/// cut into parts, and of each part is kept how many segments begin before it. So only those that
-/// begin in one part are left to halve over. Whoever asks tests the answer, so nothing is claimed
-/// of it here.
+/// Guesses which of an object's segments has an address. The index divides the memory from the
+/// first segment on into parts, and has for each part the number of segments that begin before it.
+/// A binary search is then needed only among the segments that begin in one part. The caller tests
+/// the guess, so this type's contracts say nothing about it.
 #[derive(Drop)]
 pub(crate) struct MemoryParts {
     first: u64,
@@ -23,8 +23,8 @@ pub(crate) struct MemoryParts {
 }
 
 impl MemoryParts {
-    /// The parts of segments, or none where they are few. One pass over them; it takes eight bytes
-    /// a part, 512 KiB at most.
+    /// Makes the index of `segments`; it is empty if there are few. Makes one pass over the
+    /// segments. Allocates eight bytes for each part, at most 512 KiB.
     pub(crate) fn of(alloc: Global, segments: &[Segment]) -> Result<MemoryParts, AllocError> {
         let mut parts = MemoryParts {
             first: 0,
@@ -41,14 +41,14 @@ impl MemoryParts {
         Ok(parts)
     }
 
-    /// The part that a place lies in.
+    /// Returns the number of the part in which `place` lies.
     fn part_of(&self, place: u64) -> usize
         ensures { result < 2 ^ 32 }
     {
         (place.saturating_sub(self.first) / PART).min(PARTS) as usize
     }
 
-    /// How many of so many segments begin before a part.
+    /// Returns how many of the `count` segments begin before part number `part`.
     fn begun_before(&self, part: usize, count: usize) -> usize {
         match self.begun.get(part) {
             Some(begun) => *begun,
@@ -56,8 +56,8 @@ impl MemoryParts {
         }
     }
 
-    /// The number of the last segment that begins at a place or below it, where these are the
-    /// parts of the segments.
+    /// Returns the number of the last segment that begins at or below `place`, if this is the index
+    /// of `segments`.
     pub(crate) fn guess(&self, segments: &[Segment], place: u64) -> usize {
         let part = self.part_of(place);
         let low = self.begun_before(part, segments.len());

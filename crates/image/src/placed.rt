@@ -18,8 +18,8 @@ use scope::{Order, Target, Undefined, resolve};
 use std::alloc::Global;
 use std::marker::Model;
 
-/// The objects of an order, each at its base. Contracts see each with its name, its file's bytes
-/// and its base.
+/// The objects of an order, each at its base. Contracts see the name, the file's bytes and the base
+/// of each object.
 #[derive(Drop)]
 pub struct PlacedOrder<'a> {
     order: &'a Order<'a>,
@@ -39,7 +39,7 @@ impl<'a> Model for PlacedOrder<'a> {
 }
 
 impl<'a> PlacedOrder<'a> {
-    /// Places the objects of an order, the program at a good base: what `place` costs.
+    /// Places the objects of `order`, the program at `base`. Costs what `place` costs.
     pub fn of(
         alloc: Global,
         order: &'a Order<'a>,
@@ -48,8 +48,8 @@ impl<'a> PlacedOrder<'a> {
         requires { is_good_base (ordered.file_at order.now 0) base ≡ true }
         ensures ok { IfOk result (λ placed. placed ≡ place base order.now) }
 
-        // Where the memory of one would end above 2^47 - 4,096 that is answered, or want of memory
-        // where the program's own doesn't.
+        // Refuses if the memory of an object would end above 2^47 - 4,096. Memory may be refused
+        // only if the program's own memory doesn't end too high.
         ensures room { OnOk result (lacks_room (place base order.now) ≡ false) }
         ensures refused { IfErr result (IsPlaceAnswer (place base order.now)) }
     {
@@ -57,18 +57,18 @@ impl<'a> PlacedOrder<'a> {
         Ok(PlacedOrder { order, bases })
     }
 
-    /// How many objects there are.
+    /// Returns the number of objects.
     pub fn count(&self) -> usize
         ensures count { result ≡ length self.now }
 
-        // What holds of all of them.
+        // These facts hold of all objects.
         ensures stacked { Stacked 0 self.now }
         ensures accepted { AllAccepted self.now }
     {
         self.bases.len()
     }
 
-    /// The base of the object at a place in load order.
+    /// Returns the base of object number `i` in load order.
     pub fn base(&self, i: usize) -> u64
         requires { i < length self.now }
         ensures { result ≡ base_at self.now i }
@@ -76,7 +76,7 @@ impl<'a> PlacedOrder<'a> {
         self.bases[i]
     }
 
-    /// Its name.
+    /// Returns the name of object number `i`.
     pub fn name(&self, i: usize) -> &'a [u8]
         requires { i < length self.now }
         ensures { result.now ≡ name_at self.now i }
@@ -84,12 +84,12 @@ impl<'a> PlacedOrder<'a> {
         self.order.name(i)
     }
 
-    /// The object itself.
+    /// Returns the file of object number `i`.
     pub fn object(&self, i: usize) -> &Object<'a>
         requires { i < length self.now }
         ensures file { result.now ≡ file_at self.now i }
 
-        // What holds of all of them.
+        // These facts hold of all objects.
         ensures stacked { Stacked 0 self.now }
         ensures accepted { AllAccepted self.now }
     {
@@ -97,8 +97,8 @@ impl<'a> PlacedOrder<'a> {
         admitted.object()
     }
 
-    /// What the symbol of a number of the object at a place is bound to. It costs what `resolve`
-    /// does.
+    /// Returns the symbol to which symbol number `symbol` of object number `own` is bound. Costs
+    /// what `resolve` costs.
     pub fn target(&self, own: usize, symbol: u32) -> Result<Target, Undefined>
         requires own { own < length self.now }
         requires symbol { symbol < length (symbols (file_at self.now own)) }
@@ -109,7 +109,7 @@ impl<'a> PlacedOrder<'a> {
         resolve(self.order, own, symbol)
     }
 
-    /// Where the symbol of a number of an object stands.
+    /// Returns the address of symbol number `symbol` of object number `object`.
     pub fn own_address(&self, object: usize, symbol: u32) -> u64
         requires object { object < length self.now }
         requires symbol { symbol < length (symbols (file_at self.now object)) }
@@ -123,8 +123,8 @@ impl<'a> PlacedOrder<'a> {
         }
     }
 
-    /// The value of the symbol of a number of the object at a place, unless it is undefined. It
-    /// costs a search by the symbol's name.
+    /// Returns the value of symbol number `symbol` of object number `own`, unless it is undefined.
+    /// Costs a search for the symbol's name.
     #[tactic(auto, unfolding(crate::specs::Relocating::symbol_value))]
     pub(crate) fn symbol_value(&self, own: usize, symbol: u32) -> Result<u64, Undefined>
         requires own { own < length self.now }

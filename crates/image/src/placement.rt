@@ -1,4 +1,4 @@
-// Where objects may stand.
+// Where objects may be placed.
 
 ghost use Rattle.std.specs.Prelude.{◌≡◌, ◌+◌, ◌<◌, ◌≤◌, map, true, false, IfOk, OnOk, IfErr, OnErr};
 ghost use Rattle.std.specs.Prelude.{MatchOption};
@@ -14,12 +14,12 @@ use hash_check::Admitted;
 use scope::Order;
 use std::alloc::{AllocError, Global};
 
-/// A page, in bytes.
+/// The size of a page in bytes.
 const PAGE: u64 = 4096;
-/// The highest address that memory may end at: a page below 2^47.
+/// The highest address at which memory may end: a page below 2^47.
 const MEMORY_LIMIT: u64 = 0x7fff_ffff_f000;
 
-/// The unit of an object, in bytes. One pass over its PT_LOADs.
+/// Returns the unit of `object`, in bytes. Makes one pass over its PT_LOADs.
 #[tactic(auto, unfolding(crate::specs::Placement::unit))]
 fn unit(object: &Object<'_>) -> u64
     ensures { result ≡ unit object.now }
@@ -30,8 +30,8 @@ fn unit(object: &Object<'_>) -> u64
         .fold(PAGE, |unit, alignment| unit.max(alignment))
 }
 
-/// How far an object's memory reaches from its base, in bytes: to the end of its last PT_LOAD,
-/// since each of them ends at or below the beginning of the next.
+/// Returns how far the memory of `object` reaches from its base, in bytes. That is the end of its
+/// last PT_LOAD, because each PT_LOAD ends at or below the beginning of the next one.
 fn reach(object: &Object<'_>) -> u64
     ensures { result ≡ reach object.now }
 {
@@ -40,8 +40,8 @@ fn reach(object: &Object<'_>) -> u64
     last.address + last.memory_size
 }
 
-/// Whether a program may stand at this base: it is a multiple of the program's unit, which is the
-/// greatest of 4,096 and the alignments of its PT_LOADs.
+/// Returns whether a program may be placed at `base`: `base` is a multiple of the program's unit,
+/// which is the greatest of 4,096 and the alignments of its PT_LOADs.
 #[tactic(auto, using(crate::proofs::Placing::unit_positive))]
 pub fn good_base(program: &Admitted<'_>, base: u64) -> bool
     ensures { result ≡ is_good_base program.now base }
@@ -49,7 +49,8 @@ pub fn good_base(program: &Admitted<'_>, base: u64) -> bool
     base % unit(program.object()) == 0
 }
 
-/// Where an object's memory ends at a base, unless that is above the limit.
+/// Returns where the memory of `object` ends if the object is at `base`, or `None` if that is above
+/// the limit.
 fn end_at(object: &Object<'_>, base: u64) -> Option<u64>
     ensures { MatchOption result (MEMORY_LIMIT < base + reach object.now)
         (λ end. (end ≡ base + reach object.now) × (end ≤ MEMORY_LIMIT)) }
@@ -62,7 +63,8 @@ fn end_at(object: &Object<'_>, base: u64) -> Option<u64>
     }
 }
 
-/// The least multiple of a unit that isn't below an end, unless that is above the limit.
+/// Returns the least multiple of `unit` that isn't below `end`, or `None` if that is above the
+/// limit.
 fn base_after(end: u64, unit: u64) -> Option<u64>
     requires end { end ≤ MEMORY_LIMIT }
     requires unit { 0 < unit }
@@ -77,8 +79,8 @@ fn base_after(end: u64, unit: u64) -> Option<u64>
     }
 }
 
-/// The base of an object behind an end and where its memory ends then, unless that is above the
-/// limit.
+/// Returns the base of an object that is placed after `end`, and the end of its memory, or `None`
+/// if one of them is above the limit.
 #[tactic(auto, using(crate::proofs::Placing::unit_positive))]
 fn place_behind(object: &Object<'_>, end: u64) -> Option<(u64, u64)>
     requires { end ≤ MEMORY_LIMIT }
@@ -96,7 +98,8 @@ fn place_behind(object: &Object<'_>, end: u64) -> Option<(u64, u64)>
     Some((base, end))
 }
 
-/// The bases of objects in load order, unless the memory of one would end above the limit.
+/// Returns the bases of the objects in load order, or `None` if the memory of an object would end
+/// above the limit.
 fn fitting_bases(
     alloc: Global,
     order: &Order<'_>,
@@ -125,16 +128,17 @@ fn fitting_bases(
     Ok(Some(bases))
 }
 
-/// The bases of objects in load order: the program's is given, and each next one is the least
-/// multiple of its object's unit that isn't below the end before it. One pass over the PT_LOADs of
-/// each object; it takes eight bytes an object.
+/// Returns the bases of the objects in load order. The program's base is `base`. Each next base is
+/// the least multiple of its object's unit that isn't below the end of the object before it.
+///
+/// Makes one pass over the PT_LOADs of each object. Allocates eight bytes for each object.
 pub fn place(alloc: Global, order: &Order<'_>, base: u64) -> Result<Vec<u64>, BindRefusal>
     requires { is_good_base (file_at order.now 0) base ≡ true }
     ensures order { IsOrder order.now }
     ensures ok { IfOk result (λ bases. bases.items ≡ map (λ p. p.base) (place base order.now)) }
 
-    // Bases only where no memory ends above the limit; else that, or want of memory where the
-    // program's own doesn't.
+    // Returns bases only if no memory ends above the limit. Otherwise returns that refusal, or
+    // refused memory if the program's own memory doesn't end too high.
     ensures room { OnOk result (lacks_room (place base order.now) ≡ false) }
     ensures refused { IfErr result (IsPlaceAnswer (place base order.now)) }
 {

@@ -18,17 +18,18 @@ use hash_check::{Admitted, ReadRefusal};
 use scope::{Library, load_order};
 use std::alloc::Global;
 
-/// Reads and admits a program and tests its base, which takes none of the other objects. Gives the
-/// program, or the first of these: its file is refused (B1), the base is no multiple of its unit
-/// (B2). It costs what `Admitted::read` does.
+/// Reads and admits a program and tests its base, which needs none of the other objects. Returns
+/// the program, or the first of these refusals: its file is refused (B1); the base is no multiple
+/// of its unit (B2). Costs what `Admitted::read` costs.
 #[tactic(auto, unfolding(crate::specs::Refusal::program_refusal))]
 pub fn admit_program(alloc: Global, file: &[u8], base: u64) -> Result<Admitted<'_>, BindRefusal>
 
-    // A program only where neither test applies.
+    // Returns a program only if neither test applies.
     ensures accepted { OnOk result (program_refusal file.now base ≡ None) }
     ensures same { IfOk result (λ program. program ≡ file.now) }
 
-    // Else the refusal of the first that does, or want of memory where admission takes memory.
+    // Otherwise returns the refusal of the first test that applies, or refused memory if admission
+    // allocates.
     ensures refused { IfErr result (IsProgramAnswer file.now base) }
 {
     let program = match Admitted::read(alloc, file) {
@@ -42,8 +43,8 @@ pub fn admit_program(alloc: Global, file: &[u8], base: u64) -> Result<Admitted<'
     Ok(program)
 }
 
-/// Binds a program that is admitted at a base that is good for it, as `bind_program` does: from B3
-/// on.
+/// Binds an admitted program at a base that is a multiple of its unit: makes the tests of
+/// `bind_program` from B3 on.
 fn bind_admitted(
     alloc: Global,
     program: &Admitted<'_>,
@@ -56,18 +57,18 @@ fn bind_admitted(
     requires preloads { All (λ p. p < length libraries.now) preloads.now }
     requires distinct { IsDistinct nat_eq preloads.now }
 
-    // An image only where no test applies.
+    // Returns an image only if no test applies.
     ensures accepted { OnOk result
         (bind_refusal program.now base libraries.now preloads.now ≡ None) }
 
-    // Else the refusal of the first that does, or want of memory.
+    // Otherwise returns the refusal of the first test that applies, or refused memory.
     ensures refused { IfErr result (IsAnswer program.now base libraries.now preloads.now) }
 
-    // Its objects and its segments, with their bytes.
+    // The image has the defined objects and segments, and their defined bytes.
     ensures ok { IfOk result (λ image. image
         ≡ image_of (objects_of program.now base libraries.now preloads.now)) }
 
-    // Every address has in it the byte that is defined for that address, or none where none is.
+    // The image has the defined byte at every address, or none if none is defined.
     ensures bytes { IfOk result (λ image. (a : ℕ) → image_byte image a
         ≡ byte_of (objects_of program.now base libraries.now preloads.now) a) }
 {
@@ -75,11 +76,15 @@ fn bind_admitted(
     bind(alloc, &order, base)
 }
 
-/// Binds a program at a base with libraries of different names, the preloads among them, by their
-/// numbers, before what it needs. Gives its image or the first of these: the file is refused (B1),
-/// the base is no multiple of the program's unit (B2), a needed library isn't there (B3), memory
-/// would end above 2^47 - 4,096 (B4), a relocation's symbol is undefined (B5). Admission costs what
-/// `Admitted::read` does, load order what `load_order` does, and the rest what `bind` does.
+/// Binds a program at a base with libraries of different names. `preloads` has the numbers of the
+/// libraries that come before the libraries that the program needs.
+///
+/// Returns the image, or the first of these refusals: the file is refused (B1); the base is no
+/// multiple of the program's unit (B2); a needed library isn't there (B3); memory would end above
+/// 2^47 - 4,096 (B4); a relocation's symbol is undefined (B5).
+///
+/// Admission costs what `Admitted::read` costs, the load order what `load_order` costs, and the
+/// rest what `bind` costs.
 pub fn bind_program(
     alloc: Global,
     file: &[u8],
@@ -91,18 +96,18 @@ pub fn bind_program(
     requires preloads { All (λ p. p < length libraries.now) preloads.now }
     requires distinct { IsDistinct nat_eq preloads.now }
 
-    // An image only where no test applies.
+    // Returns an image only if no test applies.
     ensures accepted { OnOk result (bind_refusal file.now base libraries.now preloads.now ≡ None) }
 
-    // Else the refusal of the first that does. Want of memory is answered only where admission
-    // takes memory, which comes before all refusals but those of the object by itself.
+    // Otherwise returns the refusal of the first test that applies, or refused memory if admission
+    // allocates. Admission comes after the tests of the file's bytes, and before all other tests.
     ensures refused { IfErr result (IsAnswer file.now base libraries.now preloads.now) }
 
-    // Its objects and its segments, with their bytes.
+    // The image has the defined objects and segments, and their defined bytes.
     ensures ok { IfOk result (λ image. image
         ≡ image_of (objects_of file.now base libraries.now preloads.now)) }
 
-    // Every address has in it the byte that is defined for that address, or none where none is.
+    // The image has the defined byte at every address, or none if none is defined.
     ensures bytes { IfOk result (λ image. (a : ℕ) → image_byte image a
         ≡ byte_of (objects_of file.now base libraries.now preloads.now) a) }
 {
@@ -110,20 +115,21 @@ pub fn bind_program(
     bind_admitted(alloc, &program, base, libraries, preloads)
 }
 
-/// Binds a program that needs no library, as `bind_program` does without libraries and preloads: a
-/// library that it needs is missing (B3).
+/// Binds a program that needs no library, as `bind_program` does without libraries and preloads. If
+/// the program needs a library, it is missing (B3).
 pub fn bind_alone(alloc: Global, file: &[u8], base: u64) -> Result<Image, BindRefusal>
 
-    // An image only where no test applies.
+    // Returns an image only if no test applies.
     ensures accepted { OnOk result (alone_refusal file.now base ≡ None) }
 
-    // Else the refusal of the first that does, or want of memory where admission takes memory.
+    // Otherwise returns the refusal of the first test that applies, or refused memory if admission
+    // allocates.
     ensures refused { IfErr result (IsAnswer file.now base [] []) }
 
-    // Its objects and its segments, with their bytes.
+    // The image has the defined objects and segments, and their defined bytes.
     ensures ok { IfOk result (λ image. image ≡ image_of (alone file.now base)) }
 
-    // Every address has in it the byte that is defined for that address, or none where none is.
+    // The image has the defined byte at every address, or none if none is defined.
     ensures bytes { IfOk result (λ image.
         (a : ℕ) → image_byte image a ≡ byte_of (alone file.now base) a) }
 {

@@ -9,30 +9,30 @@ use names::Name;
 use scope::OrderRefusal;
 use std::alloc::{AllocError, Global};
 
-/// Why a program isn't bound at a base, in the order in which the tests are made.
+/// Why a program isn't bound at a base. The variants are in the order of the tests.
 #[derive(Debug, Drop, PartialEq, Eq)]
 pub enum BindRefusal {
-    /// B1: the file isn't taken, for this reason.
+    /// B1: the file isn't accepted, for this reason.
     Program(FileRefusal),
     /// B2: the base is no multiple of the program's unit.
     BadBase,
     /// B3: an object needs a library that isn't there.
     Missing {
-        /// The name of the object that needs it.
+        /// The name of the object that needs the library.
         needer: Name,
-        /// The name that it needs.
+        /// The name of the library.
         name: Name,
     },
     /// B4: the program's memory would end above 2^47 - 4,096.
     NoRoom,
     /// B5: an object's relocation names a symbol that no object defines.
     Undefined {
-        /// The name of the object.
+        /// The object's name.
         object: Name,
         /// The symbol's name.
         symbol: Name,
     },
-    /// A growth of memory was refused.
+    /// Memory was refused.
     OutOfMemory,
 }
 
@@ -61,7 +61,7 @@ impl From<OrderRefusal> for BindRefusal {
     }
 }
 
-/// `Undefined` with names of its own.
+/// Returns `Undefined` with copies of the names.
 fn named_undefined(alloc: Global, object: &[u8], symbol: &[u8]) -> Result<BindRefusal, AllocError>
     ensures { IfOk result (λ e. e ≡ Undefined object.now symbol.now) }
 {
@@ -72,7 +72,7 @@ fn named_undefined(alloc: Global, object: &[u8], symbol: &[u8]) -> Result<BindRe
 }
 
 impl BindRefusal {
-    /// `Undefined` with copies of the names, or `OutOfMemory` where they aren't copied.
+    /// Returns `Undefined` with copies of the names, or `OutOfMemory` if they can't be copied.
     pub fn undefined(alloc: Global, object: &[u8], symbol: &[u8]) -> BindRefusal
         ensures { IsOrWantsMemory (Undefined object.now symbol.now) result }
     {

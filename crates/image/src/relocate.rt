@@ -22,8 +22,8 @@ use crate::value::written_value;
 use elf_dynamic::{Object, Relocation};
 use std::alloc::{AllocError, Global};
 
-/// Writes the value of a relocation of an object at a base, where it writes one, and gives the
-/// segment that was found last.
+/// Writes the value of a relocation of an object at `base`, if the relocation writes one. Returns
+/// the number of the segment that was found last.
 fn relocate_one(
     segments: &mut [Segment],
     parts: &MemoryParts,
@@ -46,9 +46,12 @@ fn relocate_one(
     }
 }
 
-/// Writes what the relocations of an object at a base write, in their order, into its segments.
-/// One that goes where the one before it went takes constant time, any other a halving over few
-/// segments or over those that begin in one part of many.
+/// Writes the values of all relocations of `object`, which is at `base`, into its segments, in the
+/// order of the relocations.
+///
+/// A relocation that goes to the same segment as the one before it takes constant time. Any other
+/// takes a binary search: over all segments if they are few, otherwise over the segments that begin
+/// in one part.
 fn relocate(
     segments: &mut [Segment],
     parts: &MemoryParts,
@@ -71,7 +74,7 @@ fn relocate(
     Ok(())
 }
 
-/// The segments of an object at a base, with its relocations written into them.
+/// Returns the segments of `object` at `base`, with its relocations written into them.
 pub(crate) fn relocated(
     alloc: Global,
     object: &Object<'_>,

@@ -23,7 +23,7 @@ pub(crate) struct Values {
 }
 
 impl Values {
-    /// Room for so many, none of which is known.
+    /// Makes room for `count` values, none of which is known.
     pub(crate) fn unknown(alloc: Global, count: u32) -> Result<Values, AllocError>
         ensures values { IfOk result (λ v. v.values.items ≡ replicate count 0) }
         ensures known { IfOk result (λ v. v.known.items ≡ replicate count false) }
@@ -36,8 +36,8 @@ impl Values {
     }
 }
 
-/// Finds the value of the symbol of a number of the object at a place, unless it is undefined. It
-/// is looked up the first time, and kept.
+/// Finds the value of symbol number `symbol` of object number `own`, unless it is undefined. Looks
+/// the value up the first time, and keeps it.
 fn find_value(
     objects: &PlacedOrder<'_>,
     own: usize,
@@ -60,8 +60,8 @@ fn find_value(
     Ok(())
 }
 
-/// Finds the value of the symbol that a relocation of the object at a place names, where its type
-/// uses one, unless that is undefined.
+/// Finds the value of the symbol that a relocation of object number `own` names, if its type uses a
+/// symbol, unless the symbol is undefined.
 pub(crate) fn find_value_of(
     objects: &PlacedOrder<'_>,
     own: usize,
@@ -87,7 +87,7 @@ pub(crate) fn find_value_of(
     }
 }
 
-/// The value of the symbol of a number, among values by number.
+/// Returns the value of symbol number `symbol`, or 0 if `values` has none.
 fn value_in(values: &[u64], symbol: u32) -> u64
     ensures { result ≡ slice_index values.now symbol }
 {
@@ -97,8 +97,8 @@ fn value_in(values: &[u64], symbol: u32) -> u64
     }
 }
 
-/// The value that a relocation of an object at a base writes, where its type writes one, with the
-/// values of the object's symbols.
+/// Returns the value that a relocation of an object at `base` writes, if its type writes one.
+/// `values` has the values of the object's symbols.
 pub(crate) fn written_value(base: u64, values: &[u64], relocation: Relocation) -> Option<u64>
     ensures { result ≡ value_with base (value_in values.now) relocation }
 {

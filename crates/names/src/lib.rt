@@ -1,7 +1,7 @@
-//! Names: byte strings of their own, which answers and listings hold.
+//! The names in refusals, replies and listings, as owned byte strings.
 //!
-//! Contracts see a `Name` as the list of its bytes, so an enum or a struct that holds names is
-//! plain data in definitions.
+//! Contracts see a `Name` as the list of its bytes. So an enum or a struct that has names is plain
+//! data in definitions.
 #![tactic(auto)]
 
 mod name;

@@ -7,7 +7,7 @@ ghost use Rattle.std.specs.Cmp.Lexicographic.{nat_list_eq_equiv};
 use std::alloc::{AllocError, Global};
 use std::marker::Model;
 
-/// A name: any bytes, in memory of its own. Contracts see its bytes.
+/// A name: any bytes, in memory that the name owns. Contracts see its bytes.
 #[derive(Debug, Drop)]
 pub struct Name {
     bytes: Vec<u8>,
@@ -22,7 +22,7 @@ impl Model for Name {
 }
 
 impl Name {
-    /// A copy of these bytes. Its only error is want of memory.
+    /// Returns a name with a copy of these bytes. The only error is that memory was refused.
     pub fn copy_of(alloc: Global, bytes: &[u8]) -> Result<Name, AllocError>
         ensures { IfOk result (λ name. name ≡ bytes.now) }
     {
@@ -31,7 +31,7 @@ impl Name {
         })
     }
 
-    /// The bytes.
+    /// Returns the bytes of the name.
     pub fn as_bytes(&self) -> &[u8]
         ensures { result.now ≡ self.now }
     {
@@ -39,7 +39,7 @@ impl Name {
     }
 }
 
-// Names are equal where their bytes are.
+// Names are equal if their bytes are equal.
 impl PartialEq for Name {
     ghost eq = { bytes_eq };
 

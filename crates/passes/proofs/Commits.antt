@@ -1,9 +1,9 @@
--- What the two passes leave.
+-- What a stop during the two passes leaves.
 use Rattle.std.proofs.Common.{ℕ, List}
 use Rattle.sector_disk.specs.Disk.{Sector, DiskFacts, LeavesOnly, SameBut, IsMixtureBut}
 use Rattle.sector_disk.proofs.Moments.{weaken}
 
--- the same but for some sectors is the same but for more
+-- lists that differ only in some sectors differ only in these and more sectors
 pub wider : {some more : ℕ → Type 0} {old new : List Sector} → ((k : ℕ) → some k → more k) → SameBut some old new → SameBut more old new
 wider among same = record { size = same.size; others = λ k not. same.others k (λ here. not (among k here)) }
 

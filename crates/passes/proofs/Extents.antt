@@ -9,7 +9,7 @@ use Rattle.extents.specs.declared.extent.Extent.{Extent}
 use Rattle.extents.specs.Extent.{Has, IsApart, sector_count, places}
 use Rattle.passes.proofs.Runs.{in_range, from_range}
 
--- the sectors of two lists of extents
+-- the sectors of two joined lists of extents are those of one list, followed by those of the other
 pub places-append : (some more : List Extent) → places (some ++ more) ≡ places some ++ places more
 places-append some more = flat_map-append (λ (e : Extent). range_with_len e.start e.count) some more
 
@@ -41,7 +41,7 @@ run_in_places extents i d lt k here =
     (subst (λ l. Contains l k) (sym (places_more extents i d lt))
     (Contains-append_right (places (take i extents)) (range_with_len (get_or extents i d).start (get_or extents i d).count) k (from_range _ _ k here.0 here.1))))
 
--- a place lies in an extent
+-- each sector in the list lies in one of the extents
 pub in_extent : (extents : List Extent) (k : ℕ) (d : Extent) → Contains (places extents) k → (j : ℕ) × (j < length extents) × Has (get_or extents j d) k
 in_extent [] k d found = absurd (omega (arith, found.1))
 in_extent (e ∷ extents) k d found = ⊎_elim
@@ -49,7 +49,7 @@ in_extent (e ∷ extents) k d found = ⊎_elim
     (λ there. let later = in_extent extents k d there in (suc later.0, omega (arith, later.1), later.2))
     (Contains-append_cases (range_with_len e.start e.count) (places extents) k found)
 
--- the sectors of the earlier extents are not those of this one
+-- no sector of the earlier extents is a sector of this one
 pub earlier_apart : (extents : List Extent) (i : ℕ) (d : Extent) → i < length extents → AllPairs IsApart extents → (k : ℕ) → Contains (places (take i extents)) k → Has (get_or extents i d) k → ⊥
 earlier_apart extents i d lt apart k found here =
     let one = in_extent (take i extents) k d found in

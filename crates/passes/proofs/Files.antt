@@ -1,4 +1,4 @@
--- How far the writes over several extents have come, and what one extent more does.
+-- The progress of the writes over several extents, and the effect of one more extent.
 use Rattle.std.proofs.Common.{◌≡◌, ℕ, ◌+◌, ◌*◌, ◌<◌, List, ◌++◌, length, get_or, take, drop, AllPairs, sym, ap, ◌∙◌, arith, IsTrue}
 use Rattle.std.specs.List.{range_with_len, Contains}
 use Rattle.std.proofs.lemmas.List.{drop-drop}
@@ -14,14 +14,14 @@ use Rattle.passes.proofs.Padding.{padded-add}
 use Rattle.passes.proofs.Runs.{bytes_at_same}
 use Rattle.passes.proofs.Extents.{places_more, count_more, run_in_places, earlier_apart}
 
--- writes into some more sectors leave mixtures that differ in all of them alone
+-- more writes into some of the sectors `more` leave mixtures that differ only in the sectors `more`
 pub more_leaves : {first old new : DiskFacts} (some more : ℕ → Type 0) → ((k : ℕ) → some k → more k) → LeavesOnly first old (IsMixtureBut more first)
     → LeavesOnly old new (IsMixtureBut some old) → LeavesOnly first new (IsMixtureBut more first)
 more_leaves {first = first} {old = old} some more among so_far leaves =
     goes_on (IsMixtureBut more first) so_far
     (weaken (IsMixtureBut some old) (IsMixtureBut more first) (mixture_but some more among (left_now (IsMixtureBut more first) so_far)) leaves)
 
--- how far the writes have come: the first `done` extents hold the bytes
+-- the progress of the writes: the first `done` extents hold the bytes
 pub record Progress (first current : DiskFacts) (extents : List Extent) (done : ℕ) (bytes rest : List ℕ) : Type 0 where
   pub calls : CallsSoFar (sector_count (take done extents)) first current
   pub rest_is : rest ≡ drop (512 * sector_count (take done extents)) bytes
@@ -30,7 +30,7 @@ pub record Progress (first current : DiskFacts) (extents : List Extent) (done : 
   pub holds : IsTrue first.honest → bytes_at current.now (places (take done extents)) ≡ padded (512 * sector_count (take done extents)) bytes
 
 module _ {first old : DiskFacts} {extents : List Extent} {done : ℕ} {bytes rest : List ℕ} (so_far : Progress first old extents done bytes rest) (d : Extent) (lt : done < length extents) where
-  -- one extent more is written
+  -- writing one more extent changes only sectors of the extents
   pub more_extent_leaves : {new : DiskFacts} → IsTrue first.honest → LeavesOnly old new (IsMixtureBut (Has (get_or extents done d)) old)
       → LeavesOnly first new (IsMixtureBut (Contains (places extents)) first)
   more_extent_leaves honest leaves = more_leaves (Has (get_or extents done d)) (Contains (places extents)) (run_in_places extents done d lt) (so_far.leaves honest) leaves

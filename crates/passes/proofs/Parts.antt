@@ -1,4 +1,4 @@
--- Single sectors in two parts, of which one is written before the bytes of a file and one behind them.
+-- Single sectors in two parts, of which one is written before the bytes of a file, and the other after them.
 use Rattle.std.proofs.Common.{◌≡◌, ℕ, ◌+◌, ◌-◌, ◌<◌, List, ◌++◌, length, get_or, take, drop, sym, ap, subst, ◌∙◌, refl, arith}
 use Rattle.std.specs.Prelude.{Result, Ok, Err, OnOk}
 use Rattle.std.specs.List.{Contains}
@@ -10,7 +10,7 @@ use Rattle.passes.specs.Singles.{single_places, HoldsSingles}
 use Rattle.passes.specs.declared.single.SingleSector.{SingleSector}
 use Rattle.passes.proofs.Singles.{no_single, place_among}
 
--- numbers that stand in both parts of a list stand twice in it
+-- if the numbers of two joined lists are distinct, no number is in both lists
 pub distinct-parts : (xs ys : List ℕ) (s : ℕ) → AreDistinct (xs ++ ys) → Contains xs s → Contains ys s → ⊥
 distinct-parts xs ys s distinct (i, in_xs, at_i) (j, in_ys, at_j) =
     let lt : i < length xs + j = omega (arith, in_xs) in
@@ -20,7 +20,7 @@ distinct-parts xs ys s distinct (i, in_xs, at_i) (j, in_ys, at_j) =
     ∙ ap (λ n. get_or ys n s) (let e : length xs + j - length xs ≡ j = omega arith in e) in
     distinct i (length xs + j) s lt fits (front ∙ at_i ∙ sym (back ∙ at_j))
 
--- the parts of a list without repetition have none
+-- the first part of a list without repetitions has no repetitions
 pub distinct-first : (xs ys : List ℕ) → AreDistinct (xs ++ ys) → AreDistinct xs
 distinct-first xs ys distinct i j d lt fits = λ same.
     distinct i j d lt (omega (arith, fits, length-append xs ys)) (get_or_append_left xs ys d i (omega (arith, lt, fits)) ∙ same ∙ sym (get_or_append_left xs ys d j fits))
@@ -32,7 +32,7 @@ distinct-last xs ys distinct i j d lt fits = λ same.
     at : (k : ℕ) → get_or (xs ++ ys) (length xs + k) d ≡ get_or ys k d
     at k = get_or-append_right xs ys (length xs) (length xs + k) d refl (omega arith) ∙ ap (λ n. get_or ys n d) (let e : length xs + k - length xs ≡ k = omega arith in e)
 
--- The singles are two parts.
+-- The single sectors are two parts.
 pub record AreParts (singles front back : List SingleSector) : Type 0 where
   pub whole : front ++ back ≡ singles
 
@@ -61,7 +61,7 @@ module _ {singles front back : List SingleSector} (parts : AreParts singles fron
   pub whole_held : (m : List Sector) → HoldsSingles m front → HoldsSingles m back → HoldsSingles m singles
   whole_held m first last = subst (HoldsSingles m) parts.whole (All-append (λ (s : SingleSector). sector m s.at ≡ s.content) front back first last)
 
--- singles hold on where other sectors are written
+-- the single sectors still hold their contents after other sectors are written
 pub still_held : (some : ℕ → Type 0) (old new : List Sector) (singles : List SingleSector) → SameBut some old new
     → ((k : ℕ) → Contains (single_places singles) k → some k → ⊥) → HoldsSingles old singles → HoldsSingles new singles
 still_held some old new singles same apart held =
@@ -69,7 +69,7 @@ still_held some old new singles same apart held =
     (λ i lt. same.others (get_or singles i no_single).at (apart (get_or singles i no_single).at (place_among singles i no_single lt))
     ∙ All-get_or (λ (s : SingleSector). sector old s.at ≡ s.content) singles i no_single lt held)
 
--- two facts of a result that is Ok give a third
+-- two facts of an Ok result imply a third one
 pub on_ok_both : {T E P Q R : Type 0} (r : Result T E) → (P → Q → R) → OnOk r P → OnOk r Q → OnOk r R
 on_ok_both (Ok x) f p q = f p q
 on_ok_both (Err e) f p q = tt

@@ -18,7 +18,7 @@ no_reads disk = record {
   leaves = at_rest disk (Mixture disk) (λ m mixture. mixture);
 }
 
--- one read more
+-- reads, followed by one more read, are reads
 pub more_reads : {first old new : DiskFacts} {at : ℕ} {content : Sector} {T E : Type 0} {result : Result T E} → AreReads first old
     → IsCall old new result → IsRead old new at content result → AreReads first new
 more_reads {first = first} before call read = record {
@@ -31,14 +31,14 @@ more_reads {first = first} before call read = record {
   leaves = read_leaves call (Mixture first) read before.leaves;
 }
 
--- a disk that is the same leaves the same mixtures
+-- a disk that was only read leaves the same mixtures
 pub still_mixture : {old new : DiskFacts} → AreReads old new → (m : List Sector) → Mixture new m → Mixture old m
 still_mixture reads m mixture = record {
   size = mixture.size ∙ reads.past.sectors;
   each = λ k lt. (reads.same.stop k (sector m k)).0 (mixture.each k (subst (λ n. k < n) (sym reads.past.sectors) lt));
 }
 
--- some reads, and then others
+-- reads, followed by other reads, are reads
 pub then_reads : {first old new : DiskFacts} → AreReads first old → AreReads old new → AreReads first new
 then_reads {first = first} {old = old} before after = record {
   past = keeps_past before.past after.past;
@@ -50,7 +50,7 @@ then_reads {first = first} {old = old} before after = record {
   leaves = goes_on (Mixture first) before.leaves (weaken (Mixture old) (Mixture first) (still_mixture before) after.leaves);
 }
 
--- a list whose front was written over is as long as before
+-- overwriting the front of a list keeps its length
 pub length_kept : (l xs ys : List ℕ) (a n : ℕ) → take n l ≡ take a xs ++ ys → drop n l ≡ drop n xs → n ≡ a + length ys → n ≤ length xs → length l ≡ length xs
 length_kept l xs ys a n front back is le = omega (
   arith,
@@ -65,14 +65,14 @@ length_kept l xs ys a n front back is le = omega (
   le,
 )
 
--- how far the reads of an extent have come
+-- the progress of the reads of an extent
 pub record Progress (first current : DiskFacts) (extent : Extent) (done : ℕ) (size : ℕ) (into : List ℕ) : Type 0 where
   pub calls : CallsSoFar done first current
   pub reads : IsTrue first.honest → AreReads first current
   pub length_is : length into ≡ size
   pub read : IsTrue first.honest → take (512 * done) into ≡ bytes_at first.now (range_with_len extent.start done)
 
--- and those of several extents
+-- the progress of the reads of several extents
 pub record ExtentsProgress (first current : DiskFacts) (extents : List Extent) (done : ℕ) (from size : ℕ) (into : List ℕ) : Type 0 where
   pub calls : CallsSoFar (sector_count (take done extents)) first current
   pub reads : IsTrue first.honest → AreReads first current

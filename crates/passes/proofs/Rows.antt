@@ -5,13 +5,13 @@ use Rattle.sector_disk.specs.Disk.{DiskFacts, IsCall, AreCallsAtMost, AreCallsEx
 use Rattle.sector_disk.proofs.Moments.{same_log, longer_log, log_at_most}
 use Rattle.passes.specs.Calls.{AreCallsInRow}
 
--- a failure is counted once, or none
+-- a failed call is counted as one failure, and a successful one as none
 counted : (old new : DiskFacts) {T E : Type 0} (result : Result T E) → OnOk result (new.failures ≡ old.failures)
     → OnErr result (new.failures ≡ old.failures + 1) → (old.failures ≤ new.failures) × (new.failures ≤ old.failures + 1)
 counted old new (Ok x) ok err = (omega (arith, ok), omega (arith, ok))
 counted old new (Err e) ok err = (omega (arith, err), omega (arith, err))
 
--- one call
+-- one call is a row of one call
 pub one_in_row : {old new : DiskFacts} {T E : Type 0} {result : Result T E} → IsCall old new result → AreCallsInRow 1 old new result
 one_in_row {old = old} {new = new} {result = result} call = record {
   honest = call.honest;
@@ -26,7 +26,7 @@ one_in_row {old = old} {new = new} {result = result} call = record {
   err = call.err;
 }
 
--- no call
+-- no call is a row of no calls
 pub none_in_row : (disk : DiskFacts) {T E : Type 0} {x : T} → AreCallsInRow {T = T} {E = E} 0 disk disk (Ok x)
 none_in_row disk = record {
   honest = refl;
@@ -42,7 +42,7 @@ none_in_row disk = record {
   err = tt;
 }
 
--- calls that all were answered, and then others
+-- successful calls, followed by other calls, are a row of all these calls
 pub then_in_row : {first old new : DiskFacts} {S F T E : Type 0} {k m : ℕ} {x : S} {result : Result T E}
     → AreCallsInRow {T = S} {E = F} k first old (Ok x) → AreCallsInRow m old new result → AreCallsInRow (k + m) first new result
 then_in_row {result = result} before after = record {
@@ -58,7 +58,7 @@ then_in_row {result = result} before after = record {
   err = on_err_weaker result (λ more. omega (arith, more, before.ok)) after.err;
 }
 
--- calls that all were answered, so far
+-- successful calls so far
 abbrev pub CallsSoFar : ℕ → DiskFacts → DiskFacts → Type 0
 CallsSoFar n first current = AreCallsInRow {T = Unit {0}} {E = Unit {0}} n first current (Ok tt)
 
@@ -77,7 +77,7 @@ so_far_in_row is before after = record {
   err = tt;
 }
 
--- a failure in their middle ends them
+-- calls in a row that end with a failure are also a row of up to `n` calls, if they are at most `n`
 pub stop_in_row : {first new : DiskFacts} {S F T E : Type 0} {k n : ℕ} {x : F} (result : Result T E)
     → AreCallsInRow {T = S} {E = F} k first new (Err x) → k ≤ n → IsErr result → AreCallsInRow n first new result
 stop_in_row (Ok y) calls le is_err = absurd cc
@@ -94,7 +94,7 @@ stop_in_row (Err y) calls le is_err = record {
   err = calls.err;
 }
 
--- calls in a row are at most so many, and exactly so many where none fails
+-- calls in a row are at most n, and exactly n if none fails
 pub in_row_at_most : {old new : DiskFacts} {T E : Type 0} {n most : ℕ} {result : Result T E} → AreCallsInRow n old new result → n ≤ most → AreCallsAtMost most old new
 in_row_at_most {old = old} {new = new} {result = result} calls le = record {
   some = record {

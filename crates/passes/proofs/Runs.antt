@@ -1,4 +1,4 @@
--- How far a run of writes has come, and what one write more does.
+-- The progress of a run of writes, and the effect of one more write.
 use Rattle.std.proofs.Common.{◌≡◌, ◌≢◌, ⊎_elim, ℕ, suc, ◌+◌, ◌*◌, ◌<◌, ◌≤◌, List, [], ◌∷◌, ◌++◌, length, set, take, drop, refl, sym, ap, ◌∙◌, arith, IsTrue}
 use Rattle.std.specs.List.{range_with_len, Contains}
 use Rattle.std.specs.Prelude.{◌-◌, min, Result}
@@ -18,12 +18,12 @@ pub range_more : (start n : ℕ) → range_with_len start (n + 1) ≡ range_with
 range_more start n =
     sym (map-id (range_with_len start (n + 1))) ∙ map-range_with_len_more (λ k. k) start n (start + n) refl ∙ ap (λ l. l ++ (start + n) ∷ []) (map-id (range_with_len start n))
 
--- bytes at places where two lists of sectors are the same
+-- if two lists of sectors are the same at some places, the bytes at these places are the same
 pub bytes_at_same : (m m' : List Sector) (ks : List ℕ) → ((k : ℕ) → Contains ks k → sector m' k ≡ sector m k) → bytes_at m' ks ≡ bytes_at m ks
 bytes_at_same m m' [] same = refl
 bytes_at_same m m' (k ∷ ks) same = λ i. same k (0, omega arith, refl) i ++ bytes_at_same m m' ks (λ j found. same j (suc found.0, omega (arith, found.1), found.2)) i
 
--- how far a run of writes has come: `done` sectors of the extent hold the bytes
+-- the progress of a run of writes: `done` sectors of the extent hold the bytes
 pub record Progress (first current : DiskFacts) (extent : Extent) (done : ℕ) (bytes rest : List ℕ) : Type 0 where
   pub calls : CallsSoFar done first current
   pub rest_is : rest ≡ drop (512 * done) bytes
@@ -31,7 +31,7 @@ pub record Progress (first current : DiskFacts) (extent : Extent) (done : ℕ) (
   pub others : IsTrue first.honest → SameBut (Has extent) first.now current.now
   pub holds : IsTrue first.honest → bytes_at current.now (range_with_len extent.start done) ≡ padded (512 * done) bytes
 
--- a number of a run
+-- a number of the range is at least its start, and below its end
 pub in_range : (start n k : ℕ) → Contains (range_with_len start n) k → (start ≤ k) × (k < start + n)
 in_range start n k found =
     let lt : found.0 < n = omega (arith, found.1, length-range_with_len start n) in
@@ -44,7 +44,7 @@ from_range start n k low high =
     let at : start + (k - start) ≡ k = omega (arith, low) in
     (k - start, omega (arith, length-range_with_len start n, lt), get_or-range_with_len start n (k - start) k lt ∙ at)
 
--- what is cut off at n or at the end
+-- the first n elements, or all if there are fewer
 pub take-min : (n : ℕ) (l : List ℕ) → take (min (length l) n) l ≡ take n l
 take-min n l = ⊎_elim
     (λ lt. ap (λ k. take k l) (let e : min (length l) n ≡ n = omega (arith, lt) in e))
@@ -59,12 +59,12 @@ drop-min n l = ⊎_elim
 
 module _ {first old new : DiskFacts} {extent : Extent} {done : ℕ} {bytes rest content : List ℕ} {T E : Type 0} {result : Result T E}
     (so_far : Progress first old extent done bytes rest) (lt : done < extent.count) (call : IsCall old new result) where
-  -- one write more leaves nothing else
+  -- one more write changes only sectors of the extent
   pub run_leaves : IsTrue first.honest → HoldsNow old → IsWrite old new (extent.start + done) content result → LeavesOnly first new (IsMixtureBut (Has extent) first)
   run_leaves honest holds write = write_leaves call (Has extent) (omega arith, omega (arith, lt)) holds write (so_far.leaves honest)
 
   module _ (content_is : content ≡ padded 512 rest) (in_first : extent.start + extent.count ≤ first.sectors) where
-    -- and the sectors before it stay as they were
+    -- the sectors before the written one still hold their bytes
     more_holds : HoldsNow old → new.now ≡ set old.now (extent.start + done) content
         → bytes_at old.now (range_with_len extent.start done) ≡ padded (512 * done) bytes
         → bytes_at new.now (range_with_len extent.start (done + 1)) ≡ padded (512 * (done + 1)) bytes
@@ -87,7 +87,7 @@ module _ {first old new : DiskFacts} {extent : Extent} {done : ℕ} {bytes rest 
         this : sector new.now (extent.start + done) ++ [] ≡ padded 512 (drop (512 * done) bytes)
         this = append-nil _ ∙ ap (λ l. sector l (extent.start + done)) is ∙ get_or-set_same old.now (extent.start + done) content [] in_old ∙ content_is ∙ ap (padded 512) so_far.rest_is
 
-    -- one sector more is written
+    -- if one more sector is written, the progress is one sector further
     pub more : (IsTrue first.honest → HoldsNow old) → (IsTrue first.honest → IsWrite old new (extent.start + done) content result)
         → CallsSoFar (done + 1) first new → (IsTrue first.honest → new.now ≡ set old.now (extent.start + done) content)
         → Progress first new extent (done + 1) bytes (drop 512 rest)

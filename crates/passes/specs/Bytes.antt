@@ -1,4 +1,4 @@
--- The bytes in sectors, and those that are written there.
+-- The bytes in sectors, and the bytes that are written there.
 use Rattle.std.specs.Prelude.{ℕ, ◌+◌, ◌≤◌, List, ◌++◌, take, replicate}
 use Rattle.std.specs.List.{flat_map}
 use Rattle.extents.specs.declared.extent.Extent.{Extent}
@@ -8,10 +8,10 @@ use Rattle.sector_disk.specs.Disk.{Sector, sector}
 abbrev pub bytes_at : List Sector → List ℕ → List ℕ
 bytes_at m ks = flat_map (sector m) ks
 
--- n bytes: these ones, cut off there or followed by zeros
+-- n bytes: the given ones, cut off after n or followed by zeros
 abbrev pub padded : ℕ → List ℕ → List ℕ
 padded n bytes = take n (bytes ++ replicate n 0)
 
--- the extent ends on a disk of so many sectors
+-- the extent ends on a disk of `sectors` sectors
 abbrev pub IsOnDisk : ℕ → Extent → Type 0
 IsOnDisk sectors extent = extent.start + extent.count ≤ sectors

@@ -1,8 +1,8 @@
--- How many calls a pass makes of a disk.
+-- The number of calls that a pass makes of a disk.
 use Rattle.std.specs.Prelude.{◌≡◌, ◌≤◌, ◌+◌, ◌-◌, ℕ, Result, OnOk, OnErr}
 use Rattle.sector_disk.specs.Disk.{DiskFacts, calls_between, LogGrows, Mixture, KeepsPast, IsUnchanged, LeavesOnly}
 
--- Calls in a row, on any disk, up to the first that fails: n of them where none does.
+-- Calls in a row, on any disk, up to the first that fails. If none fails, there are n calls.
 pub record AreCallsInRow {T E : Type 0} (n : ℕ) (old new : DiskFacts) (result : Result T E) : Type 0 where
   pub honest : new.honest ≡ old.honest
   pub sectors : new.sectors ≡ old.sectors

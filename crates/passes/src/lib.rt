@@ -1,9 +1,9 @@
-//! The two passes of a commit: what is staged where nothing reads it yet, and the one write that
-//! makes it stand.
+//! The two passes of a change. The first one stages new content in sectors that nothing reads yet.
+//! The second one is a single write that makes this content current.
 //!
-//! They know disks, places and bytes alone. A stop during the first pass leaves a mixture of the
-//! disk as it was but for the staged sectors; a stop during the second leaves what a stop left
-//! before it, or the same with the one new sector.
+//! The passes know only disks, places and bytes. A stop during the first pass leaves a mixture from
+//! before it, except for the staged sectors. A stop during the second pass leaves what a stop could
+//! leave before it, or the same with the one new sector.
 #![tactic(auto)]
 
 mod pass;

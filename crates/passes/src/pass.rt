@@ -13,7 +13,7 @@ use crate::write::write_bytes;
 use extents::Extent;
 use sector_disk::{Disk, DiskFault, SECTOR_BYTES};
 
-/// How many of the single sectors, from the first on, lie in front of a file's extents.
+/// Returns the number of single sectors, from the first on, that lie before a file's extents.
 fn count_before(extents: &[Extent], singles: &[SingleSector]) -> usize
     ensures { result ≤ length singles.now }
 {
@@ -26,9 +26,10 @@ fn count_before(extents: &[Extent], singles: &[SingleSector]) -> usize
     }
 }
 
-/// Writes a file's bytes into its extents and each single sector. The single sectors are written in
-/// their order, the first of them before the bytes as far as they lie in front of these: so
-/// neighbours are written one after the other. It doesn't sync.
+/// Writes a file's bytes into its extents, and writes each single sector. The single sectors are
+/// written in their order. Those at the front of the list that lie before the file's first extent
+/// are written before the bytes, so that neighbours are written one after the other. The call
+/// doesn't sync.
 pub fn write_unsynced<D: Disk>(
     disk: &mut D,
     extents: &[Extent],
@@ -45,13 +46,13 @@ pub fn write_unsynced<D: Disk>(
     ensures calls { AreCallsInRow (sector_count extents.now + length singles.now)
         (D.facts disk.old) (D.facts disk.new) result }
 
-    // A stop at any moment changes the written sectors alone.
+    // A stop at any moment changes only the written sectors.
     ensures any_moment { IsTrue (D.facts disk.old).honest
         → LeavesOnly (D.facts disk.old) (D.facts disk.new)
         (IsMixtureBut (Contains (single_places singles.now ++ places extents.now))
         (D.facts disk.old)) }
 
-    // What reads give changes there alone.
+    // Reads of all other sectors return what they returned before.
     ensures now { IsTrue (D.facts disk.old).honest → OnOk result
         (SameBut (Contains (single_places singles.now ++ places extents.now))
         (D.facts disk.old).now (D.facts disk.new).now) }
@@ -67,7 +68,7 @@ pub fn write_unsynced<D: Disk>(
     write_singles(disk, back)
 }
 
-/// The first pass of a commit: writes a file's bytes and single sectors, as `write_unsynced` does,
+/// The first pass of a change: writes a file's bytes and single sectors, as `write_unsynced` does,
 /// and syncs.
 pub fn stage<D: Disk>(
     disk: &mut D,
@@ -85,13 +86,13 @@ pub fn stage<D: Disk>(
     ensures calls { AreCallsInRow (sector_count extents.now + length singles.now + 1)
         (D.facts disk.old) (D.facts disk.new) result }
 
-    // A stop at any moment changes the staged sectors alone.
+    // A stop at any moment changes only the staged sectors.
     ensures any_moment { IsTrue (D.facts disk.old).honest
         → LeavesOnly (D.facts disk.old) (D.facts disk.new)
         (IsMixtureBut (Contains (single_places singles.now ++ places extents.now))
         (D.facts disk.old)) }
 
-    // What reads give changes there alone.
+    // Reads of all other sectors return what they returned before.
     ensures now { IsTrue (D.facts disk.old).honest → OnOk result
         (SameBut (Contains (single_places singles.now ++ places extents.now))
         (D.facts disk.old).now (D.facts disk.new).now) }
@@ -106,7 +107,7 @@ pub fn stage<D: Disk>(
     disk.sync()
 }
 
-/// The second pass of a commit: writes one sector, and syncs.
+/// The second pass of a change: writes the sector `root` to sector number `at`, and syncs.
 pub fn switch_root<D: Disk>(
     disk: &mut D,
     at: u32,
@@ -115,7 +116,7 @@ pub fn switch_root<D: Disk>(
     requires room { at < (D.facts disk.old).sectors }
     ensures calls { AreCallsInRow 2 (D.facts disk.old) (D.facts disk.new) result }
 
-    // A stop at any moment leaves what a stop left before, or the same with the new sector.
+    // A stop at any moment leaves what a stop could leave before, or the same with the new sector.
     ensures any_moment { IsTrue (D.facts disk.old).honest
         → LeavesOnly (D.facts disk.old) (D.facts disk.new)
         (IsMixtureOrSet (D.facts disk.old) at root.now) }

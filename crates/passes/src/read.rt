@@ -8,7 +8,7 @@ ghost use Rattle.passes.specs.Bytes.{IsOnDisk, bytes_at};
 use extents::Extent;
 use sector_disk::{Disk, DiskFault, SECTOR_BYTES};
 
-/// Reads a sector into its place of a longer buffer.
+/// Reads sector `at` into its part of a longer buffer.
 fn read_sector<D: Disk>(disk: &mut D, at: u32, into: &mut [u8]) -> Result<(), DiskFault>
     requires room { at < (D.facts disk.old).sectors }
     requires size { length into.old ≡ sector_bytes }
@@ -23,7 +23,7 @@ fn read_sector<D: Disk>(disk: &mut D, at: u32, into: &mut [u8]) -> Result<(), Di
     }
 }
 
-/// Reads the sectors of an extent, in their order.
+/// Reads the sectors of an extent into `into`, in their order.
 fn read_run<D: Disk>(disk: &mut D, extent: Extent, into: &mut [u8]) -> Result<(), DiskFault>
     requires room { extent.start + extent.count ≤ (D.facts disk.old).sectors }
     requires fits { (D.facts disk.old).sectors < 2 ^ 32 }
@@ -47,7 +47,7 @@ fn read_run<D: Disk>(disk: &mut D, extent: Extent, into: &mut [u8]) -> Result<()
     Ok(())
 }
 
-/// Reads the bytes of the extents' sectors, in their order, each sector once.
+/// Reads the bytes of the extents' sectors into `into`, in their order. Each sector is read once.
 pub fn read_bytes<D: Disk>(
     disk: &mut D,
     extents: &[Extent],

@@ -10,7 +10,8 @@ ghost use Rattle.passes.specs.Bytes.{bytes_at, padded};
 use extents::Extent;
 use sector_disk::{Disk, DiskFault, SECTOR_BYTES};
 
-/// Writes up to a sector of bytes, with zeros behind them. Whole sectors aren't copied.
+/// Writes at most one sector of bytes, followed by zeros up to the end of the sector. A whole
+/// sector isn't copied.
 fn write_sector<D: Disk>(disk: &mut D, at: u32, bytes: &[u8]) -> Result<(), DiskFault>
     requires room { at < (D.facts disk.old).sectors }
     requires fits { length bytes.now ≤ sector_bytes }
@@ -24,7 +25,7 @@ fn write_sector<D: Disk>(disk: &mut D, at: u32, bytes: &[u8]) -> Result<(), Disk
     disk.write(at, &with_zeros(bytes))
 }
 
-/// A sector that begins with these bytes, which are fewer than it has.
+/// Returns a sector that begins with `bytes`, followed by zeros.
 fn with_zeros(bytes: &[u8]) -> [u8; SECTOR_BYTES]
     requires { length bytes.now ≤ sector_bytes }
     ensures { result ≡ bytes.now ++ replicate (sector_bytes - length bytes.now) 0 }
@@ -34,7 +35,7 @@ fn with_zeros(bytes: &[u8]) -> [u8; SECTOR_BYTES]
     sector
 }
 
-/// Fills the sectors of an extent with bytes, in their order, and with zeros behind their end.
+/// Writes bytes into the sectors of an extent, in their order, and zeros after the last byte.
 pub(crate) fn write_run<D: Disk>(
     disk: &mut D,
     extent: Extent,

@@ -7,12 +7,12 @@ ghost use Rattle.passes.specs.Singles.{single_places, HoldsSingles};
 
 use sector_disk::{Disk, DiskFault, SECTOR_BYTES};
 
-/// A sector by itself, and what it is to hold.
+/// A single sector, and the content that it gets.
 #[derive(Clone, Copy)]
 pub struct SingleSector {
-    /// Which sector it is.
+    /// The number of the sector.
     pub at: u32,
-    /// All its bytes.
+    /// All bytes of the sector.
     pub content: [u8; SECTOR_BYTES],
 }
 

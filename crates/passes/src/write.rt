@@ -9,7 +9,7 @@ use crate::run::write_run;
 use extents::Extent;
 use sector_disk::{Disk, DiskFault, SECTOR_BYTES};
 
-/// Fills the sectors of the extents with bytes, in their order, and with zeros behind their end.
+/// Writes bytes into the sectors of the extents, in their order, and zeros after the last byte.
 /// Each sector is written once.
 pub fn write_bytes<D: Disk>(disk: &mut D, extents: &[Extent], bytes: &[u8]) -> Result<(), DiskFault>
     requires inside { All (IsOnDisk (D.facts disk.old).sectors) extents.now }

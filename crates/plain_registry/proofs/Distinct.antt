@@ -1,4 +1,4 @@
--- Lists of which no two elements are equal, pair by pair.
+-- Lists whose elements are all distinct.
 use Rattle.std.proofs.Common.{◌≡◌, ◌<◌, ℕ, suc, Bool, false, List, [], ◌∷◌, length, map, arith}
 use Rattle.std.specs.Prelude.{nat_eq, AllPairs, slice_index_or}
 use Rattle.std.specs.List.{AllByRecursion, IsDistinct}

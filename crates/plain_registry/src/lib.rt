@@ -1,7 +1,9 @@
-//! A registry as a plain list of names and bytes, with which cuts compare a registry on a disk.
+//! A registry as a plain list of names and bytes. Tests of stops compare a registry on a disk with
+//! it.
 //!
-//! It shares with that registry the words of commands and replies, and what admits a file and binds
-//! a program; none of its tests of a command, and not the step table, whose faults it shows.
+//! It shares with the registry on a disk the types of commands and replies, and the code that
+//! admits a file and binds a program. It doesn't share the tests of a command or the step table, so
+//! the comparison shows faults in these.
 #![tactic(auto)]
 
 mod libraries;

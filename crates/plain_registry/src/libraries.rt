@@ -7,7 +7,7 @@ ghost use Rattle.scope.specs.LoadOrder.{names_of};
 
 use scope::Library;
 
-/// Whether one of some libraries goes by a name.
+/// Returns whether one of the libraries has this name.
 fn has_name(libraries: &[Library<'_>], name: &[u8]) -> bool
     ensures cases { IsAnyAnswer (λ l b. bytes_eq l.name name.now ≡ b) libraries.now result }
     ensures value { result ≡ list_any (λ l. bytes_eq l.name name.now) libraries.now }
@@ -15,7 +15,8 @@ fn has_name(libraries: &[Library<'_>], name: &[u8]) -> bool
     libraries.iter().any(|library| library.name() == name)
 }
 
-/// Whether no two libraries go by one name, each compared with those before it.
+/// Returns whether no two libraries have the same name. Compares the name of each library with
+/// those before it.
 fn differ(libraries: &[Library<'_>]) -> bool
     ensures { IsTrue result
         → AllPairs (λ a b. bytes_eq a.name b.name ≡ false) libraries.now }
@@ -28,7 +29,7 @@ fn differ(libraries: &[Library<'_>]) -> bool
     true
 }
 
-/// Whether no two libraries go by one name.
+/// Returns whether no two libraries have the same name.
 pub fn have_distinct_names(libraries: &[Library<'_>]) -> bool
     ensures { IsTrue result → IsDistinct bytes_eq (names_of libraries.now) }
 {

@@ -3,7 +3,7 @@
 ghost use Rattle.std.specs.Prelude.{◌≡◌, ◌↔◌, ◌<◌, IsTrue, AllPairs, true, false, nat_eq};
 ghost use Rattle.std.specs.List.{All, IsDistinct};
 
-/// Whether no value stands twice, each compared with those before it.
+/// Returns whether no value occurs twice. Compares each value with those before it.
 fn differ<T: PartialEq>(values: &[T]) -> bool
     ensures { IsTrue result ↔ AllPairs (λ a b. T.eq a b ≡ false) values.now }
 {
@@ -15,14 +15,14 @@ fn differ<T: PartialEq>(values: &[T]) -> bool
     true
 }
 
-/// Whether no two of some numbers are the same.
+/// Returns whether no two of the numbers are equal.
 fn are_distinct(numbers: &[usize]) -> bool
     ensures { result ≡ true → IsDistinct nat_eq numbers.now }
 {
     differ(numbers)
 }
 
-/// Whether some numbers are different numbers of `count` libraries.
+/// Returns whether the numbers are distinct numbers of libraries, if there are `count` libraries.
 pub fn are_preloads(numbers: &[usize], count: usize) -> bool
     ensures below { result ≡ true → All (λ p. p < count) numbers.now }
     ensures distinct { result ≡ true → IsDistinct nat_eq numbers.now }

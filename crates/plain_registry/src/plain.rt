@@ -17,11 +17,13 @@ struct File {
 }
 
 /// A registry without a disk: the libraries in the order in which they were installed, and the
-/// names of the preloads in theirs. It knows two limits, the room of a disk and 2,048 libraries:
-/// that there are at most 16 preloads and 2^64 - 1 changes is for its user to see to.
+/// names of the preloads in their order.
+///
+/// It has only two limits: the room of a disk, and 2,048 libraries. The caller has to observe the
+/// other limits: at most 16 preloads and 2^64 - 1 changes.
 pub struct PlainRegistry {
     alloc: Global,
-    // How many sectors the disk has.
+    // The number of sectors of the disk.
     sectors: u32,
     files: Vec<File>,
     preloads: Vec<Vec<u8>>,
@@ -38,20 +40,20 @@ impl Drop for PlainRegistry {
     }
 }
 
-// How many libraries there are at most.
+// The maximum number of libraries.
 const MOST_LIBRARIES: usize = 2048;
 
-// How many sectors a file takes: those of its bytes, and one that says where these are.
+// Returns the number of sectors that a file takes: those of its bytes, and one for its entry.
 fn sectors_of(file: &[u8]) -> usize {
     file.len().div_ceil(512).saturating_add(1)
 }
 
-// How many sectors of catalogues list so many libraries, 64 in each.
+// Returns the number of catalogues that list `libraries` libraries, 64 in each.
 fn catalogues_of(libraries: usize) -> usize {
     libraries.div_ceil(64)
 }
 
-// Whether one of the names stands twice.
+// Returns whether one of the names occurs twice.
 fn has_twice(names: &[&[u8]]) -> bool {
     for (at, name) in names.iter().enumerate() {
         if names[..at].contains(name) {
@@ -61,7 +63,7 @@ fn has_twice(names: &[&[u8]]) -> bool {
     false
 }
 
-// Copies of names.
+// Returns copies of the names.
 fn copies(alloc: Global, names: &[&[u8]]) -> Result<Vec<Vec<u8>>, AllocError> {
     let mut copies = Vec::new(alloc);
     for name in names {
@@ -71,7 +73,7 @@ fn copies(alloc: Global, names: &[&[u8]]) -> Result<Vec<Vec<u8>>, AllocError> {
 }
 
 impl PlainRegistry {
-    /// An empty registry, with the room of a disk of so many sectors.
+    /// Makes an empty registry, with the room of a disk of `sectors` sectors.
     pub fn new(alloc: Global, sectors: u32) -> PlainRegistry {
         PlainRegistry {
             alloc,
@@ -81,12 +83,12 @@ impl PlainRegistry {
         }
     }
 
-    /// Gives it the room of a disk of so many sectors from now on.
+    /// Changes the room to that of a disk of `sectors` sectors.
     pub fn set_sectors(&mut self, sectors: u32) {
         self.sectors = sectors;
     }
 
-    // The place of the library of a name.
+    // Returns the position of the library with this name, if there is one.
     fn place(&self, name: &[u8]) -> Option<usize> {
         for (place, file) in self.files.iter().enumerate() {
             if file.name.as_slice() == name {
@@ -96,7 +98,7 @@ impl PlainRegistry {
         None
     }
 
-    // Whether a preload has this name.
+    // Returns whether a preload has this name.
     fn is_preload(&self, name: &[u8]) -> bool {
         for preload in &self.preloads {
             if preload.as_slice() == name {
@@ -106,7 +108,7 @@ impl PlainRegistry {
         false
     }
 
-    // Whether each of these names is that of a library.
+    // Returns whether each name is the name of a library.
     fn has_all(&self, names: &[&[u8]]) -> bool {
         for name in names {
             if self.place(name).is_none() {
@@ -116,9 +118,9 @@ impl PlainRegistry {
         true
     }
 
-    // Whether there is room for a file beside all others, two sectors for the roots, and the
-    // catalogues of the libraries that there are then, twice: as they stand, and as the next change
-    // writes them.
+    // Returns whether the disk has room for one more file. Besides all files it needs two sectors
+    // for the roots, and twice the catalogues of `libraries` libraries: the current ones, and those
+    // that the next change writes.
     fn has_room(&self, file: &[u8], libraries: usize) -> bool {
         let mut taken = sectors_of(file).saturating_add(2);
         for other in &self.files {
@@ -130,7 +132,7 @@ impl PlainRegistry {
         taken <= self.sectors as usize
     }
 
-    // Puts a library behind the others.
+    // Adds a library after the others.
     fn add(&mut self, name: &[u8], file: &[u8]) -> Result<(), AllocError> {
         let name = name.to_vec(self.alloc)?;
         let bytes = file.to_vec(self.alloc)?;
@@ -188,7 +190,7 @@ impl PlainRegistry {
         Ok(())
     }
 
-    /// The names and sizes of its libraries, and the names of its preloads.
+    /// Returns the names and sizes of the libraries, and the names of the preloads.
     pub fn list(&self) -> Result<Listing, AllocError> {
         let mut listing = Listing {
             libraries: Vec::new(self.alloc),
@@ -205,7 +207,7 @@ impl PlainRegistry {
         Ok(listing)
     }
 
-    // The libraries, each as it is read.
+    // Admits the files of all libraries, and returns these.
     fn libraries(&self) -> Result<Vec<Library<'_>>, AllocError> {
         let mut libraries = Vec::new(self.alloc);
         for file in &self.files {
@@ -219,7 +221,7 @@ impl PlainRegistry {
         Ok(libraries)
     }
 
-    // The places of the preloads among the libraries.
+    // Returns the positions of the preloads in the list of libraries.
     fn places(&self) -> Result<Vec<usize>, AllocError> {
         let mut places = Vec::new(self.alloc);
         for name in &self.preloads {
@@ -251,7 +253,7 @@ impl PlainRegistry {
         Ok(Reply::Done)
     }
 
-    /// The answer to a command.
+    /// Carries out a command and returns its reply.
     pub fn apply(&mut self, command: &Command<'_>) -> Reply {
         match self.answer(command) {
             Ok(reply) => reply,
@@ -259,7 +261,7 @@ impl PlainRegistry {
         }
     }
 
-    /// The answers to these commands.
+    /// Carries out commands and returns their replies.
     pub fn run(&mut self, commands: &[Command<'_>]) -> Result<Vec<Reply>, AllocError> {
         let mut replies = Vec::new(self.alloc);
         for command in commands {

@@ -1,6 +1,6 @@
--- Which files are read.
+-- The maximum length of a file that a program reads.
 use Rattle.std.specs.Prelude.{ℕ}
 
--- the length from which on a file isn't read: 1 GiB
+-- a file of this length in bytes or more isn't read: 1 GiB
 abbrev pub read_limit : ℕ
 read_limit = 1073741824

@@ -50,18 +50,18 @@ object_refusal_name RelocationSymbol = codes "E31 RelocationSymbol"
 object_refusal_name RelocationPlace = codes "E32 RelocationPlace"
 object_refusal_name BadSoname = codes "E33 BadSoname"
 
--- what follows the name: of a relocation's type, the type
+-- the text after the name: the type, if the refusal is for a relocation's type
 abbrev pub object_refusal_detail : ObjectRefusal → List ℕ
 object_refusal_detail (RelocationType kind) = codes " " ++ decimal kind
 object_refusal_detail refusal = []
 
--- the refusal of a file: its number, its name, and what follows them
+-- the text of the refusal of a file: its number, its name, and the detail after the name
 abbrev pub file_refusal_text : FileRefusal → List ℕ
 file_refusal_text (Object refusal) = object_refusal_name refusal ++ object_refusal_detail refusal
 file_refusal_text DuplicateDefinition = codes "E28 DuplicateDefinition"
 file_refusal_text BadHashTable = codes "E29 BadHashTable"
 
--- the number of a refusal and its name
+-- the number and the name of the refusal of a disk
 abbrev pub disk_refusal_name : StoreRefusal → List ℕ
 disk_refusal_name Device = codes "S1 Device"
 disk_refusal_name Reopen = codes "S2 Reopen"
@@ -76,19 +76,19 @@ disk_refusal_name GenerationEnd = codes "S10 GenerationEnd"
 disk_refusal_name OutOfMemory = codes "S11 OutOfMemory"
 disk_refusal_name OldFormat = codes "S12 OldFormat"
 
--- the line of the refusal
+-- the line of the refusal of a disk
 abbrev pub disk_refusal_text : StoreRefusal → List ℕ
 disk_refusal_text refusal = codes "refused " ++ disk_refusal_name refusal ++ codes "\n"
 
--- the line of want of memory
+-- the line for refused memory
 abbrev pub memory_text : List ℕ
 memory_text = disk_refusal_text OutOfMemory
 
--- the line of a refusal that names an object, and what it lacks
+-- the line of a refusal that names an object and what the object lacks
 abbrev pub named_text : List ℕ → List ℕ → List ℕ → List ℕ
 named_text head first second = head ++ name_text first ++ codes " " ++ name_text second ++ codes "\n"
 
--- the line of the answer to a bind that gives no image
+-- the line of the answer to a bind that is refused
 abbrev pub refusal_text : BindRefusal → List ℕ
 refusal_text (bind.Program refusal) = codes "refused B1 " ++ file_refusal_text refusal ++ codes "\n"
 refusal_text bind.BadBase = codes "refused B2 BadBase\n"

@@ -14,12 +14,13 @@ use Rattle.image.specs.Text.{image_text}
 use Rattle.store.specs.declared.refusal.StoreRefusal.TheVariants as disk
 use Rattle.program_parts.specs.Refusal.{disk_refusal_text, file_refusal_text, refusal_text}
 
--- the line of a refusal, by its number, its name and what follows them
+-- the line of a refusal; `said` is its number, its name and what follows them
 abbrev pub refused_line : List ℕ → List ℕ
 refused_line said = codes "refused " ++ said ++ codes "\n"
 
--- the line of a refusal; after C1 comes that of the file; that of a bind is as without a registry,
--- that of a disk as of one that isn't opened
+-- The line of a command's refusal. After C1 comes the refusal of the file. A refusal of a bind has the
+-- same line as without a registry, and a refusal of a disk the same line as when the disk can't be
+-- opened.
 abbrev pub command_refusal_text : Refusal → List ℕ
 command_refusal_text (Object refusal) = refused_line (codes "C1 " ++ file_refusal_text refusal)
 command_refusal_text AlreadyInstalled = refused_line (codes "C2 AlreadyInstalled")
@@ -39,15 +40,15 @@ command_refusal_text TooMany = disk_refusal_text disk.TooMany
 command_refusal_text GenerationEnd = disk_refusal_text disk.GenerationEnd
 command_refusal_text OutOfMemory = disk_refusal_text disk.OutOfMemory
 
--- the line of a library: its name, and the length of its file
+-- the line for a library: its name, and the length of its file
 abbrev pub library_text : List ℕ × ℕ → List ℕ
 library_text e = codes "library " ++ name_text e.0 ++ codes " " ++ decimal e.1 ++ codes "\n"
 
--- the line of a preload
+-- the line for a preload
 abbrev pub preload_text : List ℕ → List ℕ
 preload_text name = codes "preload " ++ name_text name ++ codes "\n"
 
--- the libraries, the preloads, and the line `end`
+-- the lines for the libraries and the preloads, and the line `end`
 abbrev pub listing_text : Listed → List ℕ
 listing_text l = flat_map library_text l.libraries ++ flat_map preload_text l.preloads ++ codes "end\n"
 

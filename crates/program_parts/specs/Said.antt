@@ -1,7 +1,7 @@
--- What a program says on standard error (own).
+-- The messages of a program on standard error (own).
 use Rattle.std.specs.Prelude.{ℕ, List, take, Option}
 use Rattle.std.specs.Io.KnownBytes.{Appends}
 
--- a front of the text was appended, perhaps none of it, and nothing else
+-- exactly a prefix of the text was appended, perhaps the empty one
 abbrev pub AppendsFront : Option (List ℕ) → Option (List ℕ) → List ℕ → Type 0
 AppendsFront before after text = (n : ℕ) × Appends before after (take n text)

@@ -1,8 +1,8 @@
--- What a program reads, what it tells on its output, and what it says on standard error (own).
+-- The streams of a program: its input, its output and standard error (own).
 use Rattle.std.specs.Prelude.{ℕ, List, Option}
 
--- what the input has yet to give, and what the output and standard error hold before and after, where
--- that is known
+-- the bytes that the input has left, and the bytes that the output and standard error hold before and
+-- after; each is none if it isn't known
 pub record Streams : Type 0 where
   pub unread : Option (List ℕ)
   pub before : Option (List ℕ)

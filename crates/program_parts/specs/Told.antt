@@ -1,9 +1,9 @@
--- What a program tells on its output (own).
+-- The text that a program writes to its output (own).
 use Rattle.std.specs.Prelude.{◌≡◌, ◌⊎◌, ℕ, List, Option}
 use Rattle.std.specs.Io.KnownBytes.{Appends}
 use Rattle.program_parts.specs.declared.status.Status.{Status}
 use Rattle.program_parts.specs.declared.status.Status.TheVariants.{Failed}
 
--- exactly this text was appended, and the status is the one that goes with it; or the writer failed
+-- either exactly this text was appended, and the status is that of the text, or the writer failed
 abbrev pub IsTold : Status → List ℕ → Option (List ℕ) → Option (List ℕ) → Status → Type 0
 IsTold ends text before after status = ((status ≡ ends) × Appends before after text) ⊎ (status ≡ Failed)

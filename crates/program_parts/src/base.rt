@@ -1,21 +1,21 @@
-// The word BASE of a command line.
+// The argument BASE of a command line.
 
 ghost use Rattle.std.specs.Prelude.{◌≡◌, true, false, drop, MatchOption};
 ghost use Rattle.std.specs.List.{list_all};
 ghost use Rattle.std.specs.Char.{is_ascii_hexdigit};
 ghost use Rattle.program_parts.specs.Base.{is_base, base_of};
 
-/// The longest spelling of a 64-bit number in hexadecimal digits.
+/// The maximum number of hexadecimal digits of a 64-bit number.
 const MOST_DIGITS: usize = 16;
 
-/// Whether all bytes are hexadecimal digits.
+/// Returns whether all bytes are hexadecimal digits.
 fn are_digits(bytes: &[u8]) -> bool
     ensures { result ≡ list_all is_ascii_hexdigit bytes.now }
 {
     bytes.iter().all(|b| b.is_ascii_hexdigit())
 }
 
-/// The digits of a base.
+/// Returns the digits of a base, or `None` if the word isn't a base.
 fn digits_of(word: &str) -> Option<&str>
     ensures { MatchOption result (is_base word.now ≡ false)
         (λ digits. (is_base word.now ≡ true) × (digits.now ≡ drop 2 word.now)) }
@@ -34,7 +34,8 @@ fn digits_of(word: &str) -> Option<&str>
     }
 }
 
-/// Reads a base: `0x` and 1 to 16 hexadecimal digits of either case.
+/// Returns the number that a base encodes, or `None` if the word isn't a base. A base is `0x`,
+/// followed by 1 to 16 hexadecimal digits of either case.
 pub fn parse_base(word: &str) -> Option<u64>
     ensures { result ≡ base_of word.now }
 {

@@ -1,4 +1,4 @@
-// The text of an answer to a bind that gives no image.
+// The text of the answer to a bind that is refused.
 
 ghost use Rattle.std.specs.Prelude.{◌≡◌, ◌++◌, codes, true, OnOk, OnErr};
 ghost use Rattle.std.specs.Io.KnownBytes.{Appends};
@@ -12,7 +12,7 @@ use std::io::Write;
 use store::StoreRefusal;
 use text_output::WriteFault;
 
-/// The line of the refusal of a file, behind a front.
+/// Appends the line of a file's refusal: `front`, and then the refusal.
 pub(crate) fn put_file_line<W: Write>(
     line: &mut Line,
     out: &mut W,
@@ -28,7 +28,7 @@ pub(crate) fn put_file_line<W: Write>(
     line.put(out, b"\n")
 }
 
-/// The line of a refusal that names an object, and what it lacks.
+/// Appends the line of a refusal that names an object and what the object lacks.
 fn put_named<W: Write>(
     line: &mut Line,
     out: &mut W,
@@ -47,7 +47,7 @@ fn put_named<W: Write>(
     line.put(out, b"\n")
 }
 
-/// The line of an answer to a bind that gives no image.
+/// Appends the line of the answer to a bind that is refused.
 pub(crate) fn put_refusal<W: Write>(
     line: &mut Line,
     out: &mut W,
@@ -79,8 +79,8 @@ pub(crate) fn put_refusal<W: Write>(
     }
 }
 
-/// Writes the line of an answer to a bind that gives no image: with one write, but for names that
-/// are longer than a line's buffer.
+/// Writes the line of the answer to a bind that is refused. Makes one write, unless the names are
+/// longer than the buffer of a line.
 pub fn write_refusal<W: Write>(out: &mut W, refusal: &BindRefusal) -> Result<(), WriteFault>
     ensures { OnOk result
         (Appends (W.contents out.old) (W.contents out.new) (refusal_text refusal.now)) }

@@ -1,4 +1,4 @@
-// Reading a file.
+// Reads a file.
 
 ghost use Rattle.std.specs.Prelude.{◌≡◌, ◌<◌, ◌≤◌, IfOk, IfSome, MatchOption, length, take};
 ghost use Rattle.std.specs.Io.KnownBytes.{Consumes, IsAtEnd, Keeps};
@@ -10,23 +10,23 @@ use std::fs::File;
 use std::io::{ErrorKind, Read};
 use std::rt::Files;
 
-/// The length in bytes from which on a file isn't read, 1 GiB: a device that never ends is a file
-/// that can't be read.
+/// A file of this length in bytes or more isn't read: 1 GiB. So a device without an end counts as a
+/// file that can't be read.
 const READ_LIMIT: usize = 0x4000_0000;
 
-/// How many bytes are read at once.
+/// The number of bytes that are read at once.
 const PAGE: usize = 0x10000;
 
-/// Why a file wasn't read.
+/// The reason why a file wasn't read.
 #[derive(Clone, Copy, Debug, PartialEq, Eq)]
 pub enum FileFault {
-    /// It can't be opened or read, or it is too long.
+    /// The file can't be opened or read, or it is too long.
     CannotRead,
-    /// A growth was refused.
+    /// Memory was refused.
     OutOfMemory,
 }
 
-/// Reads a whole file, once.
+/// Reads the whole file at `path`, once.
 pub fn read_file<R: Files>(rt: &R, alloc: Global, path: &str) -> Result<Vec<u8>, FileFault>
     ensures { IfOk result (λ bytes. length bytes.items < read_limit) }
 {
@@ -36,8 +36,8 @@ pub fn read_file<R: Files>(rt: &R, alloc: Global, path: &str) -> Result<Vec<u8>,
     }
 }
 
-// Reads once into a page: how many bytes came, none of them only at the end, or nothing where a
-// signal interrupted the read.
+// Reads once into a page, and returns the number of bytes that were read, which is 0 only at the
+// end of the file. If a signal interrupted the read, returns `None`.
 fn read_page<F: Read>(file: &mut F, page: &mut [u8; PAGE]) -> Result<Option<usize>, FileFault>
     ensures most { IfOk result (λ count. IfSome count (λ n. n ≤ 65536)) }
     ensures bytes { IfOk result (λ count. MatchOption count
@@ -52,11 +52,11 @@ fn read_page<F: Read>(file: &mut F, page: &mut [u8; PAGE]) -> Result<Option<usiz
     }
 }
 
-/// Reads to the end, where that comes before a limit, through a page on the stack, so that a growth
-/// that is refused is told from a read that fails, for whatever reason it fails.
+/// Reads a file to its end, if it has fewer than `limit` bytes. Reads through a page on the stack,
+/// so that refused memory can be distinguished from a read that fails.
 pub fn read_all<F: Read>(alloc: Global, file: &mut F, limit: usize) -> Result<Vec<u8>, FileFault>
     ensures short { IfOk result (λ bytes. length bytes.items < limit) }
-    // Of a reader that tells its bytes these are all.
+    // If the remaining bytes of the reader are known, the result has all of them.
     ensures whole { IfOk result (λ bytes.
         IfSome (F.remaining file.old) (λ all. bytes.items ≡ all)) }
 {

@@ -1,6 +1,6 @@
-//! What the programs of a registry share: exit statuses, the words and the standard streams of a
-//! process, files that are read whole, what is said on standard error, and the texts of replies and
-//! refusals.
+//! The parts that the programs of a registry share: exit statuses, the arguments and standard
+//! streams of a process, and files that are read whole. They also share messages on standard error,
+//! and the texts of replies and refusals.
 #![tactic(auto)]
 
 mod base;

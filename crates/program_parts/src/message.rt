@@ -1,4 +1,4 @@
-// What is said on standard error. A stream that doesn't take it changes no status.
+// Messages on standard error. If a write to standard error fails, the status stays the same.
 
 ghost use Rattle.std.specs.Prelude.{◌≡◌, ◌++◌, codes, OnOk};
 ghost use Rattle.std.specs.Io.KnownBytes.{Appends};
@@ -9,8 +9,8 @@ use crate::status::Status;
 use std::io::{ErrorKind, Write};
 use text_output::{LINE, OutputBuffer, WriteFault};
 
-/// Gives a line to a stream, with one write where that takes it whole. A stream that fails, or
-/// takes no more, is given nothing more.
+/// Writes a line to a stream, with one write if the stream accepts the whole line at once. If the
+/// stream fails or accepts no more bytes, stops.
 pub fn say<E: Write>(errors: &mut E, line: &[u8])
     ensures { AppendsFront (E.contents errors.old) (E.contents errors.new) line.now }
 {
@@ -28,8 +28,8 @@ pub fn say<E: Write>(errors: &mut E, line: &[u8])
     }
 }
 
-/// Writes that a program can't read a path, with one write where the line isn't longer than a
-/// line's buffer.
+/// Writes the line that reports that a program can't read a path. Makes one write, unless the line
+/// is longer than the buffer of a line.
 fn write_unreadable<E: Write>(errors: &mut E, program: &[u8], path: &[u8]) -> Result<(), WriteFault>
     ensures { OnOk result (Appends (E.contents errors.old) (E.contents errors.new)
         (program.now ++ codes ": cannot read " ++ path.now ++ codes "\n")) }
@@ -42,7 +42,7 @@ fn write_unreadable<E: Write>(errors: &mut E, program: &[u8], path: &[u8]) -> Re
     line.send(errors)
 }
 
-/// Says that a program can't read a path.
+/// Reports that the program `program` can't read `path`.
 pub fn cannot_read<E: Write>(errors: &mut E, program: &str, path: &str) -> Status
     ensures { result ≡ Failed }
 {
@@ -50,7 +50,8 @@ pub fn cannot_read<E: Write>(errors: &mut E, program: &str, path: &str) -> Statu
     Status::Failed
 }
 
-/// Says that a program can't hold the standard streams. Gives the exit status.
+/// Reports that the program `program` can't occupy the numbers of the standard streams. Returns the
+/// exit status.
 pub fn cannot_hold<E: Write>(errors: &mut E, program: &str) -> u8
     ensures { result ≡ 3 }
 {

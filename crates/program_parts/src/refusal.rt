@@ -13,10 +13,10 @@ use std::io::Write;
 use store::StoreRefusal;
 use text_output::{LINE, OutputBuffer, WriteFault};
 
-/// A line on its way to a writer.
+/// The buffer of a line that is written to a writer.
 pub type Line = OutputBuffer<LINE>;
 
-/// The number and the name of the refusal of a file.
+/// Returns the number and the name of the refusal of an object.
 fn object_refusal_name(refusal: ObjectRefusal) -> &'static [u8]
     ensures { result.now ≡ object_refusal_name refusal }
 {
@@ -55,7 +55,8 @@ fn object_refusal_name(refusal: ObjectRefusal) -> &'static [u8]
     }
 }
 
-/// What follows the name: of a relocation's type, the type.
+/// Appends the text after the name of a refusal: the type, if the refusal is for a relocation's
+/// type.
 fn put_detail<const SIZE: usize, W: Write>(
     line: &mut OutputBuffer<SIZE>,
     out: &mut W,
@@ -74,7 +75,7 @@ fn put_detail<const SIZE: usize, W: Write>(
     }
 }
 
-/// The number and the name of the refusal of an object, and what follows them.
+/// Appends the number and the name of an object's refusal, and the text after the name.
 fn put_object_refusal<const SIZE: usize, W: Write>(
     line: &mut OutputBuffer<SIZE>,
     out: &mut W,
@@ -88,7 +89,7 @@ fn put_object_refusal<const SIZE: usize, W: Write>(
     put_detail(line, out, refusal)
 }
 
-/// The number and the name of the refusal of a file, and what follows them.
+/// Appends the number and the name of a file's refusal, and the text after the name.
 pub fn put_file_refusal<const SIZE: usize, W: Write>(
     line: &mut OutputBuffer<SIZE>,
     out: &mut W,
@@ -105,8 +106,8 @@ pub fn put_file_refusal<const SIZE: usize, W: Write>(
     }
 }
 
-/// Writes the number and the name of the refusal of a file, and what follows them, with one write
-/// and without a line's end.
+/// Writes the number and the name of a file's refusal, and the text after the name, with one write
+/// and without a newline.
 pub fn write_file_refusal<W: Write>(out: &mut W, refusal: FileRefusal) -> Result<(), WriteFault>
     ensures { OnOk result
         (Appends (W.contents out.old) (W.contents out.new) (file_refusal_text refusal)) }
@@ -116,7 +117,7 @@ pub fn write_file_refusal<W: Write>(out: &mut W, refusal: FileRefusal) -> Result
     line.send(out)
 }
 
-/// The number of a refusal and its name.
+/// Returns the number and the name of the refusal of a disk.
 fn disk_refusal_name(refusal: StoreRefusal) -> &'static [u8]
     ensures { result.now ≡ disk_refusal_name refusal }
 {
@@ -136,7 +137,7 @@ fn disk_refusal_name(refusal: StoreRefusal) -> &'static [u8]
     }
 }
 
-/// The line of a refusal.
+/// Appends the line of the refusal of a disk.
 pub fn put_disk_refusal<const SIZE: usize, W: Write>(
     line: &mut OutputBuffer<SIZE>,
     out: &mut W,

@@ -18,7 +18,7 @@ use std::io::Write;
 use store::StoreRefusal;
 use text_output::WriteFault;
 
-/// The line of a refusal.
+/// Appends the line of a command's refusal.
 fn put_command_refusal<W: Write>(
     line: &mut Line,
     out: &mut W,
@@ -49,7 +49,7 @@ fn put_command_refusal<W: Write>(
     }
 }
 
-/// The line of a library.
+/// Appends the line for a library.
 fn put_library<W: Write>(
     line: &mut Line,
     out: &mut W,
@@ -68,7 +68,7 @@ fn put_library<W: Write>(
     Ok(())
 }
 
-/// The line of a preload.
+/// Appends the line for a preload.
 fn put_preload<W: Write>(line: &mut Line, out: &mut W, name: &Name) -> Result<(), WriteFault>
     ensures ok { OnOk result (Sends (W.contents out.old) line.old (W.contents out.new) line.new
         (preload_text name.now)) }
@@ -80,7 +80,7 @@ fn put_preload<W: Write>(line: &mut Line, out: &mut W, name: &Name) -> Result<()
     Ok(())
 }
 
-/// The lines of libraries.
+/// Appends the lines for libraries.
 fn put_libraries<W: Write>(
     line: &mut Line,
     out: &mut W,
@@ -96,7 +96,7 @@ fn put_libraries<W: Write>(
     Ok(())
 }
 
-/// The lines of preloads.
+/// Appends the lines for preloads.
 fn put_preloads<W: Write>(line: &mut Line, out: &mut W, preloads: &[Name]) -> Result<(), WriteFault>
     ensures ok { OnOk result (Sends (W.contents out.old) line.old (W.contents out.new) line.new
         (flat_map preload_text preloads.now)) }
@@ -108,7 +108,7 @@ fn put_preloads<W: Write>(line: &mut Line, out: &mut W, preloads: &[Name]) -> Re
     Ok(())
 }
 
-/// The libraries, the preloads, and the line `end`.
+/// Appends the lines for the libraries and the preloads, and the line `end`.
 fn put_listing<W: Write>(line: &mut Line, out: &mut W, listing: &Listing) -> Result<(), WriteFault>
     ensures ok { OnOk result (Sends (W.contents out.old) line.old (W.contents out.new) line.new
         (listing_text listing.now)) }
@@ -120,7 +120,7 @@ fn put_listing<W: Write>(line: &mut Line, out: &mut W, listing: &Listing) -> Res
     Ok(())
 }
 
-/// The text of a reply; of an image nothing, since that has a buffer of its own.
+/// Appends the text of a reply. An image isn't appended, because it has a buffer of its own.
 fn put_short_reply<W: Write>(line: &mut Line, out: &mut W, reply: &Reply) -> Result<(), WriteFault>
     ensures ok { OnOk result (Sends (W.contents out.old) line.old (W.contents out.new) line.new
         (short_text reply.now)) }
@@ -134,8 +134,8 @@ fn put_short_reply<W: Write>(line: &mut Line, out: &mut W, reply: &Reply) -> Res
     }
 }
 
-/// Puts the text of a reply behind what waits; an image goes to the writer at once, behind what
-/// waited. It takes no memory.
+/// Appends the text of a reply to the buffered text. An image is written at once, after the
+/// buffered text. Allocates no memory.
 pub fn put_reply<W: Write>(line: &mut Line, out: &mut W, reply: &Reply) -> Result<(), WriteFault>
     ensures { OnOk result (Sends (W.contents out.old) line.old (W.contents out.new) line.new
         (reply_text reply.now)) }
@@ -147,8 +147,8 @@ pub fn put_reply<W: Write>(line: &mut Line, out: &mut W, reply: &Reply) -> Resul
     put_short_reply(line, out, reply)
 }
 
-/// Writes the text of a reply: with one write, but for an image, and for a listing that is longer
-/// than a line's buffer. It takes no memory.
+/// Writes the text of a reply. Makes one write, except for an image, and for a listing that is
+/// longer than the buffer of a line. Allocates no memory.
 pub fn write_reply<W: Write>(out: &mut W, reply: &Reply) -> Result<(), WriteFault>
     ensures { OnOk result
         (Appends (W.contents out.old) (W.contents out.new) (reply_text reply.now)) }

@@ -1,4 +1,4 @@
-// How a run of a program ends.
+// The exit status of a program.
 
 ghost use Rattle.std.specs.Prelude.{◌≡◌};
 ghost use Rattle.program_parts.specs.Status.{status_number, disk_status};
@@ -11,11 +11,11 @@ use store::StoreRefusal;
 /// The exit status of a program.
 #[derive(Clone, Copy, PartialEq, Eq)]
 pub enum Status {
-    /// Done.
+    /// The command was carried out.
     Done = 0,
-    /// What was asked was refused.
+    /// The command was refused.
     Refused = 1,
-    /// The words are none of the program's forms.
+    /// The arguments have none of the program's forms.
     BadWords = 2,
     /// The disk, a file or a standard stream failed.
     Failed = 3,
@@ -24,14 +24,14 @@ pub enum Status {
 }
 
 impl Status {
-    /// The number that the process exits with.
+    /// Returns the number with which the process exits.
     pub fn number(self) -> u8
         ensures { result ≡ status_number self }
     {
         self as u8
     }
 
-    /// What a disk ends with that is refused so.
+    /// Returns the status after a disk was refused with `refusal`.
     pub fn of_disk(refusal: StoreRefusal) -> Status
         ensures { result ≡ disk_status refusal }
     {
@@ -41,7 +41,7 @@ impl Status {
             _ => Status::Refused,
         }
     }
-    /// What a refusal of a command ends with.
+    /// Returns the status after a command was refused with `refusal`.
     fn of_refusal(refusal: &Refusal) -> Status
         ensures { result ≡ refusal_status refusal.now }
     {
@@ -52,7 +52,7 @@ impl Status {
         }
     }
 
-    /// What a reply ends with.
+    /// Returns the status after a reply.
     pub fn of_reply(reply: &Reply) -> Status
         ensures { result ≡ reply_status reply.now }
     {

@@ -1,4 +1,4 @@
-// The standard streams of the process: their numbers, and the files behind them.
+// The standard streams of the process: their numbers, and their files.
 
 use std::fs::{File, Metadata};
 use std::io::ErrorKind;
@@ -6,37 +6,40 @@ use std::os::unix::fs::{FileTypeExt, MetadataExt};
 use std::rt::Files;
 use std::{fs, io};
 
-/// What is opened in the place of a closed stream: a folder that is open for reading gives no byte
-/// and takes none.
+/// The folder that is opened in place of a closed stream. If the folder is open for reading,
+/// no byte can be read from it or written to it.
 const FOLDER: &str = "/";
 
-/// The names of the files behind the standard streams.
+/// The paths that name the files of the standard streams.
 const INPUT: &str = "/proc/self/fd/0";
 
 const OUTPUT: &str = "/proc/self/fd/1";
 
 const ERRORS: &str = "/proc/self/fd/2";
 
-/// The numbers of the standard streams, none of which a file gets that is opened while this stands.
+/// The numbers of the standard streams. While this value exists, no file
+/// that is opened gets one of them.
 ///
-/// The system gives a file the lowest number that is free. So where a process was started with a
-/// standard stream closed, the next file would be that stream, and what is said on it would be
-/// written there.
+/// The system gives a file the lowest free number. Suppose that a process was started with a closed
+/// standard stream. Then the next file that is opened would be that stream, and a message on the
+/// stream would be written into the file.
 #[derive(Drop)]
 pub struct StandardStreams<F> {
-    /// Enough to take the three numbers where all are free; else some stand behind them.
+    /// Three files are enough to take the three numbers if all of them are free. Otherwise some of
+    /// the files have greater numbers.
     held: [F; 3],
 }
 
 impl<F: Drop> StandardStreams<F> {
-    /// Takes the numbers that are free; this comes before any other file is opened. A stream that
-    /// was closed then fails at each read and each write. An error where they can't be taken.
+    /// Takes the free ones of the three numbers. Has to be called before any other file is opened.
+    /// Afterwards each read and each write of a stream that was closed fails. Returns an error if
+    /// the numbers can't be taken.
     pub fn hold<R: Files<File = F>>(rt: &R) -> io::Result<StandardStreams<F>> {
         let held = open_three(rt)?;
         Ok(StandardStreams { held })
     }
 
-    /// Lets the numbers go: no file is opened any more.
+    /// Releases the numbers. Has to be called after the last file was opened.
     pub fn release(self) {
         let StandardStreams { held } = self;
         drop(held);
@@ -52,20 +55,20 @@ fn open_three<R: Files>(rt: &R) -> io::Result<[R::File; 3]> {
     ])
 }
 
-/// What stands behind the standard streams of the process, as seen from a path. Nothing is opened
-/// for it.
+/// How the standard streams of the process are related to the file at a path. No file is opened to
+/// find this out.
 #[derive(Clone, Copy)]
 pub enum Behind {
-    /// Another file than the path's, or none.
+    /// The streams are open to other files than the path's, or to none.
     Other,
-    /// The path's file, behind the input or the output; or it can't be told of a stream.
+    /// The input or the output is open to the path's file, or the file of a stream is unknown.
     OtherStream,
-    /// The path's file, behind standard error: a message would be written into it.
+    /// Standard error is open to the path's file, so a message would be written into this file.
     Errors,
 }
 
-/// Whether a path leads to the very file behind a standard stream: behind the input only where that
-/// is read.
+/// Returns whether a standard stream is open to the file at `path`. The input counts only if
+/// `reads_input` is true.
 pub fn behind_streams<R: Files>(rt: &R, path: &str, reads_input: bool) -> Behind {
     let Ok(found) = fs::metadata(rt, path) else {
         return Behind::Other;
@@ -86,8 +89,8 @@ pub fn behind_streams<R: Files>(rt: &R, path: &str, reads_input: bool) -> Behind
     }
 }
 
-/// Whether a file is the one behind a stream, where that can be told. A system without such names
-/// tells of none.
+/// Returns whether the stream with the path `stream` is open to the file `found`, or `None` if that
+/// is unknown. On a system without such paths, the answer is no.
 fn is_behind<R: Files>(rt: &R, found: &Metadata, stream: &str) -> Option<bool> {
     match fs::metadata(rt, stream) {
         Ok(behind) => Some(is_same_file(found, &behind)),
@@ -96,7 +99,7 @@ fn is_behind<R: Files>(rt: &R, found: &Metadata, stream: &str) -> Option<bool> {
     }
 }
 
-/// Whether two names lead to one file, or to one block device by two nodes.
+/// Returns whether both are the same file, or the same block device at two nodes.
 fn is_same_file(one: &Metadata, other: &Metadata) -> bool {
     let are_devices = one.file_type().is_block_device() && other.file_type().is_block_device();
     (one.dev() == other.dev() && one.ino() == other.ino())

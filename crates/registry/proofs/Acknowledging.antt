@@ -1,4 +1,4 @@
--- The state after the acknowledged commands, and lists that grow by one.
+-- Lemmas about the state after the acknowledged commands, and about lists that grow by one item.
 use Rattle.std.proofs.Common.{◌≡◌, ◌⊎◌, inl, inr, ⊎_elim, ◌<◌, ◌≤◌, ℕ, Bool, suc, zero, true, false, cond, List, [], ◌∷◌, ◌++◌, length, take, Some, IsFalse, refl, sym, ap, subst, ◌∙◌, arith}
 use Rattle.std.specs.Prelude.{slice_get}
 use Rattle.std.proofs.lemmas.Bool.{false≢true}
@@ -21,31 +21,31 @@ use Rattle.registry.specs.Ran.{Point, disk_at, Goes, Moves, LeadsThrough}
 use Rattle.registry.specs.Updating.{updated}
 use Rattle.registry.specs.Phase.{phase_of}
 
--- an item of a list is one of a longer list,
+-- item number k of a list stays item number k when one item is appended
 pub get_before : {X : Type 0} (xs : List X) (y : X) (k : ℕ) → k < length xs → slice_get (xs ++ y ∷ []) k ≡ slice_get xs k
 get_before [] y k lt = absurd (omega (arith, lt))
 get_before (x ∷ xs) y zero lt = refl
 get_before (x ∷ xs) y (suc k) lt = get_before xs y k (omega (arith, lt))
 
--- the new one is its last,
+-- the last item of a list to which an item was appended is that item
 pub get_last : {X : Type 0} (xs : List X) (y : X) → slice_get (xs ++ y ∷ []) (length xs) ≡ Some y
 get_last [] y = refl
 get_last (x ∷ xs) y = get_last xs y
 
--- and it has no other.
+-- an item that a list has after its old items, when one item was appended, is the appended item
 pub get_more : {X : Type 0} (xs : List X) (y z : X) (k : ℕ) → length xs ≤ k → slice_get (xs ++ y ∷ []) k ≡ Some z → y ≡ z
 get_more [] y z zero le is = same_Some y z is
 get_more [] y z (suc k) le is = absurd (none-some z is)
 get_more (x ∷ xs) y z zero le is = absurd (omega (arith, le))
 get_more (x ∷ xs) y z (suc k) le is = get_more xs y z k (omega (arith, le)) is
 
--- an item is among the first ones up to it
+-- item number k of a list is also item number k of the list's first k + 1 items
 pub get_take : {X : Type 0} (xs : List X) (k : ℕ) → slice_get (take (suc k) xs) k ≡ slice_get xs k
 get_take [] k = refl
 get_take (x ∷ xs) zero = refl
 get_take (x ∷ xs) (suc k) = get_take xs k
 
--- what was answered S1 isn't among the acknowledged ones
+-- an exchange that was answered with S1 isn't among the acknowledged ones
 pub cut_unacknowledged : (xs : List Exchange) (k : ℕ) (q : Transaction) → FailedAt xs k q → acknowledged (take (suc k) xs) ≡ acknowledged (take k xs)
 cut_unacknowledged [] k q cut = absurd (none-some (answered q (Refused refusal.Device)) cut)
 cut_unacknowledged (x ∷ xs) zero q cut = subst (λ y. acknowledged (y ∷ []) ≡ []) (sym (same_Some x (answered q (Refused refusal.Device)) cut)) refl
@@ -53,19 +53,20 @@ cut_unacknowledged (answered asked answer ∷ xs) (suc k) q cut = ap (λ l. cond
 cut_unacknowledged (given_up ∷ xs) (suc k) q cut = cut_unacknowledged xs k q cut
 cut_unacknowledged (stepped ∷ xs) (suc k) q cut = cut_unacknowledged xs k q cut
 
--- what was on the way stays,
+-- the points after the earlier steps stay the same when one step is added
 pub after_before : {S : Type 0} (s : S) (ts : List S) (u : S) (k : ℕ) → k ≤ length ts → after s (ts ++ u ∷ []) k ≡ after s ts k
 after_before s ts u k le = ap (last_of s) (take-append-le k ts (u ∷ []) le)
 
--- and the new one is behind it.
+-- the point after the added step is the new one
 pub after_last : {S : Type 0} (s : S) (ts : List S) (u : S) (k : ℕ) → length ts < k → after s (ts ++ u ∷ []) k ≡ u
 after_last s ts u k lt = ap (last_of s) (take_all k (ts ++ u ∷ []) (omega (arith, lt, length-append ts (u ∷ [])))) ∙ last_more s u ts
 
--- so does the last on the way
+-- the point after all steps is the last one
 pub after_all_steps : {S : Type 0} (s : S) (ts : List S) (k : ℕ) → length ts ≤ k → after s ts k ≡ last_of s ts
 after_all_steps s ts k le = ap (last_of s) (take_all k ts le)
 
--- a call failed: the state stays where the registry can go on, or where the state is taken to be the one before
+-- if a call failed, the state is unchanged, provided that the registry is usable or that the state is
+-- taken to be the one before
 device_state : (p : Phase) (q : Request) (p' : Phase) → LeavesFailed p q p' → IsFalse p'.failed ⊎ (p'.state ≡ p.state) → p'.state ≡ p.state
 device_state p (bind program base) p' leaves kept = leaves.same.state
 device_state p list p' leaves kept = absurd leaves
@@ -74,7 +75,8 @@ device_state p (replace bytes) p' leaves kept = ⊎_elim (λ usable. absurd (fal
 device_state p (remove name) p' leaves kept = ⊎_elim (λ usable. absurd (false≢true (sym usable ∙ leaves.failed))) (λ same. same) kept
 device_state p (set_preloads names) p' leaves kept = ⊎_elim (λ usable. absurd (false≢true (sym usable ∙ leaves.failed))) (λ same. same) kept
 
--- A command that is acknowledged leads to the state in which it is accepted, and no other changes the state.
+-- An acknowledged command changes the state to the one after its acceptance, and no other command
+-- changes the state.
 pub step_state : (p : Phase) (q : Request) (r : Reply) (p' : Phase) → Step p q r p' → IsFalse p'.failed ⊎ (p'.state ≡ p.state) → p'.state ≡ cond (is_acknowledged r) (accepted p.state q) p.state
 step_state p q (Refused refusal.Device) p' h kept = device_state p q p' h.1 kept
 step_state p q (Refused refusal.Reopen) p' h kept = h.1.state
@@ -102,7 +104,7 @@ module _ {D : Type 0} (facts : D → DiskFacts) where
       (λ nothing. subst (λ y. p'.state ≡ cond (is_acknowledged y) (accepted p.state q) p.state) (sym (goes.did.reopen.1 nothing.0)) (ap (λ (x : Point D). x.state) nothing.1))
       goes.applied
 
-  -- what is acknowledged leads to its outcome, and nothing else changes the state
+  -- an acknowledged exchange changes the state to its outcome, and no other exchange changes the state
   by_answer : (p : Point D) (asked : Transaction) (acknowledges : Bool) (t : State) → t ≡ cond acknowledges (outcome p.state asked) p.state
       → t ≡ state_after p.state (cond acknowledges (asked ∷ []) [])
   by_answer p asked true t same = same
@@ -129,7 +131,7 @@ module _ {D : Type 0} (facts : D → DiskFacts) where
   acknowledged_more given_up xs = refl
   acknowledged_more stepped xs = refl
 
-  -- the state after the first k is the one after the acknowledged commands among them
+  -- the state after the first k exchanges is the state after the acknowledged exchanges among them
   pub states_after : (k : ℕ) (p : Point D) (xs : List Exchange) (ts : List (Point D)) → LeadsThrough facts p xs ts → (after p ts k).state ≡ state_after p.state (acknowledged (take k xs))
   states_after zero p xs ts h = refl
   states_after (suc k) p [] [] h = refl
@@ -142,7 +144,7 @@ module _ {D : Type 0} (facts : D → DiskFacts) where
   states_after (suc k) p [] (t ∷ ts) h = absurd h
   states_after (suc k) p (x ∷ xs) [] h = absurd h
 
-  -- time doesn't go back
+  -- no exchange sets the disk's time back
   moves_time : (p : Point D) (x : Exchange) (p' : Point D) → Moves facts p x p' → (disk_at facts p).time ≤ (disk_at facts p').time
   moves_time p (answered (command q) answer) p' goes = goes.did.calls.later
   moves_time p (answered (update qs) answer) p' updates = ⊎_elim
@@ -168,14 +170,15 @@ module _ {D : Type 0} (facts : D → DiskFacts) where
   time_after (suc i) p [] (t ∷ ts) h = absurd h
   time_after (suc i) p (x ∷ xs) [] h = absurd h
 
-  -- one point for each
+  -- there are as many points as exchanges
   pub leads_length : (p : Point D) (xs : List Exchange) (ts : List (Point D)) → LeadsThrough facts p xs ts → length ts ≡ length xs
   leads_length p [] [] h = refl
   leads_length p (x ∷ xs) (t ∷ ts) h = ap suc (leads_length t xs ts h.1)
   leads_length p [] (t ∷ ts) h = absurd h
   leads_length p (x ∷ xs) [] h = absurd h
 
-  -- one more
+  -- if exchanges led through points, and one more exchange was made at the last point, the longer list
+  -- of exchanges led through the longer list of points
   pub leads_more : (p u : Point D) (x : Exchange) (xs : List Exchange) (ts : List (Point D)) → LeadsThrough facts p xs ts
       → Moves facts (last_of p ts) x u → LeadsThrough facts p (xs ++ x ∷ []) (ts ++ u ∷ [])
   leads_more p u x [] [] h moves = (moves, tt)
@@ -183,7 +186,8 @@ module _ {D : Type 0} (facts : D → DiskFacts) where
   leads_more p u x [] (t ∷ ts) h moves = absurd h
   leads_more p u x (y ∷ xs) [] h moves = absurd h
 
-  -- and those that come after
+  -- if exchanges led through points, and more exchanges led on from the last point, both lists together
+  -- led through all points
   pub leads_on : (p : Point D) (xs : List Exchange) (ts : List (Point D)) (ys : List Exchange) (us : List (Point D)) → LeadsThrough facts p xs ts → LeadsThrough facts (last_of p ts) ys us
       → LeadsThrough facts p (xs ++ ys) (ts ++ us)
   leads_on p [] [] ys us h rest = rest

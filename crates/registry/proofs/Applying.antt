@@ -1,4 +1,4 @@
--- What a command does to a registry on a disk, by what the store did.
+-- What a command does to a registry on a disk, given what the store did.
 use Rattle.std.proofs.Common.{◌≡◌, ◌≢◌, ℕ, ◌⊎◌, inl, inr, ⊎_elim, ◌<◌, List, Option, Some, None, Result, Ok, Err, IsTrue, IsFalse, refl, sym, ap, subst, ◌∙◌}
 use Rattle.std.specs.Prelude.{OnOk}
 use Rattle.std.specs.Option.{option_map}
@@ -57,7 +57,7 @@ broken (set_preloads names) is p p' breaks = breaks
 broken (bind program base) is p p' breaks = absurd is
 broken list is p p' breaks = absurd is
 
--- a change is answered by the step table, whatever the files are
+-- the step table answers a change, whether or not the files are libraries
 pub change_step : (q : Request) → IsChange q → (p p' : Phase) (r : Reply) → Step p q r p' → UntestedStep p q r p'
 change_step (install bytes) is p p' r step = step
 change_step (replace bytes) is p p' r step = step
@@ -66,7 +66,7 @@ change_step (set_preloads names) is p p' r step = step
 change_step (bind program base) is p p' r step = absurd is
 change_step list is p p' r step = absurd is
 
--- a change that one of its tests refuses leaves all as it was
+-- a change that one of its tests refuses leaves everything unchanged
 pub refused_step : (p : Phase) (q : Request) → (refusal : Refusal) → refusal ≢ Device → refusal ≢ Reopen → refusal ≢ OutOfMemory → IsFalse p.failed → refusal_at p q ≡ Some refusal
     → Step p q (Refused refusal) p
 refused_step p q (Object why) device reopen memory usable is = (usable, is, leads_same p)
@@ -87,7 +87,7 @@ refused_step p q Device device reopen memory usable is = absurd (device refl)
 refused_step p q Reopen device reopen memory usable is = absurd (reopen refl)
 refused_step p q OutOfMemory device reopen memory usable is = absurd (memory refl)
 
--- what takes no memory answers as what takes some
+-- an answer of a call that allocates no memory is also an answer of a call that may allocate memory
 pub exact_answer : (first : Option StoreRefusal) (result : Result (Unit {0}) StoreRefusal) → IsExactAnswer first result → IsAnswer first result
 exact_answer None (Ok done) is = is
 exact_answer None (Err refusal) is = inl is
@@ -105,12 +105,12 @@ exact_answer (Some e.GenerationEnd) (Err refusal) is = is
 exact_answer (Some e.OutOfMemory) (Err refusal) is = is
 exact_answer (Some e.OldFormat) (Err refusal) is = is
 
--- what is done was refused by no test
+-- if a change was made, no test refused it
 pub none_first : (first : Option StoreRefusal) (done : Unit {0}) → IsAnswer first (Ok done) → first ≡ None
 none_first None done is = refl
 none_first (Some first) done is = absurd is
 
--- a refusal for another reason than the device and memory is the first
+-- a refusal other than S1 and S11 is the first refusal that applies
 pub is_first : (first : Option StoreRefusal) (refusal : StoreRefusal) → IsAnswer first (Err refusal) → refusal ≢ e.Device → refusal ≢ e.OutOfMemory → first ≡ Some refusal
 is_first None refusal is other ample = absurd (⊎_elim other ample is)
 is_first (Some e.Full) refusal is other ample = ⊎_elim (λ same. ap Some (sym same)) (λ memory. absurd (ample memory)) is
@@ -126,7 +126,7 @@ is_first (Some e.TooMany) refusal is other ample = ap Some (sym is)
 is_first (Some e.GenerationEnd) refusal is other ample = ap Some (sym is)
 is_first (Some e.OldFormat) refusal is other ample = ap Some (sym is)
 
--- a failing device was met behind all tests
+-- if a call failed, no test had refused before
 pub none_before : (first : Option StoreRefusal) → IsAnswer first (Err e.Device) → first ≢ Some e.Device → first ≡ None
 none_before None is tests = refl
 none_before (Some e.Full) is tests = absurd (⊎_elim (λ same. cc) (λ memory. cc) is)
@@ -146,7 +146,7 @@ module _ {D : Type 0} (facts : D → DiskFacts) (old : Opened D) (s : State) (at
   abbrev before : Phase
   before = phase_of facts old s
 
-  -- Nothing was called.
+  -- If no call was made, a step of the step table is a command applied to an unchanged registry.
   pub untouched : (answer : Reply) → UntestedStep (phase_of facts old s) q answer (phase_of facts old s) → AppliesUntested facts old old s q answer
   untouched answer step = (
     s,
@@ -157,14 +157,14 @@ module _ {D : Type 0} (facts : D → DiskFacts) (old : Opened D) (s : State) (at
     },
   )
 
-  -- A change that the store was asked for, behind all tests but its own, whose first refusal is this one.
+  -- A change was passed to the store, which makes the last tests of it. `first` is the store's first refusal.
   module _ (new : Opened D) (first : Option StoreRefusal) (change : IsChange q) (tested : refusal_at (phase_of facts old s) q ≡ option_map refusal_of first)
       (leaves : LeavesOnly (facts old.disk) (facts new.disk) (λ m. sectors.Stands m s ⊎ sectors.Stands m (accepted s q))) where
     within : (m : List Sector) (answer : Reply) (s' : State) → (sectors.Stands m (accepted s q) → MayLeaveBy sectors.Stands before q answer s' m)
         → sectors.Stands m s ⊎ sectors.Stands m (accepted s q) → MayLeaveBy sectors.Stands before q answer s' m
     within m answer s' new_stands h = ⊎_elim inl new_stands h
 
-    -- it did
+    -- if the store made the change, the command was applied and answered with Done
     change_done : (done : Unit {0}) → IsAnswer first (Ok done) → IsFalse new.failed → IsAt facts new (accepted s q) → AppliesUntested facts old new s q Done
     change_done done answer usable after = (
       accepted s q,
@@ -181,7 +181,7 @@ module _ {D : Type 0} (facts : D → DiskFacts) (old : Opened D) (s : State) (at
       },
     )
 
-    -- a call of its failed
+    -- if a call of the store failed, the command was applied and answered with S1
     change_broken : IsAnswer first (Err e.Device) → first ≢ Some e.Device → (facts old.disk).failures < (facts new.disk).failures → IsTrue new.failed
         → AppliesUntested facts old new s q (Refused Device)
     change_broken answer tests risen failed =
@@ -198,7 +198,7 @@ module _ {D : Type 0} (facts : D → DiskFacts) (old : Opened D) (s : State) (at
           },
         )
 
-    -- or it refused
+    -- if the store refused the change, the command was applied and answered with this refusal
     change_refused : (refusal : StoreRefusal) → IsAnswer first (Err refusal) → first ≢ Some e.Device → refusal ≢ e.Reopen → IsRefusalOfPutNew refusal
         → (refusal ≡ e.Device → ((facts old.disk).failures < (facts new.disk).failures) × IsTrue new.failed) → (refusal ≢ e.Device → new ≡ old) → (refusal ≡ e.OutOfMemory → TakesMemory q)
         → AppliesUntested facts old new s q (Refused (refusal_of refusal))
@@ -229,7 +229,7 @@ module _ {D : Type 0} (facts : D → DiskFacts) (old : Opened D) (s : State) (at
     change_refused e.BadGeometry answer tests usable may device same memory = absurd may
     change_refused e.OldFormat answer tests usable may device same memory = absurd may
 
-    -- whichever the store answered
+    -- whatever the store answered, the command was applied
     change_answered : {calls : ℕ} {Refuses : StoreRefusal → Type 0} (answer : Result (Unit {0}) StoreRefusal) → IsAnswer first answer → first ≢ Some e.Device
         → Changed facts e.Device e.Reopen old new calls Refuses answer → ((r : StoreRefusal) → Refuses r → IsRefusalOfPutNew r)
         → (answer ≡ Err e.OutOfMemory → TakesMemory q) → OnOk answer (IsAt facts new (accepted s q)) → AppliesUntested facts old new s q (answer_of (in_words answer))
@@ -238,8 +238,8 @@ module _ {D : Type 0} (facts : D → DiskFacts) (old : Opened D) (s : State) (at
         change_refused r is tests (λ reopens. false≢true (sym at.usable ∙ changed.reopen.0 (ap Err reopens))) (may r changed.refusals) changed.device changed.same
         (λ lacks. memory (ap Err lacks))
 
--- A change that the store was asked for, behind all tests but its own, of which this is the first,
--- and which leads to this state.
+-- A change was passed to the store, which makes the last tests of it. `first` is the store's first
+-- refusal, and t is the state after the change.
 pub store_changed : {D : Type 0} (facts : D → DiskFacts) (old new : Opened D) (s : State) → IsAt facts old s → (q : Request) → IsChange q → (first : Option StoreRefusal)
     → refusal_at (phase_of facts old s) q ≡ option_map refusal_of first → first ≢ Some e.Device → (t : State) → t ≡ accepted s q
     → LeavesOnly (facts old.disk) (facts new.disk) (λ m. sectors.Stands m s ⊎ sectors.Stands m t)
@@ -250,12 +250,12 @@ store_changed facts old new s at q change first tested tests t leads leaves answ
     change_answered facts old s at q new first change tested (subst (λ u. LeavesOnly (facts old.disk) (facts new.disk) (λ m. sectors.Stands m s ⊎ sectors.Stands m u)) leads leaves)
     answer is tests changed may memory (subst (λ u. OnOk answer (IsAt facts new u)) leads after)
 
--- a command and its answer by other words
+-- an applied command may be replaced by an equal command with an equal answer
 pub applies_as : {D : Type 0} (facts : D → DiskFacts) (old new : Opened D) (s : State) {q q' : Request} {r r' : Reply} → q' ≡ q → r' ≡ r
     → AppliesUntested facts old new s q r → AppliesUntested facts old new s q' r'
 applies_as facts old new s {q = q} {r' = r'} asked told applies = subst (λ x. AppliesUntested facts old new s x r') (sym asked) (subst (λ y. AppliesUntested facts old new s q y) (sym told) applies)
 
--- a bind is accepted with an image alone
+-- a fact that holds if a bind's answer is an image holds if the bind is accepted
 pub bound_alone : (p p' : Phase) (program : List ℕ) (base : ℕ) (r : Reply) (P : Type 0) → UntestedStep p (bind program base) r p' → IfBound r P → IfAccepted r P
 bound_alone p p' program base (Refused refusal) P step h = tt
 bound_alone p p' program base (reply.Bound image) P step h = h

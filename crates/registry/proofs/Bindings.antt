@@ -1,4 +1,4 @@
--- What a bind answers by what its walk has found.
+-- The answer of a bind, as it follows from the findings of its walk.
 use Rattle.std.proofs.Common.{◌≡◌, ℕ, ◌+◌, ◌<◌, IsFalse, IsTrue, List, [], ◌∷◌, map, drop, sum_by, Option, Some, None, inl, refl, sym, ap, subst, ◌∙◌}
 use Rattle.std.specs.Option.{option_map}
 use Rattle.elf_file.specs.FirstOf.{first_of}
@@ -42,7 +42,7 @@ module _ (s : State) (program : List ℕ) (base : ℕ) (files : List Library) (l
       ap (λ m. first_of (option_map missing_by m ∷ placed_refusal (bound_objects s program base) ∷ [])) lacking
       ∙ ap (λ o. first_of (option_map missing_by lacks ∷ placed_refusal (place base o) ∷ [])) is
 
-  -- what a walk has found decides what a bind is answered,
+  -- the refusal and the answer of a bind follow from the findings of its walk
   pub refusal_same : binding_refusal s program base ≡ walked_refusal program base lacks files
   refusal_same = behind program base (objects s) (preload_numbers s) (program-taken program base taken) (program-based program base taken) ∙ later_same
 
@@ -51,17 +51,18 @@ module _ (s : State) (program : List ℕ) (base : ℕ) (files : List Library) (l
       later-answer program base (objects s) (preload_numbers s) e (program-taken program base taken) (program-based program base taken)
       (subst (λ r. IsFirstOrWantsMemory r e) (sym later_same) h)
 
-  -- what is bound,
+  -- the objects that are bound are the program and the files of the walk, at their bases
   pub objects_same : walked_objects program base files ≡ bound_objects s program base
   objects_same = ap (place base) (sym is)
 
-  -- and how many sectors were read
+  -- the number of sectors that were read is the number of sectors that a bind reads
   pub sectors_read : sum_by (λ f. data_sectors f.bytes) files ≡ bind_sectors s program
   sectors_read = all_fit program s files is
 
--- A bind that led from one phase to another of the same state.
+-- A bind changed the phase from p to p', which has the same state.
 module _ (p p' : Phase) (usable : IsFalse p.failed) (leads : Leads p p.state p') (program : List ℕ) (base : ℕ) where
-  -- a refusal of a bind is a step, where each file that it reads is a library if it comes behind reading
+  -- A refusal of a bind is a step. If the refusal comes only after reading, each file has to be a
+  -- library.
   pub refused : (e : BindRefusal) → IsAnswer program base (objects p.state) (preload_numbers p.state) e → (ComesBehindReading program base (Refused (of_bind e)) → ReadsLibraries p.state program)
       → UntestedStep p (bind program base) (Refused (of_bind e)) p'
   refused (binding.Program r) h all = ((usable, ap (option_map Bind) h, leads), all)
@@ -71,7 +72,7 @@ module _ (p p' : Phase) (usable : IsFalse p.failed) (leads : Leads p p.state p')
   refused (binding.Undefined object symbol) h all = ((usable, ap (option_map Bind) h, leads), all)
   refused binding.OutOfMemory h all = ((usable, h, leads), all)
 
-  -- one of the program by itself doesn't,
+  -- a refusal of the program by itself doesn't depend on reading any file
   pub alone : (e : BindRefusal) → IsProgramAnswer program base e → ComesBehindReading program base (Refused (of_bind e)) → ReadsLibraries p.state program
   alone binding.OutOfMemory h behind = absurd behind
   alone (binding.Program r) h behind = absurd (let no : ◌≡◌ {A = Option BindRefusal} None (Some (binding.Program r)) = sym behind ∙ h in cc)
@@ -80,13 +81,13 @@ module _ (p p' : Phase) (usable : IsFalse p.failed) (leads : Leads p p.state p')
   alone binding.NoRoom h behind = absurd (let no : ◌≡◌ {A = Option BindRefusal} None (Some binding.NoRoom) = sym behind ∙ h in cc)
   alone (binding.Undefined object symbol) h behind = absurd (let no : ◌≡◌ {A = Option BindRefusal} None (Some (binding.Undefined object symbol)) = sym behind ∙ h in cc)
 
-  -- so is an image
+  -- the answer with the image is a step
   pub bound : (image : MemoryImage) → binding_refusal p.state program base ≡ None → image ≡ bound_image p.state program base
       → ((a : ℕ) → image_byte image a ≡ byte_of (bound_objects p.state program base) a) → ReadsLibraries p.state program
       → UntestedStep p (bind program base) (Bound image) p'
   bound image accepted is bytes all = ((usable, ap (option_map Bind) accepted, (is, bytes), leads), λ behind. all)
 
-  -- and a reading that is refused
+  -- the refusal of a read is a step
   pub unread : program_refusal program base ≡ None → (e : StoreRefusal) → IsReadRefusalIf (p.failures < p'.failures) (IsTrue p.failed) e → (e ≡ reading.Damaged → ReadsLibraries p.state program → ⊥)
       → UntestedStep p (bind program base) (Refused (refusal_of_read e)) p'
   unread taken reading.Device is damaged = ((usable, record { risen = is; untested = taken; same = leads }), λ none. absurd none)
@@ -106,7 +107,7 @@ module _ {D : Type 0} (facts : D → DiskFacts) (old new : Opened D) (s : State)
   pub leads_read : Leads (phase_of facts old s) s (phase_of facts new s)
   leads_read = record { sectors = read.calls.sectors; failed = read.failed; state = refl }
 
-  -- what a step that only reads does to a registry
+  -- a step that only reads is applied to the registry
   pub applied : (answer : Reply) → UntestedStep (phase_of facts old s) (bind program base) answer (phase_of facts new s) → AppliedUntested facts old new s s (bind program base) answer
   applied answer step = record {
     step = step;

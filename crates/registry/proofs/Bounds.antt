@@ -1,4 +1,4 @@
--- How many steps a binder makes at most, and how many sectors one of them reads at most.
+-- The maximum number of steps of a binder, and of sectors that one step reads.
 use Rattle.std.proofs.Common.{◌≡◌, ℕ, zero, suc, ◌+◌, ◌-◌, ◌<◌, ◌≤◌, List, [], ◌∷◌, length, map, take, drop, get_or, sum_by, nat_eq, Option, Some}
 use Rattle.std.proofs.Common.{None, IsTrue, refl, sym, ap, subst, ◌∙◌, ⊎_elim, arith}
 use Rattle.std.specs.Prelude.{All}
@@ -27,11 +27,11 @@ use Rattle.registry.specs.inside.Binding.{Binding}
 use Rattle.registry.proofs.FilesRead.{library-at, place-above}
 use Rattle.registry.proofs.StateNames.{numbers_are, object_count}
 
--- what is read of one object
+-- the number of sectors that hold an object's file
 abbrev of_object : Named → ℕ
 of_object o = data_sectors o.file
 
--- the one at a place behind the first, if there is one
+-- if the object at place k, if there is one, has at most n sectors, so does the list of this object
 sectors_one : (order : List Named) (k : ℕ) (d : Named) (n : ℕ) → (k < length order → of_object (get_or order k d) ≤ n) → sum_by of_object (take 1 (drop k order)) ≤ n
 sectors_one order k d n each = ⊎_elim
     (λ lt.
@@ -42,7 +42,7 @@ sectors_one order k d n each = ⊎_elim
     omega (arith, ap (λ (l : List Named). sum_by of_object (take 1 l)) none))
     (cases_lt k (length order))
 
--- the first place, where places begin so
+-- if the places begin with 0, the first place is 0
 first_place : (places more : List ℕ) (k : ℕ) → take (suc k) places ≡ 0 ∷ more → get_or places 0 1 ≡ 0
 first_place [] more k e = cc
 first_place (p ∷ places) more k e = ap (λ l. get_or l 0 1) e
@@ -81,11 +81,12 @@ module _ {D : Type 0} (facts : D → DiskFacts) (taken : Opened D) (holds : IsTr
   long : length (load_order program libraries numbers) ≡ length places
   long = ap length order_is ∙ length-map places (object_at (available program libraries))
 
-  -- the program, and each library once at most
+  -- a load order has the program, and each library at most once
   most_steps : length (load_order program libraries numbers) ≤ length s.libraries + 1
   most_steps = omega (arith, long, few (length (available program libraries)) places apart, length-map s.libraries object_of)
 
-  -- what is so of each library of the state is so of each object behind the program
+  -- A property that each library of the state has is a property of each object after the program in the
+  -- load order.
   module _ (P : Library → Type 0) (each : All P s.libraries) where
     abbrev Of : Named → Type 0
     Of o = P (record { name = o.name; bytes = o.file })
@@ -118,17 +119,18 @@ module _ {D : Type 0} (facts : D → DiskFacts) (taken : Opened D) (holds : IsTr
         by [] at_each = All-nil Of
         by (o ∷ os) at_each = λ k d lt. subst Of (get_or_default os k (object_at (available program libraries) 0) d lt) (at_each k (omega (arith, lt)))
 
-  -- each library of it has no more sectors than one of the state's
+  -- if no library of the state has more than n sectors, no library of the load order has more
   most_sectors : (n : ℕ) → All (λ library. data_sectors library.bytes ≤ n) s.libraries → (going : ℕ) → sectors_at going (load_order program libraries numbers) ≤ n
   most_sectors n each zero = omega arith
   most_sectors n each (suc k) = sectors_one (load_order program libraries numbers) (suc k) (object_at (available program libraries) 0) n (at_place (λ library. data_sectors library.bytes ≤ n) each k)
 
-  -- no flight is answered Going more often
+  -- no flight has more Going steps than libraries, plus one
   steps_by : (o : Option BindRefusal) → goings_by o (load_order program libraries numbers) ≤ length s.libraries + 1
   steps_by None = most_steps
   steps_by (Some refusal) = omega arith
 
--- A flight that a binder is on is bounded: its snapshot tells that no preload is there twice.
+-- If a binder is on a flight, the flight is bounded, because the binder's snapshot shows that no preload
+-- occurs twice.
 pub bounded : {D : Type 0} (facts : D → DiskFacts) (now : Opened D) (binder : Binding) (flight : Flight) (flies : Flies facts now binder flight)
     → (IsTrue (facts flies.taken.disk).honest → HoldsNow (facts flies.taken.disk))
     → All (λ p. p < length binder.snapshot.handles) binder.snapshot.preloads → IsDistinct nat_eq binder.snapshot.preloads → IsBounded flight

@@ -1,5 +1,5 @@
--- What is needed of a load order: a name is missing among what is installed exactly where it is
--- among the libraries of the order.
+-- The needs of a load order: a name is missing among the installed libraries exactly if it is missing
+-- among the libraries of the load order.
 use Rattle.std.proofs.Common.{◌≡◌, ℕ, zero, suc, ◌+◌, ◌<◌, Bool, true, false, not, cond, List, [], ◌∷◌, length, map, take, drop, get_or, nat_eq, Option, Some, None}
 use Rattle.std.proofs.Common.{refl, sym, ap, subst, ◌∙◌, ⊎_elim, arith}
 use Rattle.std.specs.Prelude.{is_none, nat_lt}
@@ -19,9 +19,9 @@ use Rattle.scope.proofs.Apart.{distinct-level_0}
 use Rattle.scope.proofs.LevelsLemmas.{joined_levels-closed}
 use Rattle.scope.proofs.LoadOrderLemmas.{contains-map, map-contains, contains-cons, in_filter_map, place_of-is, place-name, needs-below, low-level_0, load_order-first, load_order-below, load_order-distinct}
 
--- ---- to have a place
+-- ---- names that have a place
 
--- the first of a list that passes stands before its end, where one passes
+-- if an item of a list passes a test, the first item that passes has a position in the list
 first-stands : (p : List ℕ → Bool) (xs : List (List ℕ)) (k : ℕ) (d : List ℕ) → k < length xs → p (get_or xs k d) ≡ true → position_or_len p xs < length xs
 first-stands p [] k d lt e = absurd (omega (arith, lt))
 first-stands p (x ∷ xs) k d lt e = by (p x) refl k lt e (first-stands p xs)
@@ -33,7 +33,7 @@ first-stands p (x ∷ xs) k d lt e = by (p x) refl k lt e (first-stands p xs)
     by false is zero lt e more = absurd (false≢true (sym is ∙ e))
     by false is (suc k) lt e more = omega (arith, more k d (omega (arith, lt)) e)
 
--- a name that stands among names has a place
+-- a name that is in a list of names has a place
 there : (names : List (List ℕ)) (name : List ℕ) → Contains names name → is_none (place_of names name) ≡ false
 there names name h =
     let lt : position_or_len (bytes_eq name) names < length names =
@@ -47,11 +47,11 @@ there names name h =
     by true e = refl
     by false e = absurd (false≢true e)
 
--- what has a place stands there
+-- a name that has a place is in the list of names
 stands : (names : List (List ℕ)) (name : List ℕ) (p : ℕ) → place_of names name ≡ Some p → Contains names name
 stands names name p e = let r = place_of-is names name p e in subst (Contains names) r.3 (Contains-get_or names r.0 [] r.2)
 
--- a name that stands in both or in neither
+-- if a name is in both lists or in neither, it has a place in both or in neither
 same_place : (names others : List (List ℕ)) (name : List ℕ) → (Contains names name → Contains others name) → (Contains others name → Contains names name)
     → is_none (place_of names name) ≡ is_none (place_of others name)
 same_place names others name to from = by (place_of names name) (place_of others name) refl refl
@@ -68,13 +68,13 @@ module _ (program : List ℕ) (libraries : List Named) (preloads : List ℕ) (lo
   abbrev object : ℕ → Named
   object = object_at (available program libraries)
 
-  -- the program's place is the first
+  -- the first place is the program's
   begins : (places : List ℕ) → take (length (level_0 preloads)) places ≡ level_0 preloads → places ≡ 0 ∷ drop 1 places
   begins [] e = absurd (let no : ◌≡◌ {A = List ℕ} [] (level_0 preloads) = e in cc)
   begins (x ∷ xs) e = ap (λ y. y ∷ xs) (ap (λ l. get_or l 0 1) e)
 
   module _ (rest : List ℕ) (are : load_places program libraries preloads ≡ 0 ∷ rest) where
-    -- a place behind it is another one
+    -- a place after the first isn't the program's
     above : (x : ℕ) → Contains rest x → x ≡ 0 → ⊥
     above x h is =
         let d = subst (IsDistinct nat_eq) are (load_order-distinct program libraries preloads low distinct) in
@@ -89,14 +89,14 @@ module _ (program : List ℕ) (libraries : List Named) (preloads : List ℕ) (lo
     name-installed zero some lt = absurd (some refl)
     name-installed (suc k) some lt = Contains-get_or (names_of libraries) k [] (omega (arith, lt, length-map libraries (λ (o : Named). o.name)))
 
-    -- a library of it is installed,
+    -- a library of the load order is installed
     is-installed : (name : List ℕ) → Contains (names_of (map object rest)) name → Contains (names_of libraries) name
     is-installed name h =
         let o = map-contains (λ (o : Named). o.name) (map object rest) name h in
         let x = map-contains object rest o.0 o.1 in
         subst (Contains (names_of libraries)) (ap (λ (n : Named). n.name) x.2 ∙ o.2) (name-installed x.0 (above x.0 x.1) (below x.0 x.1))
 
-    -- and one that is installed and needed by an object of it is a library of it
+    -- if an installed library is needed by an object of the load order, the library is in the load order
     is-found : (y : ℕ) (name : List ℕ) → Contains (0 ∷ rest) y → Contains (needed (file_at (available program libraries) y)) name
         → Contains (names_of libraries) name → Contains (names_of (map object rest)) name
     unfolding load_places
@@ -117,8 +117,8 @@ module _ (program : List ℕ) (libraries : List Named) (preloads : List ℕ) (lo
             (contains-map (λ (o : Named). o.name) (map object rest) (object p) (contains-map object rest p later)))
             (contains-cons p 0 rest (subst (λ l. Contains l p) are in_places))
 
-  -- A name that an object of a load order needs is missing among what is installed exactly where it is
-  -- among the order's libraries.
+  -- A name that an object of a load order needs is missing among the installed libraries exactly if it is
+  -- missing among the libraries of the order.
   pub known : (found : List Named) → load_order program libraries preloads ≡ available program found
       → (o : Named) (name : List ℕ) → Contains (load_order program libraries preloads) o → Contains (needed o.file) name
       → is_none (place_of (names_of libraries) name) ≡ is_none (place_of (names_of found) name)
@@ -133,7 +133,8 @@ module _ (program : List ℕ) (libraries : List Named) (preloads : List ℕ) (lo
       subst (λ fs. is_none (place_of (names_of libraries) name) ≡ is_none (place_of (names_of fs) name)) libs
       (same_place (names_of libraries) (names_of (map object rest)) name (is-found rest are y.0 name at_y needs_y) (is-installed rest are name))
 
-  -- the same of each need
+  -- each need of the load order's objects is missing among the installed libraries exactly if it is
+  -- missing among the libraries of the order
   pub all-known : (found : List Named) → load_order program libraries preloads ≡ available program found
       → All (λ o. All (λ need. is_missing (names_of libraries) need ≡ is_missing (names_of found) need) (needed_by o)) (load_order program libraries preloads)
   all-known found is = λ i d lt. each (get_or (load_order program libraries preloads) i d) (Contains-get_or (load_order program libraries preloads) i d lt)

@@ -1,4 +1,4 @@
--- The commit of an update, and what gives one up, are exchanges of a run.
+-- The commit of an update is an exchange of a run, and so is giving up an update.
 use Rattle.std.proofs.Common.{◌≡◌, ◌⊎◌, ℕ, inl, inr, ⊎_elim, List, [], ◌∷◌, Result, Ok, Err, All, IsTrue, refl, sym, ap, subst}
 use Rattle.std.specs.Prelude.{OnOk}
 use Rattle.std.specs.List.{list_any}
@@ -30,11 +30,12 @@ use Rattle.registry.specs.Updating.{DraftAnswers, IsUpdate, Plans, asks_change, 
 use Rattle.registry.proofs.Changed.{changed_in_words}
 use Rattle.registry.proofs.Updating.{begun_at, each_next, is_update, plans_moment}
 
--- the same of registries, where each file is a library
+-- sectors that hold a state of the store hold it as a state of a registry, if all of its files are
+-- libraries
 listed : (m : List Sector) (s : State) → All IsLibrary s.libraries → sectors.Stands m s → Stands m s
 listed m s libraries stands = record { stored = stands; libraries = libraries }
 
--- what the store answers to a commit, in the registry's words
+-- The registry's answer to a commit is the store's answer, with the registry's refusals.
 pub ok_in_words : (P : Type 0) (answer : Result (Unit {0}) StoreRefusal) → OnOk answer P → OnOk (in_words answer) P
 ok_in_words P (Ok done) h = h
 ok_in_words P (Err refusal) h = tt
@@ -48,13 +49,13 @@ pub committed_in_words : {D : Type 0} (facts : D → DiskFacts) {old new : Opene
     → Changed facts Device Reopen old new most (λ refusal. (refusal ≡ Device) ⊎ (refusal ≡ Reopen)) (in_words answer)
 committed_in_words facts answer changed = changed_in_words facts (λ refusal. (refusal ≡ Device) ⊎ (refusal ≡ Reopen)) commit_may answer changed
 
--- a draft of what stands was begun on a registry at a state
+-- an update was begun on a registry at a state: its draft is at the current state
 module _ {D : Type 0} (facts : D → DiskFacts) (old : Opened D) (s : State) (at : IsAt facts old s) (holds : IsTrue (facts old.disk).honest → HoldsNow (facts old.disk))
     (requests : List Request) (answers : List Reply) (u : Drafted D) where
   starts : IsDraftedAt facts (begun old) s s
   starts = begun_at facts s old holds at.stored
 
-  -- its requests were planned
+  -- the requests were planned: they are an update
   module _ (plans : Plans facts (begun old) u requests answers) where
     pub planned : IsUpdate facts (begun old) u s requests answers
     planned = is_update facts s (begun old) u requests answers refl starts plans
@@ -68,7 +69,7 @@ module _ {D : Type 0} (facts : D → DiskFacts) (old : Opened D) (s : State) (at
     abbrev MayLeave : List Sector → Type 0
     MayLeave m = Stands m s ⊎ Stands m to
 
-    -- and committed
+    -- the draft was committed: a stop leaves the state before or after the update
     module _ (new : Opened D)
         (left : LeavesOnly (facts u.store.disk) (facts new.disk) (λ m. sectors.Stands m s ⊎ sectors.Stands m (committed u.touched s (drafted_by s requests)))) where
       any_moment : LeavesOnly (facts old.disk) (facts new.disk) MayLeave
@@ -106,7 +107,8 @@ module _ {D : Type 0} (facts : D → DiskFacts) (old : Opened D) (s : State) (at
             },
           )
 
-  -- what stands does so still, and the draft is at some state, or a write of it failed
+  -- the disk still holds the current state, and either the draft is at some state or a write of it
+  -- failed
   abbrev Stays : Drafted D → Type 0
   Stays v = LeavesOnly (facts old.disk) (facts v.store.disk) (λ m. sectors.Stands m s) × (((d : State) × IsDraftedAt facts v s d) ⊎ IsTrue v.store.failed)
 
@@ -124,7 +126,7 @@ module _ {D : Type 0} (facts : D → DiskFacts) (old : Opened D) (s : State) (at
   stays_all mid (q ∷ qs) [] vs stays steps = absurd steps
   stays_all mid (q ∷ qs) (r ∷ rs) [] stays steps = absurd steps
 
-  -- So an update that is given up, whatever was asked of it, leaves the registry at its state.
+  -- If an update is given up, the registry stays at its state, whatever the requests were.
   pub gives_up : Run (DraftAnswers facts) (begun old) requests answers u → GivesUp facts (point old s) (point u.store s)
   gives_up run =
       let first : Stays (begun old) = (at_rest (facts old.disk) (λ m. sectors.Stands m s) (λ m mixture. (old.root, old.entries, at.stored.stands m mixture)), inl (s, starts)) in

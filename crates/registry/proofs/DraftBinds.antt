@@ -1,4 +1,4 @@
--- The files of a draft, as a bind reads them.
+-- Lemmas about a bind that reads the files of a draft.
 use Rattle.std.proofs.Common.{◌≡◌, inl, ℕ, List, length, get_or, map, sum_by, Result, Ok, Err, refl, sym, ap, subst, ◌∙◌, ⊎_elim}
 use Rattle.std.specs.Prelude.{All, IfErr}
 use Rattle.std.specs.Global.{Vec}
@@ -31,7 +31,7 @@ use Rattle.registry.proofs.Keeping.{keeps_held_read}
 use Rattle.registry.proofs.Planning.{draft_same}
 use Rattle.registry.proofs.StateNames.{names_of_entries, numbers_of}
 
--- what reading a byte string may be refused with
+-- a refusal of reading a byte string is a refusal of a read
 pub blob_refusal : {D : Type 0} {facts : D → DiskFacts} {old new : Opened D} {position : ℕ} (result : Result (Vec ℕ) StoreRefusal) → ReadsBlob Two facts old new position result
     → IfErr result (IsReadRefusal facts old new)
 blob_refusal (Ok bytes) read = tt
@@ -44,20 +44,20 @@ blob_refusal {facts = facts} {old = old} {new = new} (Err refusal) read = ⊎_el
     read.refusals
 
 module _ {D : Type 0} {facts : D → DiskFacts} where
-  -- Nothing was read,
+  -- if nothing is read, the draft's files count as read
   pub reads_none : (u : Drafted D) → ReadsBeside facts u u
   reads_none u = record { read = read_none (listing u); same = λ s d at. at; stands = refl; draft = draft_same facts u }
 
-  -- a byte string,
+  -- reading one byte string is a read of the draft's files
   pub reads_one : {old new : Drafted D} {position : ℕ} {result : Result (Vec ℕ) StoreRefusal} → ReadsDraft facts old new position result → ReadsBeside facts old new
   reads_one reads = record { read = read_one reads.read; same = reads.same; stands = reads.stands; draft = reads.draft }
 
-  -- by at most a call for each of its sectors,
+  -- reading one byte string makes at most one call for each of its sectors
   pub one_most : {old new : Drafted D} {position : ℕ} {result : Result (Vec ℕ) StoreRefusal} → ReadsDraft facts old new position result → (size : ℕ)
       → (get_or old.entries position no_entry).entry.file_length ≡ size → AreCallsAtMost (div_ceil size sector_bytes) (facts old.store.disk) (facts new.store.disk)
   one_most {old = old} {new = new} reads size is = subst (λ n. AreCallsAtMost (div_ceil n sector_bytes) (facts old.store.disk) (facts new.store.disk)) is (reads.read.calls no_entry)
 
-  -- and then more.
+  -- two reads of the draft's files, one after the other, are one read of its files
   pub reads_more : {start mid new : Drafted D} → ReadsBeside facts start mid → ReadsBeside facts mid new → ReadsBeside facts start new
   reads_more first second = record {
     read = read_more first.read second.read;
@@ -70,7 +70,7 @@ module _ {D : Type 0} {facts : D → DiskFacts} where
     };
   }
 
-  -- What stands is untouched by reading,
+  -- a read leaves the current state and the held byte strings unchanged
   pub reads_beside : {old new : Drafted D} → ReadsBeside facts old new → StaysBeside facts old new
   reads_beside {old = old} {new = new} reads = record {
     any_moment = λ s at. weaken (Mixture (facts old.store.disk)) (λ m. Stands m s) (λ m mixture. (old.store.root, old.store.entries, at.stands m mixture)) (reads.read.leaves at.honest);
@@ -80,7 +80,7 @@ module _ {D : Type 0} {facts : D → DiskFacts} where
     held = keeps_held_read facts (listing old) (listing new) reads.read;
   }
 
-  -- and the phase keeps its state.
+  -- a read leaves the draft's phase in the same state
   pub reads_lead : {old new : Drafted D} {d : State} → ReadsBeside facts old new → Leads (draft_phase facts old d) d (draft_phase facts new d)
   reads_lead reads = record { sectors = reads.read.calls.sectors; failed = reads.read.failed; state = refl }
 
@@ -92,7 +92,7 @@ module _ {D : Type 0} {facts : D → DiskFacts} where
     record { step = step; any_moment = (reads_beside reads).any_moment s at.stands; kept = inl (reads.same s d at) },
   )
 
-  -- the names of a draft at a state
+  -- the names and preloads of a draft's entries are those of its state
   pub draft_names : {u : Drafted D} {s d : State} → IsDraftedAt facts u s d → HaveOwnNames u.entries → AreNamesOf d u.entries (u.entries ≡ u.entries) u.preloads
   draft_names {u = u} {d = d} at own =
       let now : List Sector = (facts u.store.disk).now in
@@ -104,7 +104,7 @@ module _ {D : Type 0} {facts : D → DiskFacts} where
         preloads = λ inside. numbers_of now u.entries d libraries u.preloads (preloads_drafted facts at) own inside;
       }
 
--- a refusal after other readings is one of all of them
+-- the refusal of a later read is a refusal of all reads together
 pub reads_refused : {D : Type 0} {facts : D → DiskFacts} {start mid : Drafted D} (new : Drafted D) (e : StoreRefusal) → ReadsBeside facts start mid → IsDraftReadRefusal facts mid new e → IsDraftReadRefusal facts start new e
 reads_refused new e first is = refused_more (listing new) e first.read is
 

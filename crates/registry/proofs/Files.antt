@@ -1,4 +1,4 @@
--- Files of a store that are admitted one after the other.
+-- Lemmas about the files of a store, which are admitted one after the other.
 use Rattle.std.proofs.Common.{◌≡◌, ◌<◌, ◌≤◌, ℕ, ◌+◌, List, length, get_or, take, sum_by, All, IsTrue, sym, ap, subst, ◌∙◌, arith, ⊎_elim}
 use Rattle.std.proofs.lemmas.List.{get_or_default}
 use Rattle.std.proofs.lemmas.List.Sums.{sum_by_more}
@@ -24,19 +24,19 @@ pub record AdmittedSoFar (version : Version) {D : Type 0} (facts : D → DiskFac
   pub each : (s : State) → IsAtBy version facts start s → (k : ℕ) → k < position → IsLibrary (get_or s.libraries k no_library)
   pub calls : AreCallsExactly (sum_by file_sectors (take position start.entries)) (facts start.disk) (facts now.disk)
 
--- one that isn't a library
+-- if the file at `position` isn't a library, not all files are libraries
 pub one_refused : (s : State) (position : ℕ) → position < length s.libraries → (IsLibrary (get_or s.libraries position no_library) → ⊥) → All IsLibrary s.libraries → ⊥
 one_refused s position lt isnt all =
     isnt (all position no_library lt)
 
--- a library that has the name and the bytes of another
+-- a fact about a library with this name and these bytes is a fact about each library that has both
 pub same_library : (P : Library → Type 0) (name bytes : List ℕ) (l : Library) → name ≡ l.name → bytes ≡ l.bytes → P (record { name = name; bytes = bytes }) → P l
 same_library P name bytes l named is p =
     let same : ◌≡◌ {A = Library} (record { name = name; bytes = bytes }) l = λ i. record { name = named i; bytes = is i } in
     subst P same p
 
 module _ {version : Version} {D : Type 0} {facts : D → DiskFacts} where
-  -- what refuses more refuses the whole
+  -- the refusal of a later read is a refusal of all reads together
   pub refused_more : {start mid : Opened D} (new : Opened D) (e : StoreRefusal) → IsReadBy version facts start mid → IsReadRefusal facts mid new e → IsReadRefusal facts start new e
   refused_more new refusal.Device first is = omega (arith, is, first.calls.failures)
   refused_more new refusal.Reopen first is = subst IsTrue first.failed is
@@ -51,7 +51,7 @@ module _ {version : Version} {D : Type 0} {facts : D → DiskFacts} where
   refused_more new refusal.GenerationEnd first is = is
   refused_more new refusal.OldFormat first is = is
 
-  -- one file more
+  -- if one more file was read and is a library, the files up to it were admitted
   pub one_admitted : {start mid new : Opened D} {position : ℕ} → position < length start.entries → AdmittedSoFar version facts start mid position → IsReadBy version facts mid new
       → ((s : State) → IsAtBy version facts mid s → IsLibrary (get_or s.libraries position no_library))
       → ((d : PlacedEntry) → AreCallsExactly (file_sectors (get_or mid.entries position d)) (facts mid.disk) (facts new.disk))
@@ -67,7 +67,7 @@ module _ {version : Version} {D : Type 0} {facts : D → DiskFacts} where
         ∙ sym (sum_by_more file_sectors start.entries position no_entry lt));
   }
 
-  -- all of them
+  -- if the files before a position at the end were admitted, each file is a library
   pub all_admitted : {start now : Opened D} {position : ℕ} → AdmittedSoFar version facts start now position → (s : State)
       → IsAtBy version facts start s → length s.libraries ≤ position → All IsLibrary s.libraries
   all_admitted so_far s at le k d lt =

@@ -1,4 +1,4 @@
--- Files that are read one after the other as the queue of a load order is walked.
+-- Files are read one after the other while the queue of a load order is walked.
 use Rattle.std.proofs.Common.{◌≡◌, ℕ, zero, suc, ◌+◌, ◌-◌, ◌<◌, ◌≤◌, List, [], ◌∷◌, ◌++◌, length, map, take, drop, get_or, nat_eq, sum_by, Option, None}
 use Rattle.std.proofs.Common.{refl, sym, ap, subst, ◌∙◌, arith, false, append-nil}
 use Rattle.std.specs.Prelude.{All}
@@ -32,14 +32,15 @@ use Rattle.registry.specs.Untested.{ReadsLibraries}
 use Rattle.registry.specs.inside.Walked.{more_needs, walked, next_place, IsWalked}
 use Rattle.registry.specs.declared.needs.Needs.{Needs}
 
--- the program as an object, and what is needed before it was looked at
+-- the program as an object, and the needs before the program was examined
 abbrev object_of_program : List ℕ → Named
 object_of_program program = record { name = program_name; file = program }
 
 abbrev pub first_needs : ℕ → List ℕ → Needs
 first_needs limit preloads = record { places = record { limit = limit; places = level_0 preloads }; missing = None }
 
--- the first missing name after one file more
+-- the first missing name after one more file is the one noted before, or else the first one that this
+-- file needs
 missing-more : (names : List (List ℕ)) (program : List ℕ) (files : List Library) (f : Library)
     → option_or (find (is_missing names) (flat_map needed_by (available program (map object_of files)))) (find (is_missing names) (needed_by (object_of f)))
     ≡ find (is_missing names) (flat_map needed_by (available program (map object_of (files ++ f ∷ []))))
@@ -50,7 +51,7 @@ missing-more names program files f =
     ∙ ap (find (is_missing names)) (sym (flat_map-append needed_by before (object_of f ∷ [])))
     ∙ ap (λ (l : List Named). find (is_missing names) (flat_map needed_by (available program l))) (sym (map_push object_of files f))
 
--- one place more, of a queue that has grown
+-- if one more place of a queue is walked, the walked places are the earlier ones and that place
 pub walked-more : (places more : List ℕ) (count : ℕ) → count + 1 < length places → walked (grown places more) (count + 1) ≡ walked places count ++ get_or places (count + 1) 0 ∷ []
 walked-more places more count lt =
     ap (drop 1) (grown-take (count + 1 + 1) places more (omega (arith, lt)) ∙ take_more places (count + 1) 0 lt) ∙ by places (omega (arith, lt))
@@ -61,7 +62,7 @@ walked-more places more count lt =
         let e : count + 1 ≡ suc count = omega arith in
         subst (λ n. drop 1 (take n (x ∷ xs) ++ get_or places (count + 1) 0 ∷ []) ≡ drop 1 (take n (x ∷ xs)) ++ get_or places (count + 1) 0 ∷ []) (sym e) refl
 
--- a place behind the first isn't the program's
+-- a place of a queue after the first isn't the program's
 pub place-above : (places : List ℕ) (i : ℕ) → get_or places 0 1 ≡ 0 → IsDistinct nat_eq places → i + 1 < length places → 0 < get_or places (i + 1) 0
 place-above places i first distinct lt =
     let zeroth : get_or places 0 0 ≡ 0 = zero-of places first in
@@ -76,7 +77,7 @@ place-above places i first distinct lt =
     by zero some = absurd (some refl)
     by (suc k) some = omega arith
 
--- the object that a walk has come to stands at this place of the load order
+-- the object that a walk has reached is the object at this place of the load order
 pub order-at : (program : List ℕ) (libraries : List Named) (preloads places : List ℕ) (i : ℕ) → IsReached program libraries preloads places i
     → i < length places → length places ≤ length (available program libraries)
     → (more : List Named) × (load_order program libraries preloads ≡ map (object_at (available program libraries)) (take i places)
@@ -89,7 +90,7 @@ order-at program libraries preloads places i reached lt few =
     (reached-at (needs_of program libraries) (length (available program libraries)) (level_0 preloads) places i reached lt few) in
     (map object begins.more, ap (map object) begins.begins ∙ map-append object (take i places) (x ∷ begins.more))
 
--- what is so of each of a list behind a first one is so of one in it
+-- a property of all items of a list holds for the item after `front`
 one_behind : {X : Type 0} (P : X → Type 0) (front : List X) (x : X) (more : List X) → All P (front ++ x ∷ more) → P x
 one_behind P [] x more all = All-head P x more all
 one_behind P (y ∷ ys) x more all = one_behind P ys x more (All-tail P y (ys ++ x ∷ more) all)
@@ -98,7 +99,7 @@ one_of : {X : Type 0} (P : X → Type 0) (front : List X) (x : X) (more : List X
 one_of P [] x more some all = absurd (omega (arith, some))
 one_of P (y ∷ ys) x more some all = one_behind P ys x more all
 
--- what stands behind the first of a list
+-- if a list begins with a nonempty `front`, dropping its first item drops the first item of `front`
 behind_first : {X : Type 0} (front : List X) (x : X) (more : List X) → 0 < length front → drop 1 (front ++ x ∷ more) ≡ drop 1 front ++ x ∷ more
 behind_first [] x more some = absurd (omega (arith, some))
 behind_first (y ∷ ys) x more some = refl
@@ -107,7 +108,7 @@ map_behind : {X Y : Type 0} (f : X → Y) (xs : List X) → drop 1 (map f xs) �
 map_behind f [] = refl
 map_behind f (x ∷ xs) = refl
 
--- the sectors of files are those of the objects that they are
+-- files have as many sectors as the objects made from them
 sectors_of : (files : List Library) → sum_by (λ f. data_sectors f.bytes) files ≡ sum_by (λ o. data_sectors o.file) (map object_of files)
 sectors_of [] = refl
 sectors_of (f ∷ files) =
@@ -127,7 +128,7 @@ module _ (program : List ℕ) (s : State) where
   limit_is : length (available program libraries) ≡ length s.libraries + 1
   limit_is = omega (arith, count)
 
-  -- before the first file: level 0 and what the program needs
+  -- before the first file is read, the queue has level 0 and the files that the program needs
   pub none_read : (ks : List ℕ) → preload_numbers s ≡ ks → All (λ p. p < length s.libraries) ks → IsDistinct nat_eq ks
       → (needs : Needs) → needs ≡ more_needs names (first_needs (length s.libraries + 1) ks) program_name (needed program) → IsWalked program s needs []
   none_read ks numbers inside once needs is =
@@ -155,7 +156,7 @@ module _ (program : List ℕ) (s : State) where
       first-of [] e = cc
       first-of (p ∷ ps) e = ap (λ l. get_or l 0 1) e
 
-  -- the library that a place stands for
+  -- the library at a place after the program is the object at that place
   pub library-at : (p : ℕ) (f : Library) → 0 < p → p < length s.libraries + 1
       → f ≡ get_or s.libraries (p - 1) no_library → object_of f ≡ object_at (available program libraries) p
   library-at zero f some lt is = absurd (omega (arith, some))
@@ -168,7 +169,8 @@ module _ (program : List ℕ) (s : State) where
       ∙ sym (get_or-map object_of s.libraries k no_library (object_of no_library) within)
       ∙ sym (object_later (record { name = program_name; file = program }) libraries k (object_of no_library) (omega (arith, within, count)))
 
-  -- one file more
+  -- if one more file was read, its needs were added, and it was appended, the walk is still a walk of
+  -- the program
   pub one_read : {needs : Needs} {files : List Library} → IsWalked program s needs files
       → AreApart (length s.libraries + 1) needs.places.places → length files + 1 < length needs.places.places
       → (f : Library) → f ≡ get_or s.libraries (next_place needs files - 1) no_library
@@ -214,7 +216,7 @@ module _ (program : List ℕ) (s : State) where
       front [] qs first some = absurd (omega (arith, some))
       front (x ∷ ps) qs first some = ap (λ l. get_or l 0 1) (grown_is (x ∷ ps) qs) ∙ first
 
-  -- where each file that the bind reads is a library, the one that is read next is one
+  -- if each file that the bind reads is a library, so is the next file
   pub next_is_library : {needs : Needs} {files : List Library} → IsWalked program s needs files
       → AreApart (length s.libraries + 1) needs.places.places → length files + 1 < length needs.places.places
       → ReadsLibraries s program → IsLibrary (get_or s.libraries (next_place needs files - 1) no_library)
@@ -235,7 +237,7 @@ module _ (program : List ℕ) (s : State) where
       (subst (λ os. All (λ o. IsLibrary (record { name = o.name; bytes = o.file })) (drop 1 os)) ordered.1 all) in
       subst (λ (o : Named). IsLibrary (record { name = o.name; bytes = o.file })) (sym (library-at p l above below refl)) its
 
-  -- the sectors of the files that were read and of the next one are at most those of a bind
+  -- the files that were read and the next one together have at most as many sectors as the bind reads
   pub next_fits : {needs : Needs} {files : List Library} → IsWalked program s needs files
       → AreApart (length s.libraries + 1) needs.places.places → length files + 1 < length needs.places.places
       → sum_by (λ (f : Library). data_sectors f.bytes) files + data_sectors (get_or s.libraries (next_place needs files - 1) no_library).bytes ≤ bind_sectors s program
@@ -263,7 +265,7 @@ module _ (program : List ℕ) (s : State) where
         ap (λ (o : Named). data_sectors o.file) (library-at p l above below refl),
       )
 
-  -- where the files are the load order, they have the sectors of a bind
+  -- if the program and the files are the load order, the files have as many sectors as the bind reads
   pub all_fit : (files : List Library) → load_order program libraries (preload_numbers s) ≡ available program (map object_of files)
       → sum_by (λ f. data_sectors f.bytes) files ≡ bind_sectors s program
   all_fit files is = sectors_of files ∙ ap (λ (os : List Named). sum_by (λ (o : Named). data_sectors o.file) (drop 1 os)) (sym is)
@@ -273,7 +275,7 @@ module _ (program : List ℕ) (s : State) where
       let e : n + 1 ≡ length places = omega (arith, inside, outside) in
       ap (λ k. drop 1 (take k places)) e ∙ ap (drop 1) (take-length places)
 
-  -- where the queue has been walked: the program and the files are the load order
+  -- if the whole queue was walked, the program and the files are the load order
   pub all_read : {needs : Needs} {files : List Library} → IsWalked program s needs files → length needs.places.places ≤ length files + 1
       → load_order program libraries (preload_numbers s) ≡ available program (map object_of files)
   all_read {needs = needs} {files = files} so_far outside =
@@ -286,7 +288,8 @@ module _ (program : List ℕ) (s : State) where
       ∙ ap (drop 1) (sym (places-end program libraries ks needs.places.places (length files + 1) so_far.reached outside))))
       ∙ sym so_far.each)
 
-  -- and each file that the bind reads is a library, as those that were read are
+  -- if the whole queue was walked and the files are libraries, each file that the bind reads is a
+  -- library
   pub libraries_read : {needs : Needs} {files : List Library} → IsWalked program s needs files → length needs.places.places ≤ length files + 1 → All IsLibrary files
       → ReadsLibraries s program
   libraries_read {needs = needs} {files = files} so_far outside each =
@@ -297,7 +300,7 @@ module _ (program : List ℕ) (s : State) where
       by (f ∷ fs) all = All-cons (λ (o : Named). IsLibrary (record { name = o.name; bytes = o.file })) (object_of f) (map object_of fs)
           (All-head IsLibrary f fs all) (by fs (All-tail IsLibrary f fs all))
 
-  -- and the first missing name is noted
+  -- if the whole queue was walked, the first missing name is the noted one
   pub missing_read : {needs : Needs} {files : List Library} → IsWalked program s needs files → length needs.places.places ≤ length files + 1
       → missing program libraries (preload_numbers s) ≡ needs.missing
   unfolding missing

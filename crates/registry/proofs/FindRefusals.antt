@@ -1,4 +1,4 @@
--- What finding the libraries of a program refuses.
+-- The refusals of finding the libraries of a program.
 use Rattle.std.proofs.Common.{◌≡◌, refl}
 use Rattle.sector_disk.specs.Disk.{DiskFacts}
 use Rattle.store.specs.Opened.{Opened}
@@ -23,7 +23,7 @@ module _ {D : Type 0} (facts : D → DiskFacts) (old new : Opened D) where
   find_refused reading.GenerationEnd is = absurd is
   find_refused reading.OldFormat is = absurd is
 
-  -- S5 is told of a damaged file alone
+  -- the answer is S5 only if the store found a damaged file
   pub read_damaged : (e : StoreRefusal) → IsReadRefusal facts old new e → refusal_of_read e ≡ Damaged → e ≡ reading.Damaged
   read_damaged reading.Device is h = cc
   read_damaged reading.Reopen is h = cc

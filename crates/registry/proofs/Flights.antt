@@ -1,4 +1,4 @@
--- Binders on their flights, by what their walks have found.
+-- Lemmas about binders on their flights, given the findings of their walks.
 use Rattle.std.proofs.Common.{◌≡◌, ℕ, suc, ◌+◌, ◌-◌, ◌<◌, ◌≤◌, List, [], ◌∷◌, ◌++◌, length, map, take, drop, get_or, sum_by, Option, Some, None}
 use Rattle.std.proofs.Common.{Result, Ok, Err, IsTrue, IsFalse, Bor, inl, inr, ⊎_elim, refl, sym, ap, subst, ◌∙◌, arith}
 use Rattle.std.specs.Prelude.{◌⊎◌, ◌↔◌, All, IfErr, IfOk}
@@ -58,7 +58,7 @@ use Rattle.registry.proofs.FilesRead.{all_read, missing_read, order-at, place-ab
 use Rattle.registry.proofs.Keeping.{keeps_held_read, keeps_held_same}
 use Rattle.registry.proofs.StateNames.{names_are, numbers_are, object_count}
 
--- the flight of a binder by its own program and base
+-- the flight with the binder's own program and base
 abbrev pub own_flight : Binding → State → ℕ → Flight
 own_flight binder s going = record { program = binder.program; base = binder.base; state = s; going = going }
 
@@ -66,7 +66,8 @@ module _ {D : Type 0} (facts : D → DiskFacts) {now : Opened D} {binder : Bindi
   pub own_is : own_flight binder flight.state flight.going ≡ flight
   own_is = λ i. record { program = flies.program i; base = flies.base i; state = flight.state; going = flight.going }
 
-  -- its snapshot offers what the registry had when it was begun
+  -- the snapshot of a binder offers the libraries and preloads that the registry had when the binder was
+  -- begun
   pub flies_offers : (IsTrue (facts flies.taken.disk).honest → HoldsNow (facts flies.taken.disk)) → (snapshot : Bor Taken) → snapshot.now ≡ binder.snapshot
       → Offers facts (Held snapshot) flies.taken.entries flight.state now
   flies_offers holds snapshot same =
@@ -81,11 +82,11 @@ module _ {D : Type 0} (facts : D → DiskFacts) {now : Opened D} {binder : Bindi
         files = subst (λ (k : Taken). IsTrue (facts now.disk).honest × AreHeldAs facts now k.handles s.libraries) (sym same) (flies.snapshot.libraries s flies.at.stored);
       }
 
-  -- Reading keeps its snapshot.
+  -- A read keeps the snapshot of a binder.
   pub snapshot_read : (new : Opened D) → IsRead facts now new → IsSnapshotOf facts flies.taken new binder.snapshot
   snapshot_read new read = snapshot_kept facts flies.snapshot (keeps_held_read facts now new read) (λ honest. subst IsTrue (sym read.calls.honest) honest)
 
-  -- It stays on its flight where its snapshot stays one:
+  -- A binder stays on its flight if its snapshot remains valid.
   pub flies_with : {new : Opened D} → IsSnapshotOf facts flies.taken new binder.snapshot → Flies facts new binder flight
   flies_with snapshot = record {
     taken = flies.taken;
@@ -98,42 +99,43 @@ module _ {D : Type 0} (facts : D → DiskFacts) {now : Opened D} {binder : Bindi
     come = flies.come;
   }
 
-  -- as something is read,
+  -- a binder stays on its flight when something is read
   pub flies_read : (new : Opened D) → IsRead facts now new → Flies facts new binder flight
   flies_read new read = flies_with (snapshot_read new read)
 
-  -- as what is held is kept,
+  -- a binder stays on its flight when an operation keeps the held byte strings
   pub flies_kept : (new : Opened D) → KeepsHeld facts now new → (IsTrue (facts now.disk).honest → IsTrue (facts new.disk).honest) → Flies facts new binder flight
   flies_kept new keeps honest = flies_with (snapshot_kept facts flies.snapshot keeps honest)
 
-  -- as another is begun,
+  -- a binder stays on its flight when another binder is begun
   pub flies_beside : (new : Opened D) {result : Result Taken StoreRefusal} → Takes facts now new result → Flies facts new binder flight
   flies_beside new takes = flies_with (snapshot_beside facts flies.snapshot takes)
 
-  -- and as others are ended
+  -- a binder stays on its flight when another binder is ended, if its byte strings still have holders
   pub flies_left : (new : Opened D) (handles : List ℕ) → LetsAllGo facts now new handles
       → ((i : ℕ) → i < length binder.snapshot.handles → 0 < holders_of new.held (get_or binder.snapshot.handles i 0)) → Flies facts new binder flight
   flies_left new handles gone still = flies_with (snapshot_left facts flies.snapshot gone still)
 
--- a load order has the program
+-- a load order isn't empty, because it has the program
 order_some : (program : List ℕ) (s : State) → 0 < length (load_order program (objects s) (preload_numbers s))
 order_some program s = omega (arith, ap length (order-whole program (objects s) (preload_numbers s)))
 
--- a step that makes no call reads no more than its sectors
+-- a step that makes no call makes at most any number of calls
 pub quiet : {D : Type 0} (facts : D → DiskFacts) (store : Opened D) (most : ℕ) → AreCallsAtMost most (facts store.disk) (facts store.disk)
 quiet facts store most = exactly_at_most (exactly_none (facts store.disk)) (omega arith)
 
--- what is taken behind so many
+-- if `front` has k items, the item after the first k items of the list is x
 one_behind : {X : Type 0} (front : List X) (x : X) (more : List X) (k : ℕ) → length front ≡ k → (k < length (front ++ x ∷ more)) × (take 1 (drop k (front ++ x ∷ more)) ≡ x ∷ [])
 one_behind front x more k size =
     (omega (arith, size, length-append front (x ∷ more)), subst (λ n. take 1 (drop n (front ++ x ∷ more)) ≡ x ∷ []) size (ap (take 1) (drop-append_seam front (x ∷ more))))
 
 module _ {D : Type 0} (facts : D → DiskFacts) (now : Opened D) (binder : Binding) (s : State) (accepted : program_refusal binder.program binder.base ≡ None) where
-  -- where no test refuses the program by itself it goes on as long as its load order
+  -- if no test refuses the program by itself, the number of Going steps is the number of objects in the
+  -- load order
   pub goings_are : (going : ℕ) → goings (own_flight binder s going) ≡ length (load_order binder.program (objects s) (preload_numbers s))
   goings_are going = ap (λ o. goings_by o (load_order binder.program (objects s) (preload_numbers s))) accepted
 
--- a binder that has found this
+-- the binder with these findings of its walk
 abbrev pub with_found : Binding → Needs → List Library → Binding
 with_found binder needs files = record {
   program = binder.program;
@@ -149,7 +151,7 @@ module _ {D : Type 0} (facts : D → DiskFacts) (now : Opened D) (before : Bindi
   abbrev first_order : List Named
   first_order = load_order before.program (objects flight.state) (preload_numbers flight.state)
 
-  -- The first step is answered Going,
+  -- if no test refuses the program by itself, the first step is answered with Going
   pub started : (needs : Needs) (files : List Library) → program_refusal before.program before.base ≡ None → files ≡ [] → IsWalked before.program flight.state needs files
       → IsStep facts now now flight (with_found before needs files) (Ok Going)
   started needs files accepted none walked =
@@ -169,7 +171,7 @@ module _ {D : Type 0} (facts : D → DiskFacts) (now : Opened D) (before : Bindi
         subst (λ (k : ℕ). AreCallsExactly k (facts now.disk) (facts now.disk)) (sym none_read) (exactly_none (facts now.disk)),
       )
 
-  -- or the answer, where a test refuses the program by itself
+  -- if a test refuses the program by itself, the first step is answered with the bind's answer
   stopped : (e : BindRefusal) → program_refusal before.program before.base ≡ Some e → binding_refusal flight.state before.program before.base ≡ Some e
       → IsStep facts now now flight before (Ok (Final (Refused (Bind e))))
   stopped e refused is =
@@ -196,14 +198,14 @@ module _ {D : Type 0} (facts : D → DiskFacts) (old : Opened D) (before : Bindi
   come : (program_refusal before.program before.base ≡ None) × IsWalked before.program flight.state needs files × (flight.going ≡ length files + 1)
   come = subst (λ (o : Option Found). HasCome flight.state before.program before.base o flight.going) found flies.come
 
-  -- its program takes memory to be admitted
+  -- admitting the program allocates memory
   its_memory : WantsMemory flight.program
   its_memory = subst WantsMemory flies.program (memory before.program before.base come.0)
 
   all_goings : goings (own_flight before flight.state flight.going) ≡ length order
   all_goings = goings_are facts old before flight.state come.0 flight.going
 
-  -- A step that reads the next file
+  -- The step reads the next file.
   module _ (new : Opened D) (read : IsRead facts old new) (apart : AreApart needs.places.limit needs.places.places) (lt : length files + 1 < length needs.places.places) where
     abbrev place : ℕ
     place = next_place needs files
@@ -223,7 +225,7 @@ module _ {D : Type 0} (facts : D → DiskFacts) (old : Opened D) (before : Bindi
     above : 0 < place
     above = place-above needs.places.places (length files) come.1.among.places.first apart.distinct lt
 
-    -- it is a library,
+    -- the next file is a library
     pub next_library : IsLibrary (get_or flight.state.libraries (place - 1) no_library)
     next_library =
         All-get_or IsLibrary flight.state.libraries (place - 1) no_library
@@ -239,7 +241,7 @@ module _ {D : Type 0} (facts : D → DiskFacts) (old : Opened D) (before : Bindi
         subst (λ (l : List Named). (suc (length files) < length l) × (take 1 (drop (suc (length files)) l) ≡ object_at (available before.program libraries) place ∷ [])) (sym reached.1)
         (one_behind front (object_at (available before.program libraries) place) reached.0 (suc (length files)) long)
 
-    -- reads as many sectors as that takes,
+    -- the sectors that the step reads are those of the next file
     sectors : (file : Library) → file ≡ get_or flight.state.libraries (place - 1) no_library → step_sectors (own_flight before flight.state flight.going) ≡ data_sectors file.bytes
     sectors file is =
         let e : flight.going ≡ suc (length files) = omega (arith, come.2) in
@@ -252,14 +254,14 @@ module _ {D : Type 0} (facts : D → DiskFacts) (old : Opened D) (before : Bindi
         omega (arith, sum_by-cons (λ (o : Named). data_sectors o.file) (object_at (available before.program libraries) place) []) in one)
         ∙ ap (λ (o : Named). data_sectors o.file) (sym object)
 
-    -- as its entry tells too,
+    -- the next file's entry has the number of sectors that the step reads
     sectors_told : file_sectors (get_or flies.taken.entries (place - 1) no_entry) ≡ step_sectors flight
     sectors_told =
         ap (λ n. div_ceil n sector_bytes) (flies.lengths (place - 1) no_entry (omega (arith, within, above, count, object_count facts flies.taken flight.state holds flies.at.stored)))
         ∙ sym (sectors (get_or flight.state.libraries (place - 1) no_library) refl)
         ∙ ap (λ f. step_sectors f) (own_is facts flies)
 
-    -- and is answered Going,
+    -- if the next file was read and its needs were added, the step is answered with Going
     pub gone_on : (file : Library) → file ≡ get_or flight.state.libraries (place - 1) no_library → (more : Needs) (all : List Library) → all ≡ files
         ++ file ∷ [] → IsWalked before.program flight.state more all
         → AreCallsExactly (data_sectors file.bytes) (facts old.disk) (facts new.disk) → IsStep facts old new flight (with_found before more all) (Ok Going)
@@ -279,7 +281,7 @@ module _ {D : Type 0} (facts : D → DiskFacts) (old : Opened D) (before : Bindi
           subst (λ (k : ℕ). AreCallsExactly k (facts old.disk) (facts new.disk)) (sym (sectors file is)) calls,
         )
 
-    -- or reading is refused, and the binder is where it was.
+    -- If the read is refused, the binder stays where it was.
     module _ (calls : AreCallsAtMost (file_sectors (get_or flies.taken.entries (place - 1) no_entry)) (facts old.disk) (facts new.disk)) where
       again : Flies facts new before flight × AreCallsAtMost (step_sectors flight) (facts old.disk) (facts new.disk)
       again = (flies_read facts flies new read, subst (λ n. AreCallsAtMost n (facts old.disk) (facts new.disk)) sectors_told calls)
@@ -298,7 +300,7 @@ module _ {D : Type 0} (facts : D → DiskFacts) (old : Opened D) (before : Bindi
       unread_on reading.GenerationEnd is intact = absurd is
       unread_on reading.OldFormat is intact = absurd is
 
-  -- Where no file is left, the step is answered as the bind is.
+  -- If no file is left, the step is answered with the answer of the bind.
   module _ (outside : length needs.places.places ≤ length files + 1) where
     ordered : order ≡ available before.program (map object_of files)
     ordered = all_read before.program flight.state come.1 outside
@@ -338,7 +340,7 @@ module _ {D : Type 0} (facts : D → DiskFacts) (old : Opened D) (before : Bindi
     refused_at_last binding.NoRoom (inr wants) = absurd cc
     refused_at_last (binding.Undefined object symbol) (inr wants) = absurd cc
 
--- A binder is not begun: nothing changes.
+-- If a binder isn't begun, nothing changes.
 pub not_begun : {D : Type 0} (facts : D → DiskFacts) (store : Opened D) (program : List ℕ) (base : ℕ) → AreFlagged store → (e : Refusal)
     → ((e ≡ Reopen) ↔ IsTrue store.failed) → (e ≡ Reopen) ⊎ (e ≡ OutOfMemory)
     → Begins facts store store program base (Err e)
@@ -360,7 +362,7 @@ not_begun facts store program base flags e reopen refusals = record {
     err_is is = cc
 
 module _ {D : Type 0} (facts : D → DiskFacts) (old new : Opened D) (program : List ℕ) (base : ℕ) where
-  -- It is begun where a snapshot is taken,
+  -- If a snapshot is taken, the binder is begun.
   pub is_begun : (snapshot : Taken) → HaveOwnNames old.entries → ((s : State) → stored.IsAt facts old s → TellLengths old.entries s)
       → Takes facts old new (Ok snapshot) → (copy : List ℕ) → copy ≡ program
       → Begins facts old new program base (Ok (record { program = copy; base = base; snapshot = snapshot; found = None }))
@@ -390,7 +392,7 @@ module _ {D : Type 0} (facts : D → DiskFacts) (old new : Opened D) (program : 
       taken_failed : ◌≡◌ {A = Result Taken StoreRefusal} (Ok snapshot) (Err reading.Reopen) → ⊥
       taken_failed is = absurd cc
 
-  -- and refused as that is
+  -- if the snapshot is refused, the binder is refused
   pub isnt_begun : (e : StoreRefusal) → Takes facts old new (Err e) → Begins facts old new program base (Err (refusal_of_read e))
   isnt_begun e takes = record {
     ok = λ s at. tt;
@@ -423,7 +425,7 @@ module _ {D : Type 0} (facts : D → DiskFacts) (old new : Opened D) (program : 
       back reading.GenerationEnd is = absurd cc
       back reading.OldFormat is = absurd cc
 
-  -- A binder is ended.
+  -- If the handles of a binder are released, the binder is ended.
   pub is_ended : (binder : Binding) → LetsAllGo facts old new binder.snapshot.handles → Ends facts old new binder
   is_ended binder gone = record {
     let_go = gone;
@@ -431,7 +433,7 @@ module _ {D : Type 0} (facts : D → DiskFacts) (old new : Opened D) (program : 
     others = λ other flight still flies. flies_left facts flies new binder.snapshot.handles gone still;
   }
 
-  -- A step was made, which only reads.
+  -- A step that only reads is a step of the binder.
   pub has_advanced : (before after : Binding) (result : Result Step Refusal) → IsFalse old.failed → IsRead facts old new → Stays before after
       → ((flight : Flight) → Flies facts old before flight → IsStep facts old new flight after result)
       → ((flight : Flight) → Flies facts old before flight → IsBounded flight) → IfErr result (IsStepRefusal facts old new)
@@ -454,7 +456,7 @@ module _ {D : Type 0} (facts : D → DiskFacts) (old new : Opened D) (program : 
     calls = read.calls;
   }
 
--- None was made.
+-- If a write or a sync failed before, no step is made, and the answer is S2.
 pub hasnt_advanced : {D : Type 0} (facts : D → DiskFacts) (store : Opened D) (binder : Binding) → IsTrue store.failed → ((flight : Flight) → Flies facts store binder flight → IsBounded flight)
     → Advances facts store store binder binder (Err Reopen)
 hasnt_advanced facts store binder failed bounds =

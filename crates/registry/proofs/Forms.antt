@@ -1,4 +1,4 @@
--- What a library's name and file are, in the words of the store.
+-- A library's name is a valid name for the store, and its file has a valid size.
 use Rattle.std.proofs.Common.{◌≡◌, ◌≤◌, ℕ, Bool, true, false, List, length, Option, Some, None, refl, subst, nat_lt, ◌==◌, arith}
 use Rattle.std.specs.Prelude.{◌&&◌, not, nat_le}
 use Rattle.std.specs.Int.{IsInRange}
@@ -26,7 +26,7 @@ header_there : (file : List ℕ) → first_refusal file ≡ None → is_too_shor
 unfolding first_refusal
 header_there file h = when_none TooShort (is_too_short file) (none_at (object_tests file) 0 h)
 
--- a library's file has a header, and 16 MiB at most
+-- a library's file has a header, and at most 16 MiB
 pub file_size : (l : Library) → IsLibrary l → IsFileSize (length l.bytes)
 file_size l is =
     let some = header_there l.bytes (object_taken l.bytes (file_taken l.bytes is.accepted)) in
@@ -62,7 +62,7 @@ soname_fine : (file : List ℕ) → library_refusal file ≡ None → has_bad_so
 unfolding library_refusal
 soname_fine file h = when_none (Object BadSoname) (has_bad_soname file) (none_at (library_tests file) 1 h)
 
--- a library's name can be one of the store
+-- a library's name is a valid name for the store
 pub is_name : (l : Library) → IsLibrary l → IsName l.name
 unfolding has_bad_soname
 is_name l is = by (soname l.bytes) is.named (soname_fine l.bytes is.accepted)

@@ -1,4 +1,4 @@
--- What is needed grows.
+-- Lemmas about the needs of a walk, which only grow.
 use Rattle.std.proofs.Common.{◌≡◌, ◌+◌, ◌<◌, ◌≤◌, ◌++◌, ℕ, false, is_err, List, [], ◌∷◌, length, take, drop, get_or, Option, Some, None, Result, Ok, Err, refl, sym, ap, ◌∙◌, arith}
 use Rattle.std.specs.Prelude.{OnOk, OnErr, is_some, true}
 use Rattle.std.proofs.Math.Seq.{take-length}
@@ -9,16 +9,16 @@ use Rattle.registry.specs.declared.needs.Needs.{Needs}
 use Rattle.states.specs.State.{Library}
 use Rattle.registry.specs.inside.Walked.{Grows, IsAmong}
 
--- what follows where it went well and where it was refused
+-- a fact that follows from `Ok` and from `Err` is true in any case
 pub on_either : {T E : Type 0} (r : Result T E) {P Q R : Type 0} → OnOk r P → OnErr r Q → (P → R) → (Q → R) → R
 on_either (Ok t) p q well refused = well p
 on_either (Err e) p q well refused = refused q
 
--- what stays as it was grows
+-- unchanged needs have grown
 pub grows_none : (needs : Needs) → Grows needs needs
 grows_none needs = record { limit = refl; begins = take-length needs.places.places; missing = λ need is. is }
 
--- and then it grows again
+-- needs that grew twice have grown
 pub grows_more : (old mid new : Needs) → Grows old mid → Grows mid new → Grows old new
 grows_more old mid new first second = record {
   limit = second.limit ∙ first.limit;
@@ -34,7 +34,7 @@ grows_more old mid new first second = record {
         let head : z ≡ x = ap (λ l. get_or l 0 z) second ∙ ap (λ l. get_or l 0 z) first in
         ap (λ l. z ∷ l) (begins_more a b c (ap (drop 1) first) (ap (drop 1) second)) ∙ ap (λ h. h ∷ a) head
 
--- what was noted stays
+-- a name that was noted stays noted
 pub noted : (old new : Needs) → Grows old new → is_some old.missing ≡ true → new.missing ≡ old.missing
 noted old new grows some = by old.missing refl
   where
@@ -42,7 +42,7 @@ noted old new grows some = by old.missing refl
     by None is = absurd cc
     by (Some need) is = grows.missing need is ∙ sym is
 
--- what was added is taken off again
+-- if the places that were added are removed again, the needs are the old ones
 pub taken_off : (old mid : Needs) (places : Queue) (missing : Option Need) (count : ℕ) → Grows old mid → count ≡ length old.places.places
     → places ≡ record { limit = mid.places.limit; places = take count mid.places.places } → missing ≡ old.missing → ◌≡◌ {A = Needs} (record { places = places; missing = missing }) old
 taken_off old mid places missing count grows counted shorter same =
@@ -51,12 +51,12 @@ taken_off old mid places missing count grows counted shorter same =
     let whole : places ≡ old.places = shorter ∙ back in
     (λ i. record { places = whole i; missing = same i })
 
--- no name was noted
+-- if no name is noted, the missing name is None
 pub unnoted : (missing : Option Need) → false ≡ is_some missing → None ≡ missing
 unnoted None is = refl
 unnoted (Some need) is = cc
 
--- what is so anyway is so where it was refused, and what was refused went not well
+-- a fact that is true in any case is true if the result is a refusal; and a refusal isn't a success
 pub if_refused : {T E : Type 0} {P : Type 0} (r : Result T E) → P → OnErr r P
 if_refused (Ok t) p = tt
 if_refused (Err e) p = p
@@ -65,7 +65,7 @@ pub not_well : {T E : Type 0} (P : Type 0) (r : Result T E) → true ≡ is_err 
 not_well P (Ok t) is = cc
 not_well P (Err e) is = tt
 
--- a walk that has read a file of its queue is among as many files
+-- if a walk reads one more file of its queue, it is still a walk among the same number of files
 pub still_among : {count : ℕ} {old new : Needs} {files more : List Library} (file : Library) → IsAmong count old files → Grows old new
     → length files + 1 < length old.places.places → more ≡ files ++ file ∷ [] → IsAmong count new more
 still_among {old = old} {new = new} {files = files} file among grows next behind = record {

@@ -1,4 +1,4 @@
--- What commands keep of held byte strings.
+-- Commands keep held byte strings.
 use Rattle.std.proofs.Common.{List, [], ◌∷◌, IsTrue, refl, sym, subst, ◌∙◌}
 use Rattle.sector_disk.specs.Disk.{DiskFacts, Mixture, AreCalls}
 use Rattle.sector_disk.proofs.Moments.{left_now}
@@ -11,17 +11,17 @@ use Rattle.registry.specs.Answered.{AreAnswered}
 use Rattle.store.specs.IsRead.{IsRead}
 
 module _ {D : Type 0} (facts : D → DiskFacts) where
-  -- what does nothing keeps all that is held,
+  -- a call that changes nothing keeps the held byte strings
   pub keeps_held_same : (s : Opened D) → KeepsHeld facts s s
   keeps_held_same s = keeps_same facts {old = s} {view = s} refl
 
-  -- and so does what only reads,
+  -- a call that only reads keeps the held byte strings
   pub keeps_held_read : (old new : Opened D) → IsRead facts old new → KeepsHeld facts old new
   keeps_held_read old new read =
       subst (KeepsHolders (facts old.disk) (facts new.disk) old.held) (sym read.held)
       (keeps_reads old.held (λ honest. left_now (Mixture (facts old.disk)) (read.leaves honest)))
 
-  -- and then what keeps it again
+  -- two calls that keep the held byte strings keep them when made one after the other
   pub keeps_held_more : (old mid new : Opened D) → AreCalls (facts old.disk) (facts mid.disk) → KeepsHeld facts old mid → KeepsHeld facts mid new → KeepsHeld facts old new
   keeps_held_more old mid new calls first second = record {
     holders = λ sector. second.holders sector ∙ first.holders sector;
@@ -33,7 +33,7 @@ module _ {D : Type 0} (facts : D → DiskFacts) where
     none = λ none. second.none (first.none none);
   }
 
-  -- Commands that are answered one after the other keep it from the first to the last.
+  -- Commands that are answered one after the other keep the held byte strings.
   pub keeps_held_answered : (old new : Opened D) (qs : List Request) (rs : List Reply) → AreAnswered facts old new qs rs → KeepsHeld facts old new
   keeps_held_answered old new [] [] same = keeps_same facts same
   keeps_held_answered old new (q ∷ qs) (r ∷ rs) (mid, first, rest) = keeps_held_more old mid new first.did.calls first.did.held (keeps_held_answered mid new qs rs rest)

@@ -1,4 +1,4 @@
--- What an opening finds, and where it stands for no state of a registry.
+-- Lemmas about what an opening finds, and about sectors that hold no state of a registry.
 use Rattle.std.proofs.Common.{◌≡◌, ◌≢◌, ◌<◌, ◌⊎◌, inl, inr, ⊎_elim, List, [], length, All, IsTrue, IsFalse, Result, Ok, Err, IfOk, refl, sym, subst, ◌∙◌, arith}
 use Rattle.std.specs.Prelude.{IfErr, MatchResult}
 use Rattle.std.proofs.lemmas.List.Elements.{All-nil}
@@ -25,12 +25,12 @@ use Rattle.registry.specs.Opened.{IsAt}
 use Rattle.registry.specs.Stands.{Stands, StandsOld, StandsEither}
 use Rattle.registry.specs.inside.Reading.{IsReadRefusal}
 
--- an empty store is an empty registry
+-- a stop that leaves an empty store leaves an empty registry
 pub either_empty : {old new : DiskFacts} → LeavesOnly old new (λ m. Mixture old m ⊎ sectors.Stands m empty_state) → LeavesOnly old new (λ m. Mixture old m ⊎ Stands m empty_state)
 either_empty {old = old} leaves = weaken (λ m. Mixture old m ⊎ sectors.Stands m empty_state) (λ m. Mixture old m ⊎ Stands m empty_state)
     (λ m. ⊎_elim (λ mixture. inl mixture) (λ stands. inr (record { stored = stands; libraries = All-nil IsLibrary }))) leaves
 
--- and so is one that is made
+-- a store that was made empty is an empty registry
 pub made_empty : {D : Type 0} (facts : D → DiskFacts) (disk : D) (making : Result (opened.Opened D) (StoreRefusal × D))
     → Makes sectors.Stands facts (opened.IsAt facts) disk making → Makes Stands facts (IsAt facts) disk making
 made_empty facts disk making store = record {
@@ -44,11 +44,11 @@ made_empty facts disk making store = record {
   log = store.log;
 }
 
--- what leaves nothing new, and then what leaves nothing new
+-- if two calls leave only what a stop could leave before, so do both together
 pub leaves_then : {old mid new : DiskFacts} → LeavesOnly old mid (Mixture old) → LeavesOnly mid new (Mixture mid) → LeavesOnly old new (Mixture old)
 leaves_then {old = old} {mid = mid} first second = goes_on (Mixture old) first (weaken (Mixture mid) (Mixture old) (left_now (Mixture old) first) second)
 
--- two facts of a result make one
+-- if two facts imply a third, and both hold for a result, so does the third
 pub ok_both : {A B : Type 0} (P Q R : A → Type 0) (result : Result A B) → ((a : A) → P a → Q a → R a) → IfOk result P → IfOk result Q → IfOk result R
 ok_both P Q R (Ok a) make p q = make a p q
 ok_both P Q R (Err e) make p q = tt
@@ -57,12 +57,12 @@ pub err_both : {A B : Type 0} (P Q R : B → Type 0) (result : Result A B) → (
 err_both P Q R (Ok a) make p q = tt
 err_both P Q R (Err e) make p q = make e p q
 
--- what is said of the disk that is handed back is said of it at each refusal
+-- a fact about the disk that is handed back holds for each refusal other than S1
 pub of_refused : {D : Type 0} (P : D → Type 0) (result : Result (opened.Opened D) (StoreRefusal × D)) → P (opened.disk_after result) → IfErr result (λ e. e.0 ≢ refusal.Device → P e.1)
 of_refused P (Ok store) holds = tt
 of_refused P (Err e) holds = λ other. holds
 
--- what is said of both results is said of the result
+-- if P holds for an Ok result and Q for a refusal, the fact about the result that combines both holds
 pub either_result : {A B : Type 0} (P : A → Type 0) (Q : B → Type 0) (result : Result A B) → IfOk result P → IfErr result Q → MatchResult result P Q
 either_result P Q (Ok a) ok err = ok
 either_result P Q (Err e) ok err = err
@@ -82,15 +82,16 @@ module _ {D : Type 0} (facts : D → DiskFacts) (old new : opened.Opened D) wher
   read_refuses refusal.GenerationEnd is usable = absurd is
   read_refuses refusal.OldFormat is usable = absurd is
 
-  -- and where the device failed it did so now
+  -- if a read is refused with S1, a call failed during it
   pub device_rose : (e : StoreRefusal) → IsReadRefusal facts old new e → e ≡ refusal.Device → (facts old.disk).failures < (facts new.disk).failures
   device_rose e is same = subst (IsReadRefusal facts old new) same is
 
--- a library for each file of a state leaves the device and memory to refuse
+-- if each file of a state is a library, the only refusals left are S1 and S11
 pub libraries_refuse : (e : StoreRefusal) → (e ≡ refusal.Device) ⊎ (e ≡ refusal.Damaged) ⊎ (e ≡ refusal.OutOfMemory) → (e ≡ refusal.Damaged → ⊥) → (e ≡ refusal.Device) ⊎ (e ≡ refusal.OutOfMemory)
 libraries_refuse e which intact = ⊎_elim (λ is. inl is) (λ rest. ⊎_elim (λ is. absurd (intact is)) (λ is. inr is) rest) which
 
--- Sectors with a file that is no library stand for no state of a registry, by either rules.
+-- If a file of the state that sectors hold isn't a library, the sectors hold no state of a registry,
+-- neither by the new rules nor by the old ones.
 module _ (m : List Sector) (version : Version) (t : State) (stands : sectors.StandsAs version m t) (none : All IsLibrary t.libraries → ⊥) where
   pub no_state : (other : Version) (s : State) → sectors.StandsAs other m s → All IsLibrary s.libraries → ⊥
   no_state other s is libraries = none (subst (λ x. All IsLibrary x.libraries) (sectors_lemmas.one_state m other version s t is stands) libraries)
@@ -111,7 +112,7 @@ module _ (m : List Sector) (version : Version) (t : State) (stands : sectors.Sta
   has_root : HasCurrentRoot m
   has_root = (stands.0, stands.2.intact.current, stands.2.intact.size)
 
-  -- what a look refuses after the store was seen
+  -- the refusals that are possible after a look has read the store are refusals of a look
   pub refuses_seen : (e : StoreRefusal) → (e ≡ refusal.Device) ⊎ (e ≡ refusal.Damaged) ⊎ (e ≡ refusal.OutOfMemory) → IsGeometry (length m)
       → (e ≡ refusal.Damaged → All IsLibrary t.libraries → ⊥) → RefusesLook StandsEither m e
   refuses_seen e which geometry damaged = record {
@@ -122,7 +123,7 @@ module _ (m : List Sector) (version : Version) (t : State) (stands : sectors.Sta
     memory = λ is. has_root;
   }
 
--- what is refused after the store was opened
+-- the refusals that are possible after the store was opened are refusals of an opening
 pub refuses_files : (m : List Sector) (t : State) (e : StoreRefusal) → sectors.Stands m t → (e ≡ refusal.Device) ⊎ (e ≡ refusal.Damaged)
     ⊎ (e ≡ refusal.OutOfMemory) → IsGeometry (length m) → (e ≡ refusal.Damaged → All IsLibrary t.libraries → ⊥) → RefusesOpen Stands m e
 refuses_files m t e stands which geometry damaged = record {
@@ -130,17 +131,17 @@ refuses_files m t e stands which geometry damaged = record {
   only_old = λ fits old. absurd (of_version m stands.0 stands.2.intact.current stands.2.of_version old);
 }
 
--- what opening the store refuses
+-- the refusals of opening the store are refusals of opening the registry
 pub refuses_store : (m : List Sector) (e : StoreRefusal) → RefusesOpen sectors.Stands m e → RefusesOpen Stands m e
 refuses_store m = refuses_fewer_open Stands sectors.Stands m (λ s stands. stands.stored)
 
--- and what a look refuses
+-- the refusals of a look at the store are refusals of a look at the registry
 pub refuses_look : (m : List Sector) (e : StoreRefusal) → RefusesLook sectors.StandsEither m e → RefusesLook StandsEither m e
 refuses_look m = refuses_fewer StandsEither sectors.StandsEither m (λ s. ⊎_elim (λ stands. inl stands.stored) (λ stands. inr stands.stored))
 
--- The registry that is opened by testing each file, by what opening the store did
+-- A registry is opened, and each of its files is tested.
 module _ {D : Type 0} (facts : D → DiskFacts) (disk : D) where
-  -- and refused,
+  -- If opening the store was refused, opening the registry is refused.
   pub opens_refused : (e : StoreRefusal × D) → Opens sectors.Stands facts (opened.IsAt facts) disk (Err e) → Opens Stands facts (IsAt facts) disk (Err e)
   opens_refused e store = record {
     any_moment = store.any_moment;
@@ -151,7 +152,7 @@ module _ {D : Type 0} (facts : D → DiskFacts) (disk : D) where
     refused = λ honest. refuses_store (facts disk).now e.0 (store.refused honest);
   }
 
-  -- or by what admitting its files did.
+  -- If the store was opened, its files are admitted or refused.
   module _ (store : opened.Opened D) (is : Opens sectors.Stands facts (opened.IsAt facts) disk (Ok store)) (any : OpensOnAnyDisk facts disk (Ok store))
       (result : Result (opened.Opened D) (StoreRefusal × D)) where
     still : IsTrue (facts disk).honest → IsTrue (facts store.disk).honest
@@ -186,7 +187,7 @@ module _ {D : Type 0} (facts : D → DiskFacts) (disk : D) where
             err_both _ _ _ result (λ e which isnt. refuses_files (facts disk).now found.0 e.0 found.1 which geometry isnt) refusals (damaged found.0 found.2);
       }
 
-    -- the same on any disk
+    -- The following holds on any disk.
     module _ (usable : IfOk result (λ registry. IsFalse registry.failed))
         (unheld : IfOk result (λ registry. registry.held ≡ []))
         (refusals : IfErr result (λ e. (e.0 ≡ refusal.Device) ⊎ (e.0 ≡ refusal.Damaged) ⊎ (e.0 ≡ refusal.OutOfMemory)))

@@ -1,4 +1,4 @@
--- The files of a bind as the objects that are bound.
+-- The files that a bind has read, as the objects that are bound.
 use Rattle.std.proofs.Common.{◌≡◌, ℕ, ◌+◌, ◌<◌, List, [], length, map, get_or, None, Result, IfErr, inl, inr, ⊎_elim, sym, ap, ◌∙◌, subst, arith, suc}
 use Rattle.std.specs.Prelude.{OnOk}
 use Rattle.std.proofs.lemmas.List.{length-map, get_or-map}
@@ -17,7 +17,7 @@ use Rattle.requests.specs.Binding.{object_of}
 use Rattle.states.specs.State.{Library}
 use Rattle.registry.specs.inside.Walked.{IsTestedBy, walked_objects}
 
--- what placing objects refuses is the first test that applies, or want of memory
+-- if placing objects is refused, the refusal is that of the first test that applies, or S11
 pub tested_as : {A : Type 0} (objects : List Placed) (answer : Result A BindRefusal) → OnOk answer (placed_refusal objects ≡ None) → IfErr answer (IsPlacedAnswer objects)
     → IsTestedBy (placed_refusal objects) answer
 tested_as objects answer accepted refused = record {
@@ -25,12 +25,12 @@ tested_as objects answer accepted refused = record {
   refused = IfErr-weaker answer (IsPlacedAnswer objects) (IsFirstOrWantsMemory (placed_refusal objects)) (λ e h. ⊎_elim (λ is. inl is) (λ lacks. inr lacks.0) h) refused;
 }
 
--- the program, and as many as there are files
+-- the number of objects is the number of files plus one
 pub count-walked : (program : List ℕ) (base : ℕ) (files : List Library) → length (walked_objects program base files) ≡ length files + 1
 count-walked program base files =
     omega (arith, length-placed base (available program (map object_of files)), length-map files object_of)
 
--- each file stands behind the program
+-- file number k is the file of object number k + 1
 pub file-walked : (program : List ℕ) (base : ℕ) (files : List Library) (k : ℕ) (f : Library) → k < length files → f ≡ get_or files k f
     → f.bytes ≡ file_at (walked_objects program base files) (k + 1)
 file-walked program base files k f within is =
@@ -40,11 +40,11 @@ file-walked program base files k f within is =
     ∙ ap (λ (l : List (List ℕ)). get_or l k []) (map-map (λ (o : Named). o.file) object_of files)
     ∙ get_or-map (λ (l : Library). l.bytes) files k f [] within ∙ ap (λ (l : Library). l.bytes) (sym is))
 
--- the file whose turn it is when these are done
+-- `f` is the next file after the files `done`
 abbrev pub IsTurn : List Library → List Library → Library → Type 0
 IsTurn files done f = (length done < length files) × (f ≡ get_or files (length done) f)
 
--- a bound object at a place, and the file of that object
+-- `b` is the bound object at `place`, and `file` is its file
 pub record IsNext (objects : List Placed) (place : ℕ) (b : Bound) (file : List ℕ) : Type 0 where
   pub inside : place < length objects
   pub stacked : Stacked 0 objects
@@ -52,7 +52,7 @@ pub record IsNext (objects : List Placed) (place : ℕ) (b : Bound) (file : List
   pub same : file ≡ file_at objects place
 
 module _ (program : List ℕ) (base : ℕ) (files : List Library) (all : List Bound) (are : AreBound (walked_objects program base files) all) where
-  -- the program is next where nothing was filled,
+  -- the first bound object is the program
   pub next-program : (bound : Bound) (file : List ℕ) → bound ≡ get_or all 0 bound → file ≡ program → IsNext (walked_objects program base files) 0 bound file
   next-program bound file is same = record {
     inside = omega (arith, count-walked program base files);
@@ -61,7 +61,7 @@ module _ (program : List ℕ) (base : ℕ) (files : List Library) (all : List Bo
     same = same;
   }
 
-  -- and then each file
+  -- The bound object after the files `done` is that of the next file.
   module _ (done : List Library) (f : Library) (turn : IsTurn files done f) (place : ℕ) (at : place ≡ length done + 1) where
     pub next-among : place < length all
     next-among = omega (arith, turn.0, are.counted, count-walked program base files)

@@ -1,4 +1,4 @@
--- What a command of an update does to its draft, by what the store did.
+-- What a command of an update does to its draft, as it follows from the store's answer.
 use Rattle.std.proofs.Common.{◌≡◌, ◌≢◌, ◌↔◌, ◌-◌, ℕ, inl, inr, List, Option, Some, None, Result, Ok, Err, IsTrue, IsFalse, true, false, refl, sym, ap, subst, ◌∙◌}
 use Rattle.std.specs.Prelude.{IfErr, OnErr, OnOk}
 use Rattle.std.specs.Option.{option_map}
@@ -36,7 +36,7 @@ use Rattle.registry.proofs.Keeping.{keeps_held_same}
 use Rattle.registry.proofs.Puts.{install_refusal, is_lacking, is_there, no_failed_new, no_failed_put, replace_refusal}
 use Rattle.registry.proofs.Putting.{file_first, over_is_new, put_step}
 
--- a change is planned, whichever it is
+-- a step that plans a change is a step of an update, whatever the change is
 pub draft_step : (q : Request) → IsChange q → (p p' : Phase) (r : Reply) → PlanStep p q r p' → DraftStep p q r p'
 draft_step (install bytes) is p p' r step = step
 draft_step (replace bytes) is p p' r step = step
@@ -45,7 +45,7 @@ draft_step (set_preloads names) is p p' r step = step
 draft_step (bind program base) is p p' r step = absurd is
 draft_step list is p p' r step = absurd is
 
--- a refusal of the step table, but S1, is one of a plan
+-- a refusal of the step table, except S1, is a refusal of a plan
 pub plan_refusal : (p p' : Phase) (q : Request) (refusal : Refusal) → refusal ≢ Device → Step p q (Refused refusal) p' → PlanStep p q (Refused refusal) p'
 plan_refusal p p' q (Object why) other step = step
 plan_refusal p p' q (Bind why) other step = step
@@ -65,7 +65,7 @@ plan_refusal p p' q GenerationEnd other step = step
 plan_refusal p p' q OutOfMemory other step = step
 plan_refusal p p' q Device other step = absurd (other refl)
 
--- a draft of the same store that is as it was is the same
+-- a draft is unchanged if its store and its own fields are unchanged
 pub same_whole : {D : Type 0} {old new : Drafted D} → new.store ≡ old.store → IsSameDraft old new → new ≡ old
 same_whole store draft = λ i. record { store = store i; entries = draft.entries i; preloads = draft.preloads i; touched = draft.touched i }
 
@@ -73,7 +73,7 @@ module _ {D : Type 0} (facts : D → DiskFacts) {old : Drafted D} {s d : State} 
   abbrev before : Phase
   before = draft_phase facts old d
 
-  -- Nothing was called.
+  -- If no call was made, a step of an update is a command applied to an unchanged draft.
   pub draft_stays : (answer : Reply) → DraftStep before q answer before → AppliesDraft facts old old s d q answer
   draft_stays answer step = (
     d,
@@ -84,14 +84,14 @@ module _ {D : Type 0} (facts : D → DiskFacts) {old : Drafted D} {s d : State} 
     },
   )
 
-  -- the first refusal of the store's tests, in the words of the step table
+  -- a refusal by the store's tests is the first refusal in the step table
   tested_by : (first : Option StoreRefusal) → refusal_at before q ≡ option_map refusal_of first → (refusal : StoreRefusal) → IsAnswer first (Err refusal)
       → refusal ≢ e.Device → refusal ≢ e.OutOfMemory → refusal_at before q ≡ Some (refusal_of refusal)
   tested_by first tested refusal is other ample = tested ∙ ap (option_map refusal_of) (is_first first refusal is other ample)
 
-  -- A change that the store was asked for, behind all tests but its own, whose first refusal is this one.
+  -- A change was passed to the store, which makes the last tests of it. `first` is the store's first refusal.
   module _ {new : Drafted D} {most : ℕ} {Refuses : StoreRefusal → Type 0} (change : IsChange q) (first : Option StoreRefusal) (tested : refusal_at before q ≡ option_map refusal_of first) where
-    -- it is planned
+    -- if the store planned the change, the command was applied and answered with Done
     plan_done : (done : Unit {0}) → IsAnswer first (Ok done) → IsLine facts old new most Refuses (Ok done) → IsDraftedAt facts new s (drafted d (accepted d q)) → AppliesDraft facts old new s d q Done
     plan_done done is line after = (
       drafted d (accepted d q),
@@ -107,7 +107,7 @@ module _ {D : Type 0} (facts : D → DiskFacts) {old : Drafted D} {s d : State} 
       },
     )
 
-    -- a write failed
+    -- if a write failed, the command was applied and answered with S1
     plan_lost : IsAnswer first (Err e.Device) → first ≢ Some e.Device → IsLine facts old new most Refuses (Err e.Device) → AppliesDraft facts old new s d q (Refused Device)
     plan_lost is tests line = (
       d,
@@ -131,7 +131,7 @@ module _ {D : Type 0} (facts : D → DiskFacts) {old : Drafted D} {s d : State} 
     left refusal line other answer step =
         subst (λ u. AppliesDraft facts old u s d q answer) (sym (same_whole (line.changed.same other) line.refused)) (draft_stays answer (draft_step q change before before answer step))
 
-    -- or it was refused
+    -- if the store refused the change, the command was applied and answered with this refusal
     plan_refused : (refusal : StoreRefusal) → IsAnswer first (Err refusal) → first ≢ Some e.Device → refusal ≢ e.Reopen → IsRefusalOfPutNew refusal → (refusal ≡ e.OutOfMemory → TakesMemory q)
         → IsLine facts old new most Refuses (Err refusal) → AppliesDraft facts old new s d q (Refused (refusal_of refusal))
     plan_refused e.Device is tests usable may memory line = plan_lost is tests line
@@ -151,7 +151,7 @@ module _ {D : Type 0} (facts : D → DiskFacts) {old : Drafted D} {s d : State} 
     plan_refused e.BadGeometry is tests usable may memory line = absurd may
     plan_refused e.OldFormat is tests usable may memory line = absurd may
 
-    -- whichever the store answered
+    -- whatever the store answered, the command was applied
     pub plan_answered : (answer : Result (Unit {0}) StoreRefusal) → IsAnswer first answer → first ≢ Some e.Device → IsLine facts old new most Refuses answer
         → ((r : StoreRefusal) → Refuses r → IsRefusalOfPutNew r) → (answer ≡ Err e.OutOfMemory → TakesMemory q) → OnOk answer (IsDraftedAt facts new s (drafted d (accepted d q)))
         → AppliesDraft facts old new s d q (answer_of (in_words answer))
@@ -159,12 +159,13 @@ module _ {D : Type 0} (facts : D → DiskFacts) {old : Drafted D} {s d : State} 
     plan_answered (Err r) is tests line may memory after =
         plan_refused r is tests (λ reopens. false≢true (sym at.stands.usable ∙ line.changed.reopen.0 (ap Err reopens))) (may r line.changed.refusals) (λ lacks. memory (ap Err lacks)) line
 
--- Bytes are put into a draft.
+-- A library with these bytes is installed or replaced in a draft.
 module _ {D : Type 0} (facts : D → DiskFacts) {old : Drafted D} {s d : State} (at : IsDraftedAt facts old s d) (bytes : List ℕ) where
   abbrev here : Phase
   here = draft_phase facts old d
 
-  -- the file is no library, or memory to admit it is refused
+  -- if the file is no library, or memory to admit it is refused, the put is refused, and the draft is
+  -- unchanged
   pub plan_no_install : (e : Refusal) → IsLibraryRefusal bytes e → e ≢ Device → AppliesDraft facts old old s d (install bytes) (Refused e)
   plan_no_install e is other = draft_stays facts at (install bytes) (Refused e) (plan_refusal here here (install bytes) e other
       (put_step here (install bytes) bytes at.stands.usable (λ r. file_first (library_refusal bytes) r _) (λ memory. memory) e is))
@@ -174,7 +175,8 @@ module _ {D : Type 0} (facts : D → DiskFacts) {old : Drafted D} {s d : State} 
       (put_step here (replace bytes) bytes at.stands.usable (λ r. file_first (library_refusal bytes) r _) (λ memory. memory) e is))
 
   module _ (taken : library_refusal bytes ≡ None) (name : List ℕ) (named : name ≡ name_of bytes) where
-    -- its name is there already, or isn't there
+    -- if the name is already installed, an install is refused with C2; if it isn't installed, a
+    -- replacement is refused with C3
     pub plan_there : has_name (names_of d.libraries) name ≡ true → AppliesDraft facts old old s d (install bytes) (Refused AlreadyInstalled)
     plan_there there = draft_stays facts at (install bytes) (Refused AlreadyInstalled)
         (at.stands.usable, is_there here bytes taken (subst (λ n. has_name (names_of d.libraries) n ≡ true) named there), leads_same here)
@@ -184,7 +186,7 @@ module _ {D : Type 0} (facts : D → DiskFacts) {old : Drafted D} {s d : State} 
         (at.stands.usable, is_lacking here bytes taken (subst (λ n. has_name (names_of d.libraries) n ≡ false) named absent), leads_same here)
 
     module _ {new : Drafted D} {most : ℕ} (root : old.store.root.sectors ≡ (facts old.store.disk).sectors) (memory : ReadNeedsMemory bytes) (answer : Result (Unit {0}) StoreRefusal) where
-      -- it is put behind the others,
+      -- if the name isn't installed, the library is installed after the others, or refused by the store
       pub plan_installed : has_name (names_of d.libraries) name ≡ false → IsAnswer (refusal_of_new (room_drafted old) (longest_drafted old) d bytes) answer
           → IsLine facts old new most IsRefusalOfPutNew answer → OnOk answer (IsDraftedAt facts new s (drafted d (with_new name bytes d))) → AppliesDraft facts old new s d (install bytes) (answer_of (in_words answer))
       plan_installed absent is line after =
@@ -194,7 +196,7 @@ module _ {D : Type 0} (facts : D → DiskFacts) {old : Drafted D} {s d : State} 
           answer is (no_failed_new (room_drafted old) (longest_drafted old) d bytes) line (λ r may. may) (λ lacks. memory)
           (subst (λ n. OnOk answer (IsDraftedAt facts new s (drafted d (with_new n bytes d)))) named after)
 
-      -- or in the place of the one of its name
+      -- if the name is installed, the library with this name is replaced, or the store refuses
       pub plan_replaced : has_name (names_of d.libraries) name ≡ true → IsExactAnswer (refusal_of_put (room_drafted old) (longest_drafted old) d bytes) answer
           → IsLine facts old new most IsRefusalOfPutOver answer → OnOk answer (IsDraftedAt facts new s (drafted d (with_bytes name bytes d))) → AppliesDraft facts old new s d (replace bytes) (answer_of (in_words answer))
       plan_replaced there is line after =
@@ -205,7 +207,7 @@ module _ {D : Type 0} (facts : D → DiskFacts) {old : Drafted D} {s d : State} 
           answer (exact_answer first answer is) (no_failed_put (room_drafted old) (longest_drafted old) d bytes) line over_is_new (λ lacks. memory)
           (subst (λ n. OnOk answer (IsDraftedAt facts new s (drafted d (with_bytes n bytes d)))) named after)
 
--- On any disk: nothing was called,
+-- On any disk, if no call was made, the current state and the held byte strings are unchanged.
 module _ {D : Type 0} (facts : D → DiskFacts) (u : Drafted D) where
   pub beside_same : StaysBeside facts u u
   beside_same = record {
@@ -229,33 +231,33 @@ module _ {D : Type 0} (facts : D → DiskFacts) (u : Drafted D) where
   }
 
 module _ {D : Type 0} (facts : D → DiskFacts) (u : Drafted D) {most : ℕ} {Refuses : Refusal → Type 0} where
-  -- because it has to be given up,
+  -- if the update has to be given up, the change is refused with S2
   pub planned_reopen : IsTrue u.store.failed → Refuses Reopen → IsPlanned facts u u most Refuses (Err Reopen)
   planned_reopen failed may = record { beside = beside_same facts u; changed = changed_reopen facts u.store failed may; refused = draft_same facts u; planned = tt }
 
-  -- or for another reason,
+  -- if the change is refused with neither S1 nor S2 before the store is called, nothing changes
   pub planned_refused : (refusal : Refusal) → IsFalse u.store.failed → refusal ≢ Reopen → refusal ≢ Device → Refuses refusal → IsPlanned facts u u most Refuses (Err refusal)
   planned_refused refusal usable opened other may = record { beside = beside_same facts u; changed = changed_refused facts u.store refusal usable opened other may; refused = draft_same facts u; planned = tt }
 
--- or the store answered.
+-- If the store answered, its answer is the registry's answer.
 pub planned_in_words : {D : Type 0} (facts : D → DiskFacts) {old new : Drafted D} {most : ℕ} {May : StoreRefusal → Type 0} (Refuses : Refusal → Type 0)
     → ((refusal : StoreRefusal) → May refusal → Refuses (refusal_of refusal)) → (answer : Result (Unit {0}) StoreRefusal) → IsLine facts old new most May answer
     → OnOk answer (new.touched ≢ Nothing) → IsPlanned facts old new most Refuses (in_words answer)
 planned_in_words facts Refuses may (Ok done) line touched = record { beside = line.beside; changed = changed_in_words facts Refuses may (Ok done) line.changed; refused = tt; planned = touched }
 planned_in_words facts Refuses may (Err r) line touched = record { beside = line.beside; changed = changed_in_words facts Refuses may (Err r) line.changed; refused = line.refused; planned = tt }
 
--- preloads that are set count as a change, whatever was changed before
+-- setting the preloads counts as a change, whatever was changed before
 pub preloads_change : (t : Touched) → touched_preloads t ≢ Nothing
 preloads_change Nothing is = cc is
 preloads_change Preloads is = cc is
 preloads_change Listed is = cc is
 
--- refusals of one kind are of another
+-- refusals of one kind are refusals of a wider kind
 pub refusals_may : {May Might : StoreRefusal → Type 0} → ((refusal : StoreRefusal) → May refusal → Might refusal) → (answer : Result (Unit {0}) StoreRefusal) → IfErr answer May → IfErr answer Might
 refusals_may may (Ok done) is = tt
 refusals_may may (Err refusal) is = may refusal is
 
--- What an answer leaves of the draft.
+-- A change leaves of the draft what `LeavesDraft` defines for its answer.
 pub plan_leaves : {D : Type 0} (old new : Drafted D) (q : Request) → IsChange q → (answer : Result (Unit {0}) Refusal) → OnErr answer (IsSameDraft old new)
     → OnOk answer (new.touched ≢ Nothing) → LeavesDraft old new q (answer_of answer)
 plan_leaves old new q is (Err refusal) same touched = same
@@ -279,7 +281,7 @@ module _ {D : Type 0} (facts : D → DiskFacts) where
   list_leaves u (Bound image) = refl
   list_leaves u (Refused refusal) = draft_same facts u
 
-  -- a command and its answer by other words
+  -- a command that was applied to a draft may be replaced by an equal command with an equal answer
   pub applies_draft_as : {old new : Drafted D} {s d : State} {q q' : Request} {r r' : Reply} → q' ≡ q → r' ≡ r → AppliesDraft facts old new s d q r → AppliesDraft facts old new s d q' r'
   applies_draft_as {old = old} {new = new} {s = s} {d = d} {q = q} {r' = r'} asked told applies =
       subst (λ x. AppliesDraft facts old new s d x r') (sym asked) (subst (λ y. AppliesDraft facts old new s d q y) (sym told) applies)
@@ -288,7 +290,8 @@ module _ {D : Type 0} (facts : D → DiskFacts) where
   plan_left (Ok done) planned failed = let no : ◌≡◌ {A = Result (Unit {0}) Refusal} (Ok done) (Err Reopen) = planned.changed.reopen.1 failed in cc
   plan_left (Err refusal) planned failed = same_whole (left_failed facts (Err refusal) planned.changed failed) planned.refused
 
-  -- what a change of a draft does on any disk is an answer to its command
+  -- if the effect of a draft's change on any disk is as `IsPlanned` defines, the change is an answered
+  -- command
   pub plan_answered_as : {old new : Drafted D} {most : ℕ} {Refuses : Refusal → Type 0} {q q' : Request} {r : Reply} (answer : Result (Unit {0}) Refusal) → q' ≡ q → r ≡ answer_of answer
       → IsPlanned facts old new most Refuses answer → IsAnswerTo q (answer_of answer) → LeavesDraft old new q (answer_of answer) → AnsweredDraft facts old new q' r
   plan_answered_as {old = old} {new = new} {q = q} {r = r} answer asked told planned answers leaves =

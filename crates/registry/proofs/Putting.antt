@@ -1,4 +1,4 @@
--- What putting a library does to a registry on a disk, by what the store did.
+-- What putting a library does to a registry on a disk, as it follows from the store's answer.
 use Rattle.std.proofs.Common.{◌≡◌, ◌↔◌, ◌<◌, ◌-◌, ◌⊎◌, ℕ, true, false, List, ◌∷◌, length, get_or, Option, Some, None, Result, IsFalse, refl, sym, ap, subst, ◌∙◌}
 use Rattle.std.specs.Prelude.{is_some, IfSome, OnOk}
 use Rattle.std.specs.Option.{option_map}
@@ -33,23 +33,23 @@ use Rattle.registry.proofs.Applying.{untouched, leads_same, exact_answer, store_
 use Rattle.registry.proofs.Names.{name_stands, name_nowhere}
 use Rattle.registry.proofs.Puts.{install_refusal, replace_refusal, is_there, is_lacking, no_failed_new, no_failed_put}
 
--- a name is installed where it has a position
+-- a name is installed exactly if it has a position
 pub installed : (s : State) (name : List ℕ) (position : Option ℕ) → ((i : ℕ) → (position ≡ Some i) ↔ ((i < length s.libraries) × ((get_or s.libraries i no_library).name ≡ name)))
     → has_name (names_of s.libraries) name ≡ is_some position
 installed s name None at = name_nowhere s name (λ i lt is. let no : ◌≡◌ {A = Option ℕ} None (Some i) = (at i).1 (lt, is) in cc)
 installed s name (Some i) at = let both = (at i).0 refl in name_stands s name i both.0 both.1
 
--- a position that is there
+-- if there is a position with property P, some number has property P
 pub has_position : {P : ℕ → Type 0} (position : Option ℕ) → is_some position ≡ true → IfSome position P → (i : ℕ) × P i
 has_position None h some = absurd (false≢true h)
 has_position (Some i) h some = (i, some)
 
--- the test of the file comes first
+-- if the test of the file refuses, its refusal is the first one
 pub file_first : (o : Option FileRefusal) (r : FileRefusal) (others : List (Option Refusal)) → o ≡ Some r → first_of (option_map refusal.Object o ∷ others) ≡ Some (refusal.Object r)
 file_first None r others is = cc
 file_first (Some q) r others is = let same : q ≡ r = cc in ap (λ f. Some (refusal.Object f)) same
 
--- a put is refused where its file is no library, or where memory to admit it is refused
+-- a put is refused if its file is no library, or if memory to admit the file is refused
 pub put_step : (p : Phase) (q : Request) (bytes : List ℕ) → IsFalse p.failed → ((r : FileRefusal) → library_refusal bytes ≡ Some r → refusal_at p q ≡ Some (refusal.Object r))
     → (ReadNeedsMemory bytes → TakesMemory q) → (e : Refusal) → IsLibraryRefusal bytes e → Step p q (Refused e) p
 put_step p q bytes usable first memory (refusal.Object r) is = (usable, first r is, leads_same p)
@@ -85,7 +85,7 @@ over_is_new store_refusal.BadGeometry is = absurd is
 over_is_new store_refusal.OldFormat is = absurd is
 
 module _ {D : Type 0} (facts : D → DiskFacts) (old : Opened D) (s : State) (at : IsAt facts old s) (bytes : List ℕ) where
-  -- the file is no library, or memory to admit it is refused
+  -- if the file is no library, or memory to admit it is refused, the put is refused, and nothing changes
   pub install_no_library : (e : Refusal) → IsLibraryRefusal bytes e → AppliesUntested facts old old s (install bytes) (Refused e)
   install_no_library e is =
       untouched facts old s at (install bytes) (Refused e)
@@ -97,7 +97,8 @@ module _ {D : Type 0} (facts : D → DiskFacts) (old : Opened D) (s : State) (at
       (put_step (phase_of facts old s) (replace bytes) bytes at.usable (λ r. file_first (library_refusal bytes) r _) (λ memory. memory) e is)
 
   module _ (taken : library_refusal bytes ≡ None) (name : List ℕ) (named : name ≡ name_of bytes) where
-    -- its name is there already, or isn't there
+    -- if the name is already installed, an install is refused with C2; if it isn't installed, a
+    -- replacement is refused with C3
     pub install_there : has_name (names_of s.libraries) name ≡ true → AppliesUntested facts old old s (install bytes) (Refused refusal.AlreadyInstalled)
     install_there there = untouched facts old s at (install bytes) (Refused refusal.AlreadyInstalled)
         (at.usable, is_there (phase_of facts old s) bytes taken (subst (λ n. has_name (names_of s.libraries) n ≡ true) named there), leads_same (phase_of facts old s))
@@ -107,7 +108,7 @@ module _ {D : Type 0} (facts : D → DiskFacts) (old : Opened D) (s : State) (at
         (at.usable, is_lacking (phase_of facts old s) bytes taken (subst (λ n. has_name (names_of s.libraries) n ≡ false) named absent), leads_same (phase_of facts old s))
 
     module _ (new : Opened D) (root : old.root.sectors ≡ (facts old.disk).sectors) (memory : ReadNeedsMemory bytes) {calls : ℕ} (answer : Result (Unit {0}) StoreRefusal) where
-      -- it is put behind the others,
+      -- if the name isn't installed, the library is installed after the others, or the store refuses
       pub installed_as : has_name (names_of s.libraries) name ≡ false
           → LeavesOnly (facts old.disk) (facts new.disk) (λ m. sectors.Stands m s ⊎ sectors.Stands m (with_new name bytes s))
           → IsAnswer (refusal_of_new (room_of old) (longest_unused old) s bytes) answer → Changed facts store_refusal.Device store_refusal.Reopen old new calls IsRefusalOfPutNew answer
@@ -119,7 +120,7 @@ module _ {D : Type 0} (facts : D → DiskFacts) (old : Opened D) (s : State) (at
           (no_failed_new (room_of old) (longest_unused old) s bytes) (with_new name bytes s) (ap (λ n. with_new n bytes s) named)
           leaves answer is changed (λ r may. may) (λ lacks. memory) after
 
-      -- or in the place of the one of its name
+      -- if the name is installed, the library with this name is replaced, or the store refuses
       pub replaced_as : has_name (names_of s.libraries) name ≡ true
           → LeavesOnly (facts old.disk) (facts new.disk) (λ m. sectors.Stands m s ⊎ sectors.Stands m (with_bytes name bytes s))
           → IsExactAnswer (refusal_of_put (room_of old) (longest_unused old) s bytes) answer → Changed facts store_refusal.Device store_refusal.Reopen old new calls IsRefusalOfPutOver answer

@@ -1,4 +1,4 @@
--- The tests for want of room: the words of the store and those of the commands are for one list.
+-- The tests for lack of room: the store's list of tests and the commands' list are the same.
 use Rattle.std.proofs.Common.{◌≡◌, ◌≢◌, Bool, true, false, List, [], ◌∷◌, Option, Some, None, refl}
 use Rattle.std.specs.Option.{option_map}
 use Rattle.elf_file.specs.FirstOf.{◌when◌, first_of}
@@ -11,7 +11,8 @@ use Rattle.requests.specs.declared.refusal.Refusal.{Refusal}
 use Rattle.requests.specs.declared.refusal.Refusal.TheVariants.{Object}
 use Rattle.registry.specs.Refusals.{refusal_of}
 
--- the first of them that applies is the store's, in the words of a command
+-- the first refusal in the commands' list is the first refusal of the store's tests, as a refusal of a
+-- command
 pub same_first : (tests : List (Bool × RoomRefusal)) → first_of (for_room tests) ≡ option_map refusal_of (step.first_refusal tests)
 same_first [] = refl
 same_first ((false, refusal) ∷ tests) = same_first tests
@@ -20,7 +21,7 @@ same_first ((true, GenerationEnd) ∷ tests) = refl
 same_first ((true, Full) ∷ tests) = refl
 same_first ((true, Fragmented) ∷ tests) = refl
 
--- none of them is a failure of the device
+-- no test for lack of room refuses with S1
 pub deviceless : (tests : List (Bool × RoomRefusal)) → step.first_refusal tests ≢ Some store_refusal.Device
 deviceless [] = λ is. cc
 deviceless ((false, refusal) ∷ tests) = deviceless tests
@@ -29,12 +30,12 @@ deviceless ((true, GenerationEnd) ∷ tests) = λ is. cc
 deviceless ((true, Full) ∷ tests) = λ is. cc
 deviceless ((true, Fragmented) ∷ tests) = λ is. cc
 
--- The tests of a put are those of its file, of its name, and these behind them,
+-- The tests of a put are those of its file, that of its name, and then `others`.
 module _ (file : Option FileRefusal) (refusal : Refusal) (name : Bool) (others : List (Option Refusal)) where
-  -- where the file is a library and its name fits,
+  -- if the file is a library and its name fits, the first refusal is that of `others`
   pub left_behind : file ≡ None → name ≡ false → first_of (option_map Object file ∷ (refusal when name) ∷ others) ≡ first_of others
   left_behind taken fits = (λ i. first_of (option_map Object (taken i) ∷ (refusal when fits i) ∷ others))
 
-  -- or the name is refused.
+  -- if the file is a library and its name doesn't fit, the name is refused
   pub name_refused : file ≡ None → name ≡ true → first_of (option_map Object file ∷ (refusal when name) ∷ others) ≡ Some refusal
   name_refused taken unfit = (λ i. first_of (option_map Object (taken i) ∷ (refusal when unfit i) ∷ others))

@@ -1,4 +1,4 @@
--- A round of commands, and rounds one after the other.
+-- Lemmas about a round of commands, and about rounds one after the other.
 use Rattle.std.proofs.Common.{◌≡◌, ℕ, ◌+◌, ◌<◌, List, [], ◌∷◌, ◌++◌, length, take, get_or, refl, sym, ap, subst, ◌∙◌, Vec, Global}
 use Rattle.std.specs.Prelude.{slice_index_or}
 use Rattle.std.proofs.lemmas.List.{take_more}
@@ -30,7 +30,7 @@ use Rattle.requests.proofs.Runs.{run_more}
 fuse_holds : (fuse : Fuse Memory) → HoldsNow (fused_memory fuse)
 fuse_holds fuse = fused_holds fuse.plan (memory_facts fuse.inner) fuse.past.items (memory_holds fuse.inner)
 
--- what was answered was answered by calls of the disk
+-- if commands were answered one after the other, only calls of the disk were made
 pub answered_calls : {D : Type 0} (facts : D → DiskFacts) (old new : Opened D) (requests : List Request) (answers : List Reply)
     → AreAnswered facts old new requests answers → AreCalls (facts old.disk) (facts new.disk)
 answered_calls facts old new [] [] same = subst (λ (r : Opened _). AreCalls (facts old.disk) (facts r.disk)) (sym same) (no_calls (facts old.disk))
@@ -38,12 +38,12 @@ answered_calls facts old new (request ∷ requests) (answer ∷ answers) answere
 answered_calls facts old new [] (answer ∷ answers) answered = absurd answered
 answered_calls facts old new (request ∷ requests) [] answered = absurd answered
 
--- What stands after a stop stands whatever happens next, for all of it is synced.
+-- If a stopped disk holds a state, each mixture of it holds this state, because all sectors are synced.
 stopped_stands : (picks : List ℕ) (memory result : Memory) (s : State) → IsStoppedBy picks memory result → Stands (memory_facts result).now s → AlwaysStands result s
 stopped_stands picks memory result s stopped stands m mixture = subst (λ l. Stands l s) (sym ((starts_synced (memory_holds result) stopped.stop.starts).each m mixture)) stands
 
 module _ (disk : Memory) (s : State) (stands : AlwaysStands disk s) (fuse : Fuse Memory) (same : IsSameDisk (memory_facts disk) (fused_memory fuse)) where
-  -- a fuse in front of a disk leaves what the disk leaves
+  -- a mixture of a disk in a fuse is a mixture of the disk
   pub fuse_stands : (m : List Sector) → Mixture (fused_memory fuse) m → Stands m s
   fuse_stands m mixture = stands m ((same_disk_mixture same m).0 mixture)
 
@@ -52,11 +52,12 @@ module _ (disk : Memory) (s : State) (stands : AlwaysStands disk s) (fuse : Fuse
 
 module _ (disk : Memory) (s : State) (round : Round) (first : Fuse Memory) (fused : IsFused disk round first) (told : RoundReplies × Fuse Memory) (memory result : Memory)
     (inner : memory ≡ inner_of told.1) (into : IsSameDisk (fused_memory told.1) (memory_facts memory)) (stopped : IsStoppedBy round.picks.items memory result) where
-  -- what the stop left is a mixture of the disk behind the fuse
+  -- the stop left a mixture of the disk in the fuse
   was_left : Mixture (fused_memory told.1) (memory_facts result).now
   was_left = (same_disk_mixture into (memory_facts result).now).0 stopped.stop.mixture
 
-  -- what was told leads to the stopped disk
+  -- if the round reports its replies, the round changes the disk and its state to the stopped disk and
+  -- the new state
   leads : (s' : State) → RoundTells first told.1 s (asked round) told.0 s' → AreCalls (fused_memory first) (fused_memory told.1) → Stands (memory_facts result).now s'
       → RoundLeads (standing disk s) round told.0 (standing result s')
   leads s' tells calls stands = record {
@@ -71,7 +72,7 @@ module _ (disk : Memory) (s : State) (round : Round) (first : Fuse Memory) (fuse
     stands = stopped_stands round.picks.items memory result s' stopped stands;
   }
 
-  -- the commands ran
+  -- if the commands were run, the round changes the state to the one after the accepted commands
   pub round_ran : (replies : Vec Reply Global) (last : Fuse Memory) → WasRun first last s (asked round) replies.items → AreCalls (fused_memory first) (fused_memory last) → told ≡ (Ran replies, last)
       → (s' : State) × RoundLeads (standing disk s) round told.0 (standing result s')
   round_ran replies last ran calls is =
@@ -84,7 +85,7 @@ module _ (disk : Memory) (s : State) (round : Round) (first : Fuse Memory) (fuse
             found.2,
       )
 
-  -- or they didn't
+  -- if the commands weren't run, the round keeps the state
   pub round_not_run : (refusal : StoreRefusal) (last : Fuse Memory) → WasNotRun first last refusal → ((m : List Sector) → Mixture (fused_memory last) m → Stands m s) → told ≡ (NotRun refusal, last)
       → (s' : State) × RoundLeads (standing disk s) round told.0 (standing result s')
   round_not_run refusal last not_run stands is = (
@@ -95,7 +96,7 @@ module _ (disk : Memory) (s : State) (round : Round) (first : Fuse Memory) (fuse
         (stands (memory_facts result).now (subst (λ (t : RoundReplies × Fuse Memory). Mixture (fused_memory t.1) (memory_facts result).now) is was_left)),
   )
 
--- one round more
+-- if some rounds were run, and then one more, all of them were run one after the other
 pub rounds_turn : (old mid result : Memory) (s : State) (rounds : List Round) (i : ℕ) (d : Round) (told told' : List RoundReplies) (replies : RoundReplies) → i < length rounds
     → (s' : State) × Run RoundLeads (standing old s) (take i rounds) told (standing mid s') × AlwaysStands mid s'
     → ((t : State) → AlwaysStands mid t → (s' : State) × RoundLeads (standing mid t) (get_or rounds i d) replies (standing result s'))

@@ -1,4 +1,4 @@
--- Runs of commands over a disk.
+-- Lemmas about runs of commands over a disk.
 use Rattle.std.proofs.Common.{◌≡◌, ◌⊎◌, inl, inr, ⊎_elim, ℕ, suc, ◌+◌, ◌<◌, ◌≤◌, List, [], ◌∷◌, ◌++◌, append-nil, append_assoc, length, take, map, Some, IsTrue, refl, sym, ap, subst, ◌∙◌, arith}
 use Rattle.std.proofs.lemmas.Bool.{cases_lt}
 use Rattle.std.proofs.lemmas.List.{length-append, map-append, take_all}
@@ -29,19 +29,21 @@ use Rattle.registry.proofs.RanSoFar.{LeavesPrefix, RanSoFar, RunsVia, Turns}
 use Rattle.registry.proofs.Acknowledging.{get_before, get_last, get_more, after_before, after_last, after_all_steps, leads_length, leads_more, leads_on, states_after, time_after, get_take, cut_unacknowledged}
 use Rattle.registry.proofs.States.{mixture_stands}
 
--- the last of two lists, one after the other
+-- the last item of two joined lists is the last item of the second list, or of the first if the second
+-- is empty
 last_joined : {S : Type 0} (s : S) (ts us : List S) → last_of s (ts ++ us) ≡ last_of (last_of s ts) us
 last_joined s [] us = refl
 last_joined s (t ∷ ts) us = last_joined t ts us
 
--- neither a step of a binder nor an update that was given up is acknowledged
+-- neither a step of a binder nor an update that is given up is an acknowledged exchange
 stepped_unanswered : {P : Type 0} (q : Transaction) → stepped ≡ answered q Done → P
 stepped_unanswered q is = absurd (cc is)
 
 given_up_unanswered : {P : Type 0} (q : Transaction) → given_up ≡ answered q Done → P
 given_up_unanswered q is = absurd (cc is)
 
--- what a failed call of a change had in flight broke the registry; a failed read had nothing in flight
+-- if a failing call cut a change off and the change took effect, the registry is unusable; after a
+-- failed read the state is the one before
 broke : (p : Phase) (q : Request) (p' : Phase) (m : List Sector) → LeavesFailed p q p' → Stands m (accepted p.state q) → IsTrue p'.failed ⊎ Stands m p.state
 broke p (bind program base) p' m leaves stands = inr stands
 broke p list p' m leaves stands = absurd leaves
@@ -51,13 +53,14 @@ broke p (remove name) p' m leaves stands = inl leaves.failed
 broke p (set_preloads names) p' m leaves stands = inl leaves.failed
 
 module _ {D : Type 0} (facts : D → DiskFacts) where
-  -- what was in flight broke the registry, or is the state before
+  -- if a command that was cut off took effect, the registry is unusable, or the sectors hold the state
+  -- before
   flight_broke : (old new : Opened D) (s s' : State) (q : Request) (r : Reply) (m : List Sector) → Applied facts old new s s' q r
       → InFlight (phase_of facts old s) q r m → IsTrue new.failed ⊎ Stands m s
   flight_broke old new s s' q r m applied flight =
       broke (phase_of facts old s) q (phase_of facts new s') m (subst (λ y. Step (phase_of facts old s) q y (phase_of facts new s')) flight.0 applied.step).1 flight.2
 
-  -- so an applied command is one of a run
+  -- an applied command is an exchange of a run
   command_turns : (old new : Opened D) (s s' : State) (q : Request) (r : Reply) → Did facts old new q r → AppliesAt facts (point old s) q r (point new s')
       → Turns facts old s (command q) r (point new s')
   command_turns old new s s' q r did applies = record {
@@ -69,7 +72,7 @@ module _ {D : Type 0} (facts : D → DiskFacts) where
     kept = applies.applied.kept;
   }
 
-  -- and so is an update
+  -- an applied update is an exchange of a run
   update_turns : (old : Opened D) (u : Point D) (s : State) (qs : List Request) (r : Reply) → UpdatesAt facts (point old s) qs r u → Turns facts old s (update qs) r u
   update_turns old u s qs r at = record {
     moves = inl at;
@@ -82,7 +85,8 @@ module _ {D : Type 0} (facts : D → DiskFacts) where
     kept = ⊎_elim (λ done. inl done.2) (λ failed. inr (failed.2, failed.1)) at.ends;
   }
 
-  -- what is found after either: the state after it, or the change that broke the registry
+  -- a mixture after an exchange holds the state after it, or the state after the change that made the
+  -- registry unusable
   found_after : (old : Opened D) (u : Point D) (s : State) (q : Transaction) (r : Reply) (m : List Sector) → Turns facts old s q r u → Mixture (disk_at facts u) m
       → Stands m u.state ⊎ (IsTrue u.registry.failed × (r ≡ Refused Device) × Stands m (outcome s q) × (u.state ≡ s))
   found_after old u s q r m turns mixture = ⊎_elim
@@ -104,7 +108,7 @@ module _ {D : Type 0} (facts : D → DiskFacts) where
       abbrev ts' : List (Point D)
       ts' = ts ++ u ∷ []
 
-      -- where the new one is acknowledged it ends later
+      -- if the new exchange is acknowledged, it ends after this moment
       abbrev EndsLater : ℕ → Type 0
       EndsLater moment = (q : Transaction) → x ≡ answered q Done → moment < (disk_at facts u).time
 
@@ -123,7 +127,8 @@ module _ {D : Type 0} (facts : D → DiskFacts) where
       cut_before : (k : ℕ) (q : Transaction) → FailedAt xs k q → FailedAt xs' k q
       cut_before k q cut = get_before xs x k (slice_get_within xs k (answered q (Refused Device)) cut) ∙ cut
 
-      -- a prefix that held all that was acknowledged goes on to hold it, where the new command isn't acknowledged yet
+      -- a prefix that contains all acknowledged exchanges still does if the new exchange isn't
+      -- acknowledged yet
       holds_before : (k moment : ℕ) → EndsLater moment → HoldsAcknowledged facts start xs ts k moment → HoldsAcknowledged facts start xs' ts' k moment
       holds_before k moment later holds i le is = ⊎_elim
           (λ lt.
@@ -134,16 +139,17 @@ module _ {D : Type 0} (facts : D → DiskFacts) where
           subst (λ (y : Point D). moment < (disk_at facts y).time) (sym (after_last start ts u (i + 1) (omega (arith, ge, lengths)))) (later is.0 done))
           (cases_lt i (length xs))
 
-      -- all so far hold all that was acknowledged
+      -- if the new exchange isn't acknowledged by this moment, the earlier exchanges contain all that
+      -- were
       holds_rest : (moment : ℕ) → EndsLater moment → HoldsAcknowledged facts start xs' ts' (length xs) moment
       holds_rest moment later i le is =
           subst (λ (y : Point D). moment < (disk_at facts y).time) (sym (after_last start ts u (i + 1) (omega (arith, le, lengths)))) (later is.0 (get_more xs x (answered is.0 Done) i le is.1))
 
-      -- what had begun before had begun
+      -- adding the new exchange doesn't change which exchanges had begun by a moment
       begun_before : (k moment : ℕ) → k ≤ length xs → HasBegun facts start xs ts k moment → HasBegun facts start xs' ts' k moment
       begun_before k moment le begun i is = subst (λ (y : Point D). (disk_at facts y).time ≤ moment) (sym (before_is i (omega (arith, le, is)))) (begun i is)
 
-      -- all so far have begun
+      -- if the moment isn't before the end of the earlier exchanges, all of them have begun by then
       begun_rest : (moment : ℕ) → (facts mid.disk).time ≤ moment → HasBegun facts start xs' ts' (length xs) moment
       begun_rest moment since i is =
           let ended : (disk_at facts (after start ts i)).time ≤ (facts mid.disk).time =
@@ -152,7 +158,7 @@ module _ {D : Type 0} (facts : D → DiskFacts) where
           let le : (disk_at facts (after start ts i)).time ≤ moment = omega (arith, ended, since) in
           subst (λ (y : Point D). (disk_at facts y).time ≤ moment) (sym (before_is i (omega (arith, is)))) le
 
-      -- and so has the new one
+      -- if the moment isn't before the end of the earlier exchanges, the new one has begun by then
       begun_new : (moment : ℕ) → (facts mid.disk).time ≤ moment → HasBegun facts start xs' ts' (length xs + 1) moment
       begun_new moment since i is =
           let same : length xs ≡ i = omega (arith, is) in
@@ -161,7 +167,8 @@ module _ {D : Type 0} (facts : D → DiskFacts) where
       holds_all : (moment : ℕ) → HoldsAcknowledged facts start xs' ts' (length xs + 1) moment
       holds_all moment i le is = absurd (let lt : i < length xs' = slice_get_within xs' i (answered is.0 Done) is.1 in omega (arith, lt, le, longer))
 
-      -- what was left before
+      -- as long as the new exchange isn't acknowledged, a stop still leaves what it left without this
+      -- exchange
       leaves_before : (moment : ℕ) (m : List Sector) → EndsLater moment → LeavesPrefix facts start xs ts moment m → LeavesPrefix facts start xs' ts' moment m
       leaves_before moment m later (k, le, holds, either) = (
         k,
@@ -184,11 +191,12 @@ module _ {D : Type 0} (facts : D → DiskFacts) where
             either,
       )
 
-      -- the state before the new one
+      -- if a stop leaves the state before the new exchange, it leaves the state after the earlier
+      -- exchanges
       leaves_mid : (moment : ℕ) (m : List Sector) → (facts mid.disk).time ≤ moment → EndsLater moment → Stands m s → LeavesPrefix facts start xs' ts' moment m
       leaves_mid moment m since later stands = (length xs, omega (arith, longer), holds_rest moment later, inl (begun_rest moment since, subst (λ (y : Point D). Stands m y.state) (sym mid_is) stands))
 
-      -- the state after it
+      -- if a stop leaves the state after the new exchange, it leaves the state after all exchanges
       leaves_new : (moment : ℕ) (m : List Sector) → (facts mid.disk).time ≤ moment → Stands m u.state → LeavesPrefix facts start xs' ts' moment m
       leaves_new moment m since stands = (length xs + 1, omega (arith, longer), holds_all moment, inl (begun_new moment since, subst (λ (y : Point D). Stands m y.state) (sym u_is) stands))
 
@@ -202,11 +210,11 @@ module _ {D : Type 0} (facts : D → DiskFacts) where
       cut_last : r ≡ Refused Device → FailedAt (xs' x u) (length xs) q
       cut_last is = get_last xs x ∙ ap (λ y. Some (answered q y)) is
 
-      -- what was answered S1 isn't acknowledged
+      -- an exchange that was answered with S1 isn't acknowledged
       unacknowledged : {P : Type 0} (p : Transaction) → r ≡ Refused Device → x ≡ answered p Done → P
       unacknowledged p is done = let no : answered q (Refused Device) ≡ answered p Done = sym (ap (answered q) is) ∙ done in absurd (cc no)
 
-      -- what the new one had in flight
+      -- if a stop leaves the state after a change that was cut off, `LeavesPrefix` holds for it
       leaves_flight : (moment : ℕ) (m : List Sector) → (facts mid.disk).time ≤ moment → r ≡ Refused Device → IsTrue u.registry.failed → Stands m (outcome s q)
           → LeavesPrefix facts start (xs ++ x ∷ []) (ts ++ u ∷ []) moment m
       leaves_flight moment m since is failed stands = (
@@ -224,7 +232,7 @@ module _ {D : Type 0} (facts : D → DiskFacts) where
         ),
       )
 
-      -- one command or update more
+      -- a run stays a run if one more command or update follows
       pub ran_more : Turns facts mid s q r u → RanSoFar facts start (xs ++ x ∷ []) (ts ++ u ∷ []) u
       ran_more turns = record {
         steps = steps;
@@ -263,7 +271,7 @@ module _ {D : Type 0} (facts : D → DiskFacts) where
               (found_after mid u s q r m turns (subst (λ t. MixtureAt (disk_at facts u) t m) same mixture)))
               (cases_lt moment (disk_at facts u).time)
 
-    -- one that is asked after a write or a sync failed
+    -- a run stays a run if one more command or update follows after a failed write or sync
     pub ran_reopened : (q : Transaction) → Moves facts (point mid s) (answered q (Refused Reopen)) (point mid s) → IsTrue mid.failed
         → RanSoFar facts start (xs ++ answered q (Refused Reopen) ∷ []) (ts ++ point mid s ∷ []) (point mid s)
     ran_reopened q moves failed = record {
@@ -287,7 +295,7 @@ module _ {D : Type 0} (facts : D → DiskFacts) where
         steps : LeadsThrough facts start (xs ++ x ∷ []) (ts ++ u ∷ [])
         steps = steps_on x u moves
 
-    -- an update that was given up
+    -- a run stays a run if an update that is given up follows
     pub ran_given_up : (u : Point D) → GivesUp facts (point mid s) u → RanSoFar facts start (xs ++ given_up ∷ []) (ts ++ u ∷ []) u
     ran_given_up u gives_up = record {
       steps = steps;
@@ -313,7 +321,7 @@ module _ {D : Type 0} (facts : D → DiskFacts) where
             (λ le. leaves_before given_up u moment m (λ q is. given_up_unanswered q is) (so_far.any_moment moment m since le (past_mixture gives_up.any_moment.past moment le m mixture)))
             (cases_lt (facts mid.disk).time moment)
 
-    -- something that asks for no change, where the registry stays at its state
+    -- a run stays a run if a request for no change follows, and the registry stays at its state
     pub ran_idle : (new : Opened D) → IdlesAt facts (point mid s) (point new s) → RanSoFar facts start (xs ++ stepped ∷ []) (ts ++ point new s ∷ []) (point new s)
     ran_idle new idles = record {
       steps = steps;
@@ -339,7 +347,7 @@ module _ {D : Type 0} (facts : D → DiskFacts) where
             (λ le. leaves_before stepped u moment m (λ q is. stepped_unanswered q is) (so_far.any_moment moment m since le (past_mixture idles.any_moment.past moment le m mixture)))
             (cases_lt (facts mid.disk).time moment)
 
-    -- the same after a write or a sync failed
+    -- a run stays a run if a request for no change follows after a failed write or sync
     pub ran_idle_failed : (new : Opened D) → IsTrue mid.failed → IsTrue new.failed → new.disk ≡ mid.disk → RanSoFar facts start (xs ++ stepped ∷ []) (ts ++ point new s ∷ []) (point new s)
     ran_idle_failed new was failed same = record {
       steps = steps;
@@ -359,7 +367,7 @@ module _ {D : Type 0} (facts : D → DiskFacts) where
         steps : LeadsThrough facts start (xs ++ stepped ∷ []) (ts ++ u ∷ [])
         steps = steps_on stepped u (record { same = refl; stays = inr (was, failed, same) })
 
-  -- nothing was asked yet
+  -- a run without any exchange ends where it starts
   pub ran_none : (old : Opened D) (s : State) → IsAt facts old s → RanSoFar facts (point old s) [] [] (point old s)
   ran_none old s at = record {
     steps = tt;
@@ -385,11 +393,11 @@ module _ {D : Type 0} (facts : D → DiskFacts) where
   runs_none old s at = (s, [], refl, ran_none old s at)
 
   module _ (old mid new : Opened D) (s : State) (xs : List Exchange) (registries : List (Opened D)) (so_far : RunsVia facts old registries mid s xs) where
-    -- the registries on the way, with the new one behind them
+    -- if one point is appended, its registry is appended to the registries of the points
     via : (t : State) (ts : List (Point D)) → map (λ (p : Point D). p.registry) ts ≡ registries → map (λ (p : Point D). p.registry) (ts ++ point new t ∷ []) ≡ registries ++ new ∷ []
     via t ts same = map-append (λ (p : Point D). p.registry) ts (point new t ∷ []) ∙ ap (λ l. l ++ new ∷ []) same
 
-    -- one command more, whatever has failed
+    -- a run of commands stays a run if one more command follows, whatever has failed
     pub runs_turn : (q : Request) (r : Reply)
         → ((t : State) → IsAt facts mid t → Applies facts mid new t q r)
         → ((t : State) → IsAt facts mid t → IfAccepted r (AreCallsExactly (calls_of t q) (facts mid.disk) (facts new.disk)))
@@ -419,7 +427,7 @@ module _ {D : Type 0} (facts : D → DiskFacts) where
         ))
         so_far.3.kept
 
-    -- something more that asks for no change
+    -- a run of commands stays a run if one more request for no change follows
     pub runs_idle : ((t : State) → IsAt facts mid t → IsAt facts new t)
         → (IsTrue (facts mid.disk).honest → LeavesOnly (facts mid.disk) (facts new.disk) (Mixture (facts mid.disk)))
         → (IsTrue mid.failed → IsTrue new.failed × (new.disk ≡ mid.disk)) → RunsVia facts old (registries ++ new ∷ []) new s (xs ++ stepped ∷ [])
@@ -431,7 +439,7 @@ module _ {D : Type 0} (facts : D → DiskFacts) where
         so_far.3.kept
 
   module _ (start end : Point D) (xs : List Exchange) (ts : List (Point D)) (ran_so_far : RanSoFar facts start xs ts end) where
-    -- the last state is the one after the acknowledged commands
+    -- the last state of a run is the state after the acknowledged commands
     ends_acknowledged : end.state ≡ state_after start.state (acknowledged xs)
     ends_acknowledged =
         let same = leads_length facts start xs ts ran_so_far.steps in
@@ -439,7 +447,8 @@ module _ {D : Type 0} (facts : D → DiskFacts) where
         ∙ ran_so_far.states (length xs)
         ∙ ap (λ l. state_after start.state (acknowledged l)) (take_all (length xs) xs (omega arith))
 
-    -- What is found at the end is the state after the accepted commands: the acknowledged ones, and perhaps the one that a failing write or sync cut off.
+    -- A mixture at the end holds the state after the accepted commands: the acknowledged ones, and
+    -- perhaps the one that a failing write or sync cut off.
     found_accepted : FindsAccepted facts end.registry start.state xs
     found_accepted m mixture = ⊎_elim
         (λ stands. (acknowledged xs, inl refl, subst (Stands m) ends_acknowledged stands))
@@ -450,7 +459,8 @@ module _ {D : Type 0} (facts : D → DiskFacts) where
         ))
         (ran_so_far.found m mixture)
 
-    -- What a stop leaves at a moment is the state after the accepted ones of the first k, which hold every command acknowledged by then.
+    -- A stop at a moment leaves the state after the accepted ones of the first k exchanges, which
+    -- contain every command acknowledged by then.
     left_accepted : (moment : ℕ) (m : List Sector) → LeavesPrefix facts start xs ts moment m → LeavesAccepted facts start xs ts moment m
     left_accepted moment m (k, le, holds, either) = ⊎_elim
         (λ stands. (k, le, stands.0, holds, acknowledged (take k xs), inl refl, subst (Stands m) (ran_so_far.states k) stands.1))
@@ -472,7 +482,7 @@ module _ {D : Type 0} (facts : D → DiskFacts) where
         ))
         either
 
-    -- a run that is at its end
+    -- at its end, a run that may still go on is a run as `Ran` defines it
     pub ran : Ran facts start xs ts end
     ran = record {
       steps = ran_so_far.steps;
@@ -487,7 +497,7 @@ module _ {D : Type 0} (facts : D → DiskFacts) where
   pub runs_through : (old new : Opened D) (s : State) (xs : List Exchange) (registries : List (Opened D)) → RunsVia facts old registries new s xs → RunsThrough facts old registries new s xs
   runs_through old new s xs registries (t, ts, same, so_far) = (t, ts, same, ran (point old s) (point new t) xs ts so_far)
 
-  -- One thing more of a run, whatever it is.
+  -- a run stays a run if one more exchange of any kind follows
   ran_step : (start mid u : Point D) (x : Exchange) (xs : List Exchange) (ts : List (Point D)) → RanSoFar facts start xs ts mid → Moves facts mid x u
       → RanSoFar facts start (xs ++ x ∷ []) (ts ++ u ∷ []) u
   ran_step start mid u (answered (command q) r) xs ts so_far goes = ⊎_elim
@@ -515,7 +525,7 @@ module _ {D : Type 0} (facts : D → DiskFacts) where
       (λ failed. ran_idle_failed start mid.registry mid.state xs ts so_far u.registry failed.0 failed.1 failed.2)
       idles.stays)
 
-  -- and all that comes after
+  -- a run stays a run if more exchanges follow
   ran_on : (start mid : Point D) (xs : List Exchange) (ts : List (Point D)) → RanSoFar facts start xs ts mid → (ys : List Exchange) (us : List (Point D)) → LeadsThrough facts mid ys us
       → RanSoFar facts start (xs ++ ys) (ts ++ us) (last_of mid us)
   ran_on start mid xs ts so_far [] [] leads =
@@ -527,11 +537,11 @@ module _ {D : Type 0} (facts : D → DiskFacts) where
   ran_on start mid xs ts so_far [] (u ∷ us) leads = absurd leads
   ran_on start mid xs ts so_far (y ∷ ys) [] leads = absurd leads
 
-  -- So steps that lead from a registry at a state are a run,
+  -- Exchanges that begin with a registry at a state are a run.
   pub steps_ran : (start : Point D) (xs : List Exchange) (ts : List (Point D)) → IsAt facts start.registry start.state → LeadsThrough facts start xs ts → Ran facts start xs ts (last_of start ts)
   steps_ran start xs ts at leads = ran start (last_of start ts) xs ts (ran_on start start [] [] (ran_none start.registry start.state at) xs ts leads)
 
-  -- and a run that goes on where another ended makes one run with it.
+  -- If a second run begins where the first one ended, both together are one run.
   pub runs_joined : (start mid end : Point D) (xs ys : List Exchange) (ts us : List (Point D)) → IsAt facts start.registry start.state → Ran facts start xs ts mid → Ran facts mid ys us end
       → Ran facts start (xs ++ ys) (ts ++ us) end
   runs_joined start mid end xs ys ts us at first second =
@@ -539,7 +549,7 @@ module _ {D : Type 0} (facts : D → DiskFacts) where
       subst (Ran facts start (xs ++ ys) (ts ++ us)) (last_joined start ts us ∙ ap (λ (p : Point D). last_of p us) (sym first.last) ∙ sym second.last)
       (steps_ran start (xs ++ ys) (ts ++ us) at leads)
 
--- one command more, with its reply
+-- if one command is appended, its exchange is appended to the exchanges of the commands
 pub commanded_more : (qs : List Request) (rs : List Reply) (q : Request) (r : Reply) → length qs ≡ length rs → commanded (qs ++ q ∷ []) (rs ++ r ∷ []) ≡ commanded qs rs ++ answered (command q) r ∷ []
 commanded_more [] [] q r same = refl
 commanded_more (x ∷ qs) (y ∷ rs) q r same = ap (λ l. answered (command x) y ∷ l) (commanded_more qs rs q r (omega (arith, same)))

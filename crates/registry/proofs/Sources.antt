@@ -1,4 +1,4 @@
--- What a walk finds its files in, as files are read.
+-- What a source offers to a walk, while files are read.
 use Rattle.std.proofs.Common.{◌≡◌, ℕ, ◌+◌, ◌<◌, List, [], ◌∷◌, ◌++◌, length, sum_by, get_or, IsTrue, Result, Ok, Err, refl, sym, ap, subst, ◌∙◌, arith}
 use Rattle.std.specs.Prelude.{All, IfOk, OnOk}
 use Rattle.std.specs.Global.{Vec}
@@ -27,12 +27,12 @@ use Rattle.registry.proofs.Keeping.{keeps_held_read}
 use Rattle.registry.proofs.StateNames.{names_are, numbers_are}
 
 module _ {D : Type 0} (facts : D → DiskFacts) where
-  -- what it offers are the names of the state
+  -- the names that a source offers are those of the state
   pub are_names : (source : Source) (entries : List PlacedEntry) (s : State) (store : Opened D) → Offers facts source entries s store
       → AreNamesOf s entries (HasEntries source store entries) (offered_preloads source store)
   are_names source entries s store offers = record { has = offers.has; own = offers.own; names = offers.names; preloads = offers.preloads }
 
-  -- a store at a state offers that
+  -- a store at a state offers the libraries and preloads of this state
   pub offers_current : (store : Opened D) (s : State) → (IsTrue (facts store.disk).honest → HoldsNow (facts store.disk)) → HaveOwnNames store.entries → IsAt facts store s
       → Offers facts Current store.entries s store
   offers_current store s holds own at = record {
@@ -44,7 +44,7 @@ module _ {D : Type 0} (facts : D → DiskFacts) where
   }
 
   module _ (old new : Opened D) (read : IsRead facts old new) where
-    -- Reading keeps its files,
+    -- A read keeps the files of a source.
     pub files_read : (source : Source) (s : State) → HasFiles facts source old s → HasFiles facts source new s
     files_read Current s has = read.same s has
     files_read (Held snapshot) s has =
@@ -54,22 +54,22 @@ module _ {D : Type 0} (facts : D → DiskFacts) where
         } in
         (subst IsTrue (sym read.calls.honest) has.0, held)
 
-    -- its entries,
+    -- a read keeps the entries of a source
     pub entries_read : (source : Source) (entries : List PlacedEntry) → HasEntries source old entries → HasEntries source new entries
     entries_read Current entries has = read.entries ∙ has
     entries_read (Held snapshot) entries has = subst (λ (held : List HeldRow). IsTakenOf held snapshot.now entries) (sym read.held) has
 
-    -- its preloads,
+    -- a read keeps the preloads of a source
     pub preloads_read : (source : Source) → offered_preloads source new ≡ offered_preloads source old
     preloads_read Current = ap (λ (r : Root). listed_preloads r) read.root
     preloads_read (Held snapshot) = refl
 
-    -- how many there are,
+    -- a read keeps the number of files of a source
     pub count_read : (source : Source) → offered source new ≡ offered source old
     count_read Current = ap length read.entries
     count_read (Held snapshot) = refl
 
-    -- and so all that it offers
+    -- a read keeps all that a source offers
     pub offers_read : (source : Source) {entries : List PlacedEntry} {s : State} → Offers facts source entries s old → Offers facts source entries s new
     offers_read source {entries = entries} {s = s} offers = record {
       has = entries_read source entries offers.has;
@@ -79,7 +79,7 @@ module _ {D : Type 0} (facts : D → DiskFacts) where
       files = files_read source s offers.files;
     }
 
--- the sectors of files and of one more
+-- the sectors of the files and of one more file are those of the longer list
 pub one_more : (files : List Library) (file : Library) → sum_by (λ l. data_sectors l.bytes) files + data_sectors file.bytes ≡ sum_by (λ l. data_sectors l.bytes) (files ++ file ∷ [])
 one_more files file =
     omega (arith, sum_by-append (λ (l : Library). data_sectors l.bytes) files (file ∷ []), sum_by-cons (λ (l : Library). data_sectors l.bytes) file [])
@@ -111,7 +111,7 @@ module _ {D : Type 0} (facts : D → DiskFacts) {program : List ℕ} {start : Op
     calls = exactly_sum come.calls calls (one_more files file);
   }
 
--- what is said of a length that is known
+-- a fact about the known length holds for the length of the bytes
 pub sized : {E : Type 0} (P : ℕ → Type 0) (n : ℕ) (result : Result (Vec ℕ) E) → IfOk result (λ bytes. length bytes.items ≡ n) → OnOk result (P n) → IfOk result (λ bytes. P (length bytes.items))
 sized P n (Ok bytes) size said = subst P (sym size) said
 sized P n (Err e) size said = tt

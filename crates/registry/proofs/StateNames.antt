@@ -1,4 +1,4 @@
--- The names and the preloads of a registry on a disk, by its state.
+-- Lemmas about the names and preloads of a registry on a disk, which follow from its state.
 use Rattle.std.proofs.Common.{◌≡◌, ℕ, ◌<◌, List, [], ◌∷◌, length, map, get_or, cond, Some, None, IsTrue, refl, sym, ap, subst, ◌∙◌, arith}
 use Rattle.std.specs.Prelude.{All, AllPairs, bytes_eq, nat_lt, position}
 use Rattle.std.specs.List.{IsDistinct, filter_map, cons_option, position_or_len}
@@ -31,11 +31,11 @@ entries_apart entries own i j d lt inside =
     let before : i < length entries = omega (arith, lt, within) in
     λ same. own i j e lt within (sym (get_or-map placed_name entries i e d before) ∙ same ∙ get_or-map placed_name entries j e d within)
 
--- names of entries that differ are told apart
+-- if no two entries have the same name, the list of names has no repetition
 pub names_distinct : (entries : List PlacedEntry) → HaveOwnNames entries → IsDistinct bytes_eq (entry_names entries)
 names_distinct entries own = IsDistinct-from_AllPairs bytes_eq-Decides (entry_names entries) (entries_apart entries own)
 
--- a name's number is where it stands
+-- the position of name number k is k, if no name occurs twice
 number_is : (names : List (List ℕ)) (k : ℕ) → IsDistinct bytes_eq names → k < length names → position (bytes_eq (get_or names k [])) names ≡ Some k
 number_is names k distinct lt =
     let name : List ℕ = get_or names k [] in
@@ -63,7 +63,7 @@ object_names : (ls : List Library) → order.names_of (map object_of ls) ≡ nam
 object_names [] = refl
 object_names (l ∷ ls) = ap (λ ns. l.name ∷ ns) (object_names ls)
 
--- as many entries as libraries, where they go by the same names
+-- the number of entries is the number of libraries, if both have the same names
 pub entry_count : (entries : List PlacedEntry) (s : State) → order.names_of (objects s) ≡ entry_names entries → length entries ≡ length s.libraries
 entry_count entries s names =
     sym (length-map entries placed_name) ∙ ap length (sym names) ∙ length-map (objects s) (λ (o : Named). o.name) ∙ length-map s.libraries object_of
@@ -72,16 +72,16 @@ kept_names : (m : List Sector) (entries : List PlacedEntry) → names_of (map (l
 kept_names m [] = refl
 kept_names m (e ∷ es) = ap (λ ns. placed_name e ∷ ns) (kept_names m es)
 
--- The byte strings of entries, and the names of some of them, in a state.
+-- The libraries of the state are the byte strings of the entries.
 module _ (m : List Sector) (entries : List PlacedEntry) (s : State) (libraries : s.libraries ≡ map (library_of m) entries) where
   names_known : names_of s.libraries ≡ entry_names entries
   names_known = ap names_of libraries ∙ kept_names m entries
 
-  -- the objects of the state go by the names of the entries
+  -- the objects of the state have the names of the entries
   pub names_of_entries : order.names_of (objects s) ≡ entry_names entries
   names_of_entries = object_names s.libraries ∙ names_known
 
-  -- the preloads are listed by their numbers
+  -- the numbers of the preloads are their positions
   pub numbers_of : (ks : List ℕ) → s.preloads ≡ names_at s.libraries ks → HaveOwnNames entries → All (λ k. k < length entries) ks → preload_numbers s ≡ ks
   numbers_of ks preloads own inside =
       let names : List (List ℕ) = entry_names entries in

@@ -1,4 +1,4 @@
--- What a registry's disk stands for, and what is known of a registry at a state.
+-- Lemmas about the state that a registry's disk holds, and about a registry at a state.
 use Rattle.std.proofs.Common.{◌≡◌, ◌↔◌, ◌==◌, ◌<◌, ◌≤◌, ℕ, All, List, length, get_or, IsTrue, ⊎_elim, sym, ap, ◌∙◌, arith}
 use Rattle.std.specs.Prelude.{nat_eq}
 use Rattle.std.specs.List.{IsDistinct, list_any}
@@ -26,11 +26,11 @@ use Rattle.registry.specs.Opened.{IsAt}
 use Rattle.registry.specs.Stands.{Stands}
 use Rattle.registry.proofs.Names.{name_stands, same_preload}
 
--- Sectors stand for at most one state.
+-- Sectors hold at most one state.
 pub one_state : (m : List Sector) (s t : State) → Stands m s → Stands m t → s ≡ t
 one_state m s t a b = sectors_lemmas.one_state m Two Two s t a.stored b.stored
 
--- what a stop may leave of a registry at a state stands for it
+-- each mixture of a registry at a state holds that state
 pub mixture_stands : {D : Type 0} (facts : D → DiskFacts) (registry : opened.Opened D) (s : State) → IsAt facts registry s → (m : List Sector) → Mixture (facts registry.disk) m → Stands m s
 mixture_stands facts registry s at m mixture = record { stored = (registry.root, registry.entries, at.stored.stands m mixture); libraries = at.libraries }
 
@@ -39,14 +39,14 @@ module _ {D : Type 0} (facts : D → DiskFacts) (registry : opened.Opened D) (s 
   now_stands : sectors.StandsBy Two (facts registry.disk).now registry.root registry.entries s
   now_stands = at.stands (facts registry.disk).now (holds at.honest)
 
-  -- the root's number of sectors is the disk's
+  -- the number of sectors in the root is the disk's
   pub same_sectors : registry.root.sectors ≡ (facts registry.disk).sectors
   same_sectors = now_stands.intact.size ∙ (holds at.honest).size
 
   root_fits : RootHasSpelling registry.root
   root_fits = current_fits (sector (facts registry.disk).now 0) (sector (facts registry.disk).now 1) registry.root now_stands.intact.current
 
-  -- the root counts the entries
+  -- the number of libraries in the root is the number of entries
   counted : length registry.entries ≡ registry.root.library_count
   counted =
       sym (length-map registry.entries (λ (p : PlacedEntry). p.at))
@@ -72,7 +72,7 @@ module _ {D : Type 0} (facts : D → DiskFacts) (registry : opened.Opened D) (s 
   pub preloads_inside : All (λ p. p < length s.libraries) (listed_preloads registry.root)
   preloads_inside k d lt = omega (arith, root_fits.preloads.listed.used k d lt, counted, count_is)
 
-  -- No two entries have one name, and no preload is listed twice.
+  -- No two entries have the same name, and no preload is listed twice.
   pub own_names : HaveOwnNames registry.entries
   own_names = now_stands.intact.names
 
@@ -82,7 +82,7 @@ module _ {D : Type 0} (facts : D → DiskFacts) (registry : opened.Opened D) (s 
   pub preloads_once : IsDistinct nat_eq (listed_preloads registry.root)
   preloads_once = IsDistinct-from_AllPairs Decides-eqb (listed_preloads registry.root) root_fits.preloads.distinct
 
-  -- a position is that of a preload where its name is that of one
+  -- a library is a preload by its position exactly if it is a preload by its name
   pub same_preload_name : (name : List ℕ) (position : ℕ) → ((p : ℕ) → (position ≡ p) ↔ ((p < length s.libraries) × ((get_or s.libraries p no_library).name ≡ name)))
       → list_any (λ p. p == position) (listed_preloads registry.root) ≡ has_name s.preloads name
   same_preload_name name position at_name = same_preload s name position (listed_preloads registry.root) preloads_inside at_name ∙ ap (λ ns. has_name ns name) (sym preloads_are)
@@ -96,7 +96,7 @@ module _ {D : Type 0} (facts : D → DiskFacts) (registry : opened.Opened D) (s 
   pub few_libraries : length s.libraries ≤ most_libraries
   few_libraries = omega (arith, count_libraries, counted, few_2 registry.root root_fits now_stands.of_version)
 
-  -- What a registry on a disk is at is a state as the commands have it.
+  -- If all files are libraries, the state of a registry on a disk is a state as commands define it.
   pub is_state : All IsLibrary s.libraries → IsState s
   is_state libraries = record {
     libraries = libraries;

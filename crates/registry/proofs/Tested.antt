@@ -1,4 +1,4 @@
--- The tests of a command by what each of them found.
+-- The tests of a command, as they follow from the result of each test.
 use Rattle.std.proofs.Common.{◌≡◌, ◌≢◌, ℕ, Bool, true, false, List, ◌∷◌, length, Option, Some, ap}
 use Rattle.std.specs.Prelude.{not, nat_lt}
 use Rattle.std.specs.List.{list_any}
@@ -52,10 +52,10 @@ module _ (t : Table) (names : List (List ℕ)) where
       → first_refusal t (set_preloads names) ≡ first_of (for_room (change_tests t.generation))
   preloads_tested few once there = (λ i. preloads_by (few i) (once i) (there i))
 
--- the test of the generation, in the store's words
+-- the test of the generation is the store's test of it
 pub last_change : (p : Phase) → first_of (for_room (change_tests (table_of p).generation)) ≡ option_map refusal_of (refusal_of_change p.state)
 last_change p = same_first (change_tests p.state.generation)
 
--- it is no failure of a device
+-- the test of the generation doesn't refuse with S1
 pub change_deviceless : (s : State) → refusal_of_change s ≢ Some Device
 change_deviceless s = deviceless (change_tests s.generation)

@@ -1,4 +1,5 @@
--- What is applied to byte strings that are all libraries is applied to a state of a registry.
+-- If all byte strings are libraries, a command that is applied to them is applied to a state of a
+-- registry.
 use Rattle.std.proofs.Common.{◌≡◌, ℕ, ◌⊎◌, inl, inr, ⊎_elim, List, ◌∷◌, Option, Some, None, All, IsTrue, IsFalse, cond, refl, sym, subst}
 use Rattle.std.specs.Option.{option_map}
 use Rattle.elf_file.specs.FirstOf.{first_of}
@@ -27,12 +28,12 @@ use Rattle.registry.proofs.Bounds.{all_behind}
 use Rattle.registry.proofs.Puts.{each_installed, each_put}
 use Rattle.registry.proofs.States.{own_names, preloads_listed, preloads_once}
 
--- a file that no test of its own refuses
+-- if no test of a change refuses it, the test of its file doesn't
 taken : (o : Option FileRefusal) (others : List (Option Refusal)) → first_of (option_map Object o ∷ others) ≡ None → o ≡ None
 taken None others is = refl
 taken (Some r) others is = cc
 
--- an accepted command keeps each file a library
+-- after an accepted command each file is still a library
 pub each_accepted : (p : Phase) (q : Request) → refusal_at p q ≡ None → All IsLibrary p.state.libraries → All IsLibrary (accepted p.state q).libraries
 each_accepted p (install bytes) is all = each_installed p.state bytes (taken (library_refusal bytes) _ is) all
 each_accepted p (replace bytes) is all = each_put p.state bytes (taken (library_refusal bytes) _ is) all
@@ -48,7 +49,7 @@ each_after p q (Refused refusal) p' step same all = subst (λ (t : State). All I
 each_after p q (Bound image) p' step same all = subst (λ (t : State). All IsLibrary t.libraries) (sym same) all
 each_after p q (Listing listing) p' step same all = subst (λ (t : State). All IsLibrary t.libraries) (sym same) all
 
--- where each file that a bind reads is a library, each answer is one of the step table
+-- if each file that a bind reads is a library, the answer is a step of the step table
 table_step : (p : Phase) (q : Request) (r : Reply) (p' : Phase) → ((program : List ℕ) → ReadsLibraries p.state program) → UntestedStep p q r p' → Step p q r p'
 table_step p (install bytes) r p' reads step = step
 table_step p (replace bytes) r p' reads step = step
@@ -58,7 +59,7 @@ table_step p list r p' reads step = step
 table_step p (bind program base) (Refused Damaged) p' reads step = absurd (step.2 (reads program))
 table_step p (bind program base) r p' reads step = step.0
 
--- each answer but S5 is one of the step table
+-- an answer other than S5 is a step of the step table
 pub other_step : (p : Phase) (q : Request) (r : Reply) (p' : Phase) → (r ≡ Refused Damaged → ⊥) → UntestedStep p q r p' → Step p q r p'
 other_step p (install bytes) r p' other step = step
 other_step p (replace bytes) r p' other step = step

@@ -1,4 +1,4 @@
--- For callers: requests to the draft of what stands, of which none is refused, are an update.
+-- For callers: requests to the draft of the current state, none of which is refused, are an update.
 use Rattle.std.proofs.Common.{◌≡◌, ◌≢◌, ℕ, List, [], ◌∷◌, Bool, true, false, None, ◌||◌, if◌then◌else◌, refl, sym, ap, subst, ◌∙◌, ⊎_elim}
 use Rattle.std.specs.Prelude.{All, IsFalse, IsTrue, ◌↔◌}
 use Rattle.std.specs.List.{list_any}
@@ -26,7 +26,7 @@ use Rattle.registry.specs.Drafting.{AnsweredDraft, DraftStep, LeavesDraft, PlanS
 use Rattle.registry.specs.Updating.{DraftAnswers, IsUpdate, Plans, asks_change, drafted_by, is_refusal, updated}
 use Rattle.registry.proofs.Untested.{each_accepted}
 
--- no write failed before the step nor in it, and it led to the state after the request
+-- no write failed before the step or in it, and the draft's state is the one after the request
 abbrev pub IsAcceptedStep : Phase → Request → Phase → Type 0
 IsAcceptedStep p request p' = IsFalse p.failed × Leads p (drafted p.state (accepted p.state request)) p'
 
@@ -53,12 +53,12 @@ accepted_step p p' list (Listing l) h a = (h.0, h.3)
 accepted_step p p' list (Bound image) h a = (h.0, h.3)
 accepted_step p p' list (Refused refusal) h a = absurd (refuses a)
 
--- what a request leaves, by whether it asks for a change
+-- whether the draft is marked as changed after a request, if the request asks for a change or not
 abbrev LeavesTouched : Touched → Touched → Bool → Type 0
 LeavesTouched old new true = new ≢ Nothing
 LeavesTouched old new false = new ≡ old
 
--- a change that isn't refused is done
+-- a change that isn't refused is answered with Done
 done : (Refuses : Refusal → Type 0) (answer : Reply) → IsChangeAnswer Refuses answer → is_refusal answer ≡ false → answer ≡ Done
 done Refuses Done h is = refl
 done Refuses (Refused refusal) h is = absurd (refuses is)
@@ -81,7 +81,8 @@ module _ {D : Type 0} (facts : D → DiskFacts) where
   leaves old new list Done h is = ap (λ (u : Drafted D). u.touched) h.leaves
   leaves old new list (Refused refusal) h is = absurd (refuses is)
 
-  -- one request in front of others
+  -- a draft has no change after a request and others exactly if it had none before and none of them asks
+  -- for a change
   one_more : (old mid new : Touched) (first others : Bool) → LeavesTouched old mid first → (new ≡ Nothing) ↔ ((mid ≡ Nothing) × (others ≡ false))
       → (new ≡ Nothing) ↔ ((old ≡ Nothing) × ((first || others) ≡ false))
   one_more old mid new true others left rest = ((λ is. absurd (left (rest.0 is).0)), (λ is. absurd (refuses is.1)))
@@ -100,7 +101,8 @@ module _ {D : Type 0} (facts : D → DiskFacts) where
   touched_by old (request ∷ requests) [] drafts steps is = absurd steps
   touched_by old (request ∷ requests) (answer ∷ answers) [] steps is = absurd steps
 
-  -- Of a draft of which nothing was changed something is changed exactly where a request asks for it.
+  -- If a draft had no change, it is marked as changed after these requests exactly if one of them asks
+  -- for a change.
   pub is_changed : (old new : Drafted D) (requests : List Request) (answers : List Reply) → old.touched ≡ Nothing → Plans facts old new requests answers
       → (new.touched ≡ Nothing) ↔ (list_any asks_change requests ≡ false)
   is_changed old new requests answers none plans =
@@ -114,7 +116,7 @@ apart_preloads is = cc is
 apart_listed : Listed ≡ Nothing → ⊥
 apart_listed is = cc is
 
--- so the commit of a draft makes what its requests ask for
+-- a commit of the draft makes the next state if a request asked for a change, and none otherwise
 makes : (s d : State) (touched : Touched) (changes : Bool) → (touched ≡ Nothing) ↔ (changes ≡ false) → committed touched s d ≡ (if changes then next s d.libraries d.preloads else s)
 makes s d Nothing false h = refl
 makes s d Nothing true h = absurd (refuses (h.0 refl))
@@ -123,14 +125,14 @@ makes s d Preloads false h = absurd (apart_preloads (h.1 refl))
 makes s d Listed true h = refl
 makes s d Listed false h = absurd (apart_listed (h.1 refl))
 
--- a change that a draft accepted is refused by no test
+-- no test refuses a change that a draft accepted
 tested : (p p' : Phase) (request : Request) (answer : Reply) → PlanStep p request answer p' → is_refusal answer ≡ false → refusal_at p request ≡ None
 tested p p' request Done step is = step.1
 tested p p' request (Listing l) step is = step.1
 tested p p' request (Bound image) step is = step.1
 tested p p' request (Refused refusal) step is = absurd (refuses is)
 
--- so each file stays a library,
+-- after one request that isn't refused, each file is still a library
 each_drafted : (p p' : Phase) (request : Request) (answer : Reply) → DraftStep p request answer p' → is_refusal answer ≡ false
     → All IsLibrary p.state.libraries → All IsLibrary (accepted p.state request).libraries
 each_drafted p p' (install bytes) answer step is all = each_accepted p (install bytes) (tested p p' (install bytes) answer step is) all
@@ -140,7 +142,7 @@ each_drafted p p' (set_preloads names) answer step is all = all
 each_drafted p p' (bind program base) answer step is all = all
 each_drafted p p' list answer step is all = all
 
--- also after several,
+-- after several requests that aren't refused, each file is still a library
 each_planned : (p : Phase) (requests : List Request) (answers : List Reply) (states : List Phase) → Steps DraftStep p requests answers states
     → All (λ (answer : Reply). is_refusal answer ≡ false) answers → All IsLibrary p.state.libraries → All IsLibrary (drafted_by p.state requests).libraries
 each_planned p [] [] [] steps is all = all
@@ -156,14 +158,15 @@ each_planned p [] (answer ∷ answers) states steps is all = absurd steps
 each_planned p (request ∷ requests) [] states steps is all = absurd steps
 each_planned p (request ∷ requests) (answer ∷ answers) [] steps is all = absurd steps
 
--- and in what is committed
+-- if each file is a library before the commit and in the draft, each file of the committed state is a
+-- library
 pub each_next : (s d : State) (changes : Bool) → All IsLibrary s.libraries → All IsLibrary d.libraries
     → All IsLibrary (if changes then next s d.libraries d.preloads else s).libraries
 each_next s d true before after = after
 each_next s d false before after = before
 
 module _ {D : Type 0} (facts : D → DiskFacts) (s : State) where
-  -- the draft of which nothing was changed is at what stands
+  -- a draft that was just begun is at the current state
   pub begun_at : (store : Opened D) → (IsTrue (facts store.disk).honest → HoldsNow (facts store.disk)) → IsAt facts store s → IsDraftedAt facts (begun store) s s
   begun_at store holds at =
       let now = (facts store.disk).now in
@@ -174,7 +177,7 @@ module _ {D : Type 0} (facts : D → DiskFacts) (s : State) where
         is = stands.is ∙ ap (λ (n : ℕ). draft_state now n store.entries (listed_preloads store.root)) (sym (ap (λ (t : State). t.generation) stands.is));
       }
 
-  -- one request that isn't refused leaves the draft at the state after it
+  -- after a request that isn't refused, the draft is at the state after the request
   pub step_at : (old new : Drafted D) (d : State) (request : Request) (answer : Reply) → IsDraftedAt facts old s d → DraftAnswers facts old request answer new → is_refusal answer ≡ false
       → DraftStep (draft_phase facts old d) request answer (draft_phase facts new (drafted d (accepted d request))) × IsDraftedAt facts new s (drafted d (accepted d request))
   step_at old new d request answer at did is =
@@ -187,7 +190,7 @@ module _ {D : Type 0} (facts : D → DiskFacts) (s : State) where
         subst (IsDraftedAt facts new s) led.1.state kept,
       )
 
-  -- so requests of which none is refused are steps of the table, one after the other
+  -- requests that aren't refused are steps of the table, one after the other
   requested : (old : Drafted D) (d : State) (requests : List Request) (answers : List Reply) (drafts : List (Drafted D)) → IsDraftedAt facts old s d → Steps (DraftAnswers facts) old requests answers drafts
       → All (λ (answer : Reply). is_refusal answer ≡ false) answers
       → Run DraftStep (draft_phase facts old d) requests answers (draft_phase facts (last_of old drafts) (drafted_by d requests))
@@ -203,7 +206,7 @@ module _ {D : Type 0} (facts : D → DiskFacts) (s : State) where
   requested old d (request ∷ requests) [] drafts at steps is = absurd steps
   requested old d (request ∷ requests) (answer ∷ answers) [] at steps is = absurd steps
 
-  -- while they are answered, the disk holds what stands
+  -- while the requests are answered, the disk holds the current state
   answered_moment : (old : Drafted D) (d : State) (requests : List Request) (answers : List Reply) (drafts : List (Drafted D)) → IsDraftedAt facts old s d → Steps (DraftAnswers facts) old requests answers drafts
       → All (λ (answer : Reply). is_refusal answer ≡ false) answers → LeavesOnly (facts old.store.disk) (facts (last_of old drafts).store.disk) (λ m. Stands m s)
   answered_moment old d [] [] [] at steps is = at_rest (facts old.store.disk) (λ m. Stands m s) (λ m mixture. (old.store.root, old.store.entries, at.stands.stands m mixture))
@@ -222,7 +225,7 @@ module _ {D : Type 0} (facts : D → DiskFacts) (s : State) where
       subst (λ (u : Drafted D). LeavesOnly (facts old.store.disk) (facts u.store.disk) (λ m. Stands m s)) (sym plans.run.2)
       (answered_moment old s requests answers plans.run.0 at plans.run.1 plans.accepted)
 
-  -- that is an update
+  -- requests that aren't refused are an update
   pub is_update : (old new : Drafted D) (requests : List Request) (answers : List Reply) → old.touched ≡ Nothing → IsDraftedAt facts old s s → Plans facts old new requests answers
       → IsUpdate facts old new s requests answers
   is_update old new requests answers none at plans =

@@ -1,4 +1,4 @@
--- What of all that was asked and answered was acknowledged, and what was accepted (own).
+-- Which commands and updates were acknowledged, and which were accepted (own).
 use Rattle.std.specs.Prelude.{◌≡◌, ◌⊎◌, ℕ, List, [], ◌∷◌, ◌++◌, Some, slice_get, fold, if◌then◌else◌}
 use Rattle.states.specs.State.{State}
 use Rattle.requests.specs.Request.{Request}
@@ -8,7 +8,7 @@ use Rattle.requests.specs.declared.reply.Reply.{Reply}
 use Rattle.requests.specs.declared.reply.Reply.TheVariants.{Done, Refused}
 use Rattle.registry.specs.Updating.{updated}
 
--- what is made as a whole or not at all: a command, or an update with all of its requests
+-- an operation that is done as a whole or not at all: a command, or an update with all of its requests
 pub data Transaction : Type 0 where
   command : Request → Transaction
   update : List Request → Transaction
@@ -19,10 +19,10 @@ pub data Exchange : Type 0 where
   answered : Transaction → Reply → Exchange
   -- an update that ended before its commit
   given_up : Exchange
-  -- no change of the state was asked for, as by a step of a binder
+  -- a request that asks for no change of the state, such as a step of a binder
   stepped : Exchange
 
--- commands with their replies
+-- the exchanges of commands with their replies
 abbrev pub commanded : List Request → List Reply → List Exchange
 commanded (request ∷ requests) (answer ∷ answers) = answered (command request) answer ∷ commanded requests answers
 commanded requests answers = []
@@ -34,24 +34,25 @@ acknowledged (given_up ∷ exchanges) = acknowledged exchanges
 acknowledged (stepped ∷ exchanges) = acknowledged exchanges
 acknowledged [] = []
 
--- the state after a command, or all of an update, is accepted
+-- the state after a command, or after all requests of an update, is accepted
 abbrev pub outcome : State → Transaction → State
 outcome s (command request) = accepted s request
 outcome s (update requests) = updated s requests
 
--- the state after these are accepted, one after the other
+-- the state after the commands and updates `asked` are accepted in state s, one after the other
 abbrev pub state_after : State → List Transaction → State
 state_after s asked = fold outcome s asked
 
--- number k, counted from 0, is a command or an update that was acknowledged
+-- exchange number k, counted from 0, is a command or an update that was acknowledged
 abbrev pub IsAcknowledgedAt : List Exchange → ℕ → Type 0
 IsAcknowledgedAt exchanges k = (asked : Transaction) × (slice_get exchanges k ≡ Some (answered asked Done))
 
--- number k is this one, and was answered S1
+-- exchange number k asked for `asked`, and was answered with S1
 abbrev pub FailedAt : List Exchange → ℕ → Transaction → Type 0
 FailedAt exchanges k asked = slice_get exchanges k ≡ Some (answered asked (Refused Device))
 
--- the accepted ones: the acknowledged ones, and perhaps, after them, one that was answered S1
+-- `taken` has the accepted commands and updates: the acknowledged ones, and perhaps one more at the end,
+-- which was answered with S1
 abbrev pub AreAccepted : List Exchange → List Transaction → Type 0
 AreAccepted exchanges taken = (taken ≡ acknowledged exchanges)
     ⊎ ((k : ℕ) × (asked : Transaction) × FailedAt exchanges k asked × (taken ≡ acknowledged exchanges ++ asked ∷ []))

@@ -1,4 +1,4 @@
--- What an answer says on any disk, also on one that lies (own).
+-- How a command is answered on any disk, even on a disk that lies, and what the command leaves (own).
 use Rattle.std.specs.Prelude.{◌≡◌, ◌≢◌, ◌<◌, ◌↔◌, IsTrue, IsFalse, List, [], ◌∷◌, None}
 use Rattle.sector_disk.specs.Disk.{DiskFacts, AreCalls}
 use Rattle.store.specs.Holds.{KeepsHeld, AreHolds}
@@ -12,7 +12,7 @@ use Rattle.requests.specs.declared.refusal.Refusal.TheVariants.{Bind, Device, Re
 use Rattle.requests.specs.declared.reply.Reply.{Reply}
 use Rattle.requests.specs.declared.reply.Reply.TheVariants.{Done, Listing, Bound, Refused}
 
--- what any change may be refused with
+-- the refusals that any change may be answered with
 abbrev pub IsChangeRefusal : Refusal → Type 0
 IsChangeRefusal Device = Unit
 IsChangeRefusal Reopen = Unit
@@ -20,7 +20,7 @@ IsChangeRefusal NotInstalled = Unit
 IsChangeRefusal GenerationEnd = Unit
 IsChangeRefusal other = ⊥
 
--- the refusals of a replacement: these, and those of a file
+-- the refusals of a replacement: those of any change, and those that its file may cause
 abbrev pub IsReplaceRefusal : Refusal → Type 0
 IsReplaceRefusal (Object refusal) = Unit
 IsReplaceRefusal Full = Unit
@@ -46,7 +46,7 @@ IsPreloadsRefusal TooManyPreloads = Unit
 IsPreloadsRefusal RepeatedPreload = Unit
 IsPreloadsRefusal other = IsChangeRefusal other
 
--- the refusals of a bind: B1 to B5, where want of memory is S11 alone
+-- the refusals of a bind: B1 to B5, S1, S2, S5, and S11 whenever memory is refused
 abbrev pub IsBindRefusal : Refusal → Type 0
 IsBindRefusal (Bind binding.OutOfMemory) = ⊥
 IsBindRefusal (Bind refusal) = Unit
@@ -62,7 +62,7 @@ IsListRefusal Reopen = Unit
 IsListRefusal OutOfMemory = Unit
 IsListRefusal other = ⊥
 
--- the answers to a change: done, or one of these refusals
+-- the answers to a change: Done, or a refusal for which `Refuses` holds
 abbrev pub IsChangeAnswer : (Refusal → Type 0) → Reply → Type 0
 IsChangeAnswer Refuses Done = Unit {0}
 IsChangeAnswer Refuses (Refused refusal) = Refuses refusal
@@ -80,7 +80,7 @@ IsListAnswer (Listing listing) = Unit {0}
 IsListAnswer (Refused refusal) = IsListRefusal refusal
 IsListAnswer other = ⊥
 
--- how a command may be answered
+-- the answers that a command may get
 abbrev pub IsAnswerTo : Request → Reply → Type 0
 IsAnswerTo (install bytes) = IsChangeAnswer IsInstallRefusal
 IsAnswerTo (replace bytes) = IsChangeAnswer IsReplaceRefusal
@@ -89,43 +89,47 @@ IsAnswerTo (set_preloads names) = IsChangeAnswer IsPreloadsRefusal
 IsAnswerTo (bind program base) = IsBindAnswer
 IsAnswerTo list = IsListAnswer
 
--- a change leaves: done, a usable registry; S1, one to be opened again; else all as it was
+-- The registry after a change. After Done, it can be used; after S1, it has to be opened again; after
+-- any other refusal, nothing has changed.
 abbrev pub ChangeLeaves : {D : Type 0} → Opened D → Opened D → Reply → Type 0
 ChangeLeaves old new Done = IsFalse new.failed
 ChangeLeaves old new (Refused refusal) = (refusal ≡ Device → IsTrue new.failed) × (refusal ≢ Device → new ≡ old)
 ChangeLeaves old new other = Unit {0}
 
--- what is known of the state is kept
+-- the root, the entries and the held byte strings are unchanged, and so is whether a write or a sync
+-- failed
 abbrev pub KeepsState : {D : Type 0} → Opened D → Opened D → Type 0
 KeepsState old new = (new.root ≡ old.root) × (new.entries ≡ old.entries) × (new.held ≡ old.held) × (new.failed ≡ old.failed)
 
--- a command leaves what a change leaves, or, as a bind and a listing, what was known of the state
+-- A change leaves what `ChangeLeaves` defines. A bind keeps what `KeepsState` lists, and a listing
+-- changes nothing. A bind changes nothing either if a test refuses the program by itself.
 abbrev pub Leaves : {D : Type 0} → Opened D → Opened D → Request → Reply → Type 0
 Leaves old new (bind program base) answer = KeepsState old new × (program_refusal program base ≢ None → new ≡ old)
 Leaves old new list answer = new ≡ old
 Leaves old new change answer = ChangeLeaves old new answer
 
--- what a command that was answered so did, on any disk
+-- what a command that was answered with `answer` did, on any disk
 pub record Did {D : Type 0} (facts : D → DiskFacts) (old new : Opened D) (request : Request) (answer : Reply) : Type 0 where
-  -- after a failed write or sync the disk has to be opened again, and nothing is done
+  -- the answer is S2 exactly if a write or a sync failed before; then nothing is done
   pub reopen : (answer ≡ Refused Reopen) ↔ IsTrue old.failed
   pub failed : IsTrue old.failed → new ≡ old
-  -- S1 comes only where a call of the disk failed
+  -- the answer is S1 only if a call of the disk failed
   pub device : answer ≡ Refused Device → (facts old.disk).failures < (facts new.disk).failures
   pub leaves : Leaves old new request answer
-  -- what somebody holds stays held by as many, and on an honest disk its bytes are what they were
+  -- each held byte string keeps the number of its holders and, on an honest disk, its bytes
   pub held : KeepsHeld facts old new
-  -- before and after, what is held has a row each: listed exactly where the state lists it
+  -- before and after, each held byte string has one row, which is marked as listed exactly if the state
+  -- lists the byte string
   pub holds_before : AreHolds old
   pub holds_after : AreHolds new
   pub calls : AreCalls (facts old.disk) (facts new.disk)
 
--- a command was answered so: this it did, and this is how it may be answered
+-- the command did what `Did` defines, and `answer` is one of the answers that the command may get
 pub record Answered {D : Type 0} (facts : D → DiskFacts) (old new : Opened D) (request : Request) (answer : Reply) : Type 0 where
   pub did : Did facts old new request answer
   pub answers : IsAnswerTo request answer
 
--- commands were answered so, one after the other, one answer each
+-- commands were answered one after the other, with one answer for each
 abbrev pub AreAnswered : {D : Type 0} → (D → DiskFacts) → Opened D → Opened D → List Request → List Reply → Type 0
 AreAnswered facts old new [] [] = new ≡ old
 AreAnswered facts old new (request ∷ requests) (answer ∷ answers) = (mid : Opened _)

@@ -1,4 +1,4 @@
--- What a command does to a registry on a disk (own).
+-- The effect of a command on a registry on a disk (own).
 use Rattle.std.specs.Prelude.{◌≡◌, ◌⊎◌, IsTrue, List, None}
 use Rattle.sector_disk.specs.Disk.{Sector, DiskFacts, LeavesOnly}
 use Rattle.store.specs.Opened.{Opened}
@@ -13,37 +13,41 @@ use Rattle.registry.specs.Stands.{Stands}
 use Rattle.registry.specs.Opened.{IsAt}
 use Rattle.registry.specs.Phase.{phase_of}
 
--- How a command may be answered at a state, and what it leaves, in the words of what sectors hold a
--- state, of a table of steps, and of when a registry is at a state.
+-- How a command may be answered in a state, and what a stop within the command may leave. `Holds`
+-- defines which state a list of sectors holds.
 module _ (Holds : List Sector → State → Type 0) where
-  -- A change that a failing device cut off may be found done: only one that no test refuses.
+  -- The answer is S1, no test refuses the command, and the sectors m hold the state after the command: a
+  -- failing device cut the change off, but the change took effect.
   abbrev pub InFlightBy : Phase → Request → Reply → List Sector → Type 0
   InFlightBy p request answer m = (answer ≡ Refused Device) × (refusal_at p request ≡ None) × Holds m (accepted p.state request)
 
-  -- a stop within a command may leave the state before, the state after, or the change in flight
+  -- the sectors m hold the state before the command, the state after it, or the state after a change
+  -- that S1 cut off
   abbrev pub MayLeaveBy : Phase → Request → Reply → State → List Sector → Type 0
   MayLeaveBy p request answer s' m = Holds m p.state ⊎ Holds m s' ⊎ InFlightBy p request answer m
 
--- A command was answered so, and led from a state to another.
+-- The command was answered with `answer`, and changed state s to state s'. `Holds` defines which state a
+-- list of sectors holds, `StepsTo` is the table of steps, and `At` defines when a registry is at a
+-- state.
 pub record AppliedBy (Holds : List Sector → State → Type 0) (StepsTo : Phase → Request → Reply → Phase → Type 0)
     {D : Type 0} (facts : D → DiskFacts) (At : Opened D → State → Type 0) (old new : Opened D) (s s' : State) (request : Request) (answer : Reply) : Type 0 where
   pub step : StepsTo (phase_of facts old s) request answer (phase_of facts new s')
   pub any_moment : LeavesOnly (facts old.disk) (facts new.disk) (MayLeaveBy Holds (phase_of facts old s) request answer s')
-  -- at the end it is at the state after; or a write or a sync failed, and that is the state before
+  -- at the end the registry is at s'; or a write or a sync failed, and s' equals s
   pub kept : At new s' ⊎ (IsTrue new.failed × (s' ≡ s))
 
--- the change of a registry that a failing device cut off
+-- a change of a registry was cut off by a failing device, and took effect in the sectors m
 abbrev pub InFlight : Phase → Request → Reply → List Sector → Type 0
 InFlight p request answer m = InFlightBy Stands p request answer m
 
--- a stop within a command of a registry
+-- a stop within a command of a registry may leave the sectors m
 abbrev pub MayLeaveWithin : Phase → Request → Reply → State → List Sector → Type 0
 MayLeaveWithin p request answer s' m = MayLeaveBy Stands p request answer s' m
 
--- A command of a registry was answered so, and led from a state to another.
+-- The command of a registry was answered with `answer`, and changed state s to state s'.
 abbrev pub Applied : {D : Type 0} → (D → DiskFacts) → Opened D → Opened D → State → State → Request → Reply → Type 0
 Applied facts old new s s' request answer = AppliedBy Stands Step facts (IsAt facts) old new s s' request answer
 
--- the same, with the state after it
+-- `Applied` holds for some state after the command
 abbrev pub Applies : {D : Type 0} → (D → DiskFacts) → Opened D → Opened D → State → Request → Reply → Type 0
 Applies facts old new s request answer = (s' : State) × Applied facts old new s s' request answer

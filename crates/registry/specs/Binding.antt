@@ -1,4 +1,4 @@
--- What a bind reads of a disk (own).
+-- The sectors that a bind reads, and its reply (own).
 use Rattle.std.specs.Prelude.{ℕ, List, length, drop, sum_by, Result, Ok, Err}
 use Rattle.std.specs.Int.{div_ceil}
 use Rattle.sector_disk.specs.Disk.{sector_bytes}
@@ -10,20 +10,20 @@ use Rattle.requests.specs.declared.reply.Reply.{Reply}
 use Rattle.requests.specs.declared.reply.Reply.TheVariants.{Bound, Refused}
 use Rattle.image.specs.Image.{MemoryImage}
 
--- how many sectors the bytes of a file take
+-- the number of sectors that hold the bytes of a file
 abbrev pub data_sectors : List ℕ → ℕ
 data_sectors bytes = div_ceil (length bytes) sector_bytes
 
--- how many sectors the libraries in the load order of a program take, which begins with the program
+-- the number of sectors that hold the libraries in a program's load order, without the program itself
 abbrev pub bind_sectors : State → List ℕ → ℕ
 bind_sectors s program = sum_by (λ o. data_sectors o.file) (drop 1 (load_order program (objects s) (preload_numbers s)))
 
--- the reply that a bind's result makes
+-- the reply for the result of a bind
 abbrev pub bound_answer : Result MemoryImage Refusal → Reply
 bound_answer (Ok image) = Bound image
 bound_answer (Err refusal) = Refused refusal
 
--- this holds where the reply is an image
+-- P holds if the reply is an image
 abbrev pub IfBound : Reply → Type 0 → Type 0
 IfBound (Bound image) P = P
 IfBound other P = Unit {0}

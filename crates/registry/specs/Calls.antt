@@ -1,4 +1,4 @@
--- How many calls of the disk a command makes (own).
+-- The number of calls of the disk that a command makes (own).
 use Rattle.std.specs.Prelude.{ℕ, ◌+◌, ◌-◌, length}
 use Rattle.std.specs.Int.{div_ceil}
 use Rattle.sector_disk.specs.Disk.{sector_bytes}
@@ -9,9 +9,10 @@ use Rattle.requests.specs.declared.reply.Reply.{Reply}
 use Rattle.requests.specs.declared.reply.Reply.TheVariants.{Refused}
 use Rattle.registry.specs.Binding.{bind_sectors}
 
--- how many calls an accepted command makes: of a put one for each sector of the file and for each
--- catalogue of the new list, and four (the entry, the root, two syncs); of a removal those for the
--- catalogues, and three; of a choice of preloads two; of a bind the sectors that it reads
+-- The number of calls that an accepted command makes. An install or a replacement makes one for each sector
+-- of the file, one for each catalogue of the new list, and four more (the entry, the root, two syncs). A
+-- removal makes one for each catalogue, and three more (the root, two syncs). Setting the preloads makes
+-- two. A bind makes one for each sector that it reads.
 abbrev pub calls_of : State → Request → ℕ
 calls_of s (install bytes) = div_ceil (length bytes) sector_bytes + catalogues_for (length s.libraries + 1) + 4
 calls_of s (replace bytes) = div_ceil (length bytes) sector_bytes + catalogues_for (length s.libraries) + 4
@@ -20,7 +21,7 @@ calls_of s (set_preloads names) = 2
 calls_of s (bind program base) = bind_sectors s program
 calls_of s list = 0
 
--- this holds where the command was accepted
+-- P holds if the command was accepted
 abbrev pub IfAccepted : Reply → Type 0 → Type 0
 IfAccepted (Refused refusal) P = Unit {0}
 IfAccepted answer P = P

@@ -1,5 +1,5 @@
--- What the commands of an update do to its draft: the state as it will be, which nothing on the disk
--- holds before the commit (own).
+-- The effect of an update's commands on its draft. The draft is the state that the update has planned so
+-- far; no sectors hold this state before the commit (own).
 use Rattle.std.specs.Prelude.{◌≡◌, ◌≢◌, ◌⊎◌, ◌<◌, ◌↔◌, ℕ, List, IsTrue, IsFalse, None}
 use Rattle.sector_disk.specs.Disk.{DiskFacts, AreCalls, AreCallsAtMost, AreCallsExactly, IsUnchanged, LeavesOnly}
 use Rattle.states.specs.State.{State}
@@ -16,8 +16,10 @@ use Rattle.registry.specs.Answered.{IsAnswerTo}
 use Rattle.registry.specs.Binding.{IfBound, bind_sectors}
 use Rattle.registry.specs.Untested.{UntestedStep}
 
--- Where a draft stands, in the words of the step table: beside its state are the sectors of what stands
--- and isn't in it, and those of byte strings that only binders hold.
+-- The phase of a draft, for the step table. `lone` counts the sectors in use that don't belong to the
+-- draft's state. These are the sectors of current entries that aren't in the draft, and the sectors that
+-- only binders hold. If the current list has more catalogues than the draft, two sectors for each of
+-- them count too.
 abbrev pub draft_phase : {D : Type 0} → (D → DiskFacts) → Drafted D → State → Phase
 draft_phase facts u d = record {
   sectors = (facts u.store.disk).sectors;
@@ -28,7 +30,8 @@ draft_phase facts u d = record {
   state = d;
 }
 
--- A write of a library that no test refuses failed: the draft is as it was, and every later answer is S2.
+-- No test refuses the library, but a write of it failed. The draft is unchanged, and every later answer
+-- is S2.
 pub record LosesDraft (p : Phase) (request : Request) (p' : Phase) : Type 0 where
   pub sectors : p'.sectors ≡ p.sectors
   pub risen : p.failures < p'.failures
@@ -36,61 +39,63 @@ pub record LosesDraft (p : Phase) (request : Request) (p' : Phase) : Type 0 wher
   pub untested : refusal_at p request ≡ None
   pub state : p'.state ≡ p.state
 
--- A change of a draft is tested by the step table, and what is accepted is planned: the draft has it,
--- of the generation that stands.
+-- The step table tests a change of a draft. An accepted change is planned: the draft then includes the
+-- change, and keeps the generation of the current state.
 abbrev pub PlanStep : Phase → Request → Reply → Phase → Type 0
 PlanStep p request (Refused Device) p' = IsFalse p.failed × LosesDraft p request p'
 PlanStep p request (Refused refusal) p' = Step p request (Refused refusal) p'
 PlanStep p request answer p' =
     IsFalse p.failed × (refusal_at p request ≡ None) × (answer ≡ Done) × Leads p (drafted p.state (accepted p.state request)) p'
 
--- a command of an update: a bind and a listing are those of the step table, over the draft's state
+-- How a command of an update may be answered. A listing is a step of the step table in the draft's
+-- state, a bind is a step over files that weren't tested, and a change is planned.
 abbrev pub DraftStep : Phase → Request → Reply → Phase → Type 0
 DraftStep p (bind program base) answer p' = UntestedStep p (bind program base) answer p'
 DraftStep p list answer p' = Step p list answer p'
 DraftStep p request answer p' = PlanStep p request answer p'
 
--- A command was answered so, and led from a state of the draft to this one; at every moment the disk
--- holds the state s that stands.
+-- The command was answered with `answer`, and changed the draft's state from d to d'. At every moment
+-- the disk holds the current state s.
 pub record AppliedDraft {D : Type 0} (facts : D → DiskFacts) (old new : Drafted D) (s d d' : State) (request : Request) (answer : Reply) : Type 0 where
   pub step : DraftStep (draft_phase facts old d) request answer (draft_phase facts new d')
   pub any_moment : LeavesOnly (facts old.store.disk) (facts new.store.disk) (λ m. Stands m s)
-  -- at the end the draft is at the state after; or a write failed, and that is the state before
+  -- at the end the draft is at d'; or a write failed, and d' equals d
   pub kept : IsDraftedAt facts new s d' ⊎ (IsTrue new.store.failed × (d' ≡ d))
 
--- the same, with the state after it
+-- `AppliedDraft` holds for some state of the draft after the command
 abbrev pub AppliesDraft : {D : Type 0} → (D → DiskFacts) → Drafted D → Drafted D → State → State → Request → Reply → Type 0
 AppliesDraft facts old new s d request answer = (d' : State) × AppliedDraft facts old new s d d' request answer
 
--- A program was bound with a draft of this state: each library that it needs was read once at most, and
--- exactly once for an image; no other was, and nothing was written.
+-- A program was bound with a draft at state d. Each library that it needs was read at most once, and
+-- exactly once if the answer is an image. No other library was read, and nothing was written.
 pub record ReadsForBind {D : Type 0} (facts : D → DiskFacts) (old new : Drafted D) (d : State) (program : List ℕ) (answer : Reply) : Type 0 where
   pub unchanged : IsUnchanged (facts old.store.disk) (facts new.store.disk)
   pub most_calls : AreCallsAtMost (bind_sectors d program) (facts old.store.disk) (facts new.store.disk)
   pub all_calls : IfBound answer (AreCallsExactly (bind_sectors d program) (facts old.store.disk) (facts new.store.disk))
 
--- this holds if the request is a bind
+-- if the request is a bind, it made only the calls that `ReadsForBind` allows
 abbrev pub IsBoundBeside : {D : Type 0} → (D → DiskFacts) → Drafted D → Drafted D → State → Request → Reply → Type 0
 IsBoundBeside facts old new d (bind program base) answer = ReadsForBind facts old new d program answer
 IsBoundBeside facts old new d request answer = Unit {0}
 
--- What an answer leaves of a draft: a refusal leaves it as it was, and so do a bind and a listing;
--- of a change that is planned the draft counts as changed.
+-- The draft after a command. A refused command, a bind and a listing leave the draft unchanged. After a
+-- planned change the draft is marked as changed.
 abbrev pub LeavesDraft : {D : Type 0} → Drafted D → Drafted D → Request → Reply → Type 0
 LeavesDraft old new request (Refused refusal) = IsSameDraft old new
 LeavesDraft old new (bind program base) answer = IsSameDraft old new
 LeavesDraft old new list answer = new ≡ old
 LeavesDraft old new request answer = new.touched ≢ Nothing
 
--- A command of an update was answered so, on any disk.
+-- A command of an update was answered with `answer`, on any disk.
 pub record AnsweredDraft {D : Type 0} (facts : D → DiskFacts) (old new : Drafted D) (request : Request) (answer : Reply) : Type 0 where
-  -- after a failed write the update can only be given up, and nothing is done
+  -- the answer is S2 exactly if a write failed before; then nothing is done, and the update can only be
+  -- given up
   pub reopen : (answer ≡ Refused Reopen) ↔ IsTrue old.store.failed
   pub failed : IsTrue old.store.failed → new ≡ old
-  -- S1 comes only where a call of the disk failed
+  -- the answer is S1 only if a call of the disk failed
   pub device : answer ≡ Refused Device → (facts old.store.disk).failures < (facts new.store.disk).failures
   pub answers : IsAnswerTo request answer
-  -- what stands is untouched, and what somebody holds
+  -- the current state and the held byte strings stay unchanged
   pub beside : StaysBeside facts old new
   pub leaves : LeavesDraft old new request answer
   pub calls : AreCalls (facts old.store.disk) (facts new.store.disk)

@@ -1,4 +1,4 @@
--- Binders in flight: what each step of a binder is to be answered (own).
+-- Binders in flight: how each step of a binder has to be answered (own).
 use Rattle.std.specs.Prelude.{◌≡◌, ◌+◌, ◌≤◌, ℕ, zero, suc, List, take, drop, length, sum_by, All, Option, Some, None}
 use Rattle.std.specs.Option.{option_map}
 use Rattle.scope.specs.LoadOrder.{load_order}
@@ -14,51 +14,55 @@ use Rattle.requests.specs.declared.reply.Reply.{Reply}
 use Rattle.requests.specs.declared.reply.Reply.TheVariants.{Bound, Refused}
 use Rattle.registry.specs.Binding.{data_sectors}
 
--- what a binder binds, the state that it was begun at, and how many steps were answered Going
+-- a binder's program, its base, the state in which it was begun, and the number of its steps that were
+-- answered Going
 pub record Flight : Type 0 where
   pub program : List ℕ
   pub base : ℕ
   pub state : State
   pub going : ℕ
 
--- one that is begun now
+-- the flight of a binder that is begun now
 abbrev pub begun : List ℕ → ℕ → State → Flight
 begun program base s = record { program = program; base = base; state = s; going = 0 }
 
--- one step further
+-- the flight after one more step that was answered Going
 abbrev pub further : Flight → Flight
 further f = record { program = f.program; base = f.base; state = f.state; going = f.going + 1 }
 
--- the load order of its program, over the libraries of that state
+-- the load order of the flight's program over the libraries of the flight's state
 abbrev pub flight_order : Flight → List Named
 flight_order f = load_order f.program (objects f.state) (preload_numbers f.state)
 
--- the length of a load order; 0 where a test refuses the program by itself
+-- the length of a load order, or 0 if a test refuses the program by itself
 abbrev pub goings_by : Option BindRefusal → List Named → ℕ
 goings_by None order = length order
 goings_by (Some refusal) order = 0
 
--- how many steps are answered Going before the last one: one that tests the program, and one for
--- each library of the load order; none where a test refuses the program by itself
+-- The number of steps that are answered Going before the last step. One of them tests the program, and
+-- each other one reads a library of the load order. If a test refuses the program by itself, there are
+-- none.
 abbrev pub goings : Flight → ℕ
 goings f = goings_by (program_refusal f.program f.base) (flight_order f)
 
--- the data sectors of the library at a place of the load order, if there is one
+-- the number of sectors of the library at place `k` of the load order, or 0 if no library is there
 abbrev pub sectors_at : ℕ → List Named → ℕ
 sectors_at zero order = 0
 sectors_at (suc k) order = sum_by (λ o. data_sectors o.file) (take 1 (drop (suc k) order))
 
--- how many sectors the next step reads: those of the library at this place of the load order, or 0
+-- the number of sectors that the next step reads: those of the library at place `going` of the load
+-- order, or 0 if no library is there
 abbrev pub step_sectors : Flight → ℕ
 step_sectors f = sectors_at f.going (flight_order f)
 
--- At most one step more is answered Going than the state has libraries, and no step reads more
--- sectors than one of these has: where none has more than n, no step reads more.
+-- The number of steps that are answered Going is at most the number of the state's libraries plus one.
+-- If no library of the state has more than n sectors, no step reads more than n sectors.
 pub record IsBounded (f : Flight) : Type 0 where
   pub steps : goings f ≤ length f.state.libraries + 1
   pub sectors : (n : ℕ) → All (λ library. data_sectors library.bytes ≤ n) f.state.libraries → step_sectors f ≤ n
 
--- the answer of a bind at this state: an image, byte by byte, or the first refusal
+-- the answer of a bind in state s: the image, with the defined byte at each address, or the first
+-- refusal
 abbrev pub IsBindOf : State → List ℕ → ℕ → Reply → Type 0
 IsBindOf s program base (Bound image) = (binding_refusal s program base ≡ None) × (image ≡ bound_image s program base)
     × ((a : ℕ) → image_byte image a ≡ byte_of (bound_objects s program base) a)

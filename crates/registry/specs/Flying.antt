@@ -1,4 +1,4 @@
--- What beginning a binder does, what a step of it does, and what ending it does (own).
+-- The effect of beginning a binder, of its steps, and of ending it (own).
 use Rattle.std.specs.Prelude.{◌≡◌, ◌↔◌, ◌⊎◌, ◌<◌, ◌+◌, ℕ, List, length, slice_index_or, IsTrue, Result, Ok, Err, IfOk, IfErr, OnErr}
 use Rattle.sector_disk.specs.Disk.{DiskFacts, Mixture, IsUnchanged, LeavesOnly, AreCalls, AreCallsAtMost, AreCallsExactly}
 use Rattle.image.specs.Refusal.{WantsMemory}
@@ -19,9 +19,9 @@ use Rattle.registry.specs.declared.binder.Step.{Step}
 use Rattle.registry.specs.declared.binder.Step.TheVariants.{Going, Final}
 use Rattle.registry.specs.inside.Binding.{Binding, HasCome}
 
--- The binder is on this flight: it holds, in the registry as it is now, the libraries of the state
--- that it was begun at. How far it has come is said in specs/inside/Binding.antt, which nobody has
--- to believe: each step below moves it.
+-- The binder is on this flight: in the current registry it holds the libraries of the state in which it
+-- was begun. specs/inside/Binding.antt defines how far the binder has come. Nobody has to believe that
+-- definition, because each step below moves the binder on its flight.
 pub record Flies {D : Type 0} (facts : D → DiskFacts) (now : Opened D) (binder : Binding) (flight : Flight) : Type 0 where
   pub taken : Opened D
   pub at : IsAt facts taken flight.state
@@ -32,11 +32,11 @@ pub record Flies {D : Type 0} (facts : D → DiskFacts) (now : Opened D) (binder
   pub base : binder.base ≡ flight.base
   pub come : HasCome flight.state binder.program binder.base binder.found flight.going
 
--- the handles of what a binder holds
+-- the handles of the byte strings that a binder holds
 abbrev pub handles_of : Binding → List ℕ
 handles_of binder = binder.snapshot.handles
 
--- A binder is begun, or refused. No call of the disk is made, and the state is what it was.
+-- A binder is begun, or refused. No call of the disk is made, and the state is unchanged.
 pub record Begins {D : Type 0} (facts : D → DiskFacts) (old new : Opened D) (program : List ℕ) (base : ℕ) (result : Result Binding Refusal) : Type 0 where
   pub ok : (s : State) → IsAt facts old s → IfOk result (λ binder. Flies facts new binder (begun program base s))
   pub same : (s : State) → IsAt facts old s → IsAt facts new s
@@ -51,15 +51,16 @@ pub record Begins {D : Type 0} (facts : D → DiskFacts) (old new : Opened D) (p
   pub reopen : (result ≡ Err Reopen) ↔ IsTrue old.failed
   pub refusals : IfErr result (λ e. (e ≡ Reopen) ⊎ (e ≡ OutOfMemory))
 
--- a step for a program is refused with S11 only where no test before memory is taken refuses it
+-- a step may be refused with S11 only if no test that comes before memory is allocated refuses the
+-- program
 abbrev pub MayBeRefused : List ℕ → Refusal → Type 0
 MayBeRefused program OutOfMemory = WantsMemory program
 MayBeRefused program refusal = Unit {0}
 
--- What a step may be answered: Going, and the binder is one step further; or the answer of the
--- bind, after exactly as many steps as it takes; or a refusal, and the binder is where it was:
--- after S1 and S11 the same step can be made again, and after S2 the disk has to be opened again.
--- No step reads more than its sectors.
+-- How a step may be answered. After Going the binder is one step further. The bind's answer comes after
+-- exactly the number of steps that the bind needs. After a refusal the binder is where it was. After S1
+-- or S11 the same step can be made again, and after S2 the disk has to be opened again. No step makes
+-- more calls than its library has sectors.
 abbrev pub IsStep : {D : Type 0} → (D → DiskFacts) → Opened D → Opened D → Flight → Binding → Result Step Refusal → Type 0
 IsStep facts old new flight binder (Ok Going) = (flight.going < goings flight) × Flies facts new binder (further flight)
     × AreCallsExactly (step_sectors flight) (facts old.disk) (facts new.disk)
@@ -68,14 +69,14 @@ IsStep facts old new flight binder (Ok (Final answer)) = (flight.going ≡ going
 IsStep facts old new flight binder (Err refusal) = Flies facts new binder flight × AreCallsAtMost (step_sectors flight) (facts old.disk) (facts new.disk)
     × MayBeRefused flight.program refusal
 
--- what a step is refused with, on any disk
+-- the refusals of a step, on any disk: S1 only if a call failed, S2 only if a write or a sync failed before, and S11
 abbrev pub IsStepRefusal : {D : Type 0} → (D → DiskFacts) → Opened D → Opened D → Refusal → Type 0
 IsStepRefusal facts old new Device = (facts old.disk).failures < (facts new.disk).failures
 IsStepRefusal facts old new Reopen = IsTrue old.failed
 IsStepRefusal facts old new OutOfMemory = Unit
 IsStepRefusal facts old new other = ⊥
 
--- what a step answers last, on any disk: an image, B1 to B5, or S5
+-- the last answers that a binder may get, on any disk: an image, B1 to B5, or S5
 abbrev pub IsLast : Reply → Type 0
 IsLast (Bound image) = Unit {0}
 IsLast (Refused (Bind binding.OutOfMemory)) = ⊥
@@ -83,20 +84,22 @@ IsLast (Refused (Bind refusal)) = Unit
 IsLast (Refused Damaged) = Unit
 IsLast answer = ⊥
 
--- the same of a step: Going, or such an answer
+-- the results of a step that isn't refused: Going, or a last answer for which `IsLast` holds
 abbrev pub IsLastStep : Step → Type 0
 IsLastStep Going = Unit {0}
 IsLastStep (Final answer) = IsLast answer
 
--- A step of a binder was answered so. It only reads.
+-- A step of a binder was answered with `result`. It only reads.
 pub record Advances {D : Type 0} (facts : D → DiskFacts) (old new : Opened D) (before after : Binding) (result : Result Step Refusal) : Type 0 where
   pub step : (flight : Flight) → Flies facts old before flight → IsStep facts old new flight after result
   pub bounds : (flight : Flight) → Flies facts old before flight → IsBounded flight
-  -- during it a stop leaves only what it could leave before, and after it may leave just the same
+  -- during the step, a stop leaves only what it could leave before; after the step, it may leave exactly
+  -- the same as before
   pub any_moment : IsTrue (facts old.disk).honest → LeavesOnly (facts old.disk) (facts new.disk) (Mixture (facts old.disk))
   pub unchanged : IsTrue (facts old.disk).honest → IsUnchanged (facts old.disk) (facts new.disk)
   pub same : (s : State) → IsAt facts old s → IsAt facts new s
-  -- on any disk: other binders stay on their flights; only the disk's time and failures change
+  -- on any disk: other binders stay on their flights, and of the registry only the disk's time and
+  -- failures change
   pub others : (binder : Binding) (flight : Flight) → Flies facts old binder flight → Flies facts new binder flight
   pub held : KeepsHeld facts old new
   pub kept : (new.root ≡ old.root) × (new.entries ≡ old.entries) × (new.held ≡ old.held) × (new.failed ≡ old.failed)
@@ -107,7 +110,8 @@ pub record Advances {D : Type 0} (facts : D → DiskFacts) (old new : Opened D) 
   pub answers : IfOk result IsLastStep
   pub calls : AreCalls (facts old.disk) (facts new.disk)
 
--- A binder is ended: what it held is let go. Others stay on their flights, since these hold theirs.
+-- A binder is ended, and releases what it held. Another binder stays on its flight if its byte strings
+-- are still held.
 pub record Ends {D : Type 0} (facts : D → DiskFacts) (old new : Opened D) (binder : Binding) : Type 0 where
   pub let_go : LetsAllGo facts old new (handles_of binder)
   pub same : (s : State) → IsAt facts old s → IsAt facts new s

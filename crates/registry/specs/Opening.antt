@@ -1,4 +1,4 @@
--- What opening, making or upgrading the registry on a disk ends with (own).
+-- How opening, making or upgrading the registry on a disk ends (own).
 use Rattle.std.specs.Prelude.{◌≡◌, ◌≢◌, ◌+◌, ◌⊎◌, ℕ, Result, IsTrue, IfOk, IfErr, MatchResult, length, sum_by}
 use Rattle.sector_disk.specs.Disk.{DiskFacts, Mixture, LeavesOnly, GrowsBehindSync, AreCallsExactly}
 use Rattle.states.specs.Cost.{catalogues_for}
@@ -17,11 +17,11 @@ use Rattle.registry.specs.Opened.{IsAt}
 use Rattle.registry.specs.Stands.{Stands, StandsOld, StandsEither}
 use Rattle.registry.specs.Upgraded.{IsNotOld, IsUpgradeOf}
 
--- how many calls opening a registry makes: those of opening the store, and one for each sector of each file
+-- the number of calls that opening a registry makes: those of opening the store, and one for each sector of each file
 abbrev pub opening_calls : {D : Type 0} → Opened D → ℕ
 opening_calls registry = calls_to_open registry + sum_by file_sectors registry.entries
 
--- the registry that the disk holds was opened, or the disk was refused and handed back
+-- the registry on the disk was opened, or the disk was refused and handed back
 pub record EndsOpening {D : Type 0} (facts : D → DiskFacts) (disk : D) (opening : Result (Opened D) (StoreRefusal × D)) : Type 0 where
   pub opened : Opens Stands facts (IsAt facts) disk opening
   pub on_any_disk : OpensOnAnyDisk facts disk opening
@@ -32,18 +32,19 @@ pub record EndsMaking {D : Type 0} (facts : D → DiskFacts) (disk : D) (making 
   pub made : Makes Stands facts (IsAt facts) disk making
   pub on_any_disk : MakesOnAnyDisk facts disk making
 
--- the registry that the disk holds is one of version 2 now, or the disk was refused and handed back
+-- the registry on the disk now has version 2, or the disk was refused and handed back
 pub record EndsUpgrading {D : Type 0} (facts : D → DiskFacts) (disk : D) (upgrading : Result (Opened D) (StoreRefusal × D)) : Type 0 where
-  -- of a disk of version 1 a stop at any moment leaves what it could leave before, or the state by either rules
+  -- if the disk has version 1, a stop at any moment leaves the old state, the upgraded state, or what a
+  -- stop could leave before the upgrade
   pub any_moment : IsTrue (facts disk).honest → (s : State) → StandsOld (facts disk).now s
       → LeavesOnly (facts disk) (facts (disk_after upgrading)) (λ m. Mixture (facts disk) m ⊎ StandsOld m s ⊎ Stands m (upgraded s))
-  -- any other stays as it was
+  -- a disk that doesn't have version 1 is unchanged
   pub left_alone : IsTrue (facts disk).honest → IsNotOld (facts disk).now → LeavesOnly (facts disk) (facts (disk_after upgrading)) (Mixture (facts disk))
   pub now : IsTrue (facts disk).honest → IsNotOld (facts disk).now → (facts (disk_after upgrading)).now ≡ (facts disk).now
-  -- so does one that is refused, unless a call failed
+  -- a refused disk is unchanged too, unless a call failed
   pub unwritten : IsTrue (facts disk).honest → IfErr upgrading (λ e. e.0 ≢ Device → LeavesOnly (facts disk) (facts e.1) (Mixture (facts disk)))
   pub now_refused : IsTrue (facts disk).honest → IfErr upgrading (λ e. e.0 ≢ Device → (facts e.1).now ≡ (facts disk).now)
-  -- the registry is at the state that what reads gave held, or, on version 1, at the one after it
+  -- the registry is at the state that the disk held or, if the disk had version 1, at the upgraded state
   pub ok : IsTrue (facts disk).honest → IfOk upgrading (λ registry. (s : State) × IsUpgradeOf facts registry (facts disk).now s)
   pub stands : IsTrue (facts disk).honest → (s : State) → Stands (facts disk).now s
       → MatchResult upgrading (λ registry. IsAt facts registry s) (λ e. (e.0 ≡ Device) ⊎ (e.0 ≡ OutOfMemory))
@@ -52,7 +53,8 @@ pub record EndsUpgrading {D : Type 0} (facts : D → DiskFacts) (disk : D) (upgr
   pub answer : IsTrue (facts disk).honest → (s : State) → StandsOld (facts disk).now s
       → IsUpgradeAnswer (refusal_of_upgrade (facts disk).sectors s) (answer_of upgrading)
   pub refused : IsTrue (facts disk).honest → IsNotOld (facts disk).now → IfErr upgrading (λ e. RefusesLook StandsEither (facts disk).now e.0)
-  -- it made exactly the calls of opening; on version 1 those for the catalogues, the root and two syncs too
+  -- an upgrade makes exactly the calls of opening; on a disk of version 1 also those for the catalogues,
+  -- the root and two syncs
   pub calls_current : IsTrue (facts disk).honest → (s : State) → Stands (facts disk).now s → IfOk upgrading (λ registry.
       AreCallsExactly (opening_calls registry) (facts disk) (facts registry.disk))
   pub calls_old : IsTrue (facts disk).honest → (s : State) → StandsOld (facts disk).now s → IfOk upgrading (λ registry.

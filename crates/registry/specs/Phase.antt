@@ -1,4 +1,4 @@
--- A registry on a disk between two commands, in the words of the step table (own).
+-- The phase of a registry on a disk between two commands, as the step table uses it (own).
 use Rattle.std.specs.Prelude.{length}
 use Rattle.sector_disk.specs.Disk.{DiskFacts}
 use Rattle.store.specs.Holds.{lone_sectors}
@@ -7,7 +7,7 @@ use Rattle.store.specs.Step.{longest_unused}
 use Rattle.states.specs.State.{State}
 use Rattle.requests.specs.Phase.{Phase}
 
--- the phase of a registry at a state, in the words of the step table
+-- the phase of a registry that is at state s: all that the step table needs to know
 abbrev pub phase_of : {D : Type 0} → (D → DiskFacts) → Opened D → State → Phase
 phase_of facts registry s = record {
   sectors = (facts registry.disk).sectors;

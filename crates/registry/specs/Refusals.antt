@@ -1,10 +1,11 @@
--- The refusals of the store in the words of a registry (own).
+-- The refusals of the store as refusals of a registry (own).
 use Rattle.store.specs.declared.refusal.StoreRefusal.{StoreRefusal}
 use Rattle.store.specs.declared.refusal.StoreRefusal.TheVariants as store
 use Rattle.requests.specs.declared.refusal.Refusal.{Refusal}
 use Rattle.requests.specs.declared.refusal.Refusal.TheVariants.{Device, Reopen, Damaged, Full, Fragmented, TooMany, GenerationEnd, OutOfMemory}
 
--- a refusal of the store, under its own number; the last line is for what is never refused here
+-- The registry's refusal for a refusal of the store, with the same number. The last line is for refusals
+-- that never occur here.
 abbrev pub refusal_of : StoreRefusal → Refusal
 refusal_of store.Device = Device
 refusal_of store.Reopen = Reopen

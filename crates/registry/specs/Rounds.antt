@@ -1,4 +1,4 @@
--- What rounds of commands do to a disk in memory, with a stop after each (own).
+-- The effect of rounds of commands on a disk in memory that is stopped after each round (own).
 use Rattle.std.specs.Prelude.{◌≡◌, ◌⊎◌, ◌<◌, ◌%◌, ℕ, true, List, [], length, map, slice_index}
 use Rattle.sector_disk.specs.declared.memory.Memory.{Memory}
 use Rattle.sector_disk.specs.declared.fuse.Fuse.{Fuse}
@@ -20,7 +20,7 @@ use Rattle.registry.specs.Opening.{opening_calls}
 use Rattle.registry.specs.Ran.{RunsOver}
 use Rattle.registry.specs.Acknowledged.{Transaction, commanded, AreAccepted, state_after}
 
--- whatever a stop leaves of the disk holds the state
+-- whatever a stop leaves of the disk holds state s
 abbrev pub AlwaysStands : Memory → State → Type 0
 AlwaysStands disk s = (m : List Sector) → Mixture (memory_facts disk) m → Stands m s
 
@@ -29,20 +29,20 @@ pub record Standing : Type 0 where
   pub disk : Memory
   pub state : State
 
--- such a disk
+-- the pair of a disk and its state
 abbrev pub standing : Memory → State → Standing
 standing disk s = record { disk = disk; state = s }
 
--- what is said of a disk in memory behind a fuse
+-- the facts of a disk in memory with a fuse
 abbrev pub fused_memory : Fuse Memory → DiskFacts
 fused_memory = fuse_facts memory_facts
 
--- what a round asks
+-- the requests of a round
 abbrev pub asked : Round → List Request
 asked round = map request_of round.commands.items
 
--- The disk of a round: the given one behind a new fuse. Call number `cut` fails, late or early as
--- the round says, and all calls after it.
+-- The disk of a round is the given disk in a new fuse. Call number `cut` and all calls after it fail.
+-- The round's `late` is whether call number `cut` reaches the disk before it fails.
 pub record IsFused (disk : Memory) (round : Round) (fuse : Fuse Memory) : Type 0 where
   pub inner : inner_of fuse ≡ disk
   pub plan : plan_of fuse ≡ record { call = round.cut; forever = true; late = round.late }
@@ -50,26 +50,28 @@ pub record IsFused (disk : Memory) (round : Round) (fuse : Fuse Memory) : Type 0
   pub time : (fused_memory fuse).time ≡ 0
   pub failures : (fused_memory fuse).failures ≡ 0
 
--- the number that is picked for a sector: these over and over, or 0 where there is none
+-- The choice for sector number `at`. The list of picks is used over and over; if it is empty, the choice
+-- is 0.
 abbrev pub picked : List ℕ → ℕ → ℕ
 picked picks at = slice_index picks (at % length picks)
 
--- A disk was stopped by these picks: each sector holds the choice that is picked for it, modulo
--- how many it had, and all is synced.
+-- A disk was stopped with these picks. Each sector holds one of its choices: the one whose number is the
+-- sector's pick, modulo the number of choices. All sectors are synced.
 pub record IsStoppedBy (picks : List ℕ) (disk stopped : Memory) : Type 0 where
   pub stop : IsStopped (memory_facts disk) (memory_facts stopped)
   pub each : (at : ℕ) → at < (memory_facts disk).sectors → sector (memory_facts stopped).now at
       ≡ sector (memory_choices disk at) (picked picks at % length (memory_choices disk at))
   pub choices : HasOneChoice stopped
 
--- An opening writes nothing: a stop leaves what it could leave before, and reads give the same.
+-- An opening writes nothing: a stop leaves only what a stop could leave before, and reads return the
+-- same bytes.
 pub record WritesNothing (before after : DiskFacts) : Type 0 where
   pub leaves : LeavesOnly before after (Mixture before)
   pub now : after.now ≡ before.now
   pub calls : AreCalls before after
 
--- The disk was opened, and the requests were answered over that registry, of which nobody held a
--- version, up to the last disk.
+-- The disk `first` was opened, and no byte string of the registry was held. Then the registry answered
+-- the requests, which left the disk `last`.
 pub record WasRun (first last : Fuse Memory) (s : State) (requests : List Request) (replies : List Reply) : Type 0 where
   pub old : Opened (Fuse Memory)
   pub new : Opened (Fuse Memory)
@@ -85,20 +87,20 @@ pub record WasNotRun (first last : Fuse Memory) (refusal : StoreRefusal) : Type 
   pub opened : WritesNothing (fused_memory first) (fused_memory last)
   pub why : ((refusal ≡ Device) × ((fused_memory first).failures < (fused_memory last).failures)) ⊎ (refusal ≡ OutOfMemory)
 
--- A round tells the replies and leads from a state to the one after its accepted commands, or tells
--- why it wasn't run, and keeps the state.
+-- A round reports the replies, and changes state s to the state after its accepted commands; or it
+-- reports why it wasn't run, and keeps the state.
 abbrev pub RoundTells : Fuse Memory → Fuse Memory → State → List Request → RoundReplies → State → Type 0
 RoundTells first last s requests (Ran replies) s' = WasRun first last s requests replies.items
     × (taken : List Transaction) × AreAccepted (commanded requests replies.items) taken × (s' ≡ state_after s taken)
 RoundTells first last s requests (NotRun refusal) s' = WasNotRun first last refusal × (s' ≡ s)
 
--- A round leads from a disk and its state to the next: behind its fuse the disk is opened and takes
--- the commands, and what is then behind the fuse is stopped by the round's picks.
+-- A round changes a disk and its state to the next disk and state. The disk is put into a fuse, opened,
+-- and takes the commands. Then the disk in the fuse is stopped by the round's picks.
 pub record RoundLeads (before : Standing) (round : Round) (replies : RoundReplies) (after : Standing) : Type 0 where
   pub first : Fuse Memory
   pub last : Fuse Memory
   pub fused : IsFused before.disk round first
-  -- its calls went through this fuse up to the end
+  -- all calls of the round go through this fuse
   pub plan : plan_of last ≡ plan_of first
   pub told : RoundTells first last before.state (asked round) replies after.state
   pub stopped : IsStoppedBy round.picks.items (inner_of last) after.disk

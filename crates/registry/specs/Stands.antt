@@ -5,16 +5,17 @@ use Rattle.states.specs.State.{State}
 use Rattle.store.specs.Stands as store
 use Rattle.requests.specs.Library.{IsLibrary}
 
--- the sectors hold this state, and each of its files is a library under its SONAME
+-- the sectors m hold state s, and each of its files is a library whose name is its SONAME
 pub record Stands (m : List Sector) (s : State) : Type 0 where
   pub stored : store.Stands m s
   pub libraries : All IsLibrary s.libraries
 
--- The same by the old rules: the sectors are those of a disk of version 1.
+-- The sectors m are those of a disk of version 1, and hold state s by the rules of that version. Each
+-- file of s is a library whose name is its SONAME.
 pub record StandsOld (m : List Sector) (s : State) : Type 0 where
   pub stored : store.StandsOld m s
   pub libraries : All IsLibrary s.libraries
 
--- by the new rules or by the old ones
+-- the sectors hold the state by the new rules or by the old ones
 abbrev pub StandsEither : List Sector → State → Type 0
 StandsEither m s = Stands m s ⊎ StandsOld m s

@@ -1,5 +1,5 @@
--- What a command does to a registry whose files weren't tested when it was opened: named byte strings,
--- of which some may be no libraries (own).
+-- The effect of a command on a registry whose files weren't tested when it was opened. Such a registry
+-- has named byte strings, some of which may not be libraries (own).
 use Rattle.std.specs.Prelude.{◌≡◌, ℕ, List, All, drop, IsFalse, None}
 use Rattle.sector_disk.specs.Disk.{DiskFacts}
 use Rattle.scope.specs.LoadOrder.{load_order}
@@ -18,18 +18,20 @@ use Rattle.requests.specs.declared.reply.Reply.{Reply}
 use Rattle.requests.specs.declared.reply.Reply.TheVariants.{Bound, Refused}
 use Rattle.registry.specs.Applied.{AppliedBy}
 
--- each file that a bind of the program reads is a library of its name: those in the load order behind the program
+-- each file that a bind of the program reads is a library with its own name; these are the files after
+-- the program in the load order
 abbrev pub ReadsLibraries : State → List ℕ → Type 0
 ReadsLibraries s program = All (λ o. IsLibrary (record { name = o.name; bytes = o.file })) (drop 1 (load_order program (objects s) (preload_numbers s)))
 
--- an answer of a bind that comes when all of them were read: an image, or B3 to B5
+-- an answer that a bind can return only after it has read all of these files: an image, or B3 to B5
 abbrev pub ComesBehindReading : List ℕ → ℕ → Reply → Type 0
 ComesBehindReading program base (Bound image) = Unit {0}
 ComesBehindReading program base (Refused (Bind refusal)) = program_refusal program base ≡ None
 ComesBehindReading program base answer = ⊥
 
--- A change and a listing are answered by the step table. So is a bind where each file that it reads
--- is a library; where one isn't it has no answer behind reading, but S5.
+-- The step table answers a change and a listing, and also a bind if each file that it reads is a
+-- library. If one of these files isn't a library, the bind returns S5, or an answer that is possible
+-- before all files are read.
 abbrev pub UntestedStep : Phase → Request → Reply → Phase → Type 0
 UntestedStep p (bind program base) (Refused Damaged) p' =
     IsFalse p.failed × (program_refusal program base ≡ None) × (ReadsLibraries p.state program → ⊥) × Leads p p.state p'
@@ -37,10 +39,10 @@ UntestedStep p (bind program base) answer p' =
     Step p (bind program base) answer p' × (ComesBehindReading program base answer → ReadsLibraries p.state program)
 UntestedStep p request answer p' = Step p request answer p'
 
--- a command was answered so, and led from byte strings to others
+-- the command was answered with `answer`, and changed the byte strings from s to s'
 abbrev pub AppliedUntested : {D : Type 0} → (D → DiskFacts) → Opened D → Opened D → State → State → Request → Reply → Type 0
 AppliedUntested facts old new s s' request answer = AppliedBy sectors.Stands UntestedStep facts (store.IsAt facts) old new s s' request answer
 
--- the same, with the byte strings after it
+-- `AppliedUntested` holds for some byte strings after the command
 abbrev pub AppliesUntested : {D : Type 0} → (D → DiskFacts) → Opened D → Opened D → State → Request → Reply → Type 0
 AppliesUntested facts old new s request answer = (s' : State) × AppliedUntested facts old new s s' request answer

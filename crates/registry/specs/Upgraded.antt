@@ -1,4 +1,4 @@
--- What an upgrade makes of a disk of either version (own).
+-- The effect of an upgrade on a disk of version 1 or 2 (own).
 use Rattle.std.specs.Prelude.{◌⊎◌, List}
 use Rattle.sector_disk.specs.Disk.{Sector, DiskFacts}
 use Rattle.states.specs.State.{State}
@@ -7,11 +7,11 @@ use Rattle.store.specs.Upgraded.{upgraded}
 use Rattle.registry.specs.Opened.{IsAt}
 use Rattle.registry.specs.Stands.{Stands, StandsOld}
 
--- these sectors hold no state by the old rules
+-- the sectors hold no state by the old rules
 abbrev pub IsNotOld : List Sector → Type 0
 IsNotOld m = (s : State) → StandsOld m s → ⊥
 
--- The registry is at the state that these sectors held, or, where they held it by the old rules,
--- at the one after it.
+-- The registry is at the state that the sectors m held. If they held it by the old rules, the registry
+-- is at the upgraded state.
 abbrev pub IsUpgradeOf : {D : Type 0} → (D → DiskFacts) → Opened D → List Sector → State → Type 0
 IsUpgradeOf facts registry m s = (Stands m s × IsAt facts registry s) ⊎ (StandsOld m s × IsAt facts registry (upgraded s))

@@ -1,5 +1,5 @@
--- What the code keeps as it goes. Nobody has to believe it; of public clauses only those of binders
--- in flight cite it.
+-- Values that the code keeps while it runs. Nobody has to believe these definitions. Of the public
+-- clauses, only those about binders in flight cite them.
 pub mod Drafting
 pub mod Binding
 pub mod Named

@@ -1,4 +1,4 @@
-// The files that a store holds, admitted one after the other.
+// Admits the files of a store, one after the other.
 ghost use Rattle.std.specs.Prelude.{◌≡◌, ◌⊎◌, ◌<◌, true, false, None, All, IfOk, IfErr, OnOk};
 ghost use Rattle.std.specs.Prelude.{length, slice_index_or, sum_by};
 ghost use Rattle.hash_check.specs.FileRefusal.{first_file_refusal};
@@ -16,7 +16,7 @@ use sector_disk::Disk;
 use std::alloc::Global;
 use store::{Store, StoreRefusal};
 
-/// Whether an admitted object is a library of this name.
+/// Returns whether an admitted object is a library with the name `name`.
 fn is_library(object: &Admitted<'_>, name: &[u8]) -> bool
     requires { first_file_refusal object.now ≡ None }
     ensures yes { result ≡ true → IsLibrary (record { name = name.now; bytes = object.now }) }
@@ -28,7 +28,8 @@ fn is_library(object: &Admitted<'_>, name: &[u8]) -> bool
     }
 }
 
-/// Sees that bytes are a library of this name: S5 where they are none.
+/// Tests that `bytes` are a library with the name `name`. If they aren't, returns S5 (Damaged); if
+/// memory is refused, returns S11 (OutOfMemory).
 pub(crate) fn see_library(alloc: Global, name: &[u8], bytes: &[u8]) -> Result<(), StoreRefusal>
     ensures ok { OnOk result (IsLibrary (record { name = name.now; bytes = bytes.now })) }
     ensures damaged { IfErr result (λ e. e ≡ StoreRefusal.Damaged
@@ -49,8 +50,8 @@ pub(crate) fn see_library(alloc: Global, name: &[u8], bytes: &[u8]) -> Result<()
     }
 }
 
-/// Reads the file at this position into a buffer, sees that it is a library of its name, and gives
-/// the buffer back.
+/// Reads the file at `position` into `buffer`, tests that it is a library with its entry's name,
+/// and returns the buffer.
 fn admit_at<D: Disk>(
     alloc: Global,
     store: &mut Store<D>,
@@ -74,7 +75,8 @@ fn admit_at<D: Disk>(
     Ok(bytes)
 }
 
-/// Reads each file once, all into one buffer, and sees that it is a library of its name.
+/// Reads each file once, all into one buffer, and tests that each is a library with its entry's
+/// name.
 pub(crate) fn admit_files<D: Disk>(alloc: Global, store: &mut Store<D>) -> Result<(), StoreRefusal>
     ensures read { IsRead D.facts store.old store.new }
     ensures ok { (s : State) → IsAt D.facts store.old s

@@ -1,4 +1,4 @@
-// The registry of a store of version 2, once every file was admitted.
+// Makes a registry from a store of version 2, after every file was admitted.
 ghost use Rattle.std.specs.Prelude.{◌≡◌, ◌<◌, ◌⊎◌, [], sum_by, All, IsTrue, IsFalse, IfOk, IfErr};
 ghost use Rattle.sector_disk.specs.Disk.{Mixture, LeavesOnly, AreCalls, AreCallsExactly};
 ghost use Rattle.states.specs.State.{State};
@@ -14,8 +14,8 @@ use sector_disk::Disk;
 use std::alloc::Global;
 use store::{Store, StoreRefusal};
 
-/// Reads and admits each file of a store, and makes it a registry. Where a file is no library of
-/// its name, or can't be read, the disk is handed back.
+/// Reads and admits each file of `store`, and makes the store a registry. If a file isn't a library
+/// with its entry's name, or can't be read, hands the disk back.
 pub(crate) fn admit_current<D: Disk>(
     alloc: Global,
     store: Store<D>,

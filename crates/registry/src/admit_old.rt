@@ -1,4 +1,4 @@
-// The registry of a store of version 1, once every file was admitted.
+// Makes a registry from a store of version 1, after every file was admitted.
 ghost use Rattle.std.specs.Prelude.{◌≡◌, ◌<◌, length, slice_index_or, sum_by};
 ghost use Rattle.std.specs.Prelude.{All, IsFalse, IfErr, OnOk};
 ghost use Rattle.sector_disk.specs.Disk.{AreCallsExactly};
@@ -18,7 +18,8 @@ use sector_disk::Disk;
 use std::alloc::Global;
 use store::{OldStore, StoreRefusal};
 
-/// Reads the file at this position, sees that it is a library of its name, and lets it go.
+/// Reads the file at `position`, tests that it is a library with its entry's name, and frees its
+/// bytes.
 fn admit_old_at<D: Disk>(
     alloc: Global,
     store: &mut OldStore<D>,
@@ -41,7 +42,8 @@ fn admit_old_at<D: Disk>(
     Ok(())
 }
 
-/// Reads each file once, sees that it is a library of its name, and lets it go before the next.
+/// Reads each file once, tests that it is a library with its entry's name, and frees its bytes
+/// before it reads the next one.
 fn admit_old_files<D: Disk>(alloc: Global, store: &mut OldStore<D>) -> Result<(), StoreRefusal>
     ensures read { IsReadBy One D.facts store.old store.new }
     ensures ok { (s : State) → IsOldAt D.facts store.old s
@@ -59,9 +61,9 @@ fn admit_old_files<D: Disk>(alloc: Global, store: &mut OldStore<D>) -> Result<()
     Ok(())
 }
 
-/// Reads and admits each file of a store of version 1, and then makes it a registry of version 2:
-/// the catalogues and the root are all that is written. Where a file is no library of its name, or
-/// can't be read, and where the store refuses, the disk is handed back.
+/// Reads and admits each file of a store of version 1, and then makes the store a registry of
+/// version 2. Writes only the catalogues and the root. If a file isn't a library with its entry's
+/// name or can't be read, or if the store refuses, hands the disk back.
 pub(crate) fn admit_old<D: Disk>(
     alloc: Global,
     store: OldStore<D>,

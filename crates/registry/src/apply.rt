@@ -1,4 +1,4 @@
-// Commands are applied to a registry on a disk.
+// Applies commands to a registry on a disk.
 ghost use Rattle.std.specs.Prelude.{◌≡◌};
 ghost use Rattle.requests.specs.Step.{answer_of};
 
@@ -7,7 +7,7 @@ use requests::{Command, Refusal, Reply};
 use sector_disk::Disk;
 use std::alloc::AllocError;
 
-/// The reply that a change's result makes.
+/// Returns the reply for the result of a change.
 pub(crate) fn reply(change: Result<(), Refusal>) -> Reply
     ensures { result ≡ answer_of change }
 {
@@ -31,7 +31,7 @@ impl<D: Disk> Registry<D> {
     ghost use Rattle.registry.specs.Untested.{AppliesUntested};
     ghost use Rattle.store.specs.Holds.{AreHolds};
 
-    // The reply to a command, by what it asks.
+    // Carries out a command, and returns its reply.
     fn reply_to(&mut self, command: &Command<'_>) -> Reply
         ensures untested { (s : State) → stored.IsAt D.facts self.old s
             → AppliesUntested D.facts self.old self.new s (request_of command.now) result }
@@ -39,7 +39,8 @@ impl<D: Disk> Registry<D> {
             (AreCallsExactly (calls_of s (request_of command.now))
             (D.facts self.old.disk) (D.facts self.new.disk)) }
 
-        // That what is held has a row each is told by `holds_are_sound`.
+        // The ghost function `holds_are_sound` lets proofs use that each held byte string has one
+        // row.
         ensures on_any_disk { AreHolds self.old → AreHolds self.new
             → Answered D.facts self.old self.new (request_of command.now) result }
     {
@@ -53,17 +54,18 @@ impl<D: Disk> Registry<D> {
         }
     }
 
-    /// Applies a command. On an honest disk the answer is a step of the step table, and a refusal
-    /// the first that applies there. Removing a library and setting the preloads take no memory; a
-    /// listing makes no call of the disk; a bind reads the files of the program's load order.
+    /// Applies `command`. On an honest disk the answer is a step of the step table, and a refusal
+    /// is the first one that applies there. Removing a library and setting the preloads allocate no
+    /// memory. A listing makes no call of the disk. A bind reads the files of the program's load
+    /// order.
     pub fn apply(&mut self, command: &Command<'_>) -> Reply
-        // A step of the table; a stop at any moment leaves the state from before it or the one
-        // after, also where a call failed.
+        // The answer is a step of the step table. A stop at any moment leaves the state before the
+        // command or the state after it, also if a call failed.
         ensures applied { (s : State) → IsAt D.facts self.old s
             → Applies D.facts self.old self.new s (request_of command.now) result }
 
-        // The same where files aren't all libraries, of which a change reads none, and a bind those
-        // that it needs.
+        // The same holds if some files aren't libraries. A change reads no file, and a bind reads
+        // only the files that it needs.
         ensures untested { (s : State) → stored.IsAt D.facts self.old s
             → AppliesUntested D.facts self.old self.new s (request_of command.now) result }
         ensures all_calls { (s : State) → stored.IsAt D.facts self.old s → IfAccepted result
@@ -78,12 +80,12 @@ impl<D: Disk> Registry<D> {
         reply
     }
 
-    /// Applies commands one after the other, and gives one reply for each. Where memory for the
-    /// replies is refused, nothing is applied.
+    /// Applies `commands` one after the other, and returns one reply for each. If memory for the
+    /// replies is refused, applies none.
     pub fn run(&mut self, commands: &[Command<'_>]) -> Result<Vec<Reply>, AllocError>
-        // Each command is applied to the registry that the one before left. What a stop leaves at
-        // any moment is the state after a prefix of the accepted commands that holds every one
-        // acknowledged by then; at the end it is the state after all accepted commands.
+        // Each command is applied to the registry that the command before it left. A stop at any
+        // moment leaves the state after a prefix of the accepted commands, which contains every
+        // command acknowledged by then. At the end it is the state after all accepted commands.
         ensures ok { IfOk result (λ replies. (s : State) → IsAt D.facts self.old s → RunsOver
             D.facts self.old self.new s (map request_of commands.now) replies.items) }
         ensures err { OnErr result (self.new ≡ self.old) }

@@ -1,4 +1,4 @@
-// Binding a program with a registry on a disk.
+// Binds a program with a registry on a disk.
 ghost use Rattle.std.specs.Prelude.{◌≡◌};
 ghost use Rattle.registry.specs.inside.Reading.{refusal_of_read};
 
@@ -11,7 +11,7 @@ use requests::{Refusal, Reply};
 use sector_disk::Disk;
 use store::StoreRefusal;
 
-/// What reading a file refuses, in the registry's word for it.
+/// Returns the registry's refusal for a refused read.
 pub(crate) fn refusal_of_read(refusal: StoreRefusal) -> Refusal
     ensures { result ≡ refusal_of_read refusal }
 {
@@ -37,8 +37,9 @@ impl<D: Disk> Registry<D> {
     ghost use Rattle.registry.specs.Untested.{AppliedUntested, UntestedStep};
     ghost use Rattle.store.specs.IsRead.{IsRead};
 
-    /// The image of a program that is admitted at a base that is good for it, or a refusal: S1, S5
-    /// or S11 of the first reading that has one, else B3, B4 or B5.
+    /// Returns the image of an admitted program at `base`, which no test refuses, or a refusal. The
+    /// first refused read decides: S1 (Device), S5 (Damaged) or S11 (OutOfMemory). If no read is
+    /// refused, the refusal is B3 (Missing), B4 (NoRoom) or B5 (Undefined).
     fn bind_admitted(&mut self, program: &Admitted<'_>, base: u64) -> Result<Image, Refusal>
         requires { program_refusal program.now base ≡ None }
         ensures step { (s : State) → IsAt D.facts self.old s
@@ -61,8 +62,8 @@ impl<D: Disk> Registry<D> {
         Ok(image)
     }
 
-    /// The image of a program, or the first refusal. The program by itself is tested before any
-    /// call of the disk.
+    /// Returns the image of the program `file` at `base`, or the first refusal. Tests the program
+    /// by itself before any call of the disk.
     fn image(&mut self, file: &[u8], base: u64) -> Result<Image, Refusal>
         ensures step { (s : State) → IsAt D.facts self.old s
             → UntestedStep (phase_of D.facts self.old s) (bind file.now base)
@@ -86,23 +87,25 @@ impl<D: Disk> Registry<D> {
         self.bind_admitted(&program, base)
     }
 
-    /// The reply to `Bind`. It reads the files of the program's load order, each once and one after
-    /// the other, and no other file; each is admitted before the next is read.
+    /// Returns the reply to `Bind`. Reads the files of the program's load order, each once and one
+    /// after the other, and no other file. Each file is admitted before the next one is read.
     pub(crate) fn bind(&mut self, program: &[u8], base: u64) -> Reply
-        // A step of the table, which leaves the state, at any moment too.
+        // The answer is a step over files that weren't tested, and the state is unchanged at every
+        // moment.
         ensures applied { (s : State) → IsAt D.facts self.old s
             → AppliedUntested D.facts self.old self.new s s (bind program.now base) result }
 
-        // An image takes as many calls as the files of the load order have sectors.
+        // A bind that returns an image makes one call for each sector of the libraries in the load
+        // order.
         ensures all_calls { (s : State) → IsAt D.facts self.old s → IfBound result
             (AreCallsExactly (bind_sectors s program.now)
             (D.facts self.old.disk) (D.facts self.new.disk)) }
 
-        // What somebody holds stays as it was.
+        // The held byte strings stay unchanged.
         ensures table { self.new.held ≡ self.old.held }
         ensures held { KeepsHeld D.facts self.old self.new }
 
-        // On any disk. A program that is refused by itself takes no call.
+        // On any disk: if a test refuses the program by itself, no call is made.
         ensures alone { program_refusal program.now base ≢ None → self.new ≡ self.old }
         ensures failed { IsTrue self.old.failed → (result ≡ Reply.Refused Refusal.Reopen)
             × (self.new ≡ self.old) }

@@ -23,23 +23,23 @@ use std::alloc::Global;
 use std::marker::Model;
 use store::{Store, StoreRefusal};
 
-/// What a step of a binder came to.
+/// The result of a step of a binder.
 #[derive(Drop)]
 pub enum Step {
-    /// There is more to do.
+    /// The bind isn't finished yet.
     Going,
-    /// The answer of the bind: an image, B1 to B5, or S5. The binder is done.
+    /// The answer of the bind: an image, B1 to B5, or S5 (Damaged). The binder is done.
     Final(Reply),
 }
 
-/// A program that is bound in steps, with the libraries as they were when it was begun. It is good
-/// for its own registry alone, until it is given to `Registry::end`.
+/// A program that is bound in steps, with the libraries that the registry had when the binder was
+/// begun. A binder may be used only with its own registry, until it is given to `Registry::end`.
 #[derive(Drop)]
 pub struct Binder {
     program: Vec<u8>,
     base: u64,
     snapshot: Snapshot,
-    // From the first step on.
+    // `None` before the first step.
     walk: Option<Walk>,
 }
 
@@ -63,7 +63,7 @@ impl Model for Binder {
     }) };
 }
 
-/// The first step: the program is tested by itself, and looked at.
+/// Makes the first step: tests the program by itself, and starts the walk.
 fn look<D: Disk>(
     alloc: Global,
     store: &Store<D>,
@@ -85,7 +85,7 @@ fn look<D: Disk>(
     Ok(walk)
 }
 
-/// The last step: the program is bound with what the walk has found.
+/// Makes the last step: binds the program with what the walk has found.
 fn answer(alloc: Global, program: &[u8], base: u64, walk: &Walk) -> Result<Image, BindRefusal>
     requires { program_refusal program.now base ≡ None }
     ensures { IsBoundBy program.now base walk.now.needs.missing walk.now.files.items result }
@@ -94,8 +94,8 @@ fn answer(alloc: Global, program: &[u8], base: u64, walk: &Walk) -> Result<Image
     bind_walked(alloc, &program, base, walk)
 }
 
-/// A step of which binding was refused: want of memory lets it be made again, and everything else
-/// is the answer.
+/// Returns the result of a step in which binding was refused. If memory was refused, the step can
+/// be made again. Any other refusal is the answer.
 fn refused(refusal: BindRefusal) -> Result<Step, Refusal>
     ensures value { result ≡ refused_step refusal }
     ensures last { IfOk result IsLastStep }
@@ -106,8 +106,9 @@ fn refused(refusal: BindRefusal) -> Result<Step, Refusal>
     }
 }
 
-/// A step of which reading was refused: a damaged file is the answer. After a failed call and for
-/// want of memory it can be made again, and after S2 the disk has to be opened again.
+/// Returns the result of a step in which a read was refused. A damaged file is the answer.
+/// After a failed call and after refused memory the step can be made again. After S2 (Reopen)
+/// the disk has to be opened again.
 fn unread(refusal: StoreRefusal) -> Result<Step, Refusal>
     ensures value { result ≡ unread_step refusal }
     ensures last { IfOk result IsLastStep }
@@ -128,7 +129,8 @@ impl Binder {
     ghost use Rattle.registry.specs.inside.Binding.{Stays};
     ghost use Rattle.store.specs.IsRead.{IsRead};
 
-    // Does nothing: it tells proofs that no preload is there twice, and that each is a library.
+    // Does nothing. Its clauses let proofs use that no preload occurs twice, and that each one is a
+    // library.
     fn preloads_are_apart(&self)
         ensures inside { All (λ p. p < length self.now.snapshot.handles)
             self.now.snapshot.preloads }
@@ -137,7 +139,7 @@ impl Binder {
         let _ = self.snapshot.preloads();
     }
 
-    /// The first step.
+    /// Makes the first step.
     fn first<D: Disk>(&mut self, alloc: Global, store: &Store<D>) -> Result<Step, Refusal>
         requires { self.old.found ≡ None }
         ensures step { (flight : Flight) → Flies D.facts store.now self.old flight
@@ -161,7 +163,7 @@ impl Binder {
         }
     }
 
-    /// A step: the program is looked at, the next file is read, or the program is bound.
+    /// Makes a step: examines the program, reads the next file, or binds the program.
     fn step<D: Disk>(&mut self, alloc: Global, store: &mut Store<D>) -> Result<Step, Refusal>
         ensures step { (flight : Flight) → Flies D.facts store.old self.old flight
             → IsStep D.facts store.old store.new flight self.new result }
@@ -189,13 +191,14 @@ impl Binder {
 impl<D: Disk> Registry<D> {
     ghost use Rattle.registry.specs.Flying.{Advances, Begins, Ends};
 
-    /// Begins to bind a program, with the libraries and preloads as they are now, whatever changes
-    /// after it: S2, or S11. It copies the program, holds each library, and makes no call of the
-    /// disk.
+    /// Begins to bind the program `program` at `base`, with the current libraries and preloads,
+    /// whatever changes later. Copies the program, holds each library, and makes no call of the
+    /// disk. Refuses with S2 (Reopen) or S11 (OutOfMemory).
     pub fn begin(&mut self, program: &[u8], base: u64) -> Result<Binder, Refusal>
         ensures { Begins D.facts self.old self.new program.now base result }
     {
-        // No two libraries have one name, and what is held counts as listed where it is.
+        // No two libraries have the same name, and a held byte string is marked as listed exactly
+        // if the state lists it.
         self.store.entries_are_sound();
         self.store.holds_are_sound();
         if self.store.has_failed() {
@@ -213,14 +216,14 @@ impl<D: Disk> Registry<D> {
         }
     }
 
-    /// Makes the next step of a binder. The first tests the program by itself, each following one
-    /// reads and admits one library, in load order, and the last binds. After S1 and S11 the step
-    /// can be made again; after S2 the disk has to be opened again, and the binder can only be
-    /// ended.
+    /// Makes the next step of `binder`. The first step tests the program by itself, each following
+    /// step reads and admits one library, in load order, and the last step binds. After S1 (Device)
+    /// and S11 (OutOfMemory) the step can be made again. After S2 (Reopen) the disk has to be
+    /// opened again, and the binder can only be ended.
     pub fn advance(&mut self, binder: &mut Binder) -> Result<Step, Refusal>
         ensures { Advances D.facts self.old self.new binder.old binder.new result }
     {
-        // So no library is read twice.
+        // This call lets proofs use that no library is read twice.
         binder.preloads_are_apart();
         if self.store.has_failed() {
             return Err(Refusal::Reopen);
@@ -228,8 +231,8 @@ impl<D: Disk> Registry<D> {
         binder.step(self.alloc, &mut self.store)
     }
 
-    /// Ends a binder, done or not: what it held is let go. It takes no memory and makes no call of
-    /// the disk, also after S2.
+    /// Ends `binder`, finished or not, and releases what it held. Allocates no memory and makes no
+    /// call of the disk. May also be called after S2 (Reopen).
     pub fn end(&mut self, binder: Binder)
         ensures { Ends D.facts self.old self.new binder }
     {

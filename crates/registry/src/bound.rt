@@ -1,4 +1,4 @@
-// Binding a program with the files of its load order.
+// Binds a program with the files of its load order.
 ghost use Rattle.std.specs.Prelude.{◌≡◌, map, true, IfOk};
 ghost use Rattle.image.specs.Bound.{AreBound};
 ghost use Rattle.image.specs.Placement.{is_good_base};
@@ -13,7 +13,7 @@ use image::{BindRefusal, BoundObject, Image, bind, bound_objects};
 use scope::{Library, NeededName, Order};
 use std::alloc::{AllocError, Global};
 
-/// The libraries that files are.
+/// Returns `files` as libraries.
 pub(crate) fn libraries_of(
     alloc: Global,
     files: &[LibraryFile],
@@ -27,7 +27,8 @@ pub(crate) fn libraries_of(
     Ok(libraries)
 }
 
-/// Binds a program at a base that is good for it with the files of its load order: from B4 on.
+/// Binds a program with the files of its load order, at a base that no test refuses. The tests
+/// begin with B4.
 fn bind_files(
     alloc: Global,
     program: &Admitted<'_>,
@@ -42,7 +43,7 @@ fn bind_files(
     bind(alloc, &order, base)
 }
 
-/// The program and files at their bases, with the values of their symbols.
+/// Returns the program and the files at their bases, with the values of their symbols.
 fn bound_files(
     alloc: Global,
     program: &Admitted<'_>,
@@ -60,7 +61,7 @@ fn bound_files(
     bound_objects(alloc, &order, base)
 }
 
-/// Binds a program as `bind_files` does, and lets each file go when its segments are filled.
+/// Binds a program as `bind_files` does, and frees each file when its segments are filled.
 fn bind_owned(
     alloc: Global,
     program: &Admitted<'_>,
@@ -80,7 +81,8 @@ fn bind_owned(
     Ok(image)
 }
 
-/// B3: a needed name that no file goes by, with its needer. Both names are copied.
+/// Returns B3 (Missing) for a needed name that no file has, with the object that needs it. Both
+/// names are copied.
 fn missing(alloc: Global, need: &NeededName) -> Result<BindRefusal, AllocError>
     ensures { IfOk result (λ refusal. refusal ≡ missing_by need.now) }
 {
@@ -92,8 +94,8 @@ fn missing(alloc: Global, need: &NeededName) -> Result<BindRefusal, AllocError>
     Ok(BindRefusal::Missing { needer, name })
 }
 
-/// Binds a program at a base that is good for it with what a walk has found: B3 where a name is
-/// missing, else from B4 on.
+/// Binds a program with the findings of a walk, at a base that no test refuses. If a name is
+/// missing, refuses with B3. Otherwise the tests begin with B4.
 pub(crate) fn bind_walked(
     alloc: Global,
     program: &Admitted<'_>,
@@ -109,7 +111,7 @@ pub(crate) fn bind_walked(
     }
 }
 
-/// Binds a program as `bind_walked` does, and lets each file go as soon as it can.
+/// Binds a program as `bind_walked` does, and frees each file as soon as it is no longer needed.
 pub(crate) fn bind_found(
     alloc: Global,
     program: &Admitted<'_>,

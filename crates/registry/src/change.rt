@@ -1,4 +1,5 @@
-// The changes that take neither memory nor a file: the tests of a command, then the store's call.
+// The changes that allocate no memory and need no file: first the tests of the command, then the
+// store's call.
 use crate::refusal::in_words;
 use crate::registry::Registry;
 use crate::tests::{test_preloads, test_remove};
@@ -17,12 +18,12 @@ impl<D: Disk> Registry<D> {
     ghost use Rattle.registry.specs.Answered.{IsPreloadsRefusal, IsRemoveRefusal};
     ghost use Rattle.registry.specs.Untested.{AppliesUntested};
 
-    /// Removes a library. It takes no memory.
+    /// Removes the library `name`. Allocates no memory.
     pub(crate) fn remove(&mut self, name: &[u8]) -> Result<(), Refusal>
         ensures applied { (s : State) → IsAt D.facts self.old s
             → AppliesUntested D.facts self.old self.new s (remove name.now) (answer_of result) }
 
-        // What somebody holds stays as it was.
+        // The held byte strings stay unchanged.
         ensures held { KeepsHeld D.facts self.old self.new }
 
         ensures on_any_disk { Changed D.facts Refusal.Device Refusal.Reopen
@@ -33,13 +34,13 @@ impl<D: Disk> Registry<D> {
         in_words(self.store.delete(name))
     }
 
-    /// Sets the preloads. It takes no memory.
+    /// Sets the preloads to `names`. Allocates no memory.
     pub(crate) fn set_preloads(&mut self, names: &[&[u8]]) -> Result<(), Refusal>
         ensures applied { (s : State) → IsAt D.facts self.old s
             → AppliesUntested D.facts self.old self.new s
             (set_preloads (map (λ n. n.now) names.now)) (answer_of result) }
 
-        // What somebody holds stays as it was.
+        // The held byte strings stay unchanged.
         ensures held { KeepsHeld D.facts self.old self.new }
 
         ensures on_any_disk { Changed D.facts Refusal.Device Refusal.Reopen

@@ -1,4 +1,4 @@
-// The draft of an update, as tests, listings and walks see it.
+// The draft of an update as a list of libraries, which tests, listings and walks use.
 ghost use Rattle.std.specs.Prelude.{◌≡◌, length, refl};
 ghost use Rattle.states.specs.State.{State};
 ghost use Rattle.store.specs.Draft.{IsDraftedAt};

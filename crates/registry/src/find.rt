@@ -1,4 +1,4 @@
-// Finding the libraries of a program.
+// Finds the libraries of a program.
 ghost use Rattle.std.specs.Prelude.{◌≡◌, is_some, map, IfOk};
 ghost use Rattle.requests.specs.Binding.{object_of};
 
@@ -16,8 +16,8 @@ use sector_disk::Disk;
 use std::alloc::{AllocError, Global};
 use std::marker::Model;
 
-/// What was found for a program: the libraries that it needs, in load order, as far as they are
-/// installed. Contracts see these, and the first needed name that isn't.
+/// The libraries that a program needs, in load order, as far as they are installed. In contracts,
+/// this value is these libraries and the first needed name that isn't installed.
 #[derive(Drop)]
 pub struct FoundLibraries {
     files: Vec<LibraryFile>,
@@ -33,7 +33,7 @@ impl Model for FoundLibraries {
 }
 
 impl FoundLibraries {
-    /// What a walk has found at its end.
+    /// Makes the result of a finished walk.
     fn of(walk: Walk) -> FoundLibraries
         ensures { result ≡ record { libraries = walk.files.items; missing = walk.needs.missing } }
     {
@@ -42,7 +42,7 @@ impl FoundLibraries {
         FoundLibraries { files, missing }
     }
 
-    /// The libraries. Each costs what `Object::of_accepted` costs.
+    /// Returns the libraries. Each costs as much as a call of `Object::of_accepted`.
     pub fn libraries(&self, alloc: Global) -> Result<Vec<Library<'_>>, AllocError>
         ensures { IfOk result (λ libraries.
             libraries.items ≡ map object_of self.now.libraries) }
@@ -50,7 +50,7 @@ impl FoundLibraries {
         libraries_of(alloc, &self.files)
     }
 
-    /// Whether a needed name isn't installed.
+    /// Returns whether a needed name isn't installed.
     pub fn lacks_some(&self) -> bool
         ensures { result ≡ is_some self.now.missing }
     {
@@ -68,8 +68,9 @@ impl<D: Disk> Registry<D> {
     ghost use Rattle.sector_disk.specs.Disk.{AreCallsExactly};
     ghost use Rattle.registry.specs.Untested.{ReadsLibraries};
 
-    /// Finds the libraries of a program that is admitted: it reads the files of its load order as
-    /// `bind` does, and goes on where a name is missing. A refusal is S1, S2, S5 or S11.
+    /// Finds the libraries of an admitted program. Reads the files of the program's load order as
+    /// `bind` does, and goes on if a name is missing. Refuses with S1 (Device), S2 (Reopen), S5
+    /// (Damaged) or S11 (OutOfMemory).
     pub fn find_libraries(&mut self, program: &Admitted<'_>) -> Result<FoundLibraries, Refusal>
         ensures read { IsRead D.facts self.old self.new }
         ensures ok { (s : State) → IsAt D.facts self.old s
@@ -77,12 +78,12 @@ impl<D: Disk> Registry<D> {
         ensures damaged { (s : State) → IsAt D.facts self.old s → IfErr result (λ e.
             e ≡ Refusal.Damaged → ReadsLibraries s program.now → ⊥) }
 
-        // It makes exactly the calls of a bind.
+        // Finding the libraries makes exactly the disk calls of a bind.
         ensures all_calls { (s : State) → IsAt D.facts self.old s → OnOk result
             (AreCallsExactly (bind_sectors s program.now)
             (D.facts self.old.disk) (D.facts self.new.disk)) }
 
-        // On any disk. Each library that it finds was read once, and no other.
+        // On any disk, each library that is found was read once, and no other library was read.
         ensures refusals { IfErr result (IsFindRefusal D.facts self.old self.new) }
         ensures calls { IfOk result (λ found. AreCallsExactly (found_sectors found)
             (D.facts self.old.disk) (D.facts self.new.disk)) }

@@ -1,4 +1,4 @@
-// Making a registry.
+// Makes a registry.
 use crate::registry::Registry;
 use sector_disk::Disk;
 use std::alloc::Global;
@@ -10,8 +10,9 @@ impl<D: Disk> Registry<D> {
     ghost use Rattle.registry.specs.Opened.{IsAt};
     ghost use Rattle.registry.specs.Stands.{Stands};
 
-    /// Makes an empty registry of version 2 on a disk where no root was written yet, of neither
-    /// version. It writes one sector. It refuses with S6, S11, S4 or S1, and hands the disk back.
+    /// Makes an empty registry of version 2 on a disk that has no root of either version. Writes
+    /// one sector. Refuses with S6 (BadGeometry), S11 (OutOfMemory), S4 (AlreadyFormatted) or S1
+    /// (Device), and hands the disk back.
     pub fn format(alloc: Global, disk: D) -> Result<Registry<D>, (StoreRefusal, D)>
         // On an honest disk.
         ensures making { Makes Stands D.facts (IsAt D.facts) disk result }

@@ -1,10 +1,10 @@
 //! A registry of shared libraries on a disk, which survives power cuts.
 //!
-//! A disk is made a registry by `Registry::format`, and opened again by `Registry::open`: a stop at
-//! any moment leaves sectors that hold the state from before or the one after.
-//! `Registry::upgrade` makes a disk of version 1 one of version 2. Of a library's file nothing is
-//! kept in memory between calls, but by a binder of what it has read.
-//! Which state sectors hold is defined in specs/Stands.antt.
+//! `Registry::format` makes a disk a registry, and `Registry::open` opens it again. A stop at any
+//! moment leaves sectors that hold the state before a change or the state after it.
+//! `Registry::upgrade` makes a disk of version 1 one of version 2. Between calls no byte of a
+//! library's file is kept in memory, except the files that a binder has read. specs/Stands.antt
+//! defines which state sectors hold.
 #![tactic(auto)]
 
 mod admit;

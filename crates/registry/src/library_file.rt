@@ -11,8 +11,8 @@ use std::alloc::Global;
 use std::marker::Model;
 use store::StoreRefusal;
 
-/// The file of a library that was read from a disk: no test refuses it, and its name is its SONAME.
-/// It was tested once. Contracts see the library.
+/// The file of a library that was read from a disk. No test refuses it, and its name is its SONAME.
+/// It was tested once. In contracts, this value is the library.
 #[derive(Drop)]
 pub(crate) struct LibraryFile {
     name: Name,
@@ -31,7 +31,8 @@ impl Model for LibraryFile {
 }
 
 impl LibraryFile {
-    /// A file that is a library of this name, or S5 where it is none.
+    /// Makes a library file from `name` and `bytes`. If they aren't a library, returns S5
+    /// (Damaged); if memory is refused, returns S11 (OutOfMemory).
     pub(crate) fn new(
         alloc: Global,
         name: &[u8],
@@ -50,21 +51,22 @@ impl LibraryFile {
         Ok(LibraryFile { name, bytes })
     }
 
-    /// Its name.
+    /// Returns the library's name.
     pub(crate) fn name(&self) -> &[u8]
         ensures { result.now ≡ self.now.name }
     {
         self.name.as_bytes()
     }
 
-    /// The admitted object that it is. It costs what `Object::of_accepted` costs.
+    /// Returns the file as an admitted object. This costs as much as a call of
+    /// `Object::of_accepted`.
     pub(crate) fn admitted(&self) -> Admitted<'_>
         ensures { result ≡ self.now.bytes }
     {
         Admitted::of_accepted(&self.bytes)
     }
 
-    /// The library that it is. It costs what `Object::of_accepted` costs.
+    /// Returns the file as a library. This costs as much as a call of `Object::of_accepted`.
     pub(crate) fn library(&self) -> Library<'_>
         ensures { result ≡ object_of self.now }
     {

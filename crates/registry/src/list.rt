@@ -1,4 +1,4 @@
-// What a list of libraries holds, told. It makes no call of the disk.
+// Reports the libraries and preloads of a list. No call of the disk is made.
 ghost use Rattle.std.specs.Prelude.{◌≡◌, IfOk, map};
 ghost use Rattle.states.specs.State.{State};
 ghost use Rattle.requests.specs.Table.{entry_of, listed};
@@ -10,7 +10,7 @@ use requests::{Listing, Refusal, Reply};
 use sector_disk::Disk;
 use std::alloc::{AllocError, Global};
 
-/// The libraries' names, and the lengths of their files in bytes.
+/// Returns the libraries' names, and the lengths of their files in bytes.
 fn entries<L: Listed>(alloc: Global, list: &L) -> Result<Vec<(Name, u32)>, AllocError>
     ensures { (s : State) → L.is_at list.now s
         → IfOk result (λ v. v.items ≡ map entry_of s.libraries) }
@@ -23,7 +23,7 @@ fn entries<L: Listed>(alloc: Global, list: &L) -> Result<Vec<(Name, u32)>, Alloc
     Ok(entries)
 }
 
-/// The names of the preloads.
+/// Returns the names of the preloads.
 fn preload_names<L: Listed>(alloc: Global, list: &L) -> Result<Vec<Name>, AllocError>
     ensures { (s : State) → L.is_at list.now s → IfOk result (λ v. v.items ≡ s.preloads) }
 {
@@ -35,7 +35,7 @@ fn preload_names<L: Listed>(alloc: Global, list: &L) -> Result<Vec<Name>, AllocE
     Ok(names)
 }
 
-/// The libraries and the preloads.
+/// Returns the libraries and the preloads.
 pub(crate) fn listing<L: Listed>(alloc: Global, list: &L) -> Result<Listing, AllocError>
     ensures { (s : State) → L.is_at list.now s → IfOk result (λ listing. listing ≡ listed s) }
 {
@@ -55,12 +55,12 @@ impl<D: Disk> Registry<D> {
     ghost use Rattle.registry.specs.Answered.{IsListAnswer};
     ghost use Rattle.registry.specs.Untested.{AppliesUntested};
 
-    /// The reply to `List`.
+    /// Returns the reply to `List`. Makes no call of the disk.
     pub(crate) fn list(&self) -> Reply
         ensures applied { (s : State) → IsAt D.facts self.now s
             → AppliesUntested D.facts self.now self.now s list result }
 
-        // On any disk
+        // On any disk.
         ensures reopen { (result ≡ Reply.Refused Refusal.Reopen) ↔ IsTrue self.now.failed }
         ensures answers { IsListAnswer result }
         ensures device { result ≡ Reply.Refused Refusal.Device → ⊥ }

@@ -1,4 +1,4 @@
-// A list of libraries, as commands test and tell it.
+// A list of libraries, which commands test and report.
 ghost use Rattle.std.specs.Prelude.{◌≡◌, ◌<◌, ◌≤◌, ◌↔◌, ℕ, All, Bool, IfSome, IsFalse, List, Some};
 ghost use Rattle.std.specs.Prelude.{length, slice_index_or};
 ghost use Rattle.extents.specs.Extent.{AreDistinct};
@@ -15,43 +15,43 @@ use store::Store;
 
 /// A list of libraries.
 pub(crate) trait Listed {
-    /// It is that of this state.
+    /// The list has the libraries and preloads of a state.
     ghost is_at: { Self → State → Type 0 };
 
-    /// Its entries.
+    /// The entries of the list.
     ghost entries: { Self → List PlacedEntry };
 
-    /// The positions of its preloads.
+    /// The positions of the preloads.
     ghost chosen: { Self → List ℕ };
 
     /// Whether a write or a sync failed.
     ghost failed: { Self → Bool };
 
-    /// Whether a write or a sync failed.
+    /// Returns whether a write or a sync failed.
     fn has_failed(&self) -> bool
         ensures { result ≡ failed self.now };
 
-    /// How many libraries there are.
+    /// Returns the number of libraries.
     fn count(&self) -> usize
         ensures value { result ≡ length (entries self.now) }
         ensures few { result ≤ most_libraries }
         ensures state { (s : State) → is_at self.now s → result ≡ length s.libraries };
 
-    /// The name of the library at this position.
+    /// Returns the name of the library at `position`.
     fn name(&self, position: usize) -> &[u8]
         requires { position < length (entries self.now) }
         ensures form { IsName result.now }
         ensures state { (s : State) → is_at self.now s
             → result.now ≡ (slice_index_or s.libraries position no_library).name };
 
-    /// The length of its file in bytes.
+    /// Returns the length in bytes of the file at `position`.
     fn length(&self, position: usize) -> u32
         requires { position < length (entries self.now) }
         ensures size { IsFileSize result }
         ensures state { (s : State) → is_at self.now s
             → result ≡ length (slice_index_or s.libraries position no_library).bytes };
 
-    /// The position of the library of this name.
+    /// Returns the position of the library with the name `name`, or `None`.
     fn position(&self, name: &[u8]) -> Option<usize>
         ensures some { IfSome result (λ i. (i < length (entries self.now))
             × ((d : PlacedEntry)
@@ -61,7 +61,7 @@ pub(crate) trait Listed {
             ↔ ((i < length s.libraries)
             × ((slice_index_or s.libraries i no_library).name ≡ name.now)) };
 
-    /// The positions of the preloads, in their order.
+    /// Returns the positions of the preloads, in their order.
     fn preloads(&self) -> &[u16]
         ensures value { result.now ≡ chosen self.now }
         ensures few { length result.now ≤ most_preloads }
@@ -72,7 +72,7 @@ pub(crate) trait Listed {
         ensures state { (s : State) → is_at self.now s
             → s.preloads ≡ names_at s.libraries result.now };
 
-    /// At a state no write or sync failed.
+    /// If the list is at a state, no write or sync has failed.
     ghost usable: { (list : Self) → (s : State) → is_at list s → IsFalse (failed list) };
 }
 

@@ -1,4 +1,4 @@
-// The files that a bind needs, read one after the other.
+// Reads the files that a bind needs, one after the other.
 ghost use Rattle.std.specs.Prelude.{◌≡◌, map, sum_by, IfOk, IfErr, OnOk};
 ghost use Rattle.sector_disk.specs.Disk.{AreCallsExactly};
 ghost use Rattle.scope.specs.LoadOrder.{available, load_order, missing};
@@ -17,9 +17,9 @@ use sector_disk::Disk;
 use std::alloc::Global;
 use store::{Store, StoreRefusal};
 
-/// Reads the files that a program needs, in load order: the preloads, and then level by level what
-/// these and the program need, of the files that there are. Each is read once, whole, and admitted
-/// before the next; no other file is read.
+/// Reads the installed files that a program needs, in load order: the preloads, and then, level by
+/// level, the files that they and the program need. Each file is read once, whole, and admitted
+/// before the next one is read. No other file is read.
 pub(crate) fn read_needed<D: Disk>(
     alloc: Global,
     store: &mut Store<D>,
@@ -27,15 +27,15 @@ pub(crate) fn read_needed<D: Disk>(
 ) -> Result<Walk, StoreRefusal>
     ensures read { IsRead D.facts store.old store.new }
 
-    // The program and the files are the load order, and the first name that no file goes by is
-    // known.
+    // The program and the files that were read are the load order, and the walk has the first
+    // needed name that no file has.
     ensures ok { (s : State) → IsAt D.facts store.old s → IfOk result (λ walk.
         load_order program.now (objects s) (preload_numbers s)
         ≡ available program.now (map object_of walk.files.items)) }
     ensures missing { (s : State) → IsAt D.facts store.old s → IfOk result (λ walk.
         missing program.now (objects s) (preload_numbers s) ≡ walk.needs.missing) }
 
-    // It ends with each of them read just where each is a library; S5 is for one that isn't.
+    // If the walk ends, each file that was read is a library. S5 means that a file isn't a library.
     ensures libraries { (s : State) → IsAt D.facts store.old s
         → OnOk result (ReadsLibraries s program.now) }
     ensures damaged { (s : State) → IsAt D.facts store.old s
@@ -45,7 +45,7 @@ pub(crate) fn read_needed<D: Disk>(
         (sum_by (λ file. data_sectors file.bytes) walk.files.items)
         (D.facts store.old.disk) (D.facts store.new.disk)) }
 {
-    // No two files have one name.
+    // No two files have the same name.
     store.entries_are_sound();
     let source = Source::Current;
     let mut walk = Walk::start(alloc, &Files { store, source }, program)?;

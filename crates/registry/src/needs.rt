@@ -1,4 +1,4 @@
-// What is needed of the files that there are.
+// The needs of the objects of a walk.
 ghost use Rattle.std.specs.Prelude.{◌≡◌, ◌≤◌, ◌+◌, ◌∷◌, [], List, map, take};
 ghost use Rattle.std.specs.Prelude.{length, Some, OnOk, OnErr};
 ghost use Rattle.std.specs.Option.{option_or};
@@ -13,16 +13,17 @@ use elf_dynamic::Object;
 use scope::{NeededName, Places};
 use std::alloc::{AllocError, Global};
 
-/// What a walk has found to be needed of the files that there are.
+/// The needs that a walk has found: the files that are needed, and a needed name that no file has.
 #[derive(Drop)]
 pub(crate) struct Needs {
-    /// The queue of places: the program is at place 0, and a file at the place after its position.
+    /// The queue of places: the program is at place 0, and each file at
+    /// the place after its position.
     pub(crate) places: Places,
-    /// The first needed name that no file goes by.
+    /// The first needed name that no file has.
     pub(crate) missing: Option<NeededName>,
 }
 
-/// Notes a name that is missing, and who needs it, unless one was noted before.
+/// Notes a missing name and the object that needs it, unless a name was noted before.
 fn note(
     alloc: Global,
     missing: &mut Option<NeededName>,
@@ -40,7 +41,7 @@ fn note(
 }
 
 impl Needs {
-    /// Adds the place of the file of this name, or notes that there is none.
+    /// Adds the place of the file with this name, or notes that no file has the name.
     fn add_named<N: Named>(
         &mut self,
         alloc: Global,
@@ -62,7 +63,7 @@ impl Needs {
     }
 
     /// Adds the places of the files that an object needs, and notes the first name that no file
-    /// goes by, as far as memory is given.
+    /// has. Stops when memory is refused.
     fn add_each<N: Named>(
         &mut self,
         alloc: Global,
@@ -82,8 +83,8 @@ impl Needs {
         Ok(())
     }
 
-    /// The same, or nothing where memory is refused. One pass over the object's dynamic section,
-    /// with one search among the names for each needed name.
+    /// Does the same as `add_each`, but changes nothing if memory is refused. Makes one pass over
+    /// the object's dynamic section, with one search among the names for each needed name.
     pub(crate) fn add_needed<N: Named>(
         &mut self,
         alloc: Global,

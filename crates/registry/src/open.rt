@@ -1,4 +1,4 @@
-// Opening a registry again.
+// Opens a registry again.
 use crate::admit_current::admit_current;
 use crate::registry::Registry;
 use sector_disk::Disk;
@@ -15,17 +15,18 @@ impl<D: Disk> Registry<D> {
     ghost use Rattle.registry.specs.Opening.{opening_calls};
     ghost use Rattle.registry.specs.Stands.{Stands};
 
-    /// Opens the registry that a disk holds, after a stop too. It writes nothing: it syncs, and
-    /// reads the two root sectors, each catalogue, one sector an entry, and each file once, into
-    /// one buffer, and admits it before it reads the next. It refuses with S6, S3, S12, S5, S1 or
-    /// S11, and hands the disk back: S12 is told of a disk of version 1, which `upgrade` takes, and
-    /// S5 also where a file isn't a library of its entry's name.
+    /// Opens the registry on `disk`, also after a stop. Writes nothing. Syncs, and reads the two
+    /// root sectors, each catalogue, one sector for each entry, and each file once. All files are
+    /// read into one buffer, and each is admitted before the next one is read. Refuses with S6
+    /// (BadGeometry), S3 (NotFormatted), S12 (OldFormat), S5 (Damaged), S1 (Device) or S11
+    /// (OutOfMemory), and hands the disk back. S12 means that the disk has version 1, which
+    /// `upgrade` opens. S5 also means that a file isn't a library with its entry's name.
     pub fn open(alloc: Global, disk: D) -> Result<Registry<D>, (StoreRefusal, D)>
         // On an honest disk.
         ensures opening { Opens Stands D.facts (IsAt D.facts) disk result }
         ensures on_any_disk { OpensOnAnyDisk D.facts disk result }
 
-        // A sync, and a read of each sector that is named above.
+        // The calls are one sync, and one read of each sector that the comment above lists.
         ensures all_calls { IfOk result (λ registry. AreCallsExactly (opening_calls registry)
             (D.facts disk) (D.facts registry.disk)) }
     {
@@ -33,13 +34,13 @@ impl<D: Disk> Registry<D> {
         admit_current(alloc, store)
     }
 
-    /// Opens as `open` does, and reads no file: a library that is damaged or can't be read is met
-    /// by the bind that needs it, and keeps nothing else from being done.
+    /// Opens a registry as `open` does, but reads no file. If a library is damaged or can't be
+    /// read, only a bind that needs it fails, and everything else still works.
     pub fn open_untested(alloc: Global, disk: D) -> Result<Registry<D>, (StoreRefusal, D)>
-        // It holds named byte strings, whatever they are.
+        // The registry has named byte strings, which need not be libraries.
         ensures opening { OpensByEntries D.facts disk result }
 
-        // Where they are libraries, it is at the state of the registry, as after `open`.
+        // If they are libraries, the registry is at their state, as after `open`.
         ensures registry { IsTrue (D.facts disk).honest → (s : State) → Stands (D.facts disk).now s
             → MatchResult result (λ registry. IsAt D.facts registry s) (λ e.
             (e.0 ≡ StoreRefusal.Device) ⊎ (e.0 ≡ StoreRefusal.OutOfMemory)) }

@@ -1,4 +1,4 @@
-// Putting a library: behind the others, or in the place of the one of its name.
+// Installs a library after the others, or replaces the library with the same name.
 use crate::refusal::in_words;
 use crate::registry::Registry;
 use requests::{Refusal, library_name};
@@ -18,14 +18,14 @@ impl<D: Disk> Registry<D> {
     ghost use Rattle.registry.specs.Answered.{IsInstallRefusal, IsReplaceRefusal};
     ghost use Rattle.registry.specs.Untested.{AppliesUntested};
 
-    /// Installs a library: its file goes into unused sectors, behind the others. It makes a call of
-    /// the disk for each of its sectors, for its entry, for each catalogue of the new list, for the
-    /// root, and two to sync.
+    /// Installs the library `bytes` after the others. Its file is written to unused sectors. The
+    /// calls of the disk are two syncs, and a write for each sector of the file, the entry, each
+    /// catalogue of the new list, and the root.
     pub(crate) fn install(&mut self, bytes: &[u8]) -> Result<(), Refusal>
         ensures applied { (s : State) → IsAt D.facts self.old s
             → AppliesUntested D.facts self.old self.new s (install bytes.now) (answer_of result) }
 
-        // What somebody holds stays as it was.
+        // The held byte strings stay unchanged.
         ensures held { KeepsHeld D.facts self.old self.new }
 
         ensures on_any_disk { Changed D.facts Refusal.Device Refusal.Reopen
@@ -42,14 +42,14 @@ impl<D: Disk> Registry<D> {
         in_words(self.store.put_new(name, bytes))
     }
 
-    /// Replaces a library's file, which keeps its place. The sectors of the old one are unused once
-    /// it is done, and not before. It makes as many calls of the disk as `install`, with the
-    /// catalogues of as many libraries as before.
+    /// Replaces the file of a library, which keeps its place, by `bytes`. The sectors of the old
+    /// file become unused only when the change is done. Makes as many calls of the disk as
+    /// `install`, except that the number of libraries, and so of catalogues, doesn't grow.
     pub(crate) fn replace(&mut self, bytes: &[u8]) -> Result<(), Refusal>
         ensures applied { (s : State) → IsAt D.facts self.old s
             → AppliesUntested D.facts self.old self.new s (replace bytes.now) (answer_of result) }
 
-        // What somebody holds stays as it was.
+        // The held byte strings stay unchanged.
         ensures held { KeepsHeld D.facts self.old self.new }
 
         ensures on_any_disk { Changed D.facts Refusal.Device Refusal.Reopen

@@ -1,4 +1,4 @@
-// Reading a library's file.
+// Reads a library's file.
 ghost use Rattle.std.specs.Prelude.{◌≡◌, ◌≢◌, ◌<◌, length, slice_index_or, IfOk, IfErr, List};
 ghost use Rattle.std.specs.Int.{div_ceil};
 ghost use Rattle.sector_disk.specs.Disk.{AreCallsAtMost, AreCallsExactly, sector_bytes};
@@ -17,7 +17,7 @@ use sector_disk::Disk;
 use std::alloc::Global;
 use store::{Store, StoreRefusal};
 
-/// The name of the file at this position.
+/// Returns the name of the file at `position`.
 fn name_at<'a, D: Disk>(store: &'a Store<D>, source: Source<'_>, position: usize) -> &'a [u8]
     requires { position < offered source store.now }
     ensures { (s : State) → HasFiles D.facts source.entry store.now s
@@ -29,7 +29,7 @@ fn name_at<'a, D: Disk>(store: &'a Store<D>, source: Source<'_>, position: usize
     }
 }
 
-/// Its bytes.
+/// Reads the bytes of the file at `position`.
 fn read_at<D: Disk>(
     alloc: Global,
     store: &mut Store<D>,
@@ -57,7 +57,7 @@ fn read_at<D: Disk>(
     }
 }
 
-/// Reads the file at this position, and sees that it is a library of its name.
+/// Reads the file at `position`, and tests that it is a library with its entry's name.
 pub(crate) fn read_library<D: Disk>(
     alloc: Global,
     store: &mut Store<D>,

@@ -1,4 +1,4 @@
-// The answers of the store in the words of a registry.
+// The answers of the store as answers of a registry.
 ghost use Rattle.std.specs.Prelude.{◌≡◌, IfErr};
 ghost use Rattle.store.specs.Step.{IsRefusalOfPutNew};
 ghost use Rattle.registry.specs.Refusals.{refusal_of};
@@ -7,7 +7,7 @@ ghost use Rattle.registry.specs.inside.Reading.{in_words};
 use requests::Refusal;
 use store::StoreRefusal;
 
-/// Why the store refuses a change, in the registry's word for it.
+/// Returns the registry's refusal for a change that the store refuses.
 fn refusal_of(refusal: StoreRefusal) -> Refusal
     requires { IsRefusalOfPutNew refusal }
     ensures { result ≡ refusal_of refusal }
@@ -28,7 +28,7 @@ fn refusal_of(refusal: StoreRefusal) -> Refusal
     }
 }
 
-/// What the store answers to a change, in the registry's words.
+/// Returns the registry's answer to a change, computed from the store's answer `answer`.
 pub(crate) fn in_words(answer: Result<(), StoreRefusal>) -> Result<(), Refusal>
     requires { IfErr answer IsRefusalOfPutNew }
     ensures { result ≡ in_words answer }

@@ -1,4 +1,4 @@
-// A registry that a disk keeps.
+// A registry on a disk.
 ghost use Rattle.std.specs.Prelude.{◌≡◌};
 
 use sector_disk::Disk;
@@ -6,8 +6,8 @@ use std::alloc::Global;
 use std::marker::Model;
 use store::Store;
 
-/// A registry on a disk. In memory are names, lengths and the places of files, and no byte of a
-/// file. Contracts see the store that keeps it.
+/// A registry on a disk. Names, lengths and the places of files are in memory, but no byte of a
+/// file. In contracts, this value is the store that keeps the registry.
 pub struct Registry<D: Disk> {
     pub(crate) alloc: Global,
     pub(crate) store: Store<D>,
@@ -24,23 +24,23 @@ impl<D: Disk> Model for Registry<D> {
 impl<D: Disk> Registry<D> {
     ghost use Rattle.store.specs.Holds.{AreHolds};
 
-    /// Whether a write or a sync failed. Then every command answers S2, until the disk is opened
-    /// again.
+    /// Returns whether a write or a sync has failed. If so, every command is refused with S2
+    /// (Reopen) until the disk is opened again.
     pub fn has_failed(&self) -> bool
         ensures value { result ≡ self.now.failed }
     {
         self.store.has_failed()
     }
 
-    /// Does nothing: it tells proofs that on any disk, after any call, what is held has a row
-    /// each.
+    /// Does nothing. Its clause lets proofs use that, on any disk and after any call, each held
+    /// byte string has one row.
     pub fn holds_are_sound(&self)
         ensures { AreHolds self.now }
     {
         self.store.holds_are_sound();
     }
 
-    /// The disk.
+    /// Returns the disk.
     pub fn into_disk(self) -> D
         ensures { result ≡ self.disk }
     {

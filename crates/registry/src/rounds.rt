@@ -1,4 +1,4 @@
-// Whole lives of a disk in memory: rounds of commands, with a stop after each.
+// Rounds of commands over a disk in memory, with a stop after each round.
 use crate::registry::Registry;
 use requests::{Command, Reply};
 use sector_disk::{Fuse, Memory};
@@ -6,25 +6,26 @@ use std::alloc::{AllocError, Global};
 use store::StoreRefusal;
 
 /// A round: the disk is opened, takes commands, and is stopped. Call number `cut` of the round
-/// fails, and all later ones; with `late` that call reaches the disk before it fails.
+/// fails, and so do all later ones. With `late`, call number `cut` reaches the disk before it
+/// fails.
 #[derive(Drop)]
 pub struct Round<'a> {
-    /// What is asked, in this order.
+    /// The commands of the round, in their order.
     pub commands: Vec<Command<'a>>,
-    /// The number of the call that fails, counted from 1: with 0 none does.
+    /// The number of the call that fails, counted from 1. With 0 no call fails.
     pub cut: u64,
-    /// Whether that call reaches the disk.
+    /// Whether the failing call reaches the disk.
     pub late: bool,
-    /// The choice of each sector at the stop, these over and over.
+    /// The numbers that pick each sector's contents at the stop. The list is used over and over.
     pub picks: Vec<usize>,
 }
 
-/// What came of a round.
+/// The result of a round.
 #[derive(Drop)]
 pub enum RoundReplies {
     /// One reply for each command.
     Ran(Vec<Reply>),
-    /// The opening was refused, or the replies found no memory.
+    /// The opening was refused, or memory for the replies was refused.
     NotRun(StoreRefusal),
 }
 
@@ -34,7 +35,8 @@ ghost use Rattle.states.specs.State.{State};
 ghost use Rattle.registry.specs.Rounds.{AlwaysStands, IsFused, IsStoppedBy, RoundLeads};
 ghost use Rattle.registry.specs.Rounds.{picked, standing};
 
-// The choice of a sector: these over and over, or the first where there is none.
+// Returns the choice for sector number `at`. `picks` is used over and over; if it is empty,
+// the first choice is returned.
 fn pick(picks: &[usize], at: u32) -> usize
     ensures { result ≡ picked picks.now at }
 {
@@ -44,21 +46,21 @@ fn pick(picks: &[usize], at: u32) -> usize
     picks[at as usize % picks.len()]
 }
 
-// The disk of a round, behind its fuse.
+// Puts the disk of a round into a new fuse.
 fn behind_fuse(disk: Memory, round: &Round<'_>) -> Fuse<Memory>
     ensures { IsFused disk round.now result }
 {
     Fuse::new(disk, round.cut, true, round.late)
 }
 
-// The disk after a stop by these picks.
+// Stops a disk with these picks, and returns it.
 fn stop_by(disk: Memory, picks: &[usize]) -> Memory
     ensures { IsStoppedBy picks.now disk result }
 {
     disk.stop(|at, _| pick(picks, at))
 }
 
-// Opens the disk behind its fuse, runs the commands, and stops the disk.
+// Opens the disk in its fuse, runs the commands, and stops the disk.
 fn run_round(alloc: Global, disk: Memory, round: &Round<'_>) -> (RoundReplies, Memory)
     ensures { (s : State) → AlwaysStands disk s → (s' : State)
         × RoundLeads (standing disk s) round.now result.0 (standing result.1 s') }
@@ -77,15 +79,15 @@ fn run_round(alloc: Global, disk: Memory, round: &Round<'_>) -> (RoundReplies, M
     (replies, stop_by(fuse.into_inner(), &round.picks))
 }
 
-/// Runs rounds one after the other, and gives the replies of each, and the disk after the last
-/// stop. Where memory for the list is refused, nothing is run.
+/// Runs `rounds` one after the other. Returns the replies of each round, and the disk after the
+/// last stop. If memory for the list is refused, runs none.
 pub fn run_rounds(
     alloc: Global,
     disk: Memory,
     rounds: Vec<Round<'_>>,
 ) -> Result<(Vec<RoundReplies>, Memory), (AllocError, Memory)>
-    // From each state that the disk holds, each round leads from the disk that the one before left,
-    // and its state, to the next ones; the disk that comes back is the last, and holds its state.
+    // Suppose that the disk holds a state. Each round starts with the disk and the state that the
+    // round before it left. The disk that is returned is the last one, and holds its state.
     ensures ok { (s : State) → AlwaysStands disk s → IfOk result (λ done. (s' : State)
         × Run RoundLeads (standing disk s) rounds.entry.items done.0.items (standing done.1 s')
         × AlwaysStands done.1 s') }

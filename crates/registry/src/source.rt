@@ -1,4 +1,4 @@
-// What a walk finds the files of a bind in, and by.
+// The place where a walk finds the files of a bind, and the search for a file by its name.
 ghost use Rattle.std.specs.Prelude.{◌≡◌, ◌<◌, ◌≤◌, ℕ, All, IfOk, IfSome, nat_eq, length, List};
 ghost use Rattle.std.specs.List.{IsDistinct};
 ghost use Rattle.scope.specs.LoadOrder.{place_of};
@@ -12,48 +12,49 @@ use snapshots::Snapshot;
 use std::alloc::{AllocError, Global};
 use store::Store;
 
-/// Where a walk finds files: in a store as it is, or in a snapshot that was taken of it.
+/// The place where a walk finds files: the current store, or a snapshot of it.
 #[derive(Clone, Copy)]
 pub(crate) enum Source<'a> {
     Current,
     Held(&'a Snapshot),
 }
 
-/// Files that are found by their names, some of them preloads.
+/// Files that are found by their names. Some of them are preloads.
 pub(crate) trait Named {
-    /// They have these entries.
+    /// Whether the files have these entries.
     ghost has: { Self → List PlacedEntry → Type 0 };
 
-    /// How many there are.
+    /// The number of files.
     ghost offered: { Self → ℕ };
 
     /// The positions of the preloads.
     ghost listed: { Self → List ℕ };
 
-    /// How many there are.
+    /// Returns the number of files.
     fn count(&self) -> usize
         ensures count { result ≡ offered self.now }
         ensures few { result ≤ 2048 };
 
-    /// The positions of the preloads.
+    /// Returns the positions of the preloads.
     fn preloads(&self) -> &[u16]
         ensures value { result.now ≡ listed self.now }
         ensures inside { All (λ p. p < offered self.now) result.now }
         ensures once { IsDistinct nat_eq result.now };
 
-    /// The position of the file of this name. It halves the order of the names.
+    /// Returns the position of the file with the name `name`, by a binary search in the order of
+    /// the names.
     fn position(&self, name: &[u8]) -> Option<usize>
         ensures within { IfSome result (λ i. i < offered self.now) }
         ensures few { offered self.now ≤ 2048 }
         ensures found { (entries : List PlacedEntry) → has self.now entries
             → IsFound entries name.now result };
 
-    /// So many entries they have.
+    /// The number of files is the number of entries.
     ghost counted: { (files : Self) → (entries : List PlacedEntry) → has files entries
         → offered files ≡ length entries };
 }
 
-/// The files of a store as it is, or of a snapshot that was taken of it.
+/// The files of the current store, or of a snapshot of it.
 #[derive(Clone, Copy)]
 pub(crate) struct Files<'a, D: Disk> {
     pub store: &'a Store<D>,
@@ -93,7 +94,7 @@ impl<'a, D: Disk> Named for Files<'a, D> {
     ghost counted = { λ files. offered_count files.source files.store.now };
 }
 
-/// The positions of the preloads as numbers.
+/// Returns the positions of the preloads as numbers.
 pub(crate) fn preload_numbers<N: Named>(alloc: Global, files: &N) -> Result<Vec<usize>, AllocError>
     ensures same { IfOk result (λ v. v.items ≡ N.listed files.now) }
     ensures inside { All (λ p. p < N.offered files.now) (N.listed files.now) }
@@ -106,7 +107,7 @@ pub(crate) fn preload_numbers<N: Named>(alloc: Global, files: &N) -> Result<Vec<
         .collect(alloc)
 }
 
-/// The place of the file of this name in a queue, the first file being at place 1.
+/// Returns the place in a queue of the file with the name `name`. The first file is at place 1.
 pub(crate) fn place_of<N: Named>(files: &N, name: &[u8]) -> Option<usize>
     ensures place { (entries : List PlacedEntry) → N.has files.now entries
         → HaveOwnNames entries → result ≡ place_of (entry_names entries) name.now }

@@ -1,4 +1,4 @@
-// The tests of a command that a list of libraries decides.
+// Those tests of a command that depend only on the list of libraries.
 ghost use Rattle.std.specs.Prelude.{◌≡◌, ◌≢◌, ◌==◌, ◌<◌, ◌≤◌, ◌↔◌, ℕ, All, Err, IfErr, IfOk};
 ghost use Rattle.std.specs.Prelude.{IfSome, IsNone, IsTrue, OnOk, length, map, not, slice_index_or, true};
 ghost use Rattle.std.specs.List.{list_any};
@@ -20,7 +20,7 @@ use arrayvec::ArrayVec;
 use requests::{Refusal, are_too_many, has_repeat};
 use states::MOST_PRELOADS;
 
-/// Whether the library at this position is a preload.
+/// Returns whether the library at `position` is a preload.
 fn is_preload<L: Listed>(list: &L, position: usize) -> bool
     ensures inside { All (λ p. p < length (L.entries list.now)) (L.chosen list.now) }
     ensures is { result ≡ list_any (λ p. p == position) (L.chosen list.now) }
@@ -34,7 +34,8 @@ fn is_preload<L: Listed>(list: &L, position: usize) -> bool
         .any(|preload| *preload as usize == position)
 }
 
-/// Whether a library may be removed, by all tests but that of the generation, or the first refusal.
+/// Tests whether the library `name` may be removed, with all tests except that of the generation.
+/// Returns the first refusal that applies.
 pub(crate) fn test_remove<L: Listed>(list: &L, name: &[u8]) -> Result<(), Refusal>
     ensures ok { (s : State) → L.is_at list.now s → (t : Table) → IsTableOf t s
         → OnOk result (first_refusal t (remove name.now)
@@ -63,7 +64,7 @@ pub(crate) fn test_remove<L: Listed>(list: &L, name: &[u8]) -> Result<(), Refusa
     Ok(())
 }
 
-/// The positions of the libraries of these names, or none where one isn't installed.
+/// Returns the positions of the libraries with these names, or `None` if one isn't installed.
 fn positions_of<L: Listed>(list: &L, names: &[&[u8]]) -> Option<ArrayVec<usize, MOST_PRELOADS>>
     requires { length names.now ≤ most_preloads }
     ensures named { IfSome result (λ positions.
@@ -84,8 +85,8 @@ fn positions_of<L: Listed>(list: &L, names: &[&[u8]]) -> Option<ArrayVec<usize, 
     Some(positions)
 }
 
-/// The positions of these names, which may be the preloads by all tests but that of the generation,
-/// or the first refusal.
+/// Tests whether the libraries with these names may be the preloads, with all tests except that of
+/// the generation. Returns their positions, or the first refusal that applies.
 pub(crate) fn test_preloads<L: Listed>(
     list: &L,
     names: &[&[u8]],

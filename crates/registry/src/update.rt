@@ -9,8 +9,8 @@ use sector_disk::Disk;
 use std::alloc::Global;
 use std::marker::Model;
 
-/// A registry in the midst of an update: what stands on its disk, and a draft of what is to stand.
-/// Contracts see the draft.
+/// A registry during an update: the current state on its disk, and a draft of the next state. In
+/// contracts, this value is the draft.
 pub struct Update<D: Disk> {
     pub(crate) alloc: Global,
     pub(crate) draft: store::Update<D>,
@@ -30,8 +30,8 @@ impl<D: Disk> Registry<D> {
     ghost use Rattle.store.specs.Draft.{IsDraftedAt, begun};
     ghost use Rattle.store.specs.Opened.{IsAt};
 
-    /// Begins an update, whose draft is the state that stands. It makes no call of the disk. It
-    /// refuses with S2 or S11, and hands the registry back.
+    /// Begins an update, whose draft is the current state. Makes no call of the disk. Refuses with
+    /// S2 (Reopen) or S11 (OutOfMemory), and hands the registry back.
     pub fn update(self) -> Result<Update<D>, (Refusal, Registry<D>)>
         ensures begun { IfOk result (λ update. update ≡ begun self) }
         ensures usable { IfOk result (λ update. IsFalse self.failed) }
@@ -68,36 +68,38 @@ impl<D: Disk> Update<D> {
     ghost use Rattle.registry.specs.Ran.{GivesUp, UpdatesAt, point};
     ghost use Rattle.registry.specs.Updating.{DraftAnswers, Plans};
 
-    /// Whether a write of the update failed. Then each command of it answers S2.
+    /// Returns whether a write of the update has failed. If so, each command of the update is
+    /// refused with S2 (Reopen).
     pub fn has_failed(&self) -> bool
         ensures { result ≡ self.now.store.failed }
     {
         self.draft.has_failed()
     }
 
-    /// Commits the draft: one change of the registry, or none where the draft has none. It takes no
-    /// memory, and no sectors that aren't there. It refuses with S1 or S2, and gives the update up
-    /// then: after S1 the disk has to be opened again, and may hold either state.
+    /// Commits the draft: makes one change of the registry, or none if the draft has no change.
+    /// Allocates no memory, and never lacks sectors. Refuses with S1 (Device) or S2 (Reopen), and
+    /// the update is then given up. After S1 the disk has to be opened again, and may hold the
+    /// state before or after the commit.
     pub fn commit(self) -> (Result<(), Refusal>, Registry<D>)
-        // A stop at any moment leaves what stood, or all of the draft.
+        // A stop at any moment leaves the state before the commit, or the draft's whole state.
         ensures any_moment { (s d : State) → IsDraftedAt D.facts self s d
             → LeavesOnly (D.facts self.store.disk) (D.facts result.1.disk)
             (λ m. Stands m s ⊎ Stands m (committed self.touched s d)) }
         ensures ok { (s d : State) → IsDraftedAt D.facts self s d → OnOk result.0
             (IsAt D.facts result.1 (committed self.touched s d)) }
 
-        // If the update was begun on a registry at a state, where each file is a library, and these
-        // requests were planned: the same of a registry. It is one exchange of a run, all or
-        // nothing, and every file is a library after it.
+        // Suppose that the update was begun on a registry at a state in which each file is a
+        // library, and that these requests were planned. Then the update is one exchange of a run,
+        // is made as a whole or not at all, and leaves only files that are libraries.
         ensures made { (old : Opened D) (s : State) (requests : List Request)
             (answers : List Reply) → registry.IsAt D.facts old s
             → Plans D.facts (begun old) self requests answers → (s' : State)
             × UpdatesAt D.facts (point old s) requests (answer_of result.0) (point result.1 s') }
 
-        // What somebody holds stays as it was.
+        // The held byte strings stay unchanged.
         ensures held { KeepsHeld D.facts self.store result.1 }
 
-        // On any disk
+        // On any disk.
         ensures on_any_disk { Changed D.facts Refusal.Device Refusal.Reopen
             self.store result.1 (commit_calls self.touched (length self.entries))
             (λ e. (e ≡ Refusal.Device) ⊎ (e ≡ Refusal.Reopen)) result.0 }
@@ -105,7 +107,7 @@ impl<D: Disk> Update<D> {
             × (result.1.entries ≡ self.store.entries) × (result.1.held ≡ self.store.held)) }
         ensures entries { OnOk result.0 (result.1.entries ≡ self.entries) }
 
-        // A draft of which nothing was changed leaves the registry as it was.
+        // If the draft has no change, the registry is unchanged.
         ensures same { self.touched ≡ Nothing → result.1 ≡ self.store }
     {
         let Update { alloc, draft } = self;
@@ -113,13 +115,13 @@ impl<D: Disk> Update<D> {
         (in_words(made), Registry { alloc, store })
     }
 
-    /// Gives the update up: the registry is as it was before it. It makes no call of the disk, also
-    /// after S2.
+    /// Gives the update up: the registry is as it was before the update. Makes no call of the disk.
+    /// May also be called after S2 (Reopen).
     pub fn give_up(self) -> Registry<D>
         ensures same { result ≡ self.store }
 
-        // If it was begun on a registry at a state: whatever was asked of it, the registry stays at
-        // that state, even if a write failed.
+        // If the update was begun on a registry at a state, the registry stays at that state,
+        // whatever the update's requests were, and even if a write failed.
         ensures given_up { (old : Opened D) (s : State) (requests : List Request)
             (answers : List Reply) → registry.IsAt D.facts old s
             → Run (DraftAnswers D.facts) (begun old) requests answers self

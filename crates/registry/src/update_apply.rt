@@ -1,4 +1,4 @@
-// Commands are applied to the draft of an update.
+// Applies commands to the draft of an update.
 use crate::apply::reply;
 use crate::list::listing;
 use crate::update::Update;
@@ -13,12 +13,12 @@ impl<D: Disk> Update<D> {
     ghost use Rattle.registry.specs.Answered.{IsListAnswer};
     ghost use Rattle.registry.specs.Drafting.{AnsweredDraft, AppliesDraft, IsBoundBeside};
 
-    /// The reply to `List`: the draft's libraries and preloads.
+    /// Returns the reply to `List`: the draft's libraries and preloads.
     fn list(&self) -> Reply
         ensures applied { (s d : State) → IsDraftedAt D.facts self.now s d
             → AppliesDraft D.facts self.now self.now s d list result }
 
-        // On any disk
+        // On any disk.
         ensures reopen { (result ≡ Reply.Refused Refusal.Reopen) ↔ IsTrue self.now.store.failed }
         ensures answers { IsListAnswer result }
         ensures device { result ≡ Reply.Refused Refusal.Device → ⊥ }
@@ -32,16 +32,16 @@ impl<D: Disk> Update<D> {
         }
     }
 
-    /// Applies a command to the draft. The answer is a step of the step table at the draft's state:
-    /// a change is planned or refused, a listing and a bind are over the draft as it is. What
-    /// stands stays as it is, and after a refusal so does the draft.
+    /// Applies `command` to the draft. The answer is a step of the step table in the draft's state.
+    /// A change is planned or refused. A listing and a bind use the draft as it is. The current
+    /// state stays unchanged, and after a refusal the draft does too.
     pub fn apply(&mut self, command: &Command<'_>) -> Reply
         ensures applied { (s d : State) → IsDraftedAt D.facts self.old s d
             → AppliesDraft D.facts self.old self.new s d (request_of command.now) result }
         ensures on_any_disk { AnsweredDraft D.facts self.old self.new
             (request_of command.now) result }
 
-        // A bind makes at most the calls of a bind, and writes nothing.
+        // A bind makes at most the calls of a bind over the draft's state, and writes nothing.
         ensures bound { (s d : State) → IsDraftedAt D.facts self.old s d → IsBoundBeside
             D.facts self.old self.new d (request_of command.now) result }
     {

@@ -1,4 +1,4 @@
-// Binding a program with the draft of an update.
+// Binds a program with the draft of an update.
 ghost use Rattle.std.specs.Prelude.{◌≡◌, ◌<◌, IfErr, IfOk, OnOk, length, map, slice_index_or};
 ghost use Rattle.scope.specs.LoadOrder.{available, load_order, missing};
 ghost use Rattle.states.specs.State.{State};
@@ -23,8 +23,8 @@ use sector_disk::Disk;
 use std::alloc::Global;
 use store::StoreRefusal;
 
-/// Reads the file at this position of a draft, each of its sectors once, and sees that it is a
-/// library of its name.
+/// Reads the file at `position` of a draft, each of its sectors once, and tests that it is a
+/// library with its entry's name.
 fn read_drafted<D: Disk>(
     alloc: Global,
     draft: &mut store::Update<D>,
@@ -45,14 +45,14 @@ fn read_drafted<D: Disk>(
     ensures all_calls { IfOk result (λ file. AreCallsExactly (data_sectors file.bytes)
         (D.facts draft.old.store.disk) (D.facts draft.new.store.disk)) }
 {
-    // Its entry has the length of the file.
+    // This call lets proofs use that the entry has the length of the file.
     draft.length(position);
     let bytes = draft.read_blob(alloc, position)?;
     LibraryFile::new(alloc, draft.name(position), bytes)
 }
 
-/// Reads the files that a program needs of a draft, in load order, as a bind of the current list
-/// does: each once, and no other.
+/// Reads the files of a draft that a program needs, in load order: each file once, and no other
+/// file.
 fn read_needed_of<D: Disk>(
     alloc: Global,
     draft: &mut store::Update<D>,
@@ -76,7 +76,7 @@ fn read_needed_of<D: Disk>(
         (AreCallsExactly (bind_sectors d program.now)
         (D.facts draft.old.store.disk) (D.facts draft.new.store.disk)) }
 {
-    // No two files have one name.
+    // No two files have the same name.
     draft.entries_are_sound();
     let mut walk = Walk::start(alloc, draft, program)?;
     while walk.has_next() {
@@ -98,8 +98,9 @@ impl<D: Disk> Update<D> {
     ghost use Rattle.registry.specs.Drafting.{draft_phase};
     ghost use Rattle.registry.specs.inside.Drafting.{ReadsBeside};
 
-    /// The image of a program that is admitted at a base that is good for it, or a refusal: S1, S5
-    /// or S11 of the first reading that has one, else B3, B4 or B5.
+    /// Returns the image of an admitted program at `base`, which no test refuses, or a refusal. The
+    /// first refused read decides: S1 (Device), S5 (Damaged) or S11 (OutOfMemory). If no read is
+    /// refused, the refusal is B3 (Missing), B4 (NoRoom) or B5 (Undefined).
     fn bind_admitted(&mut self, program: &Admitted<'_>, base: u64) -> Result<Image, Refusal>
         requires { program_refusal program.now base ≡ None }
         ensures step { (s d : State) → IsDraftedAt D.facts self.old s d
@@ -125,8 +126,8 @@ impl<D: Disk> Update<D> {
         Ok(image)
     }
 
-    /// The image of a program, or the first refusal. The program by itself is tested before any
-    /// call of the disk.
+    /// Returns the image of the program `file` at `base`, or the first refusal. Tests the program
+    /// by itself before any call of the disk.
     fn image(&mut self, file: &[u8], base: u64) -> Result<Image, Refusal>
         ensures step { (s d : State) → IsDraftedAt D.facts self.old s d
             → DraftStep (draft_phase D.facts self.old d) (bind file.now base)
@@ -153,16 +154,17 @@ impl<D: Disk> Update<D> {
         self.bind_admitted(&program, base)
     }
 
-    /// The reply to `Bind`: what a bind is answered once the draft is committed as it is.
+    /// Returns the reply to `Bind`, which is the one that a bind would get if the draft were
+    /// committed now.
     pub(crate) fn bind(&mut self, program: &[u8], base: u64) -> Reply
         ensures applied { (s d : State) → IsDraftedAt D.facts self.old s d
             → AppliesDraft D.facts self.old self.new s d (bind program.now base) result }
 
-        // It makes at most the calls of a bind, and writes nothing.
+        // It makes at most the calls of a bind over the draft's state, and writes nothing.
         ensures bound { (s d : State) → IsDraftedAt D.facts self.old s d
             → IsBoundBeside D.facts self.old self.new d (bind program.now base) result }
 
-        // On any disk
+        // On any disk.
         ensures read { ReadsBeside D.facts self.old self.new }
         ensures alone { program_refusal program.now base ≢ None → self.new ≡ self.old }
         ensures failed { IsTrue self.old.store.failed

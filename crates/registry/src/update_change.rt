@@ -1,4 +1,4 @@
-// The changes of an update's draft: the tests of a command, then the store's call.
+// The changes of an update's draft: first the tests of a command, then the store's call.
 use crate::refusal::in_words;
 use crate::tests::{test_preloads, test_remove};
 use crate::update::Update;
@@ -18,8 +18,8 @@ impl<D: Disk> Update<D> {
     ghost use Rattle.registry.specs.Drafting.{AppliesDraft};
     ghost use Rattle.registry.specs.inside.Drafting.{IsPlanned};
 
-    /// Installs a library in the draft, behind its others. Its file goes into sectors that nothing
-    /// uses.
+    /// Installs the library `bytes` in the draft, after the draft's other libraries. Its file is
+    /// written to unused sectors.
     pub(crate) fn install(&mut self, bytes: &[u8]) -> Result<(), Refusal>
         ensures applied { (s d : State) → IsDraftedAt D.facts self.old s d → AppliesDraft D.facts
             self.old self.new s d (install bytes.now) (answer_of result) }
@@ -36,7 +36,7 @@ impl<D: Disk> Update<D> {
         in_words(self.draft.put_new(name, bytes))
     }
 
-    /// Replaces a library's file in the draft, where it keeps its place.
+    /// Replaces the file of a library in the draft. The library keeps its place.
     pub(crate) fn replace(&mut self, bytes: &[u8]) -> Result<(), Refusal>
         ensures applied { (s d : State) → IsDraftedAt D.facts self.old s d → AppliesDraft D.facts
             self.old self.new s d (replace bytes.now) (answer_of result) }
@@ -53,7 +53,8 @@ impl<D: Disk> Update<D> {
         in_words(self.draft.put_over(name, bytes))
     }
 
-    /// Removes a library from the draft. It takes no memory, and makes no call of the disk.
+    /// Removes the library `name` from the draft. Allocates no memory, and makes no call of the
+    /// disk.
     pub(crate) fn remove(&mut self, name: &[u8]) -> Result<(), Refusal>
         ensures applied { (s d : State) → IsDraftedAt D.facts self.old s d → AppliesDraft D.facts
             self.old self.new s d (remove name.now) (answer_of result) }
@@ -63,7 +64,7 @@ impl<D: Disk> Update<D> {
         in_words(self.draft.delete(name))
     }
 
-    /// Sets the draft's preloads. It takes no memory, and makes no call of the disk.
+    /// Sets the draft's preloads to `names`. Allocates no memory, and makes no call of the disk.
     pub(crate) fn set_preloads(&mut self, names: &[&[u8]]) -> Result<(), Refusal>
         ensures applied { (s d : State) → IsDraftedAt D.facts self.old s d → AppliesDraft D.facts
             self.old self.new s d (set_preloads (map (λ n. n.now) names.now)) (answer_of result) }

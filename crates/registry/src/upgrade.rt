@@ -1,4 +1,4 @@
-// Opening a disk of either version as one of version 2.
+// Opens a disk of version 1 or 2 as a registry of version 2.
 use crate::admit_current::admit_current;
 use crate::admit_old::admit_old;
 use crate::registry::Registry;
@@ -9,11 +9,13 @@ use store::{Look, Store, StoreRefusal};
 impl<D: Disk> Registry<D> {
     ghost use Rattle.registry.specs.Opening.{EndsUpgrading};
 
-    /// Opens the registry that a disk of either version holds, after a stop too, as one of version
-    /// 2. On version 2 it is `open`. On version 1 it reads by the old rules, admits every file, and
-    /// then writes the catalogues of the same libraries and the next root: a stop at any moment
-    /// leaves the old registry or the new one, whole. It refuses with S6, S3, S5, S10, S7, S11 or
-    /// S1, of which S1 alone may come after the first write, and hands the disk back.
+    /// Opens the registry on `disk`, which may have either version, as a registry of version 2,
+    /// also after a stop. On version 2, does the same as `open`. On version 1, reads by the old
+    /// rules, admits every file, and then writes the catalogues of the same libraries and the next
+    /// root. A stop at any moment leaves either the whole old registry or the whole new one.
+    /// Refuses with S6 (BadGeometry), S3 (NotFormatted), S5 (Damaged), S10 (GenerationEnd), S7
+    /// (Full), S11 (OutOfMemory) or S1 (Device), and hands the disk back. After the first write,
+    /// only S1 is possible.
     pub fn upgrade(alloc: Global, disk: D) -> Result<Registry<D>, (StoreRefusal, D)>
         ensures { EndsUpgrading D.facts disk result }
     {

@@ -23,8 +23,8 @@ use sector_disk::Disk;
 use std::alloc::{AllocError, Global};
 use store::{Store, StoreRefusal};
 
-/// A walk by levels through the files that a program needs: what is needed, and the files that were
-/// read, in load order.
+/// A walk by levels through the files that a program needs. It has the needs found so far, and the
+/// files that were read, in load order.
 #[derive(Drop)]
 pub(crate) struct Walk {
     pub(crate) needs: Needs,
@@ -32,7 +32,7 @@ pub(crate) struct Walk {
 }
 
 impl Walk {
-    /// A walk at its start: the program was looked at, and no file was read.
+    /// Starts a walk: notes what the program needs, and reads no file.
     pub(crate) fn start<N: Named>(
         alloc: Global,
         names: &N,
@@ -56,7 +56,7 @@ impl Walk {
         Ok(Walk { needs, files })
     }
 
-    /// Whether a file is left to be read.
+    /// Returns whether a file is left to be read.
     pub(crate) fn has_next(&self) -> bool
         ensures yes { result ≡ true
             → length self.now.files.items + 1 < length self.now.needs.places.places }
@@ -68,14 +68,14 @@ impl Walk {
         self.files.len() + 1 < self.needs.places.count()
     }
 
-    // Does nothing: it tells proofs that no place is there twice.
+    // Does nothing. Its clause lets proofs use that no place occurs twice.
     fn places_are_apart(&self)
         ensures { AreApart self.now.needs.places.limit self.now.needs.places.places }
     {
         let _ = self.needs.places.count();
     }
 
-    /// The position of the file that is to be read next.
+    /// Returns the position of the file that is read next.
     pub(crate) fn next_position(&self) -> usize
         requires next { length self.now.files.items + 1 < length self.now.needs.places.places }
         requires first { get_or self.now.needs.places.places 0 1 ≡ 0 }
@@ -84,13 +84,13 @@ impl Walk {
         ensures above { 0 < next_place self.now.needs self.now.files.items }
         ensures apart { AreApart self.now.needs.places.limit self.now.needs.places.places }
     {
-        // Only the first place is the program's.
+        // No place after the first is the program's.
         self.places_are_apart();
         self.needs.places.at(self.files.len() + 1) - 1
     }
 
-    /// Takes the next file, which was read, and looks at what it needs. Where memory is refused the
-    /// walk stays as it was.
+    /// Adds the next file, which has been read, to the walk, and notes what that file needs. If
+    /// memory is refused, the walk is unchanged.
     pub(crate) fn take<N: Named>(
         &mut self,
         alloc: Global,
@@ -120,8 +120,8 @@ impl Walk {
         Ok(())
     }
 
-    /// Reads the next file, whole, admits it, and looks at what it needs. A refusal leaves the walk
-    /// as it was.
+    /// Reads the next file, whole, admits it, and notes what it needs. A refusal leaves the walk
+    /// unchanged.
     pub(crate) fn step<D: Disk>(
         &mut self,
         alloc: Global,

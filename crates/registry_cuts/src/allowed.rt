@@ -1,12 +1,12 @@
-// The states that a disk may have after some answers.
+// The states that a disk may have after the answers to a task.
 
 use crate::answer::{DEVICE, DONE, REOPEN};
 use crate::run::Told;
 use crate::task::{Asked, Task};
 use store::StoreRefusal;
 
-/// The range of the states that a disk may have, by their numbers, and whether the answers are
-/// right.
+/// The numbers of the first and the last state that a disk may have, and whether the answers so far
+/// are right.
 #[derive(Clone, Copy)]
 pub(crate) struct Allowed {
     pub(crate) least: usize,
@@ -15,14 +15,15 @@ pub(crate) struct Allowed {
 }
 
 impl Allowed {
-    // Notes that a change was acknowledged. No change is acknowledged after one that failed.
+    // Notes that a change was acknowledged. This is wrong if a change failed before it.
     fn acknowledge(&mut self) {
         self.right = self.right && self.least == self.most;
         self.least = self.least.saturating_add(1);
         self.most = self.least;
     }
 
-    // Notes an answer that isn't the wanted one. A disk may have a change that failed, or not.
+    // Notes an answer that isn't the expected one. If a change failed because of the disk, the disk
+    // may or may not have the change.
     fn refuse(&mut self, answer: &[u8], is_change: bool) {
         self.right = self.right && (answer == DEVICE || answer == REOPEN);
         if is_change && answer == DEVICE {
@@ -30,7 +31,7 @@ impl Allowed {
         }
     }
 
-    /// The states that a disk may have after these answers to a task.
+    /// Returns the states that a disk may have after the answers `told` to a task.
     pub(crate) fn by(task: &Task, told: &Told) -> Allowed {
         let mut allowed = Allowed {
             least: 0,

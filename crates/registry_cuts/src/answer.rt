@@ -1,4 +1,4 @@
-// Answers as they can be compared: as texts.
+// Answers as texts, which can be compared.
 
 use anyhow::{Result, bail};
 use binders::EventReply;
@@ -6,15 +6,15 @@ use requests::{Refusal, Reply};
 use std::alloc::Global;
 use std::io::Write;
 
-/// What a reply to a change says that was made.
+/// The text of the reply to an accepted change.
 pub(crate) const DONE: &[u8] = b"done";
 
-/// The text of the refusal if a call of the disk fails, and if one failed before.
+/// The texts of two refusals: a call of the disk failed now, or a call failed before.
 pub(crate) const DEVICE: &[u8] = b"Device";
 
 pub(crate) const REOPEN: &[u8] = b"Reopen";
 
-// Puts what the reply to a command says.
+// Puts the text of the reply to a command.
 fn put_answer(text: &mut Vec<u8>, reply: &Reply) -> Result<()> {
     match reply {
         Reply::Done => text.extend_from_slice(DONE)?,
@@ -29,14 +29,14 @@ fn put_answer(text: &mut Vec<u8>, reply: &Reply) -> Result<()> {
     Ok(())
 }
 
-/// What the reply to a command says.
+/// Returns the text of the reply to a command.
 pub(crate) fn answer(alloc: Global, reply: &Reply) -> Result<Vec<u8>> {
     let mut text = Vec::new(alloc);
     put_answer(&mut text, reply)?;
     Ok(text)
 }
 
-/// What the replies to commands say.
+/// Returns the texts of the replies to commands.
 pub(crate) fn answers(alloc: Global, replies: &[Reply]) -> Result<Vec<Vec<u8>>> {
     let mut answers = Vec::new(alloc);
     for reply in replies {
@@ -45,7 +45,7 @@ pub(crate) fn answers(alloc: Global, replies: &[Reply]) -> Result<Vec<Vec<u8>>> 
     Ok(answers)
 }
 
-/// The answers to the lines of an update, followed by the answer to its commit.
+/// Returns the answers to the lines of an update, followed by the answer to its commit.
 pub(crate) fn with_commit(
     alloc: Global,
     answers: Vec<Vec<u8>>,
@@ -60,7 +60,7 @@ pub(crate) fn with_commit(
     Ok(answers)
 }
 
-/// What the reply to an event says.
+/// Returns the text of the reply to an event.
 pub(crate) fn event_answer(alloc: Global, reply: &EventReply) -> Result<Vec<u8>> {
     let mut text = Vec::new(alloc);
     match reply {
@@ -71,7 +71,7 @@ pub(crate) fn event_answer(alloc: Global, reply: &EventReply) -> Result<Vec<u8>>
     Ok(text)
 }
 
-/// What the replies to events say.
+/// Returns the texts of the replies to events.
 pub(crate) fn event_answers(alloc: Global, replies: &[EventReply]) -> Result<Vec<Vec<u8>>> {
     let mut answers = Vec::new(alloc);
     for reply in replies {

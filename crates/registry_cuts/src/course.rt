@@ -1,5 +1,5 @@
-// Events of a registry with binders: as they are answered on a disk, cut at each of its calls, and
-// as they have to be.
+// Events of a registry with binders. They happen on a disk whose calls are cut, and their answers
+// are compared with the expected ones.
 
 use crate::cut::Cut;
 use crate::event::Event;
@@ -15,11 +15,12 @@ use sector_disk::Memory;
 use std::alloc::Global;
 use std::rc::Rc;
 
-// What comes on a disk that is opened again: no binder lives there, and a new one is bound.
+// The events on a disk that is opened again: at first there is no binder, and then a new binder
+// binds.
 const AGAIN: &str =
     "advance 0; begin a; advance 0; advance 0; advance 0; advance 0; advance 0; cancel 0";
 
-/// A disk of so many sectors after some changes, and the events on it.
+/// A disk of `sectors` sectors after the changes `start`, and the events on it.
 #[derive(Drop)]
 pub(crate) struct Course {
     sectors: u32,
@@ -28,7 +29,7 @@ pub(crate) struct Course {
     pub(crate) probe: Probe,
 }
 
-// Puts the cuts of each of so many calls of an event behind others.
+// Adds the cuts of each of an event's `calls` calls, which come after `before` calls.
 fn put_cuts(cuts: &mut Vec<Cut>, event: usize, before: u64, calls: u64) -> Result<()> {
     for at in 0..Cut::count(calls) {
         cuts.push(Cut::nth(event, before, at))?;
@@ -37,8 +38,8 @@ fn put_cuts(cuts: &mut Vec<Cut>, event: usize, before: u64, calls: u64) -> Resul
 }
 
 impl Course {
-    /// These events on a disk that holds a registry after these changes. How many of its sectors
-    /// are free is looked at too, with `room`.
+    /// Makes the course of `events` on a disk that has a registry after the changes `start`. If
+    /// `room` is true, the number of free sectors is compared too.
     pub(crate) fn on(
         alloc: Global,
         disk: Memory,
@@ -59,13 +60,14 @@ impl Course {
         })
     }
 
-    /// The plain registry with binders on which they happen.
+    /// Makes the plain registry after the changes `start`. `keeps` says whether its binders keep
+    /// the state in which they begin.
     pub(crate) fn plain(&self, alloc: Global, keeps: bool) -> Result<Plain> {
         Plain::of(alloc, self.sectors, &self.start, keeps)
     }
 
-    /// The cuts of each call of its opening and of each event, and of one behind them all, which
-    /// nothing makes.
+    /// Returns the cuts of each call of the opening and of each event, and of one call after all of
+    /// them, which is never made.
     pub(crate) fn cuts(&self, alloc: Global) -> Result<Vec<Cut>> {
         let mut before = Seen::of(alloc, self.sectors, &self.start, &self.probe)?.opening;
         let mut cuts = Vec::new(alloc);
@@ -82,8 +84,8 @@ impl Course {
         Ok(cuts)
     }
 
-    // Lets the first events happen, cut so, and compares the answers: the plain registry, and the
-    // disk.
+    // Makes the first `count` events happen with this cut, and compares the answers. Returns the
+    // plain registry and the disk.
     fn leave(&self, tally: &mut Tally, count: usize, cut: Cut) -> Result<(Plain, Memory)> {
         let alloc = tally.rt.alloc();
         let mut plain = self.plain(alloc, !tally.on_purpose)?;
@@ -96,7 +98,7 @@ impl Course {
         Ok((plain, disk.into_inner()))
     }
 
-    // Whether this event is a change, counted from 1.
+    // Returns whether event `number`, counted from 1, is a change.
     fn is_change(&self, number: usize) -> bool {
         match self.run.events.get(number.saturating_sub(1)) {
             Some(event) => event.is_change(),
@@ -104,10 +106,10 @@ impl Course {
         }
     }
 
-    // Lets the events happen, cut so, and opens what is left. Where one call alone is cut, that is
-    // what is left where all behind it are: a change that failed is followed by no call, and a bind
-    // that failed changes nothing. A call that fails before it reaches the disk leaves what the one
-    // before it leaves where it fails late.
+    // Makes the events happen with this cut, and opens what is left. A cut of only one call leaves
+    // the same as a cut of that call and all later ones: no call follows a change that failed, and
+    // a bind that failed changes nothing. A call that fails before it reaches the disk leaves the
+    // same as a late failure of the call before it.
     fn cut_list_at(&self, tally: &mut Tally, cut: Cut) -> Result<()> {
         let (plain, disk) = self.leave(tally, self.run.events.len(), cut)?;
         let mut sides = plain.sides(&self.probe)?;
@@ -117,7 +119,8 @@ impl Course {
         self.open_list(tally, &sides, &disk, plain.wanted)
     }
 
-    // Opens what is left behind such a call.
+    // Opens the disk that a cut has left. If the cut call was late and all later ones failed, also
+    // cuts the openings of this disk. If only one call failed, also opens the disk with its fuse.
     fn open_list(&self, tally: &mut Tally, sides: &Sides, disk: &Memory, on: Wanted) -> Result<()> {
         let count = self.run.events.len();
         sides.open(tally, disk, on)?;
@@ -132,8 +135,8 @@ impl Course {
         }
     }
 
-    /// Cuts a list of commands at each of its calls, those of its opening too, and behind them all;
-    /// and then each opening of what is left, before a stop and after it.
+    /// Cuts a list of commands at each of its calls, including those of its opening, and at one
+    /// call after them. Then cuts each opening of what is left, with and without a stop before it.
     pub(crate) fn cut_list(&self, tally: &mut Tally) -> Result<()> {
         let plain = self.plain(tally.rt.alloc(), true)?;
         let sides = plain.sides(&self.probe)?;
@@ -146,8 +149,8 @@ impl Course {
         Ok(())
     }
 
-    // Opens what so many events leave, with the first disk or the one behind all but the last. What
-    // is no change leaves the disk as it was.
+    // Opens what the first `count` events leave. `before` is the disk before the last of these
+    // events. If that event isn't a change, it has to leave the disk unchanged.
     fn follow_one(&self, tally: &mut Tally, count: usize, before: &Memory) -> Result<Memory> {
         let (plain, disk) = self.leave(tally, count, Cut::NONE)?;
         self.open_flight(tally, &plain, &disk)?;
@@ -158,7 +161,7 @@ impl Course {
         Ok(disk)
     }
 
-    /// Opens what is left behind each event, where no call is cut.
+    /// Opens what is left after each event, without a cut.
     pub(crate) fn follow(&self, tally: &mut Tally) -> Result<()> {
         let mut before = self.run.disk.copy()?;
         for count in 1..=self.run.events.len() {
@@ -167,7 +170,7 @@ impl Course {
         Ok(())
     }
 
-    // Opens the disk that is left again, and binds there: no binder lives.
+    // Opens the disk that is left once more. There is no binder then, and a new one binds.
     fn go_on(&self, tally: &mut Tally, plain: &Plain, disk: Memory) -> Result<()> {
         let alloc = tally.rt.alloc();
         let events = Event::all(alloc, AGAIN)?;
@@ -177,8 +180,8 @@ impl Course {
         Ok(())
     }
 
-    // Cuts a call, and opens what is left. A change that failed leaves what it left, whatever comes
-    // behind it, and a read that failed leaves what it found.
+    // Makes the events happen with this cut, and opens what is left. Events after a change that
+    // failed must not change the disk, and neither must a read that failed.
     fn cut_flight_at(&self, tally: &mut Tally, cut: Cut) -> Result<()> {
         let (plain, disk) = self.leave(tally, self.run.events.len(), cut)?;
         self.open_flight(tally, &plain, &disk)?;
@@ -186,7 +189,8 @@ impl Course {
         self.go_on(tally, &plain, disk)
     }
 
-    // Opens what is left, and where all calls behind one were cut, cuts each call of that.
+    // Opens the disk that a cut has left. If all calls after the first failed one were cut, also
+    // cuts each call of this opening.
     fn open_flight(&self, tally: &mut Tally, plain: &Plain, disk: &Memory) -> Result<()> {
         let sides = plain.sides(&self.probe)?;
         sides.open(tally, disk, plain.wanted)?;
@@ -196,7 +200,8 @@ impl Course {
         Ok(())
     }
 
-    // Compares it with what fewer events leave.
+    // Compares the disk with the one that only the events up to the cut leave, without the event
+    // that was cut unless it is a change.
     fn compare_left(&self, tally: &mut Tally, disk: &Memory, cut: Cut) -> Result<()> {
         let is_change = self.is_change(cut.event);
         if cut.forever || is_change {
@@ -208,7 +213,8 @@ impl Course {
         Ok(())
     }
 
-    /// Opens what is left behind each event, and cuts each call of each event.
+    /// Opens what is left after each event. Then cuts each call of each event, and opens what is
+    /// left.
     pub(crate) fn cut_flights(&self, tally: &mut Tally) -> Result<()> {
         self.follow(tally)?;
         for &cut in &self.cuts(tally.rt.alloc())? {

@@ -1,4 +1,4 @@
-// Where the power is cut.
+// Cuts: the call of the disk that fails, and how it fails.
 
 use sector_disk::{Fuse, Memory};
 
@@ -8,20 +8,20 @@ pub(crate) type Powered = Fuse<Memory>;
 /// A call of the disk that fails.
 #[derive(Clone, Copy, Debug)]
 pub(crate) struct Cut {
-    /// The event that makes the call, counted from 1: with 0 it is the opening.
+    /// The event that makes the call, counted from 1; 0 is the opening.
     pub(crate) event: usize,
-    /// The number of the call among all, counted from 1: with 0 none fails.
+    /// The number of the call among all calls, counted from 1; 0 if none fails.
     pub(crate) number: u64,
-    /// Its number among those of the event.
+    /// The number of the call among those of the event, counted from 1.
     pub(crate) call: u64,
-    /// Whether it reaches the disk before it fails.
+    /// Whether the call reaches the disk before it fails.
     pub(crate) late: bool,
-    /// Whether all calls behind it fail too.
+    /// Whether all later calls fail too.
     pub(crate) forever: bool,
 }
 
 impl Cut {
-    /// No call fails.
+    /// The cut in which no call fails.
     pub(crate) const NONE: Cut = Cut {
         event: 0,
         number: 0,
@@ -30,17 +30,18 @@ impl Cut {
         forever: false,
     };
 
-    /// The disk whose power is cut so.
+    /// Returns the disk with this cut.
     pub(crate) fn of(self, disk: Memory) -> Powered {
         Fuse::new(disk, self.number, self.forever, self.late)
     }
 
-    /// Whether a call of the opening fails.
+    /// Returns whether a call of the opening fails.
     pub(crate) fn is_in_opening(self) -> bool {
         self.event == 0 && self.call > 0
     }
 
-    /// How an event is cut, if it makes a call of the disk.
+    /// Returns the cut of event number `event`, if one of its calls fails. After the event of a cut
+    /// for ever, this is its first call.
     pub(crate) fn at(self, event: usize) -> Option<Cut> {
         if event == self.event {
             Some(self)
@@ -55,12 +56,14 @@ impl Cut {
         }
     }
 
-    /// How many cuts so many calls of an event have: each early and late, once and for ever.
+    /// Returns the number of cuts of `calls` calls: each call can fail early or late, once or for
+    /// ever.
     pub(crate) fn count(calls: u64) -> u64 {
         calls.saturating_mul(4)
     }
 
-    /// One of these cuts, counted from 0, of an event behind so many calls.
+    /// Returns cut number `at`, counted from 0, of the calls of event number `event`, which come
+    /// after `before` other calls.
     pub(crate) fn nth(event: usize, before: u64, at: u64) -> Cut {
         let call = (at / 4).saturating_add(1);
         Cut {

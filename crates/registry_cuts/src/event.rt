@@ -1,4 +1,4 @@
-// Events, and how a row spells them.
+// Events, and their form in a row.
 
 use anyhow::{Context, Result, bail};
 use requests::Command;
@@ -9,8 +9,8 @@ use std::rc::Rc;
 // The base of every program.
 const BASE: u64 = 0x10000;
 
-/// What happens to a registry with binders. `Begin` begins the binder of a program, `Advance` has
-/// the one in a slot make its next step, `Cancel` ends it.
+/// The kind of an event of a registry with binders. `Begin` begins the binder of a program,
+/// `Advance` makes the next step of the binder in a slot, and `Cancel` ends it.
 #[derive(Clone, Copy, PartialEq, Eq)]
 pub(crate) enum What {
     Install,
@@ -27,7 +27,7 @@ pub(crate) enum What {
 // The names of preloads.
 const LETTERS: &[u8] = b"abcdefghijklmnopqrstuvwxyz";
 
-// How rows spell them.
+// The words for these kinds in rows.
 const WORDS: [(&str, What); 9] = [
     ("install", What::Install),
     ("replace", What::Replace),
@@ -40,21 +40,21 @@ const WORDS: [(&str, What); 9] = [
     ("cancel", What::Cancel),
 ];
 
-/// An event with the bytes that it gives. A library's name has one letter.
+/// An event with its bytes. A library's name has one letter.
 #[derive(Drop)]
 pub(crate) struct Event {
     pub(crate) what: What,
-    /// The name of the library that is installed, replaced, removed or needed.
+    /// The letter of the library that is installed, replaced, removed or needed.
     pub(crate) name: u8,
     /// The number of the binder's slot.
     pub(crate) slot: usize,
-    /// The library's file, the program's, or the name.
+    /// The file of the library or of the program, or the library's name.
     pub(crate) bytes: Vec<u8>,
     // The names of the preloads.
     names: Vec<&'static [u8]>,
 }
 
-/// The command that binds a program.
+/// Returns the command that binds a program.
 pub(crate) fn bind(program: &[u8]) -> Command<'_> {
     Command::Bind {
         program,
@@ -62,7 +62,7 @@ pub(crate) fn bind(program: &[u8]) -> Command<'_> {
     }
 }
 
-// The event that a word names.
+// Returns the kind of event for a word.
 fn named(word: &str) -> Result<What> {
     for (spelt, what) in WORDS {
         if spelt == word {
@@ -72,7 +72,7 @@ fn named(word: &str) -> Result<What> {
     bail!("the event {word}")
 }
 
-// The letter that a word is: `-` is none, and no library has it as its name.
+// Returns the letter in a word. For `-` returns 0, which is the name of no library.
 fn letter(word: &str) -> u8 {
     match word.bytes().next() {
         Some(b'-') | None => 0,
@@ -80,13 +80,13 @@ fn letter(word: &str) -> u8 {
     }
 }
 
-// The name of a letter.
+// Returns the name that consists of a letter.
 fn name_of(letter: u8) -> &'static [u8] {
     let place = LETTERS.iter().take_while(|other| **other != letter).count();
     LETTERS.get(place..place.saturating_add(1)).unwrap_or(b"")
 }
 
-// The file of a library, of a name and `VERSION BYTES`.
+// Returns the file of the library `name`. `words` describe it in the form `VERSION BYTES`.
 fn library(alloc: Global, name: u8, words: &str) -> Result<Vec<u8>> {
     let (version, size) = words.split_once(' ').context("a library without a size")?;
     let (version, size) = (version.parse::<u8>()?, size.parse::<usize>()?);
@@ -94,7 +94,7 @@ fn library(alloc: Global, name: u8, words: &str) -> Result<Vec<u8>> {
 }
 
 impl Event {
-    // The event that a text spells.
+    // Reads an event from a text.
     fn of(alloc: Global, text: &str) -> Result<Event> {
         let (word, rest) = text.split_once(' ').unwrap_or((text, ""));
         let (first, behind) = rest.split_once(' ').unwrap_or((rest, ""));
@@ -125,7 +125,7 @@ impl Event {
         })
     }
 
-    /// The events that a text spells, between which a semicolon stands; or `nothing`.
+    /// Reads events, which are separated by semicolons, or `nothing`.
     pub(crate) fn all(alloc: Global, text: &str) -> Result<Vec<Rc<Event>>> {
         let mut events = Vec::new(alloc);
         if text != "nothing" {
@@ -136,7 +136,7 @@ impl Event {
         Ok(events)
     }
 
-    /// The command that a registry is given. A step of a binder is none.
+    /// Returns the event as a command of a registry. Steps of binders aren't commands.
     pub(crate) fn command(&self) -> Command<'_> {
         match self.what {
             What::Install => Command::Install(&self.bytes),
@@ -148,7 +148,7 @@ impl Event {
         }
     }
 
-    /// The event as binders take it.
+    /// Returns the event in the type that the binders of a registry accept.
     pub(crate) fn binder_event(&self) -> binders::Event<'_> {
         match self.what {
             What::Begin => binders::Event::Begin {
@@ -161,9 +161,10 @@ impl Event {
         }
     }
 
-    /// How many calls of the disk a change makes that leaves so many libraries: the sectors of the
-    /// file and its entry, the catalogues, a sync, the root, a sync. A removal writes no file, and
-    /// a choice of preloads the root alone.
+    /// Returns how many calls of the disk a change makes that leaves `libraries` libraries. It
+    /// writes the sectors of the file and its entry and the catalogues, makes a sync, writes the
+    /// root, and makes a sync. A removal writes no file, and a change of the preloads writes only
+    /// the root.
     pub(crate) fn calls(&self, libraries: usize) -> u64 {
         let catalogues = libraries.div_ceil(64) as u64;
         let file = self.bytes.len().div_ceil(512) as u64;
@@ -174,7 +175,7 @@ impl Event {
         }
     }
 
-    /// Whether it is a change, where it isn't refused.
+    /// Returns whether the event is a change if it isn't refused.
     pub(crate) fn is_change(&self) -> bool {
         matches!(
             self.what,

@@ -1,7 +1,9 @@
-//! The program `registry_cuts`: cuts the power of registries at every call of their disk, opens
-//! every mixture that is left, and compares what is listed and bound with what may stand.
+//! The program `registry_cuts`: cuts the power of registries at every call of their disk, and opens
+//! every mixture that is left. It compares the listing and the binds of each with those of the
+//! states that may be left.
 //!
-//! The words of the command line name the files of its rows; its README has their form.
+//! The arguments of the command line name the files that have the program's rows; its README has
+//! their format.
 #![tactic(auto)]
 
 mod allowed;

@@ -1,11 +1,11 @@
-// What a stop may leave of a disk: its mixtures.
+// The mixtures that a stop may leave of a disk.
 
 use anyhow::Result;
 use sector_disk::{Disk, Memory, SECTOR_BYTES};
 use std::alloc::Global;
 
-/// The choice of each sector in each mixture. Their number doubles with each sector that was
-/// written and isn't synced.
+/// Returns the picks of each mixture: the number of the content that each sector keeps. Each sector
+/// that was written and isn't synced multiplies the number of mixtures by its number of contents.
 pub(crate) fn all_picks(alloc: Global, disk: &Memory) -> Result<Vec<Vec<usize>>> {
     let mut all = Vec::new(alloc);
     all.push(vec![in alloc; 0; disk.sectors() as usize]?)?;
@@ -32,7 +32,8 @@ pub(crate) fn all_picks(alloc: Global, disk: &Memory) -> Result<Vec<Vec<usize>>>
     Ok(all)
 }
 
-/// The disk after a stop: the choice of each sector is one of these, over and over.
+/// Returns the disk after a stop. Each sector keeps the content with the number in `picks`, which
+/// is repeated if there are more sectors.
 pub(crate) fn stopped(disk: &Memory, picks: &[usize]) -> Result<Memory> {
     Ok(
         disk.copy()?.stop(|at, _| {
@@ -42,7 +43,7 @@ pub(crate) fn stopped(disk: &Memory, picks: &[usize]) -> Result<Memory> {
     )
 }
 
-// The bytes of a disk.
+// Returns the bytes of a disk.
 fn bytes_of(alloc: Global, disk: Memory) -> Result<Vec<u8>> {
     let mut disk = disk;
     let mut bytes = Vec::new(alloc);
@@ -56,13 +57,13 @@ fn bytes_of(alloc: Global, disk: Memory) -> Result<Vec<u8>> {
     Ok(bytes)
 }
 
-// Whether a stop with these picks leaves the same of two disks.
+// Returns whether a stop with these picks leaves the same bytes on both disks.
 fn stop_same(alloc: Global, one: &Memory, other: &Memory, picks: &[usize]) -> Result<bool> {
     let left = bytes_of(alloc, stopped(one, picks)?)?;
     Ok(left == bytes_of(alloc, stopped(other, picks)?)?)
 }
 
-/// Whether a stop leaves the same of two disks.
+/// Returns whether a stop leaves the same bytes on both disks, with any picks.
 pub(crate) fn leave_same(alloc: Global, one: &Memory, other: &Memory) -> Result<bool> {
     let picks = all_picks(alloc, one)?;
     let mut right = picks == all_picks(alloc, other)?;

@@ -1,4 +1,5 @@
-// A plain registry with binders: what each event is to be answered, wherever the disk fails.
+// A plain registry with binders: the expected answer to each event, for each call of the disk that
+// may fail.
 
 use crate::answer::{DONE, answer, event_answer};
 use crate::cut::Cut;
@@ -13,8 +14,9 @@ use requests::{Listing, Refusal, Reply};
 use std::alloc::Global;
 use std::rc::Rc;
 
-// A library as a change left it: its name, how many sectors it takes, and how many changes were
-// done when it came and when it went, if it did.
+// A library that a change has added: its name, the number of sectors that it takes, and the number
+// of changes that were made before it was added. If it was removed, also the number of changes that
+// were made by then.
 #[derive(Clone, Copy)]
 struct Hold {
     name: u8,
@@ -23,8 +25,8 @@ struct Hold {
     until: usize,
 }
 
-// A binder: the event that began it, how many changes were done then, how many sectors each of its
-// steps reads, the next one last, and its last answer.
+// A binder: the event that began it; the number of changes that were made by then; the number of
+// sectors that each of its steps reads, with the next step last; and its last answer.
 #[derive(Drop)]
 struct Flight {
     event: Rc<Event>,
@@ -33,25 +35,26 @@ struct Flight {
     answer: Vec<u8>,
 }
 
-/// A plain registry with binders, on a disk of so many sectors.
+/// A plain registry with binders, on a disk of `sectors` sectors.
 pub(crate) struct Plain {
     alloc: Global,
     sectors: u32,
-    // Whether binders keep what they were begun at. Where they don't, on purpose, they hold nothing
-    // and are answered what stands at their last step.
+    // Whether binders keep the state in which they began. If not, which is wrong on purpose, they
+    // keep no libraries, and their answers are about the state at their last step.
     keeps: bool,
     registry: PlainRegistry,
     holds: Vec<Hold>,
     flights: Vec<Option<Flight>>,
-    // The changes that were done.
+    // The changes that were accepted.
     old: Vec<Rc<Event>>,
-    // The same, and behind them the one that failed, if one did.
+    // The same changes, followed by the change that failed, if one did.
     new: Vec<Rc<Event>>,
-    /// Which of the two states stands where the disk is opened again.
+    /// The state that has to be found if the disk is opened again.
     pub(crate) wanted: Wanted,
 }
 
-// Taken apart in one place: a derived drop is proved anew on each way out of whatever has one.
+// Only this function drops the parts: a derived drop would be proved again on each way out of every
+// function that has a `Plain`.
 impl Drop for Plain {
     fn drop(self) {
         let Plain {
@@ -68,7 +71,7 @@ impl Drop for Plain {
     }
 }
 
-// What an event is answered, and how many calls of the disk it makes.
+// The answer to an event, and the number of the disk's calls that the event makes.
 type Told = (Vec<u8>, u64);
 
 fn told(alloc: Global, reply: EventReply, calls: u64) -> Result<Told> {
@@ -79,7 +82,7 @@ fn refused(alloc: Global, refusal: Refusal) -> Result<Told> {
     told(alloc, EventReply::Replied(Reply::Refused(refusal)), 0)
 }
 
-// Puts the number of sectors that the file of a library has, if it is listed.
+// Appends the number of sectors of a library's file, if the library is listed.
 fn put_sectors(steps: &mut Vec<u64>, listing: &Listing, name: &[u8]) -> Result<()> {
     for (other, length) in &listing.libraries {
         if other.as_bytes() == name {
@@ -90,8 +93,8 @@ fn put_sectors(steps: &mut Vec<u64>, listing: &Listing, name: &[u8]) -> Result<(
 }
 
 impl Plain {
-    /// A registry after these commands, without binders. Whether those that are begun keep what
-    /// they are begun at.
+    /// Makes a registry after the changes `start`, without binders. `keeps` says whether binders
+    /// keep the state in which they begin.
     pub(crate) fn of(
         alloc: Global,
         sectors: u32,
@@ -122,7 +125,7 @@ impl Plain {
         self.new.len() > self.old.len()
     }
 
-    // Notes a change that is done.
+    // Notes a change that was accepted.
     fn note(&mut self, change: &Rc<Event>) -> Result<()> {
         self.old.push(Rc::clone(change)?)?;
         self.new.push(Rc::clone(change)?)?;
@@ -146,7 +149,7 @@ impl Plain {
         Ok(())
     }
 
-    // Whether a binder keeps a hold.
+    // Returns whether a binder keeps the library of a hold.
     fn is_kept(&self, hold: &Hold) -> bool {
         let is_held = self.flights.iter().any(|flight| match flight {
             Some(flight) => hold.since <= flight.begun && flight.begun < hold.until,
@@ -155,7 +158,7 @@ impl Plain {
         self.keeps && is_held
     }
 
-    // How many sectors there are but for those of holds that only binders keep.
+    // Returns the number of the disk's sectors, without those that only binders keep.
     fn room(&self) -> u32 {
         let mut room = self.sectors;
         for hold in &self.holds {
@@ -166,9 +169,9 @@ impl Plain {
         room
     }
 
-    // How many sectors each step of a bind of a program reads, the first one last. The first reads
-    // none, each other one a library, the preloads and then the one that is needed, and the last
-    // none. Libraries need none.
+    // Returns how many sectors each step of a program's bind reads, with the first step last in the
+    // list. The first step reads none. Each step after it reads a library: first the preloads, and
+    // then the needed library. The last step reads none. Libraries need no libraries.
     fn steps(&self, needed: u8) -> Result<Vec<u64>> {
         let needed = [needed];
         let listing = self.registry.list()?;
@@ -186,8 +189,8 @@ impl Plain {
         Ok(steps)
     }
 
-    // How many calls of the disk a command makes: a bind reads also where a library is missing, and
-    // others make none where they aren't done.
+    // Returns how many calls of the disk a command makes. If the command isn't carried out, only a
+    // bind makes calls: it reads libraries until one is missing.
     fn calls(&self, event: &Event, is_done: bool) -> Result<u64> {
         if is_done {
             return Ok(event.calls(self.registry.list()?.libraries.len()));
@@ -201,12 +204,13 @@ impl Plain {
         Ok(all)
     }
 
-    // What the command of an event is answered.
+    // Applies the command of an event to the plain registry, and returns the text of its reply.
     fn ask(&mut self, event: &Event) -> Result<Vec<u8>> {
         answer(self.alloc, &self.registry.apply(&event.command()))
     }
 
-    // A command of which a call is cut, a change if it was done.
+    // Returns the answer to a command whose call is cut. If the plain registry has carried out the
+    // command, it is a change.
     fn fail(&mut self, event: &Rc<Event>, is_done: bool, calls: u64, cut: Cut) -> Result<Told> {
         if is_done {
             self.new.push(Rc::clone(event)?)?;
@@ -215,7 +219,8 @@ impl Plain {
         refused(self.alloc, Refusal::Device)
     }
 
-    // A command; one of its calls is cut, if it makes any.
+    // Returns the answer to a command. If there is a cut and the command makes calls, the cut
+    // applies.
     fn give(&mut self, event: &Rc<Event>, cut: Option<Cut>) -> Result<Told> {
         let room = self.room();
         self.registry.set_sectors(room);
@@ -248,7 +253,7 @@ impl Plain {
         told(self.alloc, EventReply::Slot(slot), 0)
     }
 
-    // Makes a step of the binder in a slot: whether another one comes.
+    // Makes a step of the binder in slot `slot`. Returns whether another step follows.
     fn step(&mut self, slot: usize) -> bool {
         if let Some(Some(flight)) = self.flights.get_mut(slot) {
             let _ = flight.steps.pop();
@@ -257,7 +262,7 @@ impl Plain {
         false
     }
 
-    // Ends the binder in a slot: its answer.
+    // Ends the binder in slot `slot`, and returns its answer.
     fn end(&mut self, slot: usize) -> Result<Vec<u8>> {
         match self.take(slot) {
             Some(flight) if self.keeps => Ok(flight.answer),
@@ -266,7 +271,8 @@ impl Plain {
         }
     }
 
-    // A step of the binder in a slot; one of its calls is cut, if it makes any.
+    // Returns the answer to a step of the binder in slot `slot`. If there is a cut and the step
+    // makes calls, the cut applies.
     fn advance(&mut self, slot: usize, cut: Option<Cut>) -> Result<Told> {
         let calls = match self.flights.get(slot) {
             Some(Some(flight)) => flight.steps.last().copied().unwrap_or(0),
@@ -284,12 +290,13 @@ impl Plain {
         Ok((self.end(slot)?, calls))
     }
 
-    // Takes the binder out of a slot, if one lives there.
+    // Removes the binder from slot `slot`, if there is one.
     fn take(&mut self, slot: usize) -> Option<Flight> {
         self.flights.get_mut(slot)?.take()
     }
 
-    /// Lets an event happen; one of its calls of the disk is cut, if it makes any.
+    /// Makes an event happen. If there is a cut and the event makes calls of the disk, the cut
+    /// applies.
     pub(crate) fn happen(&mut self, event: &Rc<Event>, cut: Option<Cut>) -> Result<Told> {
         match event.what {
             What::Advance => self.advance(event.slot, cut),
@@ -303,7 +310,7 @@ impl Plain {
         }
     }
 
-    /// Lets events happen that are cut so: what they are answered.
+    /// Makes events happen with this cut, and returns their answers.
     pub(crate) fn run(&mut self, events: &[Rc<Event>], cut: Cut) -> Result<Vec<Vec<u8>>> {
         let mut answers = Vec::new(self.alloc);
         for (at, event) in events.iter().enumerate() {
@@ -313,12 +320,12 @@ impl Plain {
         Ok(answers)
     }
 
-    /// The changes behind which the one state stands, or the other.
+    /// Returns the changes of the new state, or those of the old one.
     pub(crate) fn changes(&self, is_new: bool) -> &[Rc<Event>] {
         if is_new { &self.new } else { &self.old }
     }
 
-    /// What is seen of the two states, where no binder lives.
+    /// Returns the listing and the binds of the old and of the new state, without binders.
     pub(crate) fn sides<'b>(&self, probe: &'b Probe) -> Result<Sides<'b>> {
         Ok(Sides {
             old: Seen::of(self.alloc, self.sectors, &self.old, probe)?,

@@ -1,5 +1,6 @@
-// Rounds: whole lives of a disk with a stop after each run, as `run_rounds` plays them. Each is
-// played by hand too, to see what its sectors may keep: cut at each of its calls, with every pick.
+// Rounds: a disk is opened, commands run on it, and a stop follows, as in `run_rounds`. Each round
+// is also played call by call, to find the contents that each sector may keep: it is cut at each of
+// its calls, with every pick.
 
 use crate::answer::answers;
 use crate::course::Course;
@@ -17,10 +18,10 @@ use std::alloc::Global;
 use std::rc::Rc;
 use store::StoreRefusal;
 
-// Lists of picks that are shorter than the disk: they are taken over and over.
+// Lists of picks that are shorter than the disk. They are repeated.
 const SHORT: [&[usize]; 5] = [&[], &[0], &[1], &[1, 0], &[0, 1, 1]];
 
-// A round: where it is cut, what has to be told of it, and what each sector keeps at the stop.
+// A round: its cut, its expected answers, and the content that each sector keeps at the stop.
 #[derive(Drop)]
 struct Turn {
     cut: Cut,
@@ -28,7 +29,7 @@ struct Turn {
     picks: Vec<usize>,
 }
 
-// Rounds that were played: what was done in them and before, and the disk behind them.
+// Rounds that were played: the changes that were made in them and before, and the disk after them.
 #[derive(Drop)]
 struct Past {
     turns: Vec<Rc<Turn>>,
@@ -36,7 +37,8 @@ struct Past {
     disk: Memory,
 }
 
-// A round behind others that was cut so: what has to be told of it, its disk, and what may stand.
+// A round with a cut, after other rounds: its expected answers, its disk, and the states that the
+// disk may have.
 #[derive(Drop)]
 struct Ended<'a> {
     past: &'a Past,
@@ -47,19 +49,19 @@ struct Ended<'a> {
     sides: Sides<'a>,
 }
 
-// Rounds of commands on a disk of so many sectors with a registry, and what was played, with the
-// last of them that were.
+// Rounds of commands on a disk of `sectors` sectors with a registry. Each element of `played` has
+// rounds that were played one after the other.
 #[derive(Drop)]
 struct Game {
     sectors: u32,
     disk: Memory,
     rounds: Vec<Vec<Rc<Event>>>,
     played: Vec<Past>,
-    // Whether another round comes.
+    // Whether another round follows.
     goes_on: bool,
 }
 
-// What is told of a round.
+// Returns the answers of a round as texts.
 fn told_of(alloc: Global, replies: RoundReplies) -> Result<Told> {
     match replies {
         RoundReplies::Ran(replies) => Ok(Ok(answers(alloc, &replies)?)),
@@ -67,7 +69,7 @@ fn told_of(alloc: Global, replies: RoundReplies) -> Result<Told> {
     }
 }
 
-// The round as `run_rounds` takes it.
+// Returns a round in the type that `run_rounds` accepts.
 fn round<'b>(alloc: Global, turn: &Turn, events: &'b [Rc<Event>]) -> Result<Round<'b>> {
     let mut commands = Vec::new(alloc);
     for event in events {
@@ -81,8 +83,9 @@ fn round<'b>(alloc: Global, turn: &Turn, events: &'b [Rc<Event>]) -> Result<Roun
     })
 }
 
-// What has to be told of a round of these events that is cut so. Where its opening is cut nothing
-// is done, as where its first call is.
+// Returns the expected answers of a round of these events with this cut. If the cut is in the
+// round's opening, no command runs, and the disk is left as if the first command's first call were
+// cut.
 fn wanted(plain: &mut Plain, events: &[Rc<Event>], cut: Cut) -> Result<Told> {
     if cut.is_in_opening() {
         let _ = plain.run(events.get(..1).unwrap_or(events), cut)?;
@@ -92,7 +95,7 @@ fn wanted(plain: &mut Plain, events: &[Rc<Event>], cut: Cut) -> Result<Told> {
 }
 
 impl<'a> Ended<'a> {
-    // Plays a round behind others that is cut so.
+    // Plays a round with this cut, after other rounds.
     fn of(tally: &Tally, past: &'a Past, course: &'a Course, cut: Cut) -> Result<Ended<'a>> {
         let alloc = tally.rt.alloc();
         let mut plain = course.plain(alloc, true)?;
@@ -111,7 +114,7 @@ impl<'a> Ended<'a> {
         })
     }
 
-    // The rounds, of which this one is stopped with these picks.
+    // Returns the rounds of the past, followed by this one, which is stopped with these picks.
     fn turns(&self, alloc: Global, picks: &[usize]) -> Result<Vec<Rc<Turn>>> {
         let turn = Turn {
             cut: self.cut,
@@ -125,7 +128,7 @@ impl<'a> Ended<'a> {
 }
 
 impl Game {
-    // On a disk of so many sectors after these changes.
+    // Makes the game on a disk of `sectors` sectors after the changes `start`.
     fn on(alloc: Global, sectors: u32, start: &[Rc<Event>]) -> Result<Game> {
         let disk = disk_after(alloc, sectors, start)?;
         let past = Past {
@@ -144,7 +147,8 @@ impl Game {
         })
     }
 
-    // Runs rounds from the first disk, and compares what is told of them, and what is left.
+    // Runs the rounds `turns` with `run_rounds`, from the first disk, and compares the answers with
+    // the expected ones, and the disk with `left`.
     fn compare(&self, tally: &mut Tally, turns: &[Rc<Turn>], left: &Memory) -> Result<()> {
         let alloc = tally.rt.alloc();
         let mut rounds = Vec::new(alloc);
@@ -166,7 +170,7 @@ impl Game {
         Ok(())
     }
 
-    // Stops a round with fewer picks than sectors.
+    // Stops a round with each list of picks in `SHORT`.
     fn stop_short(&self, tally: &mut Tally, ended: &Ended) -> Result<()> {
         for picks in SHORT {
             let turns = ended.turns(tally.rt.alloc(), picks)?;
@@ -175,7 +179,7 @@ impl Game {
         Ok(())
     }
 
-    // Stops a round with these picks: what was played then.
+    // Stops a round with these picks. Returns all rounds up to it, as a new past.
     fn stop(&self, tally: &mut Tally, ended: &Ended, picks: &[usize]) -> Result<Past> {
         let turns = ended.turns(tally.rt.alloc(), picks)?;
         let disk = stopped(&ended.disk, picks)?;
@@ -185,8 +189,8 @@ impl Game {
         Ok(Past { turns, done, disk })
     }
 
-    // Stops the disk of a round with every pick; behind no other round with fewer picks than
-    // sectors too.
+    // Stops the disk of a round with every pick. If it is a first round, also stops it with lists
+    // of picks that are shorter than the disk.
     fn stop_each(&mut self, tally: &mut Tally, ended: &Ended) -> Result<()> {
         if ended.past.turns.is_empty() {
             self.stop_short(tally, ended)?;
@@ -200,7 +204,7 @@ impl Game {
         Ok(())
     }
 
-    // Plays this round behind others, cut at each of its calls and not at all.
+    // Plays one more round after the rounds of `past`: cut at each of its calls, and without a cut.
     fn play_behind(&mut self, tally: &mut Tally, past: &Past, course: &Course) -> Result<()> {
         for &cut in &course.cuts(tally.rt.alloc())? {
             if cut.forever {
@@ -212,7 +216,7 @@ impl Game {
         self.stop_each(tally, &ended)
     }
 
-    // Plays one more round behind all that was played.
+    // Plays one more round after all rounds that were played.
     fn play(&mut self, tally: &mut Tally, events: &[Rc<Event>]) -> Result<()> {
         let alloc = tally.rt.alloc();
         self.rounds.push(events.to_vec(alloc)?)?;
@@ -226,8 +230,8 @@ impl Game {
     }
 }
 
-/// Plays rounds of commands, between which ` / ` stands, on a disk of so many sectors after these
-/// changes.
+/// Plays rounds of commands on a disk of `sectors` sectors after the changes `start`. In `text` the
+/// rounds are separated by ` / `.
 pub(crate) fn play_rounds(
     tally: &mut Tally,
     sectors: u32,

@@ -1,4 +1,4 @@
-// Rows: each is a line of a file.
+// Rows: the lines of a file.
 
 use crate::course::Course;
 use crate::event::Event;
@@ -12,7 +12,7 @@ use anyhow::{Context, Result, bail};
 use std::fs;
 use std::rc::Rc;
 
-// The lines of a file that aren't empty and no comments.
+// Returns the lines of a file, without empty lines and comments.
 fn lines(tally: &Tally, file: &str) -> Result<Vec<String>> {
     let text = fs::read_to_string(tally.rt, file).context(format_args!("the file {file}"))?;
     let mut lines = Vec::new(tally.rt.alloc());
@@ -24,7 +24,7 @@ fn lines(tally: &Tally, file: &str) -> Result<Vec<String>> {
     Ok(lines)
 }
 
-// Events on a disk of so many sectors after these changes.
+// Runs events on a disk of `sectors` sectors after the changes `start`.
 fn run_course(
     tally: &mut Tally,
     word: &str,
@@ -54,7 +54,7 @@ fn run_course(
     }
 }
 
-// Events on disks of these sizes after these changes.
+// Runs events on disks of several sizes after the changes `start`.
 fn run_events(
     tally: &mut Tally,
     word: &str,
@@ -69,7 +69,7 @@ fn run_events(
     Ok(())
 }
 
-// Each line of a file as events of a list.
+// Runs each line of a file as the events of a list.
 fn run_lists(tally: &mut Tally, sizes: &str, start: &[Rc<Event>], file: &str) -> Result<()> {
     for list in &lines(tally, file)? {
         run_events(tally, "list", sizes, start, list)?;
@@ -77,7 +77,7 @@ fn run_lists(tally: &mut Tally, sizes: &str, start: &[Rc<Event>], file: &str) ->
     Ok(())
 }
 
-// What a word has done with a disk, after these changes.
+// Runs the events of a row as its word says, after the changes `start`.
 fn run_word(
     tally: &mut Tally,
     word: &str,
@@ -99,7 +99,7 @@ fn run_word(
     }
 }
 
-// A row: its word, its disk, the changes before, and what comes then.
+// Runs a row, which has its word, its disk, the changes made before, and the events.
 fn run_row(tally: &mut Tally, row: &str) -> Result<()> {
     let (front, rest) = row.split_once(" | ").unwrap_or((row, "nothing"));
     let (word, disk) = front.split_once(' ').context("a row without a disk")?;
@@ -108,7 +108,7 @@ fn run_row(tally: &mut Tally, row: &str) -> Result<()> {
     run_word(tally, word, disk, &start, rest)
 }
 
-/// Runs the rows of a file; one behind `wrong` is wrong on purpose.
+/// Runs the rows of a file. A row that begins with `wrong` is wrong on purpose.
 pub(crate) fn run_file(tally: &mut Tally, file: &str) -> Result<()> {
     for line in &lines(tally, file)? {
         let line = line.as_str();

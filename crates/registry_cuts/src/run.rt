@@ -1,4 +1,4 @@
-// Runs of a registry on a disk in memory, of which a call may be cut.
+// Runs of a registry on a disk in memory whose calls may be cut.
 
 use crate::answer::event_answers;
 use crate::cut::{Cut, Powered};
@@ -11,24 +11,24 @@ use std::alloc::Global;
 use std::rc::Rc;
 use store::StoreRefusal;
 
-/// How a registry begins on a disk.
+/// How a registry is made on a disk.
 #[derive(Clone, Copy)]
 pub(crate) enum Beginning {
     Open,
-    /// On a disk of zeros.
+    /// A disk of zeros is formatted.
     Format,
-    /// Upgraded from version 1.
+    /// A disk of version 1 is upgraded.
     Upgrade,
-    /// The same, for which there is no room.
+    /// A disk of version 1 is upgraded, but has no room for it.
     Full,
-    /// The same, of a disk of version 2.
+    /// A disk of version 2 is upgraded.
     Newer,
 }
 
-/// What events are answered, or why there is no registry.
+/// The answers to events, or the refusal if there is no registry.
 pub(crate) type Told = std::result::Result<Vec<Vec<u8>>, StoreRefusal>;
 
-/// A disk, how a registry begins on it, and the events that happen then.
+/// A disk, how a registry is made on it, and the events that happen then.
 #[derive(Drop)]
 pub(crate) struct Run {
     pub(crate) disk: Memory,
@@ -36,7 +36,7 @@ pub(crate) struct Run {
     pub(crate) events: Vec<Rc<Event>>,
 }
 
-// Lets events happen: the answers.
+// Makes events happen, and returns the answers.
 fn happen(
     alloc: Global,
     binders: &mut Binders<Powered>,
@@ -51,7 +51,7 @@ fn happen(
 }
 
 impl Run {
-    /// Lets the first events happen, cut so: what is told of them, and the disk.
+    /// Makes the first `count` events happen with this cut. Returns their answers, and the disk.
     pub(crate) fn cut(&self, alloc: Global, count: usize, cut: Cut) -> Result<(Told, Powered)> {
         let disk = cut.of(self.disk.copy()?);
         let events = self.events.get(..count).unwrap_or(&self.events);
@@ -70,13 +70,13 @@ impl Run {
         Ok((Ok(answers?), disk))
     }
 
-    /// What the first events leave where they are cut so.
+    /// Returns the disk that the first `count` events leave with this cut.
     pub(crate) fn left(&self, alloc: Global, count: usize, cut: Cut) -> Result<Memory> {
         Ok(self.cut(alloc, count, cut)?.1.into_inner())
     }
 }
 
-/// A disk of so many sectors with a registry after these commands.
+/// Makes a disk of `sectors` sectors with a registry after these commands.
 pub(crate) fn disk_after(alloc: Global, sectors: u32, changes: &[Rc<Event>]) -> Result<Memory> {
     let run = Run {
         disk: Memory::new(alloc, sectors)?,

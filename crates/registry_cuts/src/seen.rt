@@ -1,4 +1,4 @@
-// What can be seen of the registry on a disk, and of a plain one.
+// The listing and the binds of the registry on a disk, and of a plain one.
 
 use crate::answer::answers;
 use crate::cut::{Cut, Powered};
@@ -14,8 +14,8 @@ use std::alloc::Global;
 use std::rc::Rc;
 use store::StoreRefusal;
 
-/// What a registry is asked, to see what it holds: the files of a program that needs the library a,
-/// and of one that needs none; and libraries that are installed to see how many sectors are free.
+/// Commands that show the state of a registry. They bind a program that needs the library a and a
+/// program that needs no library, and install libraries to find the number of free sectors.
 #[derive(Drop)]
 pub(crate) struct Probe {
     needing: Vec<u8>,
@@ -23,21 +23,23 @@ pub(crate) struct Probe {
     fitting: Vec<Vec<u8>>,
 }
 
-/// What the registry on a disk lists and binds, or why there is none.
+/// The listing and the binds of the registry on a disk, or the refusal if there is none.
 #[derive(Drop, PartialEq)]
 pub(crate) struct Seen {
-    /// How its opening is refused. One of version 1 lists and binds once it is upgraded.
+    /// The refusal of the opening. A registry of version 1 is upgraded to list it and to bind with
+    /// it.
     refusal: Option<StoreRefusal>,
-    /// How many calls of the disk an opening makes: where nothing stands, or a registry of version
-    /// 1, it reads the roots alone.
+    /// The number of calls of the disk that an opening makes. If there is no registry, or one of
+    /// version 1, an opening reads only the roots.
     pub(crate) opening: u64,
     answers: Vec<Vec<u8>>,
 }
 
 impl Probe {
-    /// What shows whether the library a is there, and which; and how many of so many sectors are
-    /// free, by libraries that take one sector less each time, of which the first is installed that
-    /// fits. Roots and catalogues take four sectors, so the first of all never fits.
+    /// Makes a probe. It shows whether the library a is installed, and in which version. It also
+    /// shows how many of `sectors` sectors are free: it installs libraries, each of which takes one
+    /// sector less than the one before it, until one fits. Roots and catalogues take four sectors,
+    /// so the first library never fits.
     pub(crate) fn new(alloc: Global, sectors: u32) -> Result<Probe> {
         let mut fitting = Vec::new(alloc);
         for count in (1..sectors.saturating_sub(3) as usize).rev() {
@@ -50,7 +52,8 @@ impl Probe {
         })
     }
 
-    // A listing and two binds: all that is seen of a state; and then what shows its free sectors.
+    // Returns a listing and two binds, which show a state, followed by the commands that show its
+    // free sectors.
     fn looks(&self, alloc: Global) -> Result<Vec<Command<'_>>> {
         let looks = [Command::List, bind(&self.needing), bind(&self.alone)];
         let mut looks = Vec::from_slice(alloc, &looks)?;
@@ -61,8 +64,9 @@ impl Probe {
     }
 }
 
-// What a registry answers when it is looked at. An opening makes a sync, and reads two root
-// sectors, the catalogues, and of each library the entry and the file.
+// Returns what the answers of a registry show, with the number of calls of an opening. An opening
+// makes a sync, and reads two root sectors, the catalogues, and the entry and the file of each
+// library.
 fn seen_of(alloc: Global, replies: &[Reply]) -> Result<Seen> {
     let mut opening = 3u64;
     if let Some(Reply::Listing(listing)) = replies.first() {
@@ -79,7 +83,7 @@ fn seen_of(alloc: Global, replies: &[Reply]) -> Result<Seen> {
     })
 }
 
-// Has a plain registry make changes.
+// Makes the changes in a plain registry.
 fn make(plain: &mut PlainRegistry, changes: &[Rc<Event>]) -> Result<()> {
     for change in changes {
         if !matches!(plain.apply(&change.command()), Reply::Done) {
@@ -89,7 +93,7 @@ fn make(plain: &mut PlainRegistry, changes: &[Rc<Event>]) -> Result<()> {
     Ok(())
 }
 
-// Asks a registry, if there is one.
+// Runs these commands on a registry, if there is one.
 fn ask<D: Disk + Drop>(
     alloc: Global,
     made: std::result::Result<Registry<D>, (StoreRefusal, D)>,
@@ -106,13 +110,14 @@ fn ask<D: Disk + Drop>(
     }
 }
 
-/// Upgrades a disk, as it stands behind its fuse, and asks.
+/// Upgrades a disk, with its fuse, and returns the state of the registry that is made.
 pub(crate) fn look_upgraded(alloc: Global, disk: Powered, probe: &Probe) -> Result<Seen> {
     let looks = probe.looks(alloc)?;
     ask(alloc, Registry::upgrade(alloc, disk), &looks)
 }
 
-/// Opens a disk, as it stands behind its fuse, and asks. One of version 1 is upgraded for that.
+/// Opens a disk, with its fuse, and returns the state of its registry. Upgrades a disk of version
+/// 1.
 pub(crate) fn look_behind(alloc: Global, disk: Powered, probe: &Probe) -> Result<Seen> {
     let looks = probe.looks(alloc)?;
     match Registry::open(alloc, disk) {
@@ -123,19 +128,19 @@ pub(crate) fn look_behind(alloc: Global, disk: Powered, probe: &Probe) -> Result
     }
 }
 
-/// Opens a disk of version 2, whatever it stands on, and asks.
+/// Opens a disk of version 2, of any type, and returns the state of its registry.
 pub(crate) fn look_on<D: Disk + Drop>(alloc: Global, disk: D, probe: &Probe) -> Result<Seen> {
     let looks = probe.looks(alloc)?;
     ask(alloc, Registry::open(alloc, disk), &looks)
 }
 
-/// Opens a disk and asks.
+/// Opens a disk, and returns the state of its registry.
 pub(crate) fn look(alloc: Global, disk: Memory, probe: &Probe) -> Result<Seen> {
     look_behind(alloc, Cut::NONE.of(disk), probe)
 }
 
 impl Seen {
-    /// No registry, for this reason.
+    /// Returns the state of a disk without a registry, with this refusal.
     pub(crate) fn refused(alloc: Global, refusal: StoreRefusal) -> Seen {
         Seen {
             refusal: Some(refusal),
@@ -144,8 +149,8 @@ impl Seen {
         }
     }
 
-    /// What is to be seen after these changes: what a plain registry answers, with room for as much
-    /// as a disk of so many sectors.
+    /// Returns the expected state after these changes: the answers of a plain registry that has the
+    /// room of a disk of `sectors` sectors.
     pub(crate) fn of(
         alloc: Global,
         sectors: u32,
@@ -157,7 +162,7 @@ impl Seen {
         seen_of(alloc, &plain.run(&probe.looks(alloc)?)?)
     }
 
-    /// The same before a registry begins so, or behind that.
+    /// Returns the expected state before a registry is made in this way, or after it.
     pub(crate) fn side(self, alloc: Global, beginning: Beginning, is_before: bool) -> Seen {
         match beginning {
             Beginning::Full => Seen::refused(alloc, StoreRefusal::Full),
@@ -167,7 +172,7 @@ impl Seen {
         }
     }
 
-    /// The same before an upgrade.
+    /// Returns the expected state before an upgrade.
     fn before_upgrade(self) -> Seen {
         match self.refusal {
             None => Seen {

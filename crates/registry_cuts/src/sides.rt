@@ -1,4 +1,5 @@
-// Disks that a cut has left: opened as they are, after each stop, and with an opening that is cut.
+// Disks that a cut has left. They are opened at once and after each stop, and their openings are
+// cut.
 
 use crate::cut::{Cut, Powered};
 use crate::mixture::{all_picks, stopped};
@@ -11,7 +12,7 @@ use sector_disk::Memory;
 use std::alloc::Global;
 use store::StoreRefusal;
 
-/// What stands before a change and after it, and what is asked to see it.
+/// The states before and after a change, and the probe that shows them.
 #[derive(Drop)]
 pub(crate) struct Sides<'a> {
     pub(crate) old: Seen,
@@ -19,7 +20,7 @@ pub(crate) struct Sides<'a> {
     pub(crate) probe: &'a Probe,
 }
 
-// How an opening of a disk is refused, if it is; and the disk.
+// Opens a disk. Returns the refusal, if the opening is refused, and the disk.
 fn opened_once(alloc: Global, disk: Powered) -> (Option<StoreRefusal>, Powered) {
     match Registry::open(alloc, disk) {
         Ok(registry) => (None, registry.into_disk()),
@@ -28,12 +29,12 @@ fn opened_once(alloc: Global, disk: Powered) -> (Option<StoreRefusal>, Powered) 
 }
 
 impl Sides<'_> {
-    /// Takes old for new and new for old.
+    /// Exchanges the old state and the new one.
     pub(crate) fn exchange(&mut self) {
         std::mem::swap(&mut self.old, &mut self.new);
     }
 
-    // What a disk shows that is opened again at once.
+    // Returns the state that has to be found if the disk is opened again at once.
     fn reopened(&self, wanted: Wanted) -> &Seen {
         match wanted.reopened {
             Which::Old => &self.old,
@@ -41,7 +42,8 @@ impl Sides<'_> {
         }
     }
 
-    /// Opens a disk after a stop: whether the old state stands there, and whether the new one.
+    /// Opens a disk after a stop, and counts whether it has an allowed state. Returns whether it
+    /// has the old state, and whether it has the new one.
     pub(crate) fn see(&self, tally: &mut Tally, disk: &Memory, on: Wanted) -> Result<(bool, bool)> {
         let seen = look(tally.rt.alloc(), disk.copy()?, self.probe)?;
         let (is_old, is_new) = (seen == self.old, seen == self.new);
@@ -49,7 +51,7 @@ impl Sides<'_> {
         Ok((is_old, is_new))
     }
 
-    // Opens all that a stop of the disk may leave.
+    // Opens every mixture that a stop of the disk may leave.
     fn open_mixtures(&self, tally: &mut Tally, disk: &Memory, wanted: Wanted) -> Result<()> {
         let (mut old, mut new) = (false, false);
         for picks in &all_picks(tally.rt.alloc(), disk)? {
@@ -57,14 +59,14 @@ impl Sides<'_> {
             old = old || is_old;
             new = new || is_new;
         }
-        // Both are seen where both may stand.
+        // If a stop may leave both states, both have to be found.
         if wanted.stopped == Which::Either && !(old && new) {
             tally.count(false, &wanted.cut, "one state alone");
         }
         Ok(())
     }
 
-    /// Opens a disk that a cut has left, as it stands behind its fuse.
+    /// Opens a disk that a cut has left, with its fuse.
     pub(crate) fn reopen(&self, tally: &mut Tally, disk: Powered, wanted: Wanted) -> Result<()> {
         let again = look_behind(tally.rt.alloc(), disk, self.probe)?;
         let right = again == *self.reopened(wanted);
@@ -80,7 +82,7 @@ impl Sides<'_> {
         self.open_mixtures(tally, disk, wanted)
     }
 
-    // Cuts an opening of this disk so, and opens what is left.
+    // Opens a disk with a cut in its opening, and opens what this leaves.
     fn cut_one(&self, tally: &mut Tally, disk: &Memory, cut: Cut, wanted: Wanted) -> Result<()> {
         let (refusal, left) = opened_once(tally.rt.alloc(), cut.of(disk.copy()?));
         let right = refusal == Some(StoreRefusal::Device);
@@ -88,7 +90,7 @@ impl Sides<'_> {
         self.open_left(tally, left, wanted.after_opening(cut))
     }
 
-    // Opens what a cut opening has left.
+    // Opens the disk that a cut opening has left.
     fn open_left(&self, tally: &mut Tally, left: Powered, wanted: Wanted) -> Result<()> {
         if wanted.cut.forever {
             self.open_mixtures(tally, &left.into_inner(), wanted)
@@ -97,7 +99,8 @@ impl Sides<'_> {
         }
     }
 
-    /// Cuts each call of an opening of this disk, which is answered S1: the same stands afterwards.
+    /// Cuts each call of an opening of this disk. The opening has to return S1 (Device), and the
+    /// state has to be the same afterwards.
     pub(crate) fn cut_all(&self, tally: &mut Tally, disk: &Memory, wanted: Wanted) -> Result<()> {
         for at in 0..Cut::count(self.reopened(wanted).opening) {
             self.cut_one(tally, disk, Cut::nth(0, 0, at), wanted)?;
@@ -105,15 +108,15 @@ impl Sides<'_> {
         Ok(())
     }
 
-    // Does so with a disk that a stop has left.
+    // Cuts each call of an opening of a disk that a stop has left.
     fn cut_left(&self, tally: &mut Tally, left: &Memory) -> Result<()> {
         let is_old = look(tally.rt.alloc(), left.copy()?, self.probe)? == self.old;
         let stands = if is_old { Which::Old } else { Which::New };
         self.cut_all(tally, left, Wanted::only(stands))
     }
 
-    /// Cuts each call of an opening of all that a stop of the disk may leave: the same stands
-    /// afterwards.
+    /// Cuts each call of an opening of every mixture that a stop of the disk may leave. The state
+    /// has to be the same afterwards.
     pub(crate) fn cut_stopped(&self, tally: &mut Tally, disk: &Memory) -> Result<()> {
         for picks in &all_picks(tally.rt.alloc(), disk)? {
             self.cut_left(tally, &stopped(disk, picks)?)?;

@@ -1,14 +1,14 @@
-// How many openings the rows of a file made, and how many of them were wrong.
+// The number of openings that the rows of a file make, and the number of wrong ones.
 
 use std::fmt::Debug;
 
-/// How many openings were made, and how many gave something else than was wanted.
+/// The number of openings that were made, and the number of openings with an unexpected result.
 #[derive(Drop)]
 pub(crate) struct Tally<'a> {
     pub(crate) rt: &'a HostRuntime,
     pub(crate) openings: u64,
     pub(crate) wrong: u64,
-    /// Whether the rows are wrong on purpose, so that nothing is printed of what is seen to be.
+    /// Whether the rows are wrong on purpose. If so, wrong openings aren't printed.
     pub(crate) on_purpose: bool,
 }
 
@@ -22,7 +22,7 @@ impl<'a> Tally<'a> {
         }
     }
 
-    /// Counts an opening, and prints where it was wrong.
+    /// Counts an opening, and prints its place if it was wrong.
     pub(crate) fn count(&mut self, right: bool, place: &impl Debug, what: &str) {
         self.openings = self.openings.saturating_add(1);
         if right {
@@ -30,7 +30,7 @@ impl<'a> Tally<'a> {
         }
         self.wrong = self.wrong.saturating_add(1);
         if !self.on_purpose {
-            // Where this fails, so does the line of the file.
+            // If this call fails, printing the line of the file fails too.
             let _ = println!(self.rt; "wrong: {what} at {place:?}");
         }
     }

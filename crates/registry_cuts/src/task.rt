@@ -1,4 +1,4 @@
-// Tasks for a registry on a disk: commands, or an update and its commit.
+// Tasks for the registry on a disk: commands, or an update and its commit.
 
 use crate::answer::{DONE, answer, with_commit};
 use crate::event::Event;
@@ -11,17 +11,17 @@ use sector_disk::{Disk, Memory};
 use std::alloc::Global;
 use std::rc::Rc;
 
-/// How the events of a task are asked.
+/// The form in which the registry gets the events of a task.
 #[derive(Clone, Copy, PartialEq, Eq)]
 pub(crate) enum Asked {
-    /// As commands, each of which is accepted by itself.
+    /// Commands, each of which is accepted by itself.
     Commands,
-    /// As lines of an update, which a commit ends.
+    /// Lines of an update, with a commit at the end.
     Update,
 }
 
-/// A disk with a registry, events, the answers that they have to get, and the states that the
-/// registry is in before and after each accepted change. An update is one change.
+/// A disk with a registry, events, their expected answers, and the states of the registry before
+/// and after each accepted change. An update is one change.
 #[derive(Drop)]
 pub(crate) struct Task {
     pub(crate) disk: Memory,
@@ -32,7 +32,7 @@ pub(crate) struct Task {
     events: Vec<Rc<Event>>,
 }
 
-// Gives commands to a registry.
+// Runs commands on a registry, and returns their answers.
 fn give<D: Disk>(
     alloc: Global,
     registry: &mut Registry<D>,
@@ -45,7 +45,7 @@ fn give<D: Disk>(
     Ok(answers)
 }
 
-// Gives lines to an update.
+// Runs the lines of an update, and returns their answers.
 fn draft<D: Disk>(
     alloc: Global,
     update: &mut Update<D>,
@@ -58,7 +58,7 @@ fn draft<D: Disk>(
     Ok(answers)
 }
 
-// Makes lines an update, and commits it.
+// Makes an update, runs its lines, and commits it.
 fn update<D: Disk>(
     alloc: Global,
     registry: Registry<D>,
@@ -102,7 +102,7 @@ impl Task {
         Ok(task)
     }
 
-    // Adds the answers of a plain registry, and its states.
+    // Computes the expected answers and the states with a plain registry.
     fn foresee(&mut self, alloc: Global, sectors: u32, start: &[Rc<Event>]) -> Result<()> {
         let mut plain = PlainRegistry::new(alloc, sectors);
         for change in start {
@@ -128,7 +128,7 @@ impl Task {
         Ok(())
     }
 
-    /// Does the task on this disk: returns the answers, and the disk.
+    /// Does the task on this disk. Returns the answers, and the disk.
     pub(crate) fn play<D: Disk + Drop>(&self, alloc: Global, disk: D) -> Result<(Told, D)> {
         let registry = match Registry::open(alloc, disk) {
             Ok(registry) => registry,

@@ -1,4 +1,5 @@
-// Tasks on a disk or on a disk over a file, cut at each call. Each content that may be left is opened.
+// Tasks on a disk, or on a disk over a file, cut at each call. Each content that a stop may leave
+// is opened.
 
 use crate::allowed::Allowed;
 use crate::cut::Cut;
@@ -9,13 +10,13 @@ use crate::seen::{Seen, look, look_on};
 use crate::tally::Tally;
 use crate::task::{Asked, Task};
 use anyhow::{Result, bail};
-use file_disk::{FileDisk, FilePlan, MemoryFile, Turn};
+use file_disk::{CallOutcome, FileDisk, FilePlan, MemoryFile};
 use sector_disk::Memory;
 use std::alloc::Global;
 use std::fmt::Debug;
 use std::rc::Rc;
 
-// More calls than any task makes.
+// A number of calls that is greater than any task's.
 const MOST_CALLS: u64 = 1000;
 
 /// The kinds of disks: in memory, and over a file in memory.
@@ -25,8 +26,8 @@ enum Under {
     File,
 }
 
-// The ways to cut a call of a file: the maximum number of sectors that it moves, whether it fails
-// then, and whether all later calls fail. A sync that moves any sector has done its work.
+// The ways to cut a call of a file: the maximum number of sectors that the call transfers, whether
+// it then fails, and whether all later calls fail. A sync with a maximum above 0 syncs the file.
 const TURNS: [(usize, bool, bool); 6] = [
     (0, true, false),
     (0, true, true),
@@ -36,27 +37,27 @@ const TURNS: [(usize, bool, bool); 6] = [
     (1, false, false),
 ];
 
-// The plan of a file that cuts only a call that nobody makes.
+// The plan of a file whose calls are never cut.
 const UNCUT: FilePlan = FilePlan {
     call: u64::MAX,
-    turn: Turn {
+    outcome: CallOutcome {
         most: 0,
         fails: true,
     },
     forever: true,
 };
 
-// The plan that cuts a call in one of these ways.
-fn plan(call: u64, turn: (usize, bool, bool)) -> FilePlan {
-    let (most, fails, forever) = turn;
+// Returns the plan that cuts call number `call` in one of these ways.
+fn plan(call: u64, outcome: (usize, bool, bool)) -> FilePlan {
+    let (most, fails, forever) = outcome;
     FilePlan {
         call,
-        turn: Turn { most, fails },
+        outcome: CallOutcome { most, fails },
         forever,
     }
 }
 
-// A task, the kind of its disk, and which of its states were found so far.
+// A task, the kind of its disk, and which of its states have been found.
 #[derive(Drop)]
 struct Trial<'a> {
     task: &'a Task,
@@ -64,7 +65,7 @@ struct Trial<'a> {
     found: Vec<bool>,
 }
 
-// A disk over a file in memory.
+// Makes a disk over a file in memory.
 fn over(alloc: Global, medium: Memory, plan: FilePlan) -> Result<FileDisk<MemoryFile>> {
     Ok(FileDisk::over(alloc, MemoryFile::new(medium, plan))?)
 }
@@ -78,7 +79,7 @@ impl<'a> Trial<'a> {
         })
     }
 
-    // Opens a disk that a stop has left.
+    // Opens a disk that a stop has left, and returns its state.
     fn see(&self, alloc: Global, left: Memory) -> Result<Seen> {
         match self.under {
             Under::Disk => look(alloc, left, &self.task.probe),
@@ -86,7 +87,7 @@ impl<'a> Trial<'a> {
         }
     }
 
-    // Notes a state that was found: returns whether the disk may have it.
+    // Notes that a state was found. Returns whether the disk may have this state.
     fn note(&mut self, seen: &Seen, allowed: Allowed) -> bool {
         let mut is_right = false;
         for number in allowed.least..=allowed.most {
@@ -100,7 +101,8 @@ impl<'a> Trial<'a> {
         is_right
     }
 
-    // Opens each disk that a stop may leave after these answers.
+    // Opens each disk that a stop may leave after these answers, and compares its state with the
+    // allowed ones.
     fn open(
         &mut self,
         tally: &mut Tally,
@@ -119,7 +121,7 @@ impl<'a> Trial<'a> {
         Ok(())
     }
 
-    // Whether these are the answers of a run without a cut.
+    // Returns whether these are the answers of a run without a cut.
     fn is_whole(&self, told: &Told) -> bool {
         match told {
             Ok(answers) => *answers == self.task.wanted,
@@ -127,7 +129,7 @@ impl<'a> Trial<'a> {
         }
     }
 
-    // Cuts the call after the first `call` ones: returns whether the task makes it.
+    // Cuts the call after the first `call` calls. Returns whether the task makes this call.
     fn cut_disk(&mut self, tally: &mut Tally, call: u64, way: u64) -> Result<bool> {
         let alloc = tally.rt.alloc();
         let cut = Cut::nth(0, call, way);
@@ -136,7 +138,8 @@ impl<'a> Trial<'a> {
         Ok(!self.is_whole(&told))
     }
 
-    // Cuts each call of the disk, early and late, once and for ever; and one that nobody makes.
+    // Cuts each call of the disk, early and late, once and for ever, and then one call that is
+    // never made.
     fn cut_each(&mut self, tally: &mut Tally) -> Result<()> {
         for before in 0..MOST_CALLS {
             let mut is_made = false;
@@ -150,33 +153,35 @@ impl<'a> Trial<'a> {
         bail!("more calls than {MOST_CALLS}")
     }
 
-    // Does the task over a file of this plan: returns how many calls are left up to the cut one.
+    // Does the task over a file with this plan. Returns how many calls are left until the one that
+    // is cut.
     fn cut_file(&mut self, tally: &mut Tally, plan: FilePlan) -> Result<u64> {
         let alloc = tally.rt.alloc();
         let disk = over(alloc, self.task.disk.copy()?, plan)?;
         let (told, disk) = self.task.play(alloc, disk)?;
         let file = disk.into_file();
         let left = file.calls_left();
-        let place = (plan.call, plan.turn.most, plan.forever);
+        let place = (plan.call, plan.outcome.most, plan.forever);
         self.open(tally, &told, &file.into_medium(), &place)?;
-        if !plan.turn.fails || left > 0 {
+        if !plan.outcome.fails || left > 0 {
             tally.count(self.is_whole(&told), &place, "the answers of a whole run");
         }
         Ok(left)
     }
 
-    // Cuts each call of the file in each way, but the first, which counts its sectors.
+    // Cuts each call of the file in each way, except the first call, which asks for the number of
+    // sectors.
     fn cut_each_of_file(&mut self, tally: &mut Tally) -> Result<()> {
         let calls = UNCUT.call.saturating_sub(self.cut_file(tally, UNCUT)?);
         for call in 2..=calls {
-            for turn in TURNS {
-                let _ = self.cut_file(tally, plan(call, turn))?;
+            for outcome in TURNS {
+                let _ = self.cut_file(tally, plan(call, outcome))?;
             }
         }
         Ok(())
     }
 
-    // Cuts each call in each way. Each state has to be found somewhere.
+    // Cuts each call in each way. Each state has to be found after some cut.
     fn cut_all(&mut self, tally: &mut Tally) -> Result<()> {
         match self.under {
             Under::Disk => self.cut_each(tally)?,
@@ -189,13 +194,13 @@ impl<'a> Trial<'a> {
     }
 }
 
-// Cuts a task on one kind of disk.
+// Does the same with a task on one kind of disk.
 fn cut(tally: &mut Tally, task: &Task, under: Under) -> Result<()> {
     Trial::of(tally.rt.alloc(), task, under)?.cut_all(tally)
 }
 
-/// Cuts `events` as commands on a disk over a file, or as an update on both kinds of disks. The disk
-/// has `sectors` sectors, and the registry the changes `start`.
+/// Cuts `events` as commands on a disk over a file, or as an update on both kinds of disks. The
+/// disk has `sectors` sectors and a registry after the changes `start`.
 pub(crate) fn cut_task(
     tally: &mut Tally,
     asked: Asked,

@@ -1,4 +1,4 @@
-// Formats, and upgrades to version 2, cut at each of their calls.
+// Formats and upgrades to version 2, cut at each of their calls.
 
 use crate::cut::{Cut, Powered};
 use crate::event::Event;
@@ -15,14 +15,14 @@ use std::fs;
 use std::rc::Rc;
 use store::StoreRefusal;
 
-// How many calls of the disk a format makes: two reads, a sync, the root, a sync.
+// The number of the disk's calls that a format makes: two reads, a sync, the root, and a sync.
 const FORMAT_CALLS: u64 = 5;
 
-// More room than any registry of a row takes.
+// A number of sectors that is greater than any row's registry needs.
 const AMPLE: u32 = 64;
 
-// A format or an upgrade: how many calls of the disk it makes, how it is refused where none of them
-// fails, and what stands before and after it.
+// A format or an upgrade: the number of calls of the disk that it makes, its refusal if none of
+// them fails, and the states before and after it.
 #[derive(Drop)]
 struct Trial<'a> {
     run: Run,
@@ -31,7 +31,7 @@ struct Trial<'a> {
     sides: Sides<'a>,
 }
 
-// Writes all sectors of a disk, and syncs.
+// Writes `bytes` to the sectors of a disk, and makes a sync.
 fn fill(disk: &mut Memory, bytes: &[u8]) -> Result<()> {
     for (at, sector) in (0..disk.sectors()).zip(bytes.chunks(SECTOR_BYTES)) {
         if at < disk.sectors() {
@@ -42,7 +42,7 @@ fn fill(disk: &mut Memory, bytes: &[u8]) -> Result<()> {
     Ok(())
 }
 
-// The disk in a file, all synced.
+// Returns the disk that a file has, with all sectors synced.
 fn disk_in(tally: &Tally, file: &str) -> Result<Memory> {
     let bytes = fs::read(tally.rt, file).context(format_args!("the file {file}"))?;
     let sectors = u32::try_from(bytes.len().div_ceil(SECTOR_BYTES))?;
@@ -52,9 +52,9 @@ fn disk_in(tally: &Tally, file: &str) -> Result<Memory> {
 }
 
 impl<'a> Trial<'a> {
-    // What is made of a disk with the registry behind these changes. The calls of an opening are
-    // those that read. Version 1 has no catalogue to read: an upgrade writes that, and then comes a
-    // sync, the root, and a sync.
+    // Makes the trial of a disk that has the registry after `changes`. An upgrade makes three calls
+    // more than an opening of version 2: it reads no catalogue, because version 1 has none, but it
+    // writes one, syncs, writes the root, and syncs.
     fn of(
         alloc: Global,
         beginning: Beginning,
@@ -87,7 +87,7 @@ impl<'a> Trial<'a> {
         })
     }
 
-    // Cuts a call of the disk, and compares the answer: the disk.
+    // Cuts a call of the disk, and compares the answer. Returns the disk.
     fn cut(&self, tally: &mut Tally, cut: Cut) -> Result<Powered> {
         let (told, disk) = self.run.cut(tally.rt.alloc(), 0, cut)?;
         let refusal = if cut.call <= self.calls {
@@ -99,8 +99,9 @@ impl<'a> Trial<'a> {
         Ok(disk)
     }
 
-    // Cuts a call of the disk and opens what is left, and with `further` cuts each call of that. No
-    // registry is left that could answer S2.
+    // Cuts a call of the disk and opens what is left. If `further` is true, also cuts each call of
+    // this opening, or opens the disk with its fuse. No registry is left that could return S2
+    // (Reopen).
     fn cut_at(&self, tally: &mut Tally, cut: Cut, further: bool) -> Result<()> {
         let wanted = by_table(cut, self.calls);
         let disk = self.cut(tally, cut)?.into_inner();
@@ -111,7 +112,8 @@ impl<'a> Trial<'a> {
         Ok(())
     }
 
-    // Opens a disk that was left once more: with cuts, or behind its fuse.
+    // Opens the disk that a cut has left once more: with each call of the opening cut, or with its
+    // fuse.
     fn open_again(&self, tally: &mut Tally, disk: &Memory, wanted: Wanted) -> Result<()> {
         if wanted.cut.forever {
             self.sides.cut_all(tally, disk, wanted)
@@ -123,7 +125,7 @@ impl<'a> Trial<'a> {
         }
     }
 
-    // Does so with each call of the disk, and one behind them, which nothing makes.
+    // Does this for each call of the disk, and for one call after them, which is never made.
     fn cut_each(&self, tally: &mut Tally, further: bool) -> Result<()> {
         for at in 0..Cut::count(self.calls.saturating_add(1)) {
             self.cut_at(tally, Cut::nth(0, 0, at), further)?;
@@ -131,7 +133,7 @@ impl<'a> Trial<'a> {
         Ok(())
     }
 
-    // Compares what is seen of the registry that is made, without opening it again.
+    // Compares the state of the registry that an upgrade makes, without opening it again.
     fn look_on(&self, tally: &mut Tally) -> Result<()> {
         let disk = Cut::NONE.of(self.run.disk.copy()?);
         let seen = look_upgraded(tally.rt.alloc(), disk, self.sides.probe)?;
@@ -139,7 +141,7 @@ impl<'a> Trial<'a> {
         Ok(())
     }
 
-    // Cuts the upgrade of what was left.
+    // Upgrades the disk that is left, with a cut at each call.
     fn cut_again(&self, tally: &mut Tally, left: Memory, changes: &[Rc<Event>]) -> Result<()> {
         let alloc = tally.rt.alloc();
         let is_old = look(alloc, left.copy()?, self.sides.probe)? == self.sides.old;
@@ -151,7 +153,8 @@ impl<'a> Trial<'a> {
         Trial::of(alloc, beginning, left, changes, self.sides.probe)?.cut_each(tally, false)
     }
 
-    // Cuts the upgrades of what a cut has left, unless that is what it found.
+    // Cuts the upgrades of every mixture that a cut has left, unless the cut has left the disk
+    // unchanged.
     fn cut_behind(&self, tally: &mut Tally, cut: Cut, changes: &[Rc<Event>]) -> Result<()> {
         let alloc = tally.rt.alloc();
         let disk = self.run.left(alloc, 0, cut)?;
@@ -163,7 +166,7 @@ impl<'a> Trial<'a> {
         Ok(())
     }
 
-    // Does so with each cut.
+    // Does this for each cut.
     fn cut_further(&self, tally: &mut Tally, changes: &[Rc<Event>]) -> Result<()> {
         for at in 0..Cut::count(self.calls) {
             self.cut_behind(tally, Cut::nth(0, 0, at), changes)?;
@@ -171,7 +174,7 @@ impl<'a> Trial<'a> {
         Ok(())
     }
 
-    // All that is done with a disk of a row.
+    // Makes all cuts of a format or an upgrade of a row's disk.
     fn cut_all(&mut self, tally: &mut Tally, changes: &[Rc<Event>]) -> Result<()> {
         if tally.on_purpose {
             self.sides.exchange();
@@ -186,7 +189,7 @@ impl<'a> Trial<'a> {
         self.look_on(tally)
     }
 
-    // Sees that nothing is written, wherever it is cut.
+    // Tests that nothing is written, with each cut.
     fn see_unwritten(&self, tally: &mut Tally) -> Result<()> {
         let alloc = tally.rt.alloc();
         for at in 0..Cut::count(self.calls.saturating_add(1)) {
@@ -198,9 +201,9 @@ impl<'a> Trial<'a> {
     }
 }
 
-/// Cuts a format or an upgrade of a disk, with the registry behind these changes, at each of its
-/// calls; and upgrades of version 1 once more behind each cut. The disk is that of a file, or one
-/// of so many sectors.
+/// Cuts a format or an upgrade of a disk that has the registry after the changes `changes`, at each
+/// of its calls. Cuts upgrades of version 1 once more after each cut. The disk is read from a file,
+/// or is made with a number of sectors.
 pub(crate) fn cut_making(
     tally: &mut Tally,
     beginning: Beginning,

@@ -1,8 +1,8 @@
-// What may stand after a call of the disk has failed, by the call.
+// The states that a disk may have after one of its calls has failed, by the number of the call.
 
 use crate::cut::Cut;
 
-/// The state before a change, the one after it, or either, by what a stop leaves.
+/// The state before a change, the state after it, or either of the two.
 #[derive(Clone, Copy, PartialEq, Eq)]
 pub(crate) enum Which {
     Old,
@@ -10,8 +10,8 @@ pub(crate) enum Which {
     Either,
 }
 
-/// What a disk shows that is opened again at once, the old state or the new one; and what one shows
-/// after a stop before that.
+/// The state that has to be found if the disk is opened again at once, and the states that may be
+/// found if a stop comes first.
 #[derive(Clone, Copy)]
 pub(crate) struct Wanted {
     /// The cut that left the disk.
@@ -21,7 +21,8 @@ pub(crate) struct Wanted {
 }
 
 impl Which {
-    /// Whether a state that is the old one, or the new one, may stand.
+    /// Returns whether a state may be found. `is_old` and `is_new` say whether it is the old one,
+    /// and whether it is the new one.
     pub(crate) fn allows(self, is_old: bool, is_new: bool) -> bool {
         match self {
             Which::Old => is_old,
@@ -31,8 +32,8 @@ impl Which {
     }
 }
 
-/// What is wanted after a change was cut that makes so many calls: the last one is a sync, and the
-/// one before it writes the root. A late call reached the disk.
+/// Returns the states that may be found after a cut of a change that makes `calls` calls. The last
+/// call is a sync, and the one before it writes the root. A late call has reached the disk.
 pub(crate) fn by_table(cut: Cut, calls: u64) -> Wanted {
     let (failed, late) = (cut.call, cut.late);
     let (reopened, stopped) = if failed > calls {
@@ -52,7 +53,7 @@ pub(crate) fn by_table(cut: Cut, calls: u64) -> Wanted {
 }
 
 impl Wanted {
-    /// This state alone.
+    /// Returns the value by which only this state may be found.
     pub(crate) fn only(which: Which) -> Wanted {
         Wanted {
             cut: Cut::NONE,
@@ -61,8 +62,9 @@ impl Wanted {
         }
     }
 
-    /// What a disk shows where its opening was cut so. The opening's first call is a sync: once it
-    /// reached the disk, no stop leaves another state than the one that it finds.
+    /// Returns the states that may be found on a disk whose opening was cut. The first call of the
+    /// opening is a sync. After the sync has reached the disk, a stop leaves only the state that
+    /// the opening finds.
     pub(crate) fn after_opening(self, cut: Cut) -> Wanted {
         let stopped = if cut.call > 1 || cut.late {
             self.reopened

@@ -1,4 +1,4 @@
--- What the requests of a dump are answered, and where they lead.
+-- The answers to the requests of a dump, and the states after the requests.
 use Rattle.std.proofs.Common.{◌≡◌, ℕ, ◌+◌, List, [], ◌∷◌, ◌++◌, length, length-append, map, Option, None, Some, refl, sym, subst, ◌∙◌, arith, inl, inr}
 use Rattle.std.specs.Prelude.{◌⊎◌, All, fold}
 use Rattle.std.proofs.Math.Seq.{get_or-append_seam}
@@ -17,7 +17,7 @@ use Rattle.requests.specs.declared.reply.Reply.TheVariants as reply
 use Rattle.replays.specs.Replay.{HasRoomFor, IsFault, LacksRoomAtMost, preload_requests, requests_for}
 use Rattle.replays.proofs.States.{install_of, lacks_room}
 
--- ---- what is asked is changes
+-- ---- the requests are changes
 
 abbrev pub IsChange : Request → Type 0
 IsChange (install bytes) = Unit {0}
@@ -39,7 +39,7 @@ pub each_changes : (s : State) (front rest : List Request) (request : Request) �
 each_changes s front rest request is =
     subst IsChange (get_or-append_seam front request rest request) (subst (All IsChange) is (all_change s) (length front) request (omega (arith, length-append front (request ∷ rest))))
 
--- ---- where there is room
+-- ---- if there is room
 
 pub room_taken : (s : State) (p : Phase) (request : Request) → LacksRoomAtMost s p request → HasRoomFor s p request → refusal_at p request ≡ None
 room_taken s p request lacks room = by (refusal_at p request) lacks.only refl
@@ -49,7 +49,7 @@ room_taken s p request lacks room = by (refusal_at p request) lacks.only refl
     by o (inr (inl full)) is = absurd (omega (arith, lacks.full (is ∙ full), room.sectors))
     by o (inr (inr fragmented)) is = absurd (room.runs (lacks.fragmented (is ∙ fragmented)))
 
--- a change that no test refuses is done, unless the disk fails or memory is refused
+-- a change that no test refuses is answered Done, unless the disk fails or memory is refused
 pub done_or_fault : (p p' : Phase) (request : Request) (answer : Reply) → IsChange request → refusal_at p request ≡ None → Step p request answer p' → (answer ≡ Done) ⊎ IsFault answer
 done_or_fault p p' request Done change none h = inl refl
 done_or_fault p p' request (Refused refusal.Device) change none h = inr tt

@@ -1,4 +1,5 @@
--- A draft has the libraries and preloads that its commit lists, so a bind is answered the same over both.
+-- A draft has the libraries and preloads that its commit lists. So a bind has the same answer before and
+-- after the commit.
 use Rattle.std.proofs.Common.{◌≡◌, ℕ, List, [], ◌∷◌, Bool, true, false, refl, sym, ap}
 use Rattle.std.specs.Prelude.{if◌then◌else◌}
 use Rattle.std.specs.List.{list_any}
@@ -11,7 +12,7 @@ use Rattle.registry.specs.Updating.{asks_change, drafted_by, updated}
 differ : true ≡ false → ⊥
 differ is = cc is
 
--- without a change a draft is at the state that stands
+-- if no request asks for a change, the draft is at the current state
 unchanged : (s : State) (requests : List Request) → list_any asks_change requests ≡ false → drafted_by s requests ≡ s
 unchanged s [] is = refl
 unchanged s (bind program base ∷ requests) is = unchanged s requests is
@@ -21,7 +22,8 @@ unchanged s (replace bytes ∷ requests) is = absurd (differ is)
 unchanged s (remove name ∷ requests) is = absurd (differ is)
 unchanged s (set_preloads names ∷ requests) is = absurd (differ is)
 
--- what reads libraries and preloads alone reads the same of the state after the commit
+-- a function that reads only libraries and preloads has the same value for the state after the commit as
+-- for the draft
 alike : {T : Type 0} (read : State → T) → ((s d : State) → read (next s d.libraries d.preloads) ≡ read d) → (s d : State) (changes : Bool)
     → (changes ≡ false → d ≡ s) → read (if changes then next s d.libraries d.preloads else s) ≡ read d
 alike read same s d true h = same s d

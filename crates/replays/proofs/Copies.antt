@@ -1,4 +1,4 @@
--- A registry that was given the requests of a dump, and each was done.
+-- A registry that answered all requests of a dump with Done.
 use Rattle.std.proofs.Common.{◌≡◌, ◌≤◌, ◌+◌, List, [], ◌∷◌, length, map, IsFalse, refl, sym, ap, subst, ◌∙◌, arith, ⊎_elim}
 use Rattle.std.specs.Prelude.{All, fold}
 use Rattle.std.proofs.lemmas.Bool.{false≢true}
@@ -22,7 +22,7 @@ use Rattle.replays.specs.Replay.{copy_of, requests_for}
 use Rattle.replays.proofs.Answers.{IsChange, all_change}
 use Rattle.replays.proofs.States.{leads}
 
--- a request that was done
+-- the exchange of a request that was answered Done
 abbrev pub done : Request → Exchange
 done request = answered (command request) Done
 
@@ -30,12 +30,12 @@ all_acknowledged : (requests : List Request) → acknowledged (map done requests
 all_acknowledged [] = refl
 all_acknowledged (r ∷ requests) = ap (λ rs. command r ∷ rs) (all_acknowledged requests)
 
--- the state after commands alone
+-- the state after an exchange of commands is the state after their requests
 after_commands : (s : State) (requests : List Request) → state_after s (map command requests) ≡ fold accepted s requests
 after_commands s [] = refl
 after_commands s (r ∷ requests) = after_commands (accepted s r) requests
 
--- where each was answered Done
+-- if each answer is Done, the exchanges are those of requests that were answered Done
 pub all_done : (requests : List Request) (answers : List Reply) → length answers ≡ length requests → All (λ answer. answer ≡ Done) answers → commanded requests answers ≡ map done requests
 all_done [] [] same all = refl
 all_done [] (a ∷ answers) same all = refl
@@ -45,7 +45,7 @@ all_done (r ∷ requests) (a ∷ answers) same all =
     ∙ ap (λ (xs : List Exchange). done r ∷ xs) (all_done requests answers (omega (arith, same)) (All-tail (λ answer. answer ≡ Done) a answers all))
 
 module _ {D : Type 0} (facts : D → DiskFacts) where
-  -- a change that was done leaves a registry that can go on
+  -- after a change that was answered Done, the registry is usable
   usable_behind : (old new : Opened D) (request : Request) → IsChange request → Leaves old new request Done → IsFalse new.failed
   usable_behind old new (install bytes) change leaves = leaves
   usable_behind old new (set_preloads names) change leaves = leaves
@@ -82,7 +82,7 @@ module _ {D : Type 0} (facts : D → DiskFacts) where
         ran.kept
 
   module _ (s : State) (libraries : All IsLibrary s.libraries) (old new : Opened D) (at : IsAt facts old empty_state) where
-    -- the requests were done, one after the other
+    -- if all requests were answered Done, one after the other, the registry is at the copy
     pub copied : (registries : List (Opened D)) → RunsThrough facts old registries new empty_state (map done (requests_for s)) → IsAt facts new (copy_of s)
     copied registries run =
         subst (IsAt facts new) (leads s libraries) (at_end old new empty_state run.0 (requests_for s) run.1 run.3 (all_change s) at.stored.usable)

@@ -1,4 +1,4 @@
--- States that a disk has are states of bytes.
+-- The states that a disk holds consist of bytes.
 use Rattle.std.proofs.Common.{◌<◌, ℕ, List, [], ◌∷◌, length, map, get_or, IsTrue, sym, subst, ⊎_elim}
 use Rattle.std.specs.Prelude.{All}
 use Rattle.std.proofs.lemmas.Bool.{cases_lt}

@@ -1,4 +1,5 @@
--- A draft of a new registry, which is asked what a dump asks: its states, and the tests there.
+-- A draft of a new registry to which the requests of a dump are made: its states, and the tests of the
+-- requests.
 use Rattle.std.proofs.Common.{◌≡◌, ◌<◌, ◌≤◌, ℕ, ◌+◌, Bool, false, List, [], ◌∷◌, ◌++◌, length, length-append, map, Option, None, Some, refl, sym, ap, subst, ◌∙◌, arith, inl, inr}
 use Rattle.std.specs.Prelude.{◌⊎◌, All, fold, not, nat_lt}
 use Rattle.std.specs.List.{list_any}
@@ -36,7 +37,7 @@ use Rattle.replays.proofs.Refusals.{at_state, not_last}
 use Rattle.replays.proofs.States as states
 use Rattle.replays.proofs.States.{install_of, leads}
 
--- ---- a draft has what the requests make, and the generation that it had
+-- ---- a draft has what the requests make, and the same generation as before
 
 -- two states have the same libraries and preloads
 abbrev SameLists : State → State → Type 0
@@ -60,7 +61,7 @@ drafted_generation : (requests : List Request) (d : State) → (drafted_by d req
 drafted_generation [] d = refl
 drafted_generation (request ∷ requests) d = drafted_generation requests (drafted d (accepted d request))
 
--- a state is what it has
+-- a state with these fields equals the record of these fields
 state_is : (d : State) (generation : ℕ) (libraries : List Library) (preloads : List (List ℕ)) → d.generation ≡ generation → d.libraries ≡ libraries → d.preloads ≡ preloads
     → d ≡ record { generation = generation; libraries = libraries; preloads = preloads }
 state_is d generation libraries preloads g l p =
@@ -68,7 +69,7 @@ state_is d generation libraries preloads g l p =
     ∙ ap (λ (ls : List Library). let made : State = record { generation = generation; libraries = ls; preloads = d.preloads } in made) l
     ∙ ap (λ (ps : List (List ℕ)). let made : State = record { generation = generation; libraries = libraries; preloads = ps } in made) p
 
--- the state, of the first generation
+-- the state with the same libraries and preloads, and with generation 0
 abbrev anew : State → State
 anew e = record { generation = 0; libraries = e.libraries; preloads = e.preloads }
 
@@ -78,7 +79,7 @@ drafted_is requests =
     let lists = drafted_lists requests empty_state empty_state (refl, refl) in
     state_is (drafted_by empty_state requests) 0 e.libraries e.preloads (drafted_generation requests empty_state) lists.0 lists.1
 
--- ---- few requests are far from the last generation
+-- ---- so few requests don't reach the last generation
 
 one_more : (e : State) (request : Request) → (accepted e request).generation ≤ e.generation + 1
 one_more e (install bytes) = omega arith
@@ -96,7 +97,7 @@ few_preload : (names : List (List ℕ)) → length (preload_requests names) ≤ 
 few_preload [] = omega arith
 few_preload (name ∷ names) = omega arith
 
--- a state has few requests
+-- the number of requests for a state is at most the maximum number of libraries, plus one
 few_asked : (s : State) → IsState s → length (requests_for s) ≤ most_libraries + 1
 few_asked s h =
     omega (arith, length-append (map install_of s.libraries) (preload_requests s.preloads), length-map s.libraries install_of, few_preload s.preloads, h.few)
@@ -104,7 +105,7 @@ few_asked s h =
 few_in_front : (s : State) → IsState s → (front back : List Request) (request : Request) → requests_for s ≡ front ++ request ∷ back → length front ≤ most_libraries + 1
 few_in_front s h front back request is = omega (arith, few_asked s h, ap length is, length-append front (request ∷ back))
 
--- the generation makes no test differ but S10
+-- if two generations aren't the last, they don't affect the first refusal
 same_tests : (t : Table) (g : ℕ) (request : Request) → is_last t.generation ≡ false → is_last g ≡ false
     → first_refusal (record t { generation = g }) request ≡ first_refusal t request
 same_tests t g (install bytes) old new =
@@ -123,7 +124,7 @@ same_tests t g (set_preloads names) old new =
 same_tests t g (bind program base) old new = refl
 same_tests t g list old new = refl
 
--- ---- what a draft is asked lacks room at most
+-- ---- the requests to a draft may only lack room
 
 short_alike : (p : Phase) (a b : State) (request : Request) → HasShortRuns (at_state p a) request → HasShortRuns (at_state p b) request
 short_alike p a b (install bytes) short = short
@@ -134,7 +135,7 @@ short_alike p a b (bind program base) short = absurd short
 short_alike p a b list short = absurd short
 
 module _ (p : Phase) where
-  -- a draft's tests are those of the state after as many changes
+  -- the tests of a request to a draft are those of the request to the state after the same changes
   same_refusal : (front : List Request) (request : Request) → length front ≤ most_libraries + 1 → IsChange request
       → refusal_at (at_state p (drafted_by empty_state front)) request ≡ refusal_at (at_state p (fold accepted empty_state front)) request
   same_refusal front request few change =
@@ -160,7 +161,7 @@ module _ (s : State) (h : IsState s) (p : Phase) where
     fragmented = λ e. short_alike p b a request (lacks.fragmented (sym same ∙ e));
   }
 
-  -- each request, after those before it were planned
+  -- after the requests before it were planned, a request can be refused only for lack of room
   pub lacks_room : (front back : List Request) (request : Request) → requests_for s ≡ front ++ request ∷ back → p.state ≡ drafted_by empty_state front
       → LacksRoomAtMost s p request
   lacks_room front back request is now =
@@ -169,7 +170,7 @@ module _ (s : State) (h : IsState s) (p : Phase) where
       (lacks_alike (drafted_by empty_state front) e request (same_refusal p front request (few_in_front s h front back request is) (each_changes s front back request is))
       (states.lacks_room s h (at_state p e) front back request is refl))
 
-  -- the last install is refused for room on a disk with fewer sectors than the state needs
+  -- if the disk has fewer sectors than the state needs, the last install is refused with S7
   pub last_lacks_room : (libraries : List Library) (last : Library) → s.libraries ≡ libraries ++ last ∷ [] → p.state ≡ drafted_by empty_state (map install_of libraries)
       → p.sectors < sectors_for s + p.lone → refusal_at p (install last.bytes) ≡ Some Full
   last_lacks_room libraries last all now small =
@@ -179,9 +180,9 @@ module _ (s : State) (h : IsState s) (p : Phase) where
       (same_refusal p front (install last.bytes) few tt
       ∙ states.last_lacks_room s h (at_state p (fold accepted empty_state front)) libraries last all refl small)
 
--- ---- what it is answered
+-- ---- the answers
 
--- what a dump asks is answered as changes are
+-- a change of a dump is answered as a planned change
 plan_step : (p p' : Phase) (request : Request) (answer : Reply) → IsChange request → DraftStep p request answer p' → PlanStep p request answer p'
 plan_step p p' (install bytes) answer change h = h
 plan_step p p' (set_preloads names) answer change h = h
@@ -204,7 +205,7 @@ answered s h front rest request p p' answer is now room step =
     planned_or_fault p p' request answer change (room_taken s p request (lacks_room s h p front rest request is now) room) (plan_step p p' request answer change step)
 
 module _ (s : State) (p p' : Phase) (request : Request) (lacks : LacksRoomAtMost s p request) (alone : p.lone ≡ 0) where
-  -- what a test refuses is refused for room
+  -- if a test refuses the request, the refusal is one for lack of room
   for_room : (why : Refusal) → refusal_at p request ≡ Some why → IsHindrance s p.sectors why
   for_room why is = by lacks.only
     where
@@ -223,11 +224,11 @@ module _ (s : State) (p p' : Phase) (request : Request) (lacks : LacksRoomAtMost
   planned_hindered refusal.OutOfMemory h = tt
   planned_hindered why h = for_room why h.1
 
-  -- a refusal of what a dump asks
+  -- if a request of a dump is refused, `IsHindrance` holds for the refusal
   pub hindered : (why : Refusal) → IsChange request → DraftStep p request (Refused why) p' → IsHindrance s p.sectors why
   hindered why change step = planned_hindered why (plan_step p p' request (Refused why) change step)
 
--- a change that isn't refused is planned
+-- a change that isn't refused is answered Done
 planned_done : (p p' : Phase) (request : Request) (answer : Reply) → PlanStep p request answer p' → is_refusal answer ≡ false → answer ≡ Done
 planned_done p p' request Done h fine = refl
 planned_done p p' request (reply.Listing l) h fine = h.2
@@ -245,7 +246,7 @@ each_planned p [] (answer ∷ answers) phases steps changes fine = absurd steps
 each_planned p (request ∷ requests) [] phases steps changes fine = absurd steps
 each_planned p (request ∷ requests) (answer ∷ answers) [] steps changes fine = absurd steps
 
--- what a dump asks first is changes
+-- the first requests of a dump are all changes
 pub front_changes : (s : State) (front back : List Request) → requests_for s ≡ front ++ back → All IsChange front
 front_changes s front back is k d lt =
     subst IsChange (get_or_append_left front back d k lt) (subst (All IsChange) is (all_change s) k d (omega (arith, lt, length-append front back)))

@@ -1,4 +1,4 @@
--- What the lines of a dump ask.
+-- The requests of a dump's lines.
 use Rattle.std.proofs.Common.{◌≡◌, ◌<◌, ℕ, Bool, true, false, List, [], ◌∷◌, ◌++◌, length, codes, Some, None, refl, ap, ◌∙◌, arith, append-nil, ne_eqb}
 use Rattle.std.specs.Prelude.{◌≢◌, ◌&&◌, ◌==◌, not, All, if◌then◌else◌}
 use Rattle.std.specs.List.{flat_map, list_all, slice_split}
@@ -58,7 +58,7 @@ module _ (P : ℕ → Type 0) (each : (b : ℕ) → is_visible b ≡ true → P 
   name_all : (name : List ℕ) → is_name name ≡ true → All P name
   name_all name h = visible_all name (and_right (not (length name == 0)) (list_all is_visible name) h)
 
--- the names behind spaces, but for the first space
+-- if names are separated by spaces, the parts between the spaces are these names
 spaced_words : (name : List ℕ) (names : List (List ℕ)) → All (λ n. is_name n ≡ true) (name ∷ names)
     → slice_split (λ b. b == 32) (name ++ flat_map behind_space names) ≡ name ∷ names
 spaced_words name [] h =

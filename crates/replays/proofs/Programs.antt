@@ -1,4 +1,4 @@
--- What the two programs do, one behind the other.
+-- What `rlibreg-tool dump` and then `rlibreg script` do.
 use Rattle.std.proofs.Common.{◌≡◌, ℕ, ◌+◌, Bool, true, false, cond, List, [], ◌∷◌, ◌++◌, append-nil, map}
 use Rattle.std.proofs.Common.{Option, Some, IsTrue, refl, sym, ap, subst, ◌∙◌, arith, inl, inr, ⊎_elim, if◌then◌else◌}
 use Rattle.std.specs.Prelude.{◌⊎◌, ◌==◌, All, count_by, IfSome}
@@ -47,7 +47,7 @@ use Rattle.replays.proofs.Readings.{same_head, same_tail}
 use Rattle.replays.proofs.Scripts.{asking, cut_ends, is_script}
 use Rattle.replays.proofs.Statuses.{not_done}
 
--- ---- lines that ask these requests, each answered and none refused
+-- ---- lines that ask for these requests, each answered and none refused
 
 no_end : {X : Type 0} (x : X) (xs : List X) → [] ≡ x ∷ xs → ⊥
 no_end x xs h = cc h
@@ -60,7 +60,7 @@ all_happen (line ∷ lines) (r ∷ requests) h =
     ap (λ (o : Option Happening). cons_option o (happenings lines)) (same_head (meaning line) (asking r) (map meaning lines) (map asking requests) h)
     ∙ ap (λ (rest : List Happening). apply r ∷ rest) (all_happen lines requests (same_tail (meaning line) (asking r) (map meaning lines) (map asking requests) h))
 
--- a reply that isn't a refusal
+-- the reply isn't a refusal
 abbrev is_accepted : EventReply → Type 0
 is_accepted reply = is_refused (answer.Replied reply) ≡ false
 
@@ -78,7 +78,7 @@ none_counted (answer.BadLine ∷ answers) h =
 none_counted (answer.CutLine ∷ answers) h =
     none_counted answers (zero_parts true (count_by is_refused answers) (sym (sum_by-cons (λ a. cond (is_refused a) 1 0) answer.CutLine answers) ∙ h)).1
 
--- a change that isn't refused is done
+-- a change that isn't refused is answered Done
 change_done : (r : Request) (reply : Reply) → IsChange r → IsAnswerTo r reply → is_accepted (event.Replied reply) → reply ≡ Done
 change_done (install bytes) Done change is fine = refl
 change_done (install bytes) (Refused refusal) change is fine = cc fine
@@ -113,7 +113,7 @@ module _ {D : Type 0} (facts : D → DiskFacts) where
       ∙ ap (λ (xs : List Exchange). done r ∷ xs) (exchanges_done requests replies passed t steps.1 (All-tail IsChange r requests changes) (All-tail is_accepted e replies fine))
 
   module _ (s : State) (h : IsStateOfBytes s) where
-    -- the lines of a dump, none of them refused, lead to the copy
+    -- if no line of a dump is refused, the registry is at the copy after the lines
     pub lines_copied : (old new : Slotted D) (whole : List (List ℕ)) (cut : List ℕ) (answers : List Answer) → LinesRan facts old new whole answers
         → IsAt facts old.registry empty_state → dump_text s ≡ flat_map ended whole ++ cut → All IsLine whole → IsLine cut → count_by is_refused (answers ++ cut_answer cut) ≡ 0
         → IsAt facts new.registry (copy_of s)
@@ -162,7 +162,7 @@ unsaturated refused n is zero = omega (arith, is, zero)
 abbrev counted : Answer → ℕ
 counted a = cond (is_refused a) 1 0
 
--- the answer to a line that was cut is a refusal
+-- the answer to a cut line is a refusal
 cut_counted : (answers : List Answer) → count_by is_refused (answers ++ answer.CutLine ∷ []) ≡ 0 → ⊥
 cut_counted answers h = omega (arith, h, sum_by-append counted answers (answer.CutLine ∷ []), sum_by-cons counted answer.CutLine [])
 

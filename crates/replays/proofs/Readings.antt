@@ -1,4 +1,4 @@
--- A text is cut into lines in one way.
+-- There is only one way to divide a text into lines.
 use Rattle.std.proofs.Common.{◌≡◌, ℕ, List, [], ◌∷◌, ◌++◌, append_assoc, refl, sym, ap, subst, ◌∙◌, inl, inr}
 use Rattle.std.specs.Prelude.{◌≢◌, ◌⊎◌, All}
 use Rattle.std.specs.List.{flat_map}
@@ -14,7 +14,7 @@ tail_of : {X : Type 0} → List X → List X
 tail_of [] = []
 tail_of (x ∷ xs) = xs
 
--- equal lists have equal heads and tails
+-- if two lists are equal, so are their first items and the rests
 pub same_head : {X : Type 0} (x y : X) (xs ys : List X) → x ∷ xs ≡ y ∷ ys → x ≡ y
 unfolding head_or
 same_head x y xs ys h = ap (head_or x) h
@@ -23,12 +23,12 @@ pub same_tail : {X : Type 0} (x y : X) (xs ys : List X) → x ∷ xs ≡ y ∷ y
 unfolding tail_of
 same_tail x y xs ys h = ap tail_of h
 
--- no list ends before an element of it
+-- the empty list has no item
 pub no_more : {X : Type 0} (front back : List X) (x : X) → [] ≡ front ++ x ∷ back → ⊥
 no_more [] back x h = cc h
 no_more (y ∷ front) back x h = cc h
 
--- the first newline ends the first line
+-- if two texts are equal, so are their first lines and the rests after these
 first_line : (a b c d : List ℕ) → IsLine a → IsLine b → a ++ 10 ∷ c ≡ b ++ 10 ∷ d → (a ≡ b) × (c ≡ d)
 first_line [] [] c d la lb h = (refl, same_tail 10 10 c d h)
 first_line [] (y ∷ b) c d la lb h = absurd (All-head (λ b. b ≢ 10) y b lb (sym (same_head 10 y c (b ++ 10 ∷ d) h)))
@@ -37,17 +37,19 @@ first_line (x ∷ a) (y ∷ b) c d la lb h =
     let rest = first_line a b c d (All-tail (λ b. b ≢ 10) x a la) (All-tail (λ b. b ≢ 10) y b lb) (same_tail x y (a ++ 10 ∷ c) (b ++ 10 ∷ d) h) in
     (ap (λ z. z ∷ a) (same_head x y (a ++ 10 ∷ c) (b ++ 10 ∷ d) h) ∙ ap (λ l. y ∷ l) rest.0, rest.1)
 
--- no line has a newline in it
+-- bytes with a newline among them aren't a line
 no_newline_in : (a c : List ℕ) → IsLine (a ++ 10 ∷ c) → ⊥
 no_newline_in [] c h = All-head (λ b. b ≢ 10) 10 c h refl
 no_newline_in (x ∷ a) c h = no_newline_in a c (All-tail (λ b. b ≢ 10) x (a ++ 10 ∷ c) h)
 
--- a line, its newline and what comes behind
+-- a line with its newline and the rest, followed by more bytes, is the line, the newline, and the rest
+-- with these bytes
 ended_more : (line rest cut : List ℕ) → (ended line ++ rest) ++ cut ≡ line ++ 10 ∷ (rest ++ cut)
 ended_more [] rest cut = refl
 ended_more (x ∷ line) rest cut = ap (λ l. x ∷ l) (ended_more line rest cut)
 
--- a text is cut in one way into lines and what comes behind the last newline
+-- if a text is divided into lines and a rest after the last newline in two ways, both have the same
+-- lines and the same rest
 pub one_reading : (lines : List (List ℕ)) (tail : List ℕ) → All IsLine lines → IsLine tail → (others : List (List ℕ)) (cut : List ℕ) → All IsLine others → IsLine cut
     → flat_map ended lines ++ tail ≡ flat_map ended others ++ cut → (others ≡ lines) × (cut ≡ tail)
 one_reading [] tail l t [] cut w c h = (refl, sym h)
@@ -59,7 +61,7 @@ one_reading (x ∷ lines) tail l t (w ∷ ws) cut all c h =
     let rest = one_reading lines tail (All-tail IsLine x lines l) t ws cut (All-tail IsLine w ws all) c both.1 in
     (ap (λ z. z ∷ ws) (sym both.0) ∙ ap (λ l. x ∷ l) rest.0, rest.1)
 
--- what begins a text, and is whole lines, is the first of its lines
+-- if a text begins with whole lines, these are the first of its lines
 pub front_lines : (lines : List (List ℕ)) (tail : List ℕ) → All IsLine lines → IsLine tail → (others : List (List ℕ)) (rest : List ℕ) → All IsLine others
     → flat_map ended lines ++ tail ≡ flat_map ended others ++ rest → (more : List (List ℕ)) × (lines ≡ others ++ more)
 front_lines lines tail l t [] rest all h = (lines, refl)
@@ -70,14 +72,14 @@ front_lines (x ∷ lines) tail l t (w ∷ ws) rest all h =
     let so = front_lines lines tail (All-tail IsLine x lines l) t ws rest (All-tail IsLine w ws all) both.1 in
     (so.0, ap (λ z. z ∷ lines) both.0 ∙ ap (λ ls. w ∷ ls) so.1)
 
--- so are lines, and one behind them
+-- if a text begins with whole lines and one more line, these are the first of its lines
 pub line_behind : (all : List (List ℕ)) (tail : List ℕ) → All IsLine all → IsLine tail → (lines : List (List ℕ)) (line others : List ℕ) → All IsLine lines → IsLine line
     → flat_map ended all ++ tail ≡ flat_map ended lines ++ ended line ++ others → (more : List (List ℕ)) × (all ≡ lines ++ line ∷ more)
 line_behind all tail each t lines line others ls l is =
     let so = front_lines all tail each t (lines ++ line ∷ []) others (All-push IsLine lines line ls l) (is ∙ ap (λ text. text ++ others) (sym (flat_more ended lines line))) in
     (so.0, so.1 ∙ append_assoc lines (line ∷ []) so.0)
 
--- an element of a list is its last one, or one before it
+-- an item of a list is its last one, or an earlier one
 pub last_or_before : {X : Type 0} (xs : List X) (last : X) (ys : List X) (y : X) (more : List X) → xs ++ last ∷ [] ≡ ys ++ y ∷ more
     → ((xs ≡ ys) × (last ≡ y)) ⊎ ((rest : List X) × (xs ≡ ys ++ y ∷ rest))
 last_or_before [] last [] y more h = inl (refl, same_head last y [] more h)

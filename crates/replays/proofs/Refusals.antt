@@ -1,4 +1,4 @@
--- Which tests apply to the requests of a dump.
+-- The tests that apply to the requests of a dump.
 use Rattle.std.proofs.Common.{◌≡◌, ◌<◌, ◌≤◌, ℕ, ◌+◌, ◌-◌, ◌*◌, Bool, true, false, List, [], ◌∷◌, ◌++◌}
 use Rattle.std.proofs.Common.{length, length-append, Option, None, Some, refl, sym, ap, subst, ◌∙◌, arith, inl, inr, ne_eqb}
 use Rattle.std.specs.Prelude.{◌≢◌, ◌==◌, ◌⊎◌, not, nat_le, nat_lt, All, AllPairs, sum_by}
@@ -31,9 +31,9 @@ use Rattle.replays.specs.Replay.{LacksRoomAtMost, sectors_for}
 use Rattle.replays.proofs.Names.{no_earlier, no_repeat, none_missing}
 use Rattle.replays.proofs.Rooms.{install_taken, last_taken, size, too_little, too_small}
 
--- ---- the tests, one behind the other
+-- ---- the tests, one after the other
 
--- an install is left with the tests of room where none before them applies
+-- if no earlier test refuses an install, only the tests for lack of room are left
 tests_left : (t : Table) (bytes : List ℕ) → library_refusal bytes ≡ None → is_installed t (name_of bytes) ≡ false → has_most (length t.names) ≡ false → is_last t.generation ≡ false
     → first_refusal t (install bytes) ≡ first_of ((Full when is_full t.free (catalogue_cost (length t.names)) (length bytes)) ∷ (Fragmented when is_fragmented t.longest (length bytes)) ∷ [])
 tests_left t bytes file new few early =
@@ -61,7 +61,7 @@ preloads_taken t names few once there early = by (nat_lt most_preloads (length n
     by false false true d few once there early = cc there
     by false false false true few once there early = cc early
 
--- S7 and S8, each by its test
+-- the refusal of the tests for lack of room: S7 if `full` is true, otherwise S8 if `short` is true
 abbrev room_left : Bool → Bool → Option Refusal
 room_left full short = first_of ((Full when full) ∷ (Fragmented when short) ∷ [])
 
@@ -80,9 +80,9 @@ is_for_runs true short h = cc h
 is_for_runs false true h = refl
 is_for_runs false false h = cc h
 
--- ---- at the state of some libraries alone
+-- ---- in the state of only some libraries
 
--- so many libraries were installed, and no preloads set
+-- the state after these libraries were installed, before the preloads are set
 abbrev pub of_libraries : List Library → State
 of_libraries libraries = record { generation = length libraries; libraries = libraries; preloads = [] }
 
@@ -103,7 +103,7 @@ too_short : (longest size : ℕ) → nat_lt longest (div_ceil size sector_bytes 
 too_short longest size h = grind (arith, nat_tests, h)
 
 module _ (s : State) (h : IsState s) (p : Phase) where
-  -- the next install
+  -- The library `l` is the next to be installed.
   module _ (done rest : List Library) (l : Library) (all : done ++ l ∷ rest ≡ s.libraries) where
     is : IsLibrary l
     is = subst IsLibrary (get_or-append_seam done l rest l) (subst (All IsLibrary) (sym all) h.libraries (length done) l (omega (arith, length-append done (l ∷ rest))))
@@ -143,7 +143,7 @@ module _ (s : State) (h : IsState s) (p : Phase) where
           fragmented = λ e. too_short p.longest (length l.bytes) (is_for_runs full short (sym refused ∙ e));
         }
 
-  -- the last install, where a disk is smaller than the state needs
+  -- The library `l` is the last to be installed, and the disk is smaller than the state needs.
   module _ (done : List Library) (l : Library) (all : done ++ l ∷ [] ≡ s.libraries) (small : p.sectors < sectors_for s + p.lone) where
     too_full : is_full (table_of (at_state p (of_libraries done))).free (catalogue_cost (length (names_of done))) (length l.bytes) ≡ true
     too_full =
@@ -155,7 +155,7 @@ module _ (s : State) (h : IsState s) (p : Phase) where
     pub last_refused : refusal_at (at_state p (of_libraries done)) (install l.bytes) ≡ Some Full
     last_refused = refused done [] l all ∙ ap (λ full. room_left full (is_fragmented (table_of (at_state p (of_libraries done))).longest (length l.bytes))) too_full
 
-  -- the preloads, behind all installs
+  -- The preloads are set after all libraries were installed.
   module _ (name : List ℕ) (names : List (List ℕ)) (all : name ∷ names ≡ s.preloads) where
     unrefused : refusal_at (at_state p (of_libraries s.libraries)) (set_preloads (name ∷ names)) ≡ None
     unrefused =

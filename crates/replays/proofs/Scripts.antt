@@ -1,4 +1,4 @@
--- The text of a dump as a script.
+-- Lemmas about the text of a dump as a script.
 use Rattle.std.proofs.Common.{◌≡◌, ◌<◌, ℕ, Bool, true, false, List, [], ◌∷◌, ◌++◌, length, map, codes, append-nil, get_or, Option, Some, None, refl, sym, ap, subst, ◌∙◌, arith, take}
 use Rattle.std.specs.Prelude.{◌≢◌, ◌&&◌, ◌||◌, ◌==◌, not, nat_le, nat_lt, All, bytes_eq}
 use Rattle.std.specs.List.{flat_map, list_all}
@@ -37,7 +37,7 @@ use Rattle.replays.proofs.Meanings.{and_left, and_right, are_bytes, install_aske
 use Rattle.replays.proofs.Readings.{one_reading, same_head, same_tail}
 use Rattle.replays.proofs.States.{install_of}
 
--- ---- what holds of a library's file and name
+-- ---- the file and the name of a library
 
 long_enough : (file : List ℕ) → first_refusal file ≡ None → is_too_short file ≡ false
 unfolding first_refusal
@@ -74,7 +74,7 @@ all_visible (b ∷ name) h =
 some_length : (n : ℕ) → nat_le 1 n ≡ true → not (n == 0) ≡ true
 some_length n h = grind (arith, nat_tests)
 
--- the name of a library is one of a script
+-- the name of a library has the form of a NAME in scripts
 name_of_script : (name : List ℕ) → is_library_name name ≡ true → is_name name ≡ true
 unfolding is_library_name
 name_of_script name h =
@@ -85,7 +85,7 @@ name_of_script name h =
 library_named : (l : Library) → IsLibrary l → is_name l.name ≡ true
 library_named l is = name_of_script l.name (good_name l is.named (badly_named l.bytes is.accepted))
 
--- what is one of the names of libraries is a name of a script
+-- each name of an installed library has the form of a NAME in scripts
 found_named : (libraries : List Library) (name : List ℕ) → All IsLibrary libraries → has_name (names_of libraries) name ≡ true → is_name name ≡ true
 found_named [] name h found = cc found
 found_named (l ∷ libraries) name h found =
@@ -157,7 +157,7 @@ whole_lines s =
     ∙ ap (λ rest. flat_map ended (map line_of s.libraries) ++ rest) (whole_preloads s.preloads)
     ∙ sym (flat_map-append ended (map line_of s.libraries) (preload_lines s.preloads))
 
--- each asks its request
+-- each line of a dump asks for its request
 pub lines_ask : (s : State) → IsStateOfBytes s → map request_meaning (lines_of s) ≡ map some_request (requests_for s)
 lines_ask s h =
     map-append request_meaning (map line_of s.libraries) (preload_lines s.preloads)
@@ -167,7 +167,7 @@ lines_ask s h =
 
 -- ---- the text as a script
 
--- what lines ask for they ask for in a script too
+-- a line that asks for a command in an update asks for the same command in a script
 all_mean : (lines : List (List ℕ)) (requests : List Request) → map request_meaning lines ≡ map some_request requests → map meaning lines ≡ map asking requests
 all_mean [] [] h = refl
 all_mean [] (r ∷ requests) h = absurd (cc h)
@@ -176,7 +176,7 @@ all_mean (line ∷ lines) (r ∷ requests) h =
     ap (λ o. first_of o (binder_meaning line) ∷ map meaning lines) (same_head (request_meaning line) (some_request r) (map request_meaning lines) (map some_request requests) h)
     ∙ ap (λ rest. asking r ∷ rest) (all_mean lines requests (same_tail (request_meaning line) (some_request r) (map request_meaning lines) (map some_request requests) h))
 
--- the text of a dump is the script of its requests
+-- the text of a dump is a script of the requests for the state
 pub is_script : (s : State) → IsStateOfBytes s → IsScript (dump_text s) (requests_for s)
 is_script s h = record {
   lines = lines_of s;
@@ -205,7 +205,7 @@ whole_update s = sym (append_assoc (flat_map install_text s.libraries) (preload_
 pub whole_update_lines : (s : State) → flat_map ended (update_lines s) ++ [] ≡ script_text Update s
 whole_update_lines s = append-nil (flat_map ended (update_lines s)) ∙ flat_more ended (lines_of s) commit_line ∙ sym (whole_update s)
 
--- the text of a dump for an update asks its requests, and then for the commit
+-- the text of a dump for an update asks for the requests for the state, and then for the commit
 pub is_update_text : (s : State) → IsStateOfBytes s → IsUpdateText (script_text Update s) (requests_for s)
 is_update_text s h = record {
   lines = lines_of s;
@@ -215,7 +215,7 @@ is_update_text s h = record {
   only = λ others cut lines rest is. one_reading (update_lines s) [] (each_update_line s h.state) (All-nil (λ b. b ≢ 10)) others cut lines rest (whole_update_lines s ∙ is);
 }
 
--- a script that was cut ends behind its last newline with `cut`
+-- a script that was cut has the bytes `cut` after its last newline
 pub cut_ends : (s : State) (k : ℕ) (others : List (List ℕ)) (cut : List ℕ) → All IsLine others → IsLine cut → cut_text s k ≡ flat_map ended others ++ cut → cut ≡ codes "cut"
 cut_ends s k others cut lines rest is =
     let installs = take k s.libraries in

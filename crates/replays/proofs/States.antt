@@ -1,4 +1,4 @@
--- The states that the requests of a dump lead through.
+-- The states between the requests of a dump.
 use Rattle.std.proofs.Common.{◌≡◌, ◌<◌, ℕ, ◌+◌, List, [], ◌∷◌, ◌++◌, length, length-append, append-nil, map, refl, sym, ap, subst, ◌∙◌, arith, Some}
 use Rattle.std.specs.Prelude.{All, fold}
 use Rattle.std.proofs.lemmas.List.{append_assoc, get_or_append_left, length-map}
@@ -16,11 +16,11 @@ use Rattle.replays.specs.Replay.{LacksRoomAtMost, copy_of, preload_requests, req
 use Rattle.replays.proofs.Readings.{no_more, same_head, same_tail}
 use Rattle.replays.proofs.Refusals.{at_state, install_lacks, last_refused, of_libraries, preloads_lack}
 
--- the request of a library
+-- the request that installs a library
 abbrev pub install_of : Library → Request
 install_of l = install l.bytes
 
--- one library more is installed
+-- if one more library is installed, the state is the one after this library, too
 install_next : (done : List Library) (l : Library) → name_of l.bytes ≡ l.name → accepted (of_libraries done) (install l.bytes) ≡ of_libraries (done ++ l ∷ [])
 install_next done l named =
     let more : length done + 1 ≡ length (done ++ l ∷ []) = omega (arith, length-append done (l ∷ [])) in
@@ -37,7 +37,7 @@ installed done (l ∷ rest) h =
     ∙ installed (done ++ l ∷ []) rest (All-tail IsLibrary l rest h)
     ∙ ap of_libraries (append_assoc done (l ∷ []) rest)
 
--- the requests lead to the copy
+-- the state after all requests is the copy
 pub leads : (s : State) → All IsLibrary s.libraries → fold accepted empty_state (requests_for s) ≡ copy_of s
 leads s h =
     fold-append accepted empty_state (map install_of s.libraries) (preload_requests s.preloads)
@@ -56,7 +56,7 @@ leads s h =
     by (p ∷ ps) = refl
 
 module _ (s : State) (h : IsState s) (p : Phase) where
-  -- behind some installs each request lacks room at most
+  -- after some installs, each later request can be refused only for lack of room
   walk : (done rest : List Library) (front back : List Request) (request : Request) (ps : List (List ℕ)) → done ++ rest ≡ s.libraries → ps ≡ s.preloads
       → map install_of rest ++ preload_requests ps ≡ front ++ request ∷ back → All IsLibrary rest
       → LacksRoomAtMost s (at_state p (fold accepted (of_libraries done) front)) request
@@ -77,13 +77,13 @@ module _ (s : State) (h : IsState s) (p : Phase) where
       (walk (done ++ l ∷ []) rest front back request ps (append_assoc done (l ∷ []) rest ∙ all) pre
       (same_tail (install l.bytes) f (map install_of rest ++ preload_requests ps) (front ++ request ∷ back) is) (All-tail IsLibrary l rest libs))
 
-  -- each request, after those before it were accepted
+  -- after the requests before it were accepted, a request can be refused only for lack of room
   pub lacks_room : (front back : List Request) (request : Request) → requests_for s ≡ front ++ request ∷ back → p.state ≡ fold accepted empty_state front
       → LacksRoomAtMost s p request
   lacks_room front back request is now =
       subst (λ t. LacksRoomAtMost s (at_state p t) request) (sym now) (walk [] s.libraries front back request s.preloads refl refl is h.libraries)
 
-  -- the last install is refused for room on a disk with fewer sectors than the state needs
+  -- if the disk has fewer sectors than the state needs, the last install is refused with S7
   pub last_lacks_room : (libraries : List Library) (last : Library) → s.libraries ≡ libraries ++ last ∷ [] → p.state ≡ fold accepted empty_state (map install_of libraries)
       → p.sectors < sectors_for s + p.lone → refusal_at p (install last.bytes) ≡ Some Full
   last_lacks_room libraries last all now small =

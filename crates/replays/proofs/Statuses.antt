@@ -1,4 +1,4 @@
--- What doesn't end with status 0.
+-- Lemmas about ends with a status other than 0.
 use Rattle.std.proofs.Common.{◌≡◌}
 use Rattle.image.specs.declared.refusal.BindRefusal.TheVariants as bind
 use Rattle.store.specs.declared.refusal.StoreRefusal.{StoreRefusal}
@@ -13,14 +13,14 @@ use Rattle.updates.specs.Status.{fault_status, update_status}
 use Rattle.updates.specs.declared.answer.UpdateRefusal.{UpdateRefusal}
 use Rattle.updates.specs.declared.answer.UpdateRefusal.TheVariants as update
 
--- a disk that is refused
+-- the status of a disk's refusal isn't 0
 pub not_done : (r : StoreRefusal) → status.Done ≡ disk_status r → ⊥
 not_done store.Device h = cc h
 not_done store.Reopen h = cc h
 not_done store.OutOfMemory h = cc h
 not_done r h = cc h
 
--- a command that is refused
+-- the status of a command's refusal isn't 0
 not_answered : (r : Refusal) → status.Done ≡ refusal_status r → ⊥
 not_answered refusal.Device h = cc h
 not_answered refusal.Reopen h = cc h
@@ -29,12 +29,12 @@ not_answered (refusal.Bind bind.OutOfMemory) h = cc h
 not_answered (refusal.Bind r) h = cc h
 not_answered r h = cc h
 
--- an update that is refused
+-- the status of an update's refusal isn't 0
 pub not_updated : (r : UpdateRefusal) → status.Done ≡ update_status r → ⊥
 not_updated (update.Refused r) h = not_answered r h
 not_updated r h = cc h
 
--- an update that a fault ended
+-- the status of an update that a fault ended isn't 0
 pub not_read : (f : ScriptFault) → status.Done ≡ fault_status f → ⊥
 not_read fault.OutOfMemory h = cc h
 not_read f h = cc h

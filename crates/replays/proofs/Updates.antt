@@ -1,4 +1,4 @@
--- An update by the lines of a dump, over the disk of a new registry.
+-- Lemmas about an update with the lines of a dump, on the disk of a new registry.
 use Rattle.std.proofs.Common.{◌≡◌, ℕ, ◌+◌, ◌-◌, ◌*◌, List, [], ◌∷◌, ◌++◌, append_assoc, length, map, Option, None, Some, Result, Ok, Err, IsTrue, refl, sym, ap, subst, ◌∙◌, arith, inl, inr, ⊎_elim, append-nil, take, codes}
 use Rattle.std.specs.Prelude.{◌≢◌, ◌⊎◌, All, IfErr, OnOk}
 use Rattle.std.specs.List.{cons_option, flat_map}
@@ -60,13 +60,13 @@ use Rattle.replays.proofs.Readings.{front_lines, last_or_before, line_behind, no
 use Rattle.replays.proofs.Scripts.{each_install, each_update_line, line_of, lines_ask, lines_of, some_request, update_lines, whole_installs, whole_update_lines}
 use Rattle.replays.proofs.Statuses.{not_done, not_read, not_updated}
 
--- ---- lines that ask
+-- ---- lines that ask for requests
 
--- a line that asks something has one request more
+-- if a line asks for a request, it is the first request of the line and the lines after it
 asks_more : (line : List ℕ) (lines : List (List ℕ)) (request : Request) → request_meaning line ≡ Some request → requests_of (line ∷ lines) ≡ request ∷ requests_of lines
 asks_more line lines request is = ap (λ (o : Option Request). cons_option o (requests_of lines)) is
 
--- where each line asks for a request, these are asked
+-- if each line asks for its request, the requests of the lines are these requests
 all_requested : (lines : List (List ℕ)) (requests : List Request) → map request_meaning lines ≡ map some_request requests → requests_of lines ≡ requests
 all_requested [] [] h = refl
 all_requested [] (r ∷ requests) h = absurd (cc h)
@@ -75,7 +75,8 @@ all_requested (line ∷ lines) (r ∷ requests) h =
     asks_more line lines r (same_head (request_meaning line) (some_request r) (map request_meaning lines) (map some_request requests) h)
     ∙ ap (λ rs. r ∷ rs) (all_requested lines requests (same_tail (request_meaning line) (some_request r) (map request_meaning lines) (map some_request requests) h))
 
--- a line among them asks for the request behind those of the lines before it
+-- if each line asks for its request, a line among them asks for the request after those of the lines
+-- before it
 one_asked : (lines more : List (List ℕ)) (line : List ℕ) (requests : List Request) → map request_meaning (lines ++ line ∷ more) ≡ map some_request requests
     → (request : Request) × (rest : List Request) × (request_meaning line ≡ Some request) × (requests ≡ requests_of lines ++ request ∷ rest)
 one_asked [] more line [] h = absurd (cc h)
@@ -86,12 +87,12 @@ one_asked (a ∷ lines) more line (r ∷ requests) h =
     let so = one_asked lines more line requests (same_tail (request_meaning a) (some_request r) (map request_meaning (lines ++ line ∷ more)) (map some_request requests) h) in
     (so.0, so.1, so.2, ap (λ rs. r ∷ rs) so.3 ∙ sym (ap (λ rs. rs ++ so.0 ∷ so.1) (asks_more a lines r first)))
 
--- the line `commit` asks for none
+-- the line `commit` asks for no request
 commit_asks_none : (request : Request) → request_meaning commit_line ≡ Some request → ⊥
 commit_asks_none request h = let none : None ≡ Some request = h in cc
 
 module _ {D : Type 0} (facts : D → DiskFacts) where
-  -- so it isn't among lines that were answered
+  -- `commit` isn't among lines that were answered with a request
   no_commit : (old : Drafted D) (front back : List (List ℕ)) (answers : List Reply) (drafts : List (Drafted D)) → Steps (LineStep facts) old (front ++ commit_line ∷ back) answers drafts → ⊥
   no_commit old [] back [] drafts steps = steps
   no_commit old [] back (answer ∷ answers) [] steps = steps
@@ -100,9 +101,9 @@ module _ {D : Type 0} (facts : D → DiskFacts) where
   no_commit old (line ∷ front) back (answer ∷ answers) [] steps = steps
   no_commit old (line ∷ front) back (answer ∷ answers) (u ∷ drafts) steps = no_commit u front back answers drafts steps.1
 
-  -- ---- what stands beside a draft of a new registry
+  -- ---- the current state while there is a draft of a new registry
 
-  -- what a draft keeps of the store
+  -- the draft's root, entries, held byte strings and number of sectors are unchanged
   abbrev KeepsStore : Drafted D → Drafted D → Type 0
   KeepsStore old new = (new.store.root ≡ old.store.root) × (new.store.entries ≡ old.store.entries) × (new.store.held ≡ old.store.held)
       × ((facts new.store.disk).sectors ≡ (facts old.store.disk).sectors)
@@ -146,19 +147,20 @@ module _ {D : Type 0} (facts : D → DiskFacts) where
 -- ---- the text
 
 module _ (s : State) (h : IsStateOfBytes s) (lines : List (List ℕ)) (whole : All IsLine lines) where
-  -- which line comes behind lines that begin the text
+  -- if the text begins with these lines and then `line`, this line is `commit` after all lines, or the
+  -- next line of the text
   line_is : (line : List ℕ) → IsLine line → BeginsWith (Some (script_text Update s)) lines (ended line)
       → ((lines_of s ≡ lines) × (commit_line ≡ line)) ⊎ ((rest : List (List ℕ)) × (lines_of s ≡ lines ++ line ∷ rest))
   line_is line is_line read =
       let so = line_behind (update_lines s) [] (each_update_line s h.state) (All-nil (λ b. b ≢ 10)) lines line read.0 whole is_line (whole_update_lines s ∙ read.1) in
       last_or_before (lines_of s) commit_line lines line so.0 so.1
 
-  -- a line behind them that is one of the text's asks for something
+  -- if `line` is the next line of the text, it asks for the next request
   within : (line : List ℕ) (rest : List (List ℕ)) → lines_of s ≡ lines ++ line ∷ rest
       → (request : Request) × (others : List Request) × (request_meaning line ≡ Some request) × (requests_for s ≡ requests_of lines ++ request ∷ others)
   within line rest is = one_asked lines rest line (requests_for s) (sym (ap (map request_meaning) is) ∙ lines_ask s h)
 
-  -- where `commit` comes behind them, they are the text's
+  -- if `commit` comes after these lines, their requests are all requests of the text
   pub all_asked : BeginsWith (Some (script_text Update s)) lines (ended commit_line) → requests_of lines ≡ requests_for s
   all_asked read = ⊎_elim
       (λ (last : (lines_of s ≡ lines) × (commit_line ≡ commit_line)). ap requests_of (sym last.0) ∙ all_requested (lines_of s) (requests_for s) (lines_ask s h))
@@ -166,7 +168,7 @@ module _ (s : State) (h : IsStateOfBytes s) (lines : List (List ℕ)) (whole : A
       absurd (let so = within commit_line before.0 before.1 in commit_asks_none so.0 so.2))
       (line_is commit_line (no_newline commit_line refl) read)
 
-  -- no other line that asks nothing comes behind them
+  -- a line after these lines that isn't `commit` asks for a request
   pub none_bad : (line : List ℕ) → IsLine line → line ≢ commit_line → request_meaning line ≡ None → BeginsWith (Some (script_text Update s)) lines (ended line) → ⊥
   none_bad line is_line other none read = ⊎_elim
       (λ (last : (lines_of s ≡ lines) × (commit_line ≡ line)). other (sym last.1))
@@ -175,7 +177,7 @@ module _ (s : State) (h : IsStateOfBytes s) (lines : List (List ℕ)) (whole : A
       let no : None ≡ Some so.0 = sym none ∙ so.2 in cc)
       (line_is line is_line read)
 
-  -- what asks for something and comes behind them is asked for by the text
+  -- if the line after these lines asks for a request, this request is the next one of the text
   pub asked_next : (line : List ℕ) (request : Request) → IsLine line → request_meaning line ≡ Some request → BeginsWith (Some (script_text Update s)) lines (ended line)
       → (rest : List Request) × (requests_for s ≡ requests_of lines ++ request ∷ rest)
   asked_next line request is_line asks read = ⊎_elim
@@ -186,7 +188,8 @@ module _ (s : State) (h : IsStateOfBytes s) (lines : List (List ℕ)) (whole : A
       (so.1, so.3 ∙ ap (λ (r : Request). requests_of lines ++ r ∷ so.1) same))
       (line_is line is_line read)
 
-  -- lines that begin the text, of which none is `commit`, ask for its first requests
+  -- if the text begins with these lines, and none of them is `commit`, they ask for the first requests
+  -- of the text
   pub asked_first : (part : List ℕ) → ((front back : List (List ℕ)) → lines ≡ front ++ commit_line ∷ back → ⊥) → BeginsWith (Some (script_text Update s)) lines part
       → (rest : List Request) × (requests_for s ≡ requests_of lines ++ rest)
   asked_first part none read =
@@ -205,17 +208,17 @@ module _ (s : State) (h : IsStateOfBytes s) (lines : List (List ℕ)) (whole : A
           (next.0 ∷ next.1, next.3))
           (last_or_before (lines_of s) commit_line lines line more is)
 
-  -- no line of it is cut
+  -- the text has no line that is cut
   pub none_cut : (cut : List ℕ) → IsLine cut → AreJust (Some (script_text Update s)) lines cut → (lines ≡ update_lines s) × (cut ≡ [])
   none_cut cut is_line just =
       one_reading (update_lines s) [] (each_update_line s h.state) (All-nil (λ b. b ≢ 10)) lines cut whole is_line (whole_update_lines s ∙ just)
 
--- ---- an update over a disk
+-- ---- an update on a disk
 
 module _ {D O : Type 0} (facts : D → DiskFacts) (contents : O → Option (List ℕ)) (holds : (d : D) → IsTrue (facts d).honest → HoldsNow (facts d)) (s : State) (h : IsStateOfBytes s)
     (disk left : D) (io : Streams) (ends : Status) (honest : IsTrue (facts disk).honest) (empty : sectors.Stands (facts disk).now empty_state)
     (unread : io.unread ≡ Some (script_text Update s)) where
-  -- status 0, and the state is on the disk
+  -- the update ended with status 0, and the disk holds the state
   abbrev IsMade : Type 0
   IsMade = (ends ≡ status.Done) × Stands (facts left).now (renewed s)
 
@@ -235,13 +238,13 @@ module _ {D O : Type 0} (facts : D → DiskFacts) (contents : O → Option (List
     made : BeginsWith io.unread lines (ended commit_line) → updated empty_state (requests_of lines) ≡ renewed s
     made read = ap (updated empty_state) (asked read) ∙ renews s h.state.libraries
 
-    -- each of the lines was planned
+    -- each of the lines was answered Done
     all_planned : (back : List Request) → requests_for s ≡ requests_of lines ++ back → All (λ answer. answer ≡ reply.Done) answers
     all_planned back all =
         let run = (is.update honest empty_state empty).run in
         each_planned (draft_phase facts (begun is.old) empty_state) (requests_of lines) answers run.0 run.1 (front_changes s (requests_of lines) back all) is.planned.accepted
 
-    -- none of them is `commit`
+    -- none of the lines is `commit`
     uncommitted : (front back : List (List ℕ)) → lines ≡ front ++ commit_line ∷ back → ⊥
     uncommitted front back all =
         no_commit facts (begun is.old) front back answers is.planned.run.0
@@ -301,7 +304,7 @@ module _ {D O : Type 0} (facts : D → DiskFacts) (contents : O → Option (List
     told_refusal why so (inl told) = inr (inl (answers, so.0, why, so.1, told.0, told.1))
     told_refusal why so (inr cannot) = inl cannot
 
-    -- only want of room and faults refuse it
+    -- a refusal of the update is one for lack of room, or a fault
     by_refusal : (why : UpdateRefusal) (last : Drafted D) → IsRefusedAt facts io.unread lines u last why → TellsOnly (update_status why) (plan_texts answers ++ update_refusal_text why) io ends → Hindered
     by_refusal BadLine last refused told = absurd (none_bad s h lines is.planned.whole refused.1 refused.2 refused.3 refused.4 (read_in (ended refused.1) refused.5))
     by_refusal CutLine last refused told =
@@ -361,9 +364,9 @@ module _ {D O : Type 0} (facts : D → DiskFacts) (contents : O → Option (List
   program_leaves (inl (lines, answers, u, is, inr (inr it))) = weaken _ MayBeLeft nothing_new (it.any_moment.0 honest empty_state empty)
   program_leaves (inr (why, opens, said)) = weaken _ MayBeLeft (λ m mixture. inl mixture) (opens.opened.any_moment honest)
 
--- ---- a dump that was cut
+-- ---- a dump that was cut off
 
--- `commit` is no line that installs
+-- no line that installs a library is `commit`
 no_install : (libraries : List Library) (front back : List (List ℕ)) → map line_of libraries ≡ front ++ commit_line ∷ back → ⊥
 no_install [] front back h = no_more front back commit_line h
 no_install (l ∷ libraries) [] back h =

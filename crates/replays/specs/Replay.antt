@@ -1,4 +1,4 @@
--- What the script of a dump does to a new registry (own).
+-- The effect of the script of a dump on a new registry (own).
 use Rattle.std.specs.Prelude.{◌≡◌, ◌⊎◌, ◌<◌, ◌≤◌, ◌+◌, ℕ, List, [], ◌∷◌, ◌++◌, map, length, fold, All, None, Some}
 use Rattle.std.specs.Int.{div_ceil}
 use Rattle.sector_disk.specs.Disk.{sector_bytes}
@@ -13,52 +13,53 @@ use Rattle.requests.specs.declared.refusal.Refusal.TheVariants.{Device, Reopen, 
 use Rattle.requests.specs.declared.reply.Reply.{Reply}
 use Rattle.requests.specs.declared.reply.Reply.TheVariants.{Refused}
 
--- a state of a registry, whose files are bytes: each number is below 256
+-- a state of a registry whose files consist of bytes: each number in them is below 256
 pub record IsStateOfBytes (s : State) : Type 0 where
   pub state : IsState s
   pub bytes : All (λ l. All (λ byte. byte < 256) l.bytes) s.libraries
 
--- the preloads are set, where there are any
+-- the request that sets the preloads, if there are any
 abbrev pub preload_requests : List (List ℕ) → List Request
 preload_requests [] = []
 preload_requests (name ∷ names) = set_preloads (name ∷ names) ∷ []
 
--- the requests that make a state of the empty one: each library is installed, in their order, and
--- then the preloads are set
+-- the requests that turn the empty state into this state: each library is installed, in their
+-- order, and then the preloads are set
 abbrev pub requests_for : State → List Request
 requests_for s = map (λ l. install l.bytes) s.libraries ++ preload_requests s.preloads
 
--- the state with these libraries and preloads, after as many changes as they take requests
+-- the state with the same libraries and preloads, after as many changes as there are requests for it
 abbrev pub copy_of : State → State
 copy_of s = record { generation = length (requests_for s); libraries = s.libraries; preloads = s.preloads }
 
--- how many sectors a disk has to have for a state
+-- the number of sectors that a disk must have for a state
 abbrev pub sectors_for : State → ℕ
 sectors_for s = root_sectors + taken_by s
 
--- the phase is where the requests in front have led from a new registry
+-- the state of the phase is the one that the requests `front` make from an empty registry
 abbrev pub IsBehind : List Request → Phase → Type 0
 IsBehind front p = p.state ≡ fold accepted empty_state front
 
--- the longest runs of unused sectors are too short for the bytes of the file
+-- the request is an install, and the longest runs of unused sectors are too short for the bytes of its
+-- file
 abbrev pub HasShortRuns : Phase → Request → Type 0
 HasShortRuns p (install bytes) = p.longest < div_ceil (length bytes) sector_bytes
 HasShortRuns p request = ⊥
 
--- No test refuses the request but S7, on a disk with too few sectors for the state, and S8, where
--- the runs are too short.
+-- No test refuses the request except S7 and S8. S7 is possible only if the disk has too few sectors for
+-- the state, and S8 only if the runs of unused sectors are too short.
 pub record LacksRoomAtMost (s : State) (p : Phase) (request : Request) : Type 0 where
   pub only : (refusal_at p request ≡ None) ⊎ (refusal_at p request ≡ Some Full) ⊎ (refusal_at p request ≡ Some Fragmented)
   pub full : refusal_at p request ≡ Some Full → p.sectors < sectors_for s + p.lone
   pub fragmented : refusal_at p request ≡ Some Fragmented → HasShortRuns p request
 
--- There is room at the phase: the disk has the sectors that the state needs, and the runs are long
--- enough.
+-- There is room in the phase for the request: the disk has the sectors that the state needs, and the
+-- runs are long enough.
 pub record HasRoomFor (s : State) (p : Phase) (request : Request) : Type 0 where
   pub sectors : sectors_for s + p.lone ≤ p.sectors
   pub runs : HasShortRuns p request → ⊥
 
--- S1, S2 and S11: what a disk that fails is answered, and want of memory
+-- the call was refused because the disk failed (S1, S2) or memory was refused (S11)
 abbrev pub IsFault : Reply → Type 0
 IsFault (Refused Device) = Unit
 IsFault (Refused Reopen) = Unit

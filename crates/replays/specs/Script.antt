@@ -1,4 +1,4 @@
--- What a text asks as a script, and as an update (own).
+-- The requests of a text, as a script and as an update (own).
 use Rattle.std.specs.Prelude.{◌≡◌, ℕ, List, [], ◌∷◌, ◌++◌, map, All, Some}
 use Rattle.std.specs.List.{flat_map}
 use Rattle.requests.specs.Request.{Request}
@@ -8,23 +8,25 @@ use Rattle.scripts.specs.Asked.{request_meaning}
 use Rattle.scripts.specs.Line.{IsLine, ended}
 use Rattle.updates.specs.Lines.{commit_line}
 
--- A text is whole lines that ask these requests, one each and nothing else.
+-- A text consists of whole lines that ask for these requests, one each, and for nothing else.
 pub record IsScript (text : List ℕ) (requests : List Request) : Type 0 where
   pub lines : List (List ℕ)
   pub each : All IsLine lines
   pub whole : text ≡ flat_map ended lines
   pub asked : map meaning lines ≡ map (λ request. Some (apply request)) requests
-  -- however it is cut into lines and what comes after the last one, these are the lines
+  -- however the text is divided into lines and a rest after the last newline, these are its lines, and
+  -- there is no rest
   pub only : (others : List (List ℕ)) (cut : List ℕ) → All IsLine others → IsLine cut
       → text ≡ flat_map ended others ++ cut → (others ≡ lines) × (cut ≡ [])
 
--- A text is whole lines that ask these requests of an update, one each, and then the line `commit`, which
--- asks none.
+-- A text consists of whole lines that ask for these requests of an update, one each, and then the line
+-- `commit`, which asks for none.
 pub record IsUpdateText (text : List ℕ) (requests : List Request) : Type 0 where
   pub lines : List (List ℕ)
   pub each : All IsLine lines
   pub whole : text ≡ flat_map ended lines ++ ended commit_line
   pub asked : map request_meaning lines ≡ map (λ request. Some request) requests
-  -- however it is cut into lines and what comes after the last one, these are the lines, and `commit`
+  -- however the text is divided into lines and a rest after the last newline, these are its lines and
+  -- then `commit`, and there is no rest
   pub only : (others : List (List ℕ)) (cut : List ℕ) → All IsLine others → IsLine cut
       → text ≡ flat_map ended others ++ cut → (others ≡ lines ++ commit_line ∷ []) × (cut ≡ [])

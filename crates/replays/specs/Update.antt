@@ -1,4 +1,4 @@
--- What an update by the lines of a dump makes of a new registry (own).
+-- The effect of an update with the lines of a dump on a new registry (own).
 use Rattle.std.specs.Prelude.{◌≡◌, ◌⊎◌, ◌<◌, ◌++◌, ℕ, List, [], ◌∷◌, All}
 use Rattle.sector_disk.specs.Disk.{DiskFacts, Mixture, LeavesOnly}
 use Rattle.states.specs.State.{State, empty_state}
@@ -26,46 +26,47 @@ use Rattle.program_parts.specs.Streams.{Streams}
 use Rattle.updates.specs.Streams.{CannotWrite, SaysOnly, outputs_of}
 use Rattle.replays.specs.Replay.{IsFault, requests_for, sectors_for}
 
--- the phase is where the requests in front have led a draft of a new registry
+-- the state of the phase is the one that the requests `front` make in a draft of an empty registry
 abbrev pub IsDraftBehind : List Request → Phase → Type 0
 IsDraftBehind front p = p.state ≡ drafted_by empty_state front
 
--- all of these requests are one change, where there are any
+-- the number of changes that an update with these requests makes: one if there is any request, and
+-- otherwise none
 abbrev pub changes_by : List Request → ℕ
 changes_by [] = 0
 changes_by (request ∷ requests) = 1
 
--- the state with these libraries and preloads, after the one change that they take
+-- the state with the same libraries and preloads, after the one change that makes it
 abbrev pub renewed : State → State
 renewed s = record { generation = changes_by (requests_for s); libraries = s.libraries; preloads = s.preloads }
 
--- a stop at any moment leaves what it could leave before, an empty registry, or all of the state
+-- a stop at any moment leaves what a stop could leave before, an empty registry, or the whole state
 abbrev pub LeavesAllOrNothing : {D : Type 0} → (D → DiskFacts) → State → D → D → Type 0
 LeavesAllOrNothing facts s disk left = LeavesOnly (facts disk) (facts left) (λ m. Mixture (facts disk) m ⊎ (Stands m empty_state ⊎ Stands m (renewed s)))
 
--- Why a line, or the commit, is refused on a disk with so many sectors: S7 only where they are too few
--- for the state; S8; S1, S2 and S11.
+-- `refusal` may refuse a line or the commit on a disk of `sectors` sectors. S7 is possible only if these
+-- are too few for the state. S8, S1, S2 and S11 are possible on any disk.
 abbrev pub IsHindrance : State → (sectors : ℕ) → Refusal → Type 0
 IsHindrance s sectors Full = sectors < sectors_for s
 IsHindrance s sectors Fragmented = Unit {0}
 IsHindrance s sectors refusal = IsFault (Refused refusal)
 
 module _ (s : State) (sectors : ℕ) (io : Streams) (ends : Status) where
-  -- behind lines of which each was planned such a refusal was told
+  -- after lines that were all planned, a refusal for which `IsHindrance` holds was reported
   abbrev pub IsRefusedOnTheWay : Type 0
   IsRefusedOnTheWay = (answers : List Reply) × All (λ answer. answer ≡ Done) answers × (why : Refusal) × IsHindrance s sectors why
       × (ends ≡ refusal_status why) × Tells (outputs_of io) (plan_texts answers ++ command_refusal_text why)
 
-  -- behind lines of which each was planned the input failed, or memory was refused, which is said
+  -- after lines that were all planned, the input failed or memory was refused, and a message reports it
   abbrev pub IsBrokenOnTheWay : Type 0
   IsBrokenOnTheWay = (answers : List Reply) × All (λ answer. answer ≡ Done) answers × (fault : ScriptFault)
       × (ends ≡ fault_status fault) × Tells (outputs_of io) (plan_texts answers) × Says (outputs_of io) (fault_line fault)
 
-  -- the disk failed as it was opened, or memory was refused, which is said
+  -- the disk failed while it was opened, or memory was refused, and a message reports it
   abbrev pub IsNotOpened : Type 0
   IsNotOpened = (why : StoreRefusal) × ((why ≡ store.Device) ⊎ (why ≡ store.OutOfMemory)) × SaysOnly (disk_status why) (refusal_line why) io ends
 
-  -- An update by the lines of a dump was hindered by its output, by want of room, by the disk, its input,
-  -- or want of memory.
+  -- An update with the lines of a dump failed because of its output, lack of room, the disk, its input,
+  -- or lack of memory.
   abbrev pub IsHindered : Type 0
   IsHindered = CannotWrite io ends ⊎ (IsRefusedOnTheWay ⊎ (IsBrokenOnTheWay ⊎ IsNotOpened))

@@ -1,4 +1,4 @@
-// The law that a dump replays.
+// The law that a dump can be run as a script.
 
 ghost use Rattle.std.specs.Prelude.{◌≡◌, ◌<◌, ◌+◌, ◌⊎◌, ℕ, IsTrue, Some};
 ghost use Rattle.std.specs.Prelude.{List, [], ◌∷◌, ◌++◌, map, fold, All};
@@ -25,41 +25,41 @@ ghost use Rattle.replays.specs.Replay.{IsBehind, LacksRoomAtMost, HasRoomFor, Is
 
 use sector_disk::Disk;
 
-/// Does nothing: its clauses are the law that a dump replays, for the disks of a type.
+/// Does nothing. Its clauses are the law that a dump can be run as a script, for disks of type `D`.
 pub fn dump_replays<D: Disk>()
-    // The text is whole lines, which install the libraries in their order and then set the
+    // The text consists of whole lines, which install the libraries in their order and then set the
     // preloads.
     ensures lines { (s : State) → IsStateOfBytes s → IsScript (dump_text s) (requests_for s) }
 
-    // Each of them, after those before it, may lack room, and nothing else.
+    // After the requests before it, a request can be refused only for lack of room.
     ensures room { (s : State) → IsStateOfBytes s → (front rest : List Request)
         (request : Request) (p : Phase) → requests_for s ≡ front ++ request ∷ rest
         → IsBehind front p → LacksRoomAtMost s p request }
 
-    // On a disk with fewer sectors the last library is refused.
+    // If the disk has too few sectors for the state, the last library is refused with S7.
     ensures least { (s : State) → IsStateOfBytes s → (libraries : List Library)
         (last : Library) (p : Phase) → s.libraries ≡ libraries ++ last ∷ []
         → IsBehind (map (λ l. install l.bytes) libraries) p → p.sectors < sectors_for s + p.lone
         → refusal_at p (install last.bytes) ≡ Some Full }
 
-    // Where there is room, each is answered Done, unless the disk fails or memory is refused.
+    // If there is room, each request is answered Done, unless the disk fails or memory is refused.
     ensures answers { (s : State) → IsStateOfBytes s → (front rest : List Request)
         (request : Request) (p p' : Phase) (answer : Reply)
         → requests_for s ≡ front ++ request ∷ rest → IsBehind front p → HasRoomFor s p request
         → Step p request answer p' → (answer ≡ Done) ⊎ IsFault answer }
 
-    // They lead to the same libraries, bytes, order and preloads.
+    // The requests make a state with the same libraries, bytes, order and preloads.
     ensures end { (s : State) → IsStateOfBytes s
         → fold accepted empty_state (requests_for s) ≡ copy_of s }
 
-    // A registry that was empty and answered each with Done is at the copy.
+    // If an empty registry answered each request with Done, the registry is then at the copy.
     ensures registry { (s : State) → IsStateOfBytes s → (old new : Opened D)
         (answers : List Reply) → IsAt D.facts old empty_state
         → RunsOver D.facts old new empty_state (requests_for s) answers
         → All (λ answer. answer ≡ Done) answers → IsAt D.facts new (copy_of s) }
 
-    // A disk that held an empty registry, and over which `script` read the text and ended with
-    // status 0, holds the copy.
+    // If a disk held an empty registry, and `script` read the text and ended with status 0, the
+    // disk holds the copy.
     ensures program { (s : State) → IsStateOfBytes s → (disk left : D) (io : Streams)
         → IsTrue (D.facts disk).honest → Stands (D.facts disk).now empty_state
         → io.unread ≡ Some (dump_text s)
@@ -70,7 +70,8 @@ pub fn dump_replays<D: Disk>()
     ensures cut { (s : State) (k : ℕ) (disk left : D) (io : Streams)
         → io.unread ≡ Some (cut_text s k) → DiskScriptEnds D.facts disk io status.Done left → ⊥ }
 
-    // Such a state is each that a store on a disk is at, where a whole script was dumped.
+    // If a store on a disk is at a state whose files are all libraries, the laws hold for this
+    // state.
     ensures states { (opened : Opened D) (s : State) → store.IsAt D.facts opened s
         → All IsLibrary s.libraries → IsStateOfBytes s }
 {}

@@ -1,6 +1,7 @@
-//! The laws that a dump replays: what `rlibreg-tool dump` writes of a registry makes a new one that
-//! holds the same, line by line, when `rlibreg script` runs it, and all at once, when `rlibreg-tool
-//! update` does. And the law that a bind of an update is the one that comes after its commit.
+//! The laws about replaying a dump, which `rlibreg-tool dump` writes. From the dump of a registry,
+//! `rlibreg script` makes a new registry with the same contents, line by line, and `rlibreg-tool
+//! update` makes one all at once. A third law is that a bind of an update has the same answer as a
+//! bind after the update's commit.
 #![tactic(auto)]
 
 mod bind_law;

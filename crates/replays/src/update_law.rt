@@ -1,4 +1,4 @@
-// The law that a dump makes a registry anew by one update.
+// The law that one update recreates a registry from its dump.
 
 ghost use Rattle.std.specs.Prelude.{◌≡◌, ◌≢◌, ◌<◌, ◌+◌, ◌⊎◌, ℕ, IsTrue, Some};
 ghost use Rattle.std.specs.Prelude.{List, [], ◌∷◌, ◌++◌, map};
@@ -26,38 +26,39 @@ ghost use Rattle.replays.specs.Update.{IsDraftBehind, IsHindered, LeavesAllOrNot
 use sector_disk::Disk;
 use std::io::Write;
 
-/// Does nothing: its clauses are the law that a dump for an update makes a registry anew, for the
-/// disks of a type and the outputs of another.
+/// Does nothing. Its clauses are the law that one update recreates a registry from a dump that was
+/// written for an update. The law holds for disks of type `D` and outputs of type `O`.
 pub fn dump_updates<D: Disk, O: Write>()
-    // The text is whole lines, which install the libraries in their order and then set the
+    // The text consists of whole lines, which install the libraries in their order and then set the
     // preloads, and then the line `commit`.
     ensures lines { (s : State) → IsStateOfBytes s
         → IsUpdateText (script_text Update s) (requests_for s) }
 
-    // Each of them, after those before it, may lack room, and nothing else.
+    // After the requests before it, a request can be refused only for lack of room.
     ensures room { (s : State) → IsStateOfBytes s → (front rest : List Request)
         (request : Request) (p : Phase) → requests_for s ≡ front ++ request ∷ rest
         → IsDraftBehind front p → LacksRoomAtMost s p request }
 
-    // On a disk with fewer sectors the last library is refused.
+    // If the disk has too few sectors for the state, the last library is refused with S7.
     ensures least { (s : State) → IsStateOfBytes s → (libraries : List Library)
         (last : Library) (p : Phase) → s.libraries ≡ libraries ++ last ∷ []
         → IsDraftBehind (map (λ l. install l.bytes) libraries) p
         → p.sectors < sectors_for s + p.lone → refusal_at p (install last.bytes) ≡ Some Full }
 
-    // Where there is room, each is planned, unless the disk fails or memory is refused.
+    // If there is room, each request is planned, unless the disk fails or memory is refused.
     ensures answers { (s : State) → IsStateOfBytes s → (front rest : List Request)
         (request : Request) (p p' : Phase) (answer : Reply)
         → requests_for s ≡ front ++ request ∷ rest → IsDraftBehind front p
         → HasRoomFor s p request → DraftStep p request answer p'
         → (answer ≡ Done) ⊎ IsFault answer }
 
-    // They lead to the same libraries, bytes, order and preloads, by one change.
+    // The requests make a state with the same libraries, bytes, order and preloads, in one change.
     ensures end { (s : State) → IsStateOfBytes s
         → updated empty_state (requests_for s) ≡ renewed s }
 
-    // Over a disk that held an empty registry, an update that reads the text ends with status 0,
-    // and the disk holds the same libraries, bytes, order and preloads; or it was hindered.
+    // Suppose that a disk held an empty registry, and an update reads the text. Then it ends with
+    // status 0, and the disk holds the same libraries, bytes, order and preloads, or it ends as
+    // `IsHindered` defines.
     ensures program { (s : State) → IsStateOfBytes s → (disk left : D) (io : Streams)
         (ends : Status) → IsTrue (D.facts disk).honest → Stands (D.facts disk).now empty_state
         → io.unread ≡ Some (script_text Update s)
@@ -65,14 +66,15 @@ pub fn dump_updates<D: Disk, O: Write>()
         → ((ends ≡ status.Done) × Stands (D.facts left).now (renewed s))
         ⊎ IsHindered s (D.facts disk).sectors io ends }
 
-    // However it ends, the disk never holds a part of it.
+    // However the update ends, the disk never holds only a part of the state.
     ensures any_moment { (s : State) → IsStateOfBytes s → (disk left : D) (io : Streams)
         (ends : Status) → IsTrue (D.facts disk).honest → Stands (D.facts disk).now empty_state
         → io.unread ≡ Some (script_text Update s)
         → UpdateEnds D.facts disk O.contents io ends left
         → LeavesAllOrNothing D.facts s disk left }
 
-    // A dump that was cut changes nothing of what a disk holds, and doesn't end with status 0.
+    // A dump that was cut doesn't change the state that a disk holds, and doesn't end with status
+    // 0.
     ensures cut { (s : State) (k : ℕ) (disk left : D) (io : Streams) (ends : Status)
         → io.unread ≡ Some (cut_text s k) → UpdateEnds D.facts disk O.contents io ends left
         → (ends ≢ status.Done) × LeavesStanding D.facts disk left }

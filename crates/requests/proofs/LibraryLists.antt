@@ -6,7 +6,7 @@ use Rattle.requests.specs.Library.{IsLibrary}
 use Rattle.states.specs.State.{Library}
 use Rattle.states.specs.Changes.{libraries_with, libraries_without}
 
--- another file in the place of one
+-- if all files are libraries, they still are after one is replaced by another library's file
 pub each_replaced : (name bytes : List ℕ) (ls : List Library) → IsLibrary (record { name = name; bytes = bytes }) → All IsLibrary ls → All IsLibrary (libraries_with name bytes ls)
 each_replaced name bytes [] is all = all
 each_replaced name bytes (l ∷ ls) is all = by (bytes_eq name l.name) (All-tail IsLibrary l ls all) (each_replaced name bytes ls is (All-tail IsLibrary l ls all))
@@ -16,7 +16,7 @@ each_replaced name bytes (l ∷ ls) is all = by (bytes_eq name l.name) (All-tail
     by true rest h = All-cons IsLibrary (record { name = name; bytes = bytes }) ls is rest
     by false rest h = All-cons IsLibrary l (libraries_with name bytes ls) (All-head IsLibrary l ls all) h
 
--- one taken out
+-- The list without one library.
 module _ (P : Library → Type 0) where
   pub each_left : (name : List ℕ) (ls : List Library) → All P ls → All P (libraries_without name ls)
   each_left name [] all = all

@@ -1,4 +1,4 @@
--- Runs grow by a step.
+-- Runs with one more step.
 use Rattle.std.proofs.Common.{◌≡◌, ℕ, take, List, [], ◌∷◌, ◌++◌, refl, sym, subst, suc, zero}
 use Rattle.requests.specs.Runs.{last_of, Steps, Run}
 
@@ -28,7 +28,7 @@ module _ {S Q R : Type 0} (Step : S → Q → R → S → Type 0) where
   steps_append s (x ∷ qs) [] ts qs' rs' ts' h more = absurd h
   steps_append s (x ∷ qs) (y ∷ rs) [] qs' rs' ts' h more = absurd h
 
-  -- the first k of the steps are steps, and lead to the state after them
+  -- the first k steps are steps too, and lead to the state after them
   steps_first : (k : ℕ) (s : S) (qs : List Q) (rs : List R) (ts : List S) → Steps Step s qs rs ts → Steps Step s (take k qs) (take k rs) (take k ts)
   steps_first zero s qs rs ts h = tt
   steps_first (suc k) s [] [] [] h = tt
@@ -38,6 +38,6 @@ module _ {S Q R : Type 0} (Step : S → Q → R → S → Type 0) where
   steps_first (suc k) s (x ∷ qs) [] ts h = absurd h
   steps_first (suc k) s (x ∷ qs) (y ∷ rs) [] h = absurd h
 
-  -- one more step
+  -- a run followed by one more step is a run
   pub run_more : (s t u : S) (q : Q) (r : R) (qs : List Q) (rs : List R) → Run Step s qs rs t → Step t q r u → Run Step s (qs ++ q ∷ []) (rs ++ r ∷ []) u
   run_more s t u q r qs rs run step = (run.0 ++ u ∷ [], steps_more s u q r qs rs run.0 run.1 (subst (λ x. Step x q r u) run.2 step), sym (last_more s u run.0))

@@ -1,4 +1,4 @@
--- What holds of a library's file.
+-- Facts about a library's file.
 use Rattle.std.proofs.Common.{◌≡◌, ◌≤◌, ℕ, Bool, true, false, List, [], ◌∷◌, length, Some, None, Option, refl, sym, ap, arith}
 use Rattle.std.specs.Prelude.{◌||◌, not, nat_lt, unwrap_or}
 use Rattle.std.specs.Option.{option_map_or}
@@ -26,17 +26,17 @@ soname_fine : (file : List ℕ) → library_refusal file ≡ None → has_bad_so
 unfolding library_refusal
 soname_fine file h = when_none (Object BadSoname) (has_bad_soname file) (none_at (library_tests file) 1 h)
 
--- a library's name is no bad one
+-- a library's name is never a bad one
 pub badly_named : (file : List ℕ) → library_refusal file ≡ None → has_bad_soname file ≡ true → ⊥
 badly_named file h bad =
     let fine = soname_fine file h in
     cc
 
--- a file that is taken was admitted, and that takes memory
+-- a file that isn't refused was admitted, and that needs memory
 pub taken_memory : (file : List ℕ) → library_refusal file ≡ None → ReadNeedsMemory file
 taken_memory file h = taken_with_memory file (file_taken file h)
 
--- a library has its SONAME
+-- the name of a library is its SONAME
 pub named_so : (file : List ℕ) → library_refusal file ≡ None → soname file ≡ Some (name_of file)
 unfolding has_bad_soname name_of
 named_so file h = by (soname file) (soname_fine file h)
@@ -48,7 +48,7 @@ named_so file h = by (soname file) (soname_fine file h)
 pub is_library : (file : List ℕ) → library_refusal file ≡ None → IsLibrary (record { name = name_of file; bytes = file })
 is_library file h = record { accepted = h; named = named_so file h }
 
--- what was found to be the SONAME is the name
+-- if this name was found to be the SONAME, it is the library's name
 pub name_is : (file name : List ℕ) → soname file ≡ Some name → name ≡ name_of file
 unfolding name_of
 name_is file name h = sym (ap (λ o. unwrap_or o []) h)
@@ -67,7 +67,7 @@ short file fine = by (length file) (has_high_segment file) fine
 pub short_file : (l : Library) → IsLibrary l → length l.bytes ≤ LARGEST_FILE
 short_file l is = short l.bytes (size_fine l.bytes (object_taken l.bytes (file_taken l.bytes is.accepted)))
 
--- the first refusal of a file as a library, from what reading and naming it say
+-- a file is a library if neither reading it nor its name leads to a refusal
 pub is_fine : (file : List ℕ) → first_file_refusal file ≡ None → has_bad_soname file ≡ false → library_refusal file ≡ None
 unfolding library_refusal
 is_fine file h k = by (first_file_refusal file) (has_bad_soname file) h k

@@ -1,4 +1,4 @@
--- Binding a program with what a registry holds (own).
+-- Binding a program against the state of a registry (own).
 use Rattle.std.specs.Prelude.{ℕ, List, map, position, Option}
 use Rattle.std.specs.List.{filter_map}
 use Rattle.std.specs.Str.{bytes_eq}
@@ -24,7 +24,7 @@ objects s = map object_of s.libraries
 abbrev pub preload_numbers : State → List ℕ
 preload_numbers s = filter_map (λ name. position (bytes_eq name) (names_of s.libraries)) s.preloads
 
--- what is bound for a program at a base, in load order and in its place
+-- the objects that are bound for a program at a base, in load order, each at its place
 abbrev pub bound_objects : State → List ℕ → ℕ → List Placed
 bound_objects s program base = objects_of program base (objects s) (preload_numbers s)
 
@@ -32,11 +32,11 @@ bound_objects s program base = objects_of program base (objects s) (preload_numb
 abbrev pub binding_refusal : State → List ℕ → ℕ → Option BindRefusal
 binding_refusal s program base = bind_refusal program base (objects s) (preload_numbers s)
 
--- the image that a bind gives where no test applies
+-- the image that a bind returns if no test applies
 abbrev pub bound_image : State → List ℕ → ℕ → MemoryImage
 bound_image s program base = image_of (bound_objects s program base)
 
--- the refusal of a command where a bind isn't done: want of memory is S11, whatever took it
+-- the refusal of a command if a bind isn't done; lack of memory is refused with S11, whatever needed the memory
 abbrev pub of_bind : BindRefusal → Refusal
 of_bind bind.OutOfMemory = OutOfMemory
 of_bind refusal = Bind refusal

@@ -9,11 +9,11 @@ use Rattle.hash_check.specs.declared.file_refusal.FileRefusal.{FileRefusal}
 use Rattle.hash_check.specs.declared.file_refusal.FileRefusal.TheVariants.{Object}
 use Rattle.states.specs.State.{Library}
 
--- the tests of a file as a library: those of its object, of admission, and then E33, of its name
+-- the tests of a file as a library: those of its object, those of admission, and then E33, the test of its name
 abbrev pub library_tests : List ℕ → List (Option FileRefusal)
 library_tests file = first_file_refusal file ∷ (Object BadSoname when has_bad_soname file) ∷ []
 
--- the refusal of a file as a library by the first of these tests, or none where it is one
+-- the refusal of a file as a library by the first of these tests, or none if the file is a library
 unfoldable pub library_refusal : List ℕ → Option FileRefusal
 library_refusal file = first_of (library_tests file)
 

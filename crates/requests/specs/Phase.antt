@@ -1,23 +1,23 @@
--- Where a registry stands between two commands (own).
+-- A registry between two commands (own).
 use Rattle.std.specs.Prelude.{ℕ, Bool, ◌-◌}
 use Rattle.states.specs.State.{State, names_of}
 use Rattle.states.specs.Cost.{free}
 use Rattle.requests.specs.Table.{Table}
 
--- what contracts see of a registry: its state, and what is known of its disk
+-- what contracts see of a registry: its state, and the known facts of its disk
 pub record Phase : Type 0 where
   pub sectors : ℕ
-  -- how many sectors are in use beside the state: those of versions that only binders hold
+  -- the number of sectors in use beside the state: those of versions that only binders hold
   pub lone : ℕ
-  -- how many sectors that aren't in use lie in the longest runs, as many as a file may have extents
+  -- the number of sectors in the longest runs of unused sectors, with at most as many runs as a file may have extents
   pub longest : ℕ
-  -- how many calls of its disk have failed
+  -- the number of calls of the disk that have failed
   pub failures : ℕ
-  -- a write or a sync has failed: what the disk holds is known again once it is opened
+  -- a write or a sync has failed: only another opening finds out what the disk holds
   pub failed : Bool
   pub state : State
 
--- what the tests of a command read of it
+-- what the tests of a command read of a registry
 abbrev pub table_of : Phase → Table
 table_of p = record {
   generation = p.state.generation;

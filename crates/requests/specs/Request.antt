@@ -1,4 +1,4 @@
--- What a command asks. A command borrows its bytes, and so is no plain value.
+-- The requests of commands. A command borrows its bytes, so it isn't a plain value; a request is.
 use Rattle.std.specs.Prelude.{ℕ, List, map}
 use Rattle.requests.specs.declared.command.Command.{Command}
 use Rattle.requests.specs.declared.command.Command.TheVariants as command
@@ -7,15 +7,15 @@ pub data Request : Type 0 where
   -- the bytes of a file
   install : List ℕ → Request
   replace : List ℕ → Request
-  -- a name
+  -- the name of a library
   remove : List ℕ → Request
-  -- names in their order
+  -- the names of the preloads, in their order
   set_preloads : List (List ℕ) → Request
-  -- the bytes of a program's file, and its base
+  -- the bytes of a program's file, and the base
   bind : List ℕ → ℕ → Request
   list : Request
 
--- what a command of the program asks
+-- the request of a command
 abbrev pub request_of : Command → Request
 request_of (command.Install bytes) = install bytes.now
 request_of (command.Replace bytes) = replace bytes.now

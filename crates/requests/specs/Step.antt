@@ -1,4 +1,4 @@
--- What a command does (own).
+-- The effect of a command: its answer, and the state that it leaves (own).
 use Rattle.std.specs.Prelude.{Result, Ok, Err, ◌≡◌, ◌<◌, ℕ, List, Option, Some, None, ◌⊎◌, IsTrue, IsFalse, Bool, true, false}
 use Rattle.std.specs.Option.{option_map}
 use Rattle.hash_check.specs.FileRefusal.{ReadNeedsMemory}
@@ -27,26 +27,26 @@ accepted s (remove name) = without name s
 accepted s (set_preloads names) = with_preloads names s
 accepted s request = s
 
--- what an accepted command is answered
+-- the answer to an accepted command
 abbrev pub reply_of : State → Request → Reply
 reply_of s (bind program base) = reply.Bound (bound_image s program base)
 reply_of s list = reply.Listing (listed s)
 reply_of s request = Done
 
--- The answer is this one. Each address has in an image the byte that is defined for it.
+-- The answer is the one that `reply_of` returns. If it is an image, each address has the byte that is defined for it.
 abbrev pub IsReply : State → Request → Reply → Type 0
 IsReply s (bind program base) (reply.Bound image) = (image ≡ bound_image s program base)
     × ((a : ℕ) → image_byte image a ≡ byte_of (bound_objects s program base) a)
 IsReply s request answer = answer ≡ reply_of s request
 
--- the refusal of a command by the first of its tests that applies, or none where it is accepted
+-- the refusal of a command by the first of its tests that applies, or none if the command is accepted
 abbrev pub refusal_at : Phase → Request → Option Refusal
 refusal_at p (bind program base) = option_map Bind (binding_refusal p.state program base)
 refusal_at p request = first_refusal (table_of p) request
 
--- What takes memory: to admit a file that passes all tests before those of admission, and to tell
--- what is listed. A bind takes more behind the admission of its program, before which it answers
--- the refusals of the program's object alone.
+-- Whether a request needs memory. Memory is needed to admit a file that passes all tests before those of admission,
+-- and to return a listing. A bind needs more memory after its program is admitted. Before that it returns only
+-- refusals of the program's object.
 abbrev pub TakesMemory : Request → Type 0
 TakesMemory (install bytes) = ReadNeedsMemory bytes
 TakesMemory (replace bytes) = ReadNeedsMemory bytes
@@ -54,13 +54,13 @@ TakesMemory (bind program base) = ReadNeedsMemory program
 TakesMemory list = Unit {0}
 TakesMemory request = ⊥
 
--- the state is this one now, and no write or sync failed
+-- the state is `s` now, and the mark of a failed write or sync is unchanged
 pub record Leads (p : Phase) (s : State) (p' : Phase) : Type 0 where
   pub sectors : p'.sectors ≡ p.sectors
   pub failed : p'.failed ≡ p.failed
   pub state : p'.state ≡ s
 
--- A write or sync of a change failed: it may have taken effect; the disk has to be opened again.
+-- A write or sync of a change failed. The change may have taken effect, and the disk must be opened again.
 pub record LacksWrite (p : Phase) (request : Request) (p' : Phase) : Type 0 where
   pub sectors : p'.sectors ≡ p.sectors
   pub risen : p.failures < p'.failures
@@ -68,21 +68,20 @@ pub record LacksWrite (p : Phase) (request : Request) (p' : Phase) : Type 0 wher
   pub untested : refusal_at p request ≡ None
   pub state : (p'.state ≡ p.state) ⊎ (p'.state ≡ accepted p.state request)
 
--- A read of a bind failed: nothing changed, and the disk need not be opened.
--- B1 and B2 come before all reads.
+-- A read of a bind failed. Nothing changed, and the disk needn't be opened again. B1 and B2 come before all reads.
 pub record LacksRead (p : Phase) (program : List ℕ) (base : ℕ) (p' : Phase) : Type 0 where
   pub risen : p.failures < p'.failures
   pub untested : program_refusal program base ≡ None
   pub same : Leads p p.state p'
 
--- what a failed call of the disk leaves: a bind only reads, and a listing makes no call
+-- what a failed call of the disk leaves; a bind only reads, and a listing makes no call
 abbrev pub LeavesFailed : Phase → Request → Phase → Type 0
 LeavesFailed p (bind program base) p' = LacksRead p program base p'
 LeavesFailed p list p' = ⊥
 LeavesFailed p request p' = LacksWrite p request p'
 
--- A command may be answered so, and lead to this phase. After a failed write or sync every answer
--- is S2, and no answer before is.
+-- A command may be answered like this, and lead to this phase. After a failed write or sync every command is refused
+-- with S2 (Reopen), and before that no command is.
 abbrev pub Step : Phase → Request → Reply → Phase → Type 0
 Step p request (Refused Reopen) p' = IsTrue p.failed × Leads p p.state p'
 Step p request (Refused Device) p' = IsFalse p.failed × LeavesFailed p request p'
@@ -90,7 +89,7 @@ Step p request (Refused OutOfMemory) p' = IsFalse p.failed × TakesMemory reques
 Step p request (Refused refusal) p' = IsFalse p.failed × (refusal_at p request ≡ Some refusal) × Leads p p.state p'
 Step p request answer p' = IsFalse p.failed × (refusal_at p request ≡ None) × IsReply p.state request answer × Leads p (accepted p.state request) p'
 
--- the reply that a change's result makes
+-- the reply to a change, made from the change's result
 abbrev pub answer_of : Result (Unit {0}) Refusal → Reply
 answer_of (Ok done) = Done
 answer_of (Err refusal) = Refused refusal

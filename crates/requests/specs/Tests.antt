@@ -1,4 +1,4 @@
--- The tests of a command in their order, each on what the tests read and on what is asked (own).
+-- The tests of a command in their order. Each reads the table and the request (own).
 use Rattle.std.specs.Prelude.{ℕ, ◌||◌, List, [], ◌∷◌, length, map, Bool, false, not, nat_lt, Option}
 use Rattle.std.specs.List.{list_any}
 use Rattle.std.specs.Option.{option_map}
@@ -14,38 +14,38 @@ use Rattle.requests.specs.declared.refusal.Refusal.{Refusal}
 use Rattle.requests.specs.declared.refusal.Refusal.TheVariants.{Object, AlreadyInstalled, NotInstalled, InPreloads, RepeatedPreload}
 use Rattle.requests.specs.declared.refusal.Refusal.TheVariants.{TooManyPreloads, Full, Fragmented, TooMany, GenerationEnd}
 
--- a library of this name is installed
+-- a library with this name is installed
 abbrev pub is_installed : Table → List ℕ → Bool
 is_installed t name = has_name t.names name
 
--- a name stands twice
+-- a name occurs twice
 abbrev pub has_repeat : List (List ℕ) → Bool
 has_repeat [] = false
 has_repeat (name ∷ others) = has_name others name || has_repeat others
 
--- the word of a registry for what there is no room for
+-- the refusal of a command if there is no room
 abbrev pub refusal_of_room : RoomRefusal → Refusal
 refusal_of_room room.TooMany = TooMany
 refusal_of_room room.GenerationEnd = GenerationEnd
 refusal_of_room room.Full = Full
 refusal_of_room room.Fragmented = Fragmented
 
--- the tests of room, each as its refusal where it applies
+-- the tests for room, each as its refusal if it applies
 abbrev pub for_room : List (Bool × RoomRefusal) → List (Option Refusal)
 for_room tests = map (λ test. refusal_of_room test.1 when test.0) tests
 
--- what the tests of room read
+-- what the tests for room read
 abbrev pub room_in : Table → Room
 room_in t = record { generation = t.generation; libraries = length t.names; free = t.free; longest = t.longest }
 
--- C1, C2, then the tests of room
+-- C1, C2, then the tests for room
 abbrev pub install_tests : Table → List ℕ → List (Option Refusal)
 install_tests t bytes =
     option_map Object (library_refusal bytes)
     ∷ (AlreadyInstalled when is_installed t (name_of bytes))
     ∷ for_room (new_tests (room_in t) (length bytes))
 
--- C1, C3, then the tests of room, without that of the number of libraries
+-- C1, C3, then the tests for room, without that of the number of libraries
 abbrev pub replace_tests : Table → List ℕ → List (Option Refusal)
 replace_tests t bytes =
     option_map Object (library_refusal bytes)
@@ -67,7 +67,7 @@ preload_tests t names =
     ∷ (NotInstalled when list_any (λ name. not (is_installed t name)) names)
     ∷ for_room (change_tests t.generation)
 
--- the tests of a command: of files they read the one that is put; a bind or a listing has none
+-- the tests of a command. The only file that they read is the command's own. A bind or a listing has none.
 abbrev pub tests_of : Table → Request → List (Option Refusal)
 tests_of t (install bytes) = install_tests t bytes
 tests_of t (replace bytes) = replace_tests t bytes

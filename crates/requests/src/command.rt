@@ -1,21 +1,21 @@
-// Commands.
+// The commands.
 
-/// A command to a registry, which borrows its bytes.
+/// A command to a registry. It borrows its bytes.
 #[derive(Clone, Copy)]
 pub enum Command<'a> {
-    /// Installs a library: the bytes of its file.
+    /// Installs a library, given by the bytes of its file.
     Install(&'a [u8]),
-    /// Puts a file in the place of the one of the same name.
+    /// Replaces the installed library of the same name by this file, given by its bytes.
     Replace(&'a [u8]),
-    /// Removes the library of a name.
+    /// Removes the library with this name.
     Remove(&'a [u8]),
     /// Sets the names of the preloads, in their order.
     SetPreloads(&'a [&'a [u8]]),
-    /// Binds a program with the libraries and the preloads: the bytes of its file, and its base.
+    /// Binds a program with the libraries and the preloads.
     Bind {
-        /// The bytes of its file.
+        /// The bytes of the program's file.
         program: &'a [u8],
-        /// The address at which it starts.
+        /// The address at which the program's image starts.
         base: u64,
     },
     /// Lists the libraries and the preloads.

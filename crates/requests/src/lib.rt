@@ -1,8 +1,8 @@
-//! Commands to a registry of shared libraries, what they are answered, and the step table: what a
-//! command may be answered in a state, and the state that this leaves (specs/Step.antt).
+//! Commands to a registry of shared libraries, their answers, and the step table. The step table
+//! says how a command may be answered in a state, and which state this leaves (specs/Step.antt).
 //!
-//! `library_name` reads a file as a library. The registry that takes the commands is
-//! `registry`.
+//! `library_name` reads a file as a library. The registry that carries out the commands is in the
+//! crate `registry`.
 #![tactic(auto)]
 
 mod command;

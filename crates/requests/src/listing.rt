@@ -1,12 +1,12 @@
-// What is listed.
+// The answer to `List`.
 
 use names::Name;
 use std::marker::Model;
 
-/// What a registry holds. Contracts see the two lists.
+/// The libraries and preloads of a registry. Contracts see the two lists.
 #[derive(Debug, Drop)]
 pub struct Listing {
-    /// Each library's name, and the length of its file in bytes, in the order of installation.
+    /// The name of each library, and the length of its file in bytes, in the order of installation.
     pub libraries: Vec<(Name, u32)>,
     /// The names of the preloads, in their order.
     pub preloads: Vec<Name>,

@@ -9,37 +9,37 @@ use std::alloc::AllocError;
 pub enum Refusal {
     /// C1: the file is no library.
     Object(FileRefusal),
-    /// C2: a library of this name is installed.
+    /// C2: a library with this name is installed.
     AlreadyInstalled,
-    /// C3: no library of this name is installed.
+    /// C3: no library with this name is installed.
     NotInstalled,
     /// C4: the library is a preload.
     InPreloads,
-    /// C5: a name stands twice.
+    /// C5: a name occurs twice.
     RepeatedPreload,
-    /// C6: there are over 16 names.
+    /// C6: there are more than 16 names.
     TooManyPreloads,
-    /// C7: a binder lives in each slot.
+    /// C7: each slot has a binder.
     NoSlot,
-    /// C8: no binder lives in the slot.
+    /// C8: the slot has no binder.
     NoSuchBinder,
-    /// B1 to B5: the program isn't bound, for this reason, which is never want of memory.
+    /// B1 to B5: the program isn't bound, for this reason. The reason is never lack of memory.
     Bind(BindRefusal),
     /// S1: a call of the disk failed.
     Device,
-    /// S2: a write or a sync failed before.
+    /// S2: a write or a sync has failed before.
     Reopen,
-    /// S5: what was read is no library of its name. A registry whose opening tested its files meets
-    /// none on an honest disk.
+    /// S5: what was read isn't a library of the expected name. A registry whose files were tested
+    /// when it was opened never returns this on an honest disk.
     Damaged,
-    /// S7: the file, and twice the catalogues that a longer list has more, cost more sectors than
-    /// are free.
+    /// S7: the file costs more sectors than are free. If the list needs one more catalogue, two
+    /// sectors are added to the cost.
     Full,
     /// S8: the longest runs of unused sectors are too short for the file.
     Fragmented,
     /// S9: 2,048 libraries are installed.
     TooMany,
-    /// S10: the generation is the greatest.
+    /// S10: the generation is the greatest possible one.
     GenerationEnd,
     /// S11: memory was refused.
     OutOfMemory,

@@ -1,10 +1,10 @@
-// What a command is answered.
+// The answers to commands.
 
 use crate::listing::Listing;
 use crate::refusal::Refusal;
 use image::Image;
 
-/// What a command is answered.
+/// The answer to a command.
 #[derive(Drop)]
 pub enum Reply {
     /// The change was accepted.

@@ -7,21 +7,21 @@ ghost use Rattle.requests.specs.Tests.{has_repeat};
 
 use states::MOST_PRELOADS;
 
-/// Whether one of the names is this one.
+/// Returns whether `name` is one of the names.
 fn has_name(names: &[&[u8]], name: &[u8]) -> bool
     ensures { result ≡ has_name (map (λ n. n.now) names.now) name.now }
 {
     names.iter().any(|n| name == *n)
 }
 
-/// Whether there are more names than there may be preloads.
+/// Returns whether there are more names than the maximum number of preloads.
 pub fn are_too_many(names: &[&[u8]]) -> bool
     ensures { result ≡ nat_lt most_preloads (length (map (λ n. n.now) names.now)) }
 {
     names.len() > MOST_PRELOADS
 }
 
-/// Whether a name stands twice.
+/// Returns whether a name occurs twice.
 pub fn has_repeat(names: &[&[u8]]) -> bool
     ensures { result ≡ has_repeat (map (λ n. n.now) names.now) }
 {

@@ -1,5 +1,5 @@
 //! The program `rlibreg`: keeps a registry of shared libraries on a disk, and prints the memory
-//! image of a program bound over it, or says by number why not.
+//! image of a program that is bound with them, or a numbered refusal.
 #![tactic(auto)]
 
 use commands::run_arguments;

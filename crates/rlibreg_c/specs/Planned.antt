@@ -1,16 +1,17 @@
--- What a call ends with that plans a change of a registry (own).
+-- How a call that plans a change of a registry ends (own).
 use Rattle.std.specs.Prelude.{◌≡◌, ◌≢◌, ℕ, List}
 use Rattle.requests.specs.Request.{Request}
 use Rattle.c_answers.specs.Answers.{IsChangeAnswered, IsLeft, IsPlanOf}
 use Rattle.c_answers.specs.declared.answer.Answer.{Answer}
 
--- A change was planned over these bytes, into a buffer that had this before, or it is told why not.
+-- Either the buffer, which had `before`, has the plan of a change of the registry that the bytes hold,
+-- or the call reports why not.
 pub record IsPlanned (disk : List ℕ) (request : Request) (before after text : List ℕ) (answer : Answer) (told : ℕ) : Type 0 where
-  -- the plan leads from the state that the bytes hold to the one that acceptance gives
+  -- the plan leads from the state that the bytes hold to the state after the accepted change
   pub plan : told ≡ 0 → IsPlanOf disk request after answer
   pub answered : IsChangeAnswered disk request after text answer told
-  -- with a status that says neither 0, nor of room, nor of memory, the buffer is as it was
+  -- unless the status is 0 or reports lack of room or of memory, the buffer is unchanged
   pub left : IsLeft before after told
   pub status : answer.status ≡ told
-  -- S1 is never the answer: what a disk of bytes fails for is want of memory
+  -- the result is never S1 (Device): a disk of bytes fails only for lack of memory
   pub device : told ≢ 301

@@ -1,4 +1,4 @@
-// A bind.
+// Binds a program.
 ghost use Rattle.std.specs.Prelude.{◌≡◌, ◌≢◌};
 ghost use Rattle.requests.specs.Request.{bind};
 ghost use Rattle.c_answers.specs.Answers.{IsBindAnswered};
@@ -8,9 +8,10 @@ use c_answers::{Answer, ObjectPlace, SegmentPlace, bind_on};
 use requests::Command;
 use std::alloc::Global;
 
-/// The image of a program over the registry that the sectors of `disk` hold: its objects in load
-/// order, its segments, and their bytes in a row with the objects' names behind them. Where a
-/// buffer is too small the answer has what all need.
+/// Binds a program at the address `base` with the registry that the sectors of `disk` hold. The
+/// buffers receive the image's objects in load order, its segments, and the bytes of the segments
+/// one after the other, followed by the objects' names. If a buffer is too small, the answer has
+/// the sizes that all three need.
 #[unsafe(no_mangle)]
 pub extern "C" fn rlibreg_bind(
     alloc: Global,
@@ -29,7 +30,7 @@ pub extern "C" fn rlibreg_bind(
         bytes.new text.new answer.new result }
     ensures status { answer.new.status ≡ result }
 
-    // S1 is never the answer: what a disk of bytes fails for is want of memory.
+    // The result is never S1 (Device): a disk of bytes fails only for lack of memory.
     ensures device { result ≢ 301 }
 {
     let command = Command::Bind { program, base };

@@ -7,8 +7,8 @@ use c_answers::{Answer, executable_on};
 use requests::Command;
 use std::alloc::Global;
 
-/// The static executable file of a program over the registry that the sectors of `disk` hold: it
-/// loads exactly the image that `rlibreg_bind` gives at this base.
+/// Makes the static executable file of a program with the registry that the sectors of `disk` hold.
+/// The file loads exactly the image that `rlibreg_bind` returns at this base.
 #[unsafe(no_mangle)]
 pub extern "C" fn rlibreg_executable(
     alloc: Global,
@@ -19,7 +19,7 @@ pub extern "C" fn rlibreg_executable(
     text: &mut [u8],
     answer: &mut Answer,
 ) -> u32
-    // It is that of the image by the state that the bytes of the disk hold.
+    // The file is that of the image that is defined for the state that the bytes of the disk hold.
     ensures executable { result ≡ 0
         → IsExecutableFileOf disk.now program.now base bytes.new answer.new }
     ensures answered { IsExecutableAnswered disk.now (bind program.now base) bytes.new text.new
@@ -27,7 +27,7 @@ pub extern "C" fn rlibreg_executable(
     ensures left { result ≢ 0 → bytes.new ≡ bytes.old }
     ensures status { answer.new.status ≡ result }
 
-    // S1 is never the answer: what a disk of bytes fails for is want of memory.
+    // The result is never S1 (Device): a disk of bytes fails only for lack of memory.
     ensures device { result ≢ 301 }
 {
     let command = Command::Bind { program, base };

@@ -1,4 +1,4 @@
-// Changes of the libraries: plans.
+// Plans changes of a registry's libraries.
 ghost use Rattle.requests.specs.Request.{install, replace, remove};
 ghost use Rattle.rlibreg_c.specs.Planned.{IsPlanned};
 
@@ -6,7 +6,7 @@ use c_answers::{Answer, plan_change};
 use requests::Command;
 use std::alloc::Global;
 
-/// The plan of an installation: of the bytes of a library's file.
+/// Plans to install the library with the bytes `file`.
 #[unsafe(no_mangle)]
 pub extern "C" fn rlibreg_plan_install(
     alloc: Global,
@@ -16,7 +16,7 @@ pub extern "C" fn rlibreg_plan_install(
     text: &mut [u8],
     answer: &mut Answer,
 ) -> u32
-    // The plan leads from the state that the bytes hold to the one that acceptance gives.
+    // The plan leads from the state that the bytes hold to the state after the accepted change.
     ensures planned { IsPlanned disk.now (install file.now) plan.old plan.new text.new answer.new
         result }
 {
@@ -24,7 +24,7 @@ pub extern "C" fn rlibreg_plan_install(
     answer.status
 }
 
-/// The plan of a replacement: a file in the place of the one of its name.
+/// Plans to replace the library with the same name by the library with the bytes `file`.
 #[unsafe(no_mangle)]
 pub extern "C" fn rlibreg_plan_replace(
     alloc: Global,
@@ -34,7 +34,7 @@ pub extern "C" fn rlibreg_plan_replace(
     text: &mut [u8],
     answer: &mut Answer,
 ) -> u32
-    // The plan leads from the state that the bytes hold to the one that acceptance gives.
+    // The plan leads from the state that the bytes hold to the state after the accepted change.
     ensures planned { IsPlanned disk.now (replace file.now) plan.old plan.new text.new answer.new
         result }
 {
@@ -42,7 +42,7 @@ pub extern "C" fn rlibreg_plan_replace(
     answer.status
 }
 
-/// The plan of a removal: of the library of a name.
+/// Plans to remove the library named `name`.
 #[unsafe(no_mangle)]
 pub extern "C" fn rlibreg_plan_remove(
     alloc: Global,
@@ -52,7 +52,7 @@ pub extern "C" fn rlibreg_plan_remove(
     text: &mut [u8],
     answer: &mut Answer,
 ) -> u32
-    // The plan leads from the state that the bytes hold to the one that acceptance gives.
+    // The plan leads from the state that the bytes hold to the state after the accepted change.
     ensures planned { IsPlanned disk.now (remove name.now) plan.old plan.new text.new answer.new
         result }
 {

@@ -1,12 +1,12 @@
-// The digest of a library's bytes.
+// Computes the digest of a library's bytes.
 ghost use Rattle.std.specs.Prelude.{◌≡◌, ◌≢◌};
 ghost use Rattle.c_answers.specs.Contents.{IsDigestOf, IsDigestAnswered};
 
 use c_answers::{Answer, digest_on};
 use std::alloc::Global;
 
-/// The SHA-256 of the bytes of a library of the registry that the sectors of `disk` hold, as
-/// `rlibreg_file` gives them.
+/// Computes the SHA-256 of the bytes of the library named `name` in the registry that the sectors
+/// of `disk` hold. The bytes are those that `rlibreg_file` returns.
 #[unsafe(no_mangle)]
 pub extern "C" fn rlibreg_digest(
     alloc: Global,
@@ -16,13 +16,14 @@ pub extern "C" fn rlibreg_digest(
     text: &mut [u8],
     answer: &mut Answer,
 ) -> u32
-    // It is that of the library of this name in the state that the bytes of the disk hold.
+    // The digest is that of the library with this name in the state that the bytes of the disk
+    // hold.
     ensures digest { result ≡ 0 → IsDigestOf disk.now name.now digest.new }
     ensures answered { IsDigestAnswered disk.now name.now digest.new text.new answer.new result }
     ensures left { result ≢ 0 → digest.new ≡ digest.old }
     ensures status { answer.new.status ≡ result }
 
-    // S1 is never the answer: what a disk of bytes fails for is want of memory.
+    // The result is never S1 (Device): a disk of bytes fails only for lack of memory.
     ensures device { result ≢ 301 }
 {
     *answer = digest_on(alloc, disk, name, digest, text);

@@ -1,12 +1,13 @@
-// A library's bytes.
+// Returns a library's bytes.
 ghost use Rattle.std.specs.Prelude.{◌≡◌, ◌≢◌};
 ghost use Rattle.c_answers.specs.Contents.{IsFileOf, IsFileAnswered};
 
 use c_answers::{Answer, file_on};
 use std::alloc::Global;
 
-/// The bytes of a library of the registry that the sectors of `disk` hold, as it was installed. No
-/// other library's file is read, and it isn't looked at whether these bytes are a library's.
+/// Returns the bytes of the library named `name` in the registry that the sectors of `disk` hold,
+/// as they were installed. Reads no other library's file, and doesn't test whether the file is a
+/// library.
 #[unsafe(no_mangle)]
 pub extern "C" fn rlibreg_file(
     alloc: Global,
@@ -16,12 +17,13 @@ pub extern "C" fn rlibreg_file(
     text: &mut [u8],
     answer: &mut Answer,
 ) -> u32
-    // They are the bytes of the library of this name in the state that the bytes of the disk hold.
+    // The bytes are those of the library with this name in the state that the bytes of the disk
+    // hold.
     ensures file { result ≡ 0 → IsFileOf disk.now name.now bytes.new answer.new }
     ensures answered { IsFileAnswered disk.now name.now bytes.new text.new answer.new result }
     ensures status { answer.new.status ≡ result }
 
-    // S1 is never the answer: what a disk of bytes fails for is want of memory.
+    // The result is never S1 (Device): a disk of bytes fails only for lack of memory.
     ensures device { result ≢ 301 }
 {
     *answer = file_on(alloc, disk, name, bytes, text);

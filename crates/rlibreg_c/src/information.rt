@@ -1,12 +1,12 @@
-// What is told of a registry as a whole.
+// Returns the numbers of a whole registry.
 ghost use Rattle.std.specs.Prelude.{◌≡◌, ◌≢◌};
 ghost use Rattle.c_answers.specs.Contents.{IsInfoOf, IsInfoAnswered};
 
 use c_answers::{Answer, Information, info_on};
 use std::alloc::Global;
 
-/// What is told of the registry that the sectors of `disk` hold as a whole. No library's file is
-/// read.
+/// Returns the numbers of the whole registry that the sectors of `disk` hold. Reads no library's
+/// file.
 #[unsafe(no_mangle)]
 pub extern "C" fn rlibreg_info(
     alloc: Global,
@@ -15,13 +15,14 @@ pub extern "C" fn rlibreg_info(
     text: &mut [u8],
     answer: &mut Answer,
 ) -> u32
-    // It is told of the state that the bytes hold, and of the sectors that are unused in them.
+    // The numbers are those of the state that the bytes hold, and of the sectors that this state
+    // leaves unused.
     ensures info { result ≡ 0 → IsInfoOf disk.now information.new }
     ensures answered { IsInfoAnswered disk.now information.new text.new answer.new result }
     ensures left { result ≢ 0 → information.new ≡ information.old }
     ensures status { answer.new.status ≡ result }
 
-    // S1 is never the answer: what a disk of bytes fails for is want of memory.
+    // The result is never S1 (Device): a disk of bytes fails only for lack of memory.
     ensures device { result ≢ 301 }
 {
     *answer = info_on(alloc, disk, information, text);

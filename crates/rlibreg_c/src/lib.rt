@@ -1,10 +1,11 @@
-//! The registry for C: calls over the bytes of a disk, with buffers for what they give.
+//! The registry for C: calls over the bytes of a disk, with buffers for their results.
 //!
-//! A call reads the sectors that it is given and writes none. What changes a registry gives a plan:
-//! the writes and syncs that the registry would make, in their order, for whoever has the disk. No
-//! call keeps anything, and none asks more of its arguments than that their memory is there.
+//! A call reads the sectors that it is given and writes none. A call that changes a registry
+//! returns a plan: the writes and syncs that the registry would make, in their order. The caller
+//! carries the plan out on the disk. No call keeps anything after it returns, and none requires
+//! more of its arguments than that their memory exists.
 //!
-//! Here are the exported functions alone: `c_answers` makes what they are answered.
+//! This crate has only the exported functions: `c_answers` computes their answers.
 #![tactic(auto)]
 
 mod bind;

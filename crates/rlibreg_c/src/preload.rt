@@ -1,4 +1,4 @@
-// A choice of the preloads: a plan.
+// Plans new preloads.
 ghost use Rattle.std.specs.Prelude.{◌≡◌, ◌≢◌, ℕ, List};
 ghost use Rattle.requests.specs.Request.{set_preloads};
 ghost use Rattle.c_answers.specs.Answers.{IsLeft, IsPlanOf, IsPreloadAnswered};
@@ -7,8 +7,7 @@ ghost use Rattle.c_answers.specs.Names.{AreNames};
 use c_answers::{Answer, plan_preloads};
 use std::alloc::Global;
 
-/// The plan of a choice of the preloads: of their names in their order, each with a byte 0 behind
-/// it.
+/// Plans to set the preloads. `names` has their names in their order, each with a byte 0 after it.
 #[unsafe(no_mangle)]
 pub extern "C" fn rlibreg_plan_preload(
     alloc: Global,
@@ -18,14 +17,14 @@ pub extern "C" fn rlibreg_plan_preload(
     text: &mut [u8],
     answer: &mut Answer,
 ) -> u32
-    // The plan leads from the state that the bytes hold to the one that acceptance gives.
+    // The plan leads from the state that the bytes hold to the state after the accepted change.
     ensures plan { result ≡ 0 → (list : List (List ℕ)) × AreNames list names.now
         × IsPlanOf disk.now (set_preloads list) plan.new answer.new }
     ensures answered { IsPreloadAnswered disk.now names.now plan.new text.new answer.new result }
     ensures left { IsLeft plan.old plan.new result }
     ensures status { answer.new.status ≡ result }
 
-    // S1 is never the answer: what a disk of bytes fails for is want of memory.
+    // The result is never S1 (Device): a disk of bytes fails only for lack of memory.
     ensures device { result ≢ 301 }
 {
     *answer = plan_preloads(alloc, disk, names, plan, text);

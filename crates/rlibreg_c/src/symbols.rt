@@ -1,13 +1,14 @@
-// What the symbols of a program and its libraries are bound to.
+// Reports what the symbols of a program and its libraries are bound to.
 ghost use Rattle.std.specs.Prelude.{◌≡◌, ◌≢◌};
 ghost use Rattle.c_answers.specs.Bindings.{IsBindingsAnswered, IsBindingsOf, TellsText};
 
 use c_answers::{Answer, bindings_on};
 use std::alloc::Global;
 
-/// What the symbols of a program and its libraries are bound to, over the registry that the sectors
-/// of `disk` hold, as text; or where libraries are missing what was found and what is missing. The
-/// status is that of `rlibreg_bind` at this base: the text is given with 0, B3 and B5.
+/// Reports as a text what the symbols of a program and its libraries are bound to, with the
+/// registry that the sectors of `disk` hold. If libraries are missing, the text states instead
+/// which were found and which are missing. The status is the one that `rlibreg_bind` returns at
+/// this base. There is a text with the statuses 0, B3 (Missing) and B5 (Undefined).
 #[unsafe(no_mangle)]
 pub extern "C" fn rlibreg_bindings(
     alloc: Global,
@@ -18,7 +19,7 @@ pub extern "C" fn rlibreg_bindings(
     text: &mut [u8],
     answer: &mut Answer,
 ) -> u32
-    // It is the text by the state that the bytes of the disk hold.
+    // The text is the one that is defined for the state that the bytes of the disk hold.
     ensures bindings { TellsText result
         → IsBindingsOf disk.now program.now base bytes.new answer.new result }
     ensures answered { IsBindingsAnswered disk.now program.now base bytes.new text.new answer.new
@@ -26,7 +27,7 @@ pub extern "C" fn rlibreg_bindings(
     ensures left { result ≢ 0 → result ≢ 103 → result ≢ 105 → bytes.new ≡ bytes.old }
     ensures status { answer.new.status ≡ result }
 
-    // S1 is never the answer: what a disk of bytes fails for is want of memory.
+    // The result is never S1 (Device): a disk of bytes fails only for lack of memory.
     ensures device { result ≢ 301 }
 {
     *answer = bindings_on(alloc, disk, program, base, bytes, text);

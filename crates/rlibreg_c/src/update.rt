@@ -1,4 +1,4 @@
-// An update: several changes, one plan.
+// Plans an update: several changes in one plan.
 ghost use Rattle.std.specs.Prelude.{◌≡◌, ◌≢◌, List};
 ghost use Rattle.requests.specs.Request.{Request};
 ghost use Rattle.c_answers.specs.Answers.{IsLeft};
@@ -8,8 +8,8 @@ ghost use Rattle.c_answers.specs.Update.{IsUpdateAnswered, IsUpdatePlan};
 use c_answers::{Answer, ChangePlace, plan_update};
 use std::alloc::Global;
 
-/// The plan of an update: of several changes, whose bytes stand in one buffer. All of them are made
-/// or none.
+/// Plans an update with the changes `changes`, whose bytes are in the buffer `bytes`. The plan
+/// makes all of the changes or none.
 #[unsafe(no_mangle)]
 pub extern "C" fn rlibreg_plan_update(
     alloc: Global,
@@ -20,7 +20,7 @@ pub extern "C" fn rlibreg_plan_update(
     text: &mut [u8],
     answer: &mut Answer,
 ) -> u32
-    // The plan leads from the state that the bytes hold to the one after all changes.
+    // The plan leads from the state that the bytes hold to the state after all changes.
     ensures plan { result ≡ 0 → (requests : List Request) × Mean bytes.now changes.now requests
         × IsUpdatePlan disk.now requests plan.new answer.new }
     ensures answered { IsUpdateAnswered disk.now changes.now bytes.now plan.new text.new answer.new
@@ -28,7 +28,7 @@ pub extern "C" fn rlibreg_plan_update(
     ensures left { IsLeft plan.old plan.new result }
     ensures status { answer.new.status ≡ result }
 
-    // S1 is never the answer: what a disk of bytes fails for is want of memory.
+    // The result is never S1 (Device): a disk of bytes fails only for lack of memory.
     ensures device { result ≢ 301 }
 {
     *answer = plan_update(alloc, disk, changes, bytes, plan, text);

@@ -1,12 +1,12 @@
-// Making a disk of version 1 one of version 2: a plan.
+// Plans an upgrade of a disk from version 1 to version 2.
 ghost use Rattle.std.specs.Prelude.{◌≡◌, ◌≢◌};
 ghost use Rattle.c_answers.specs.Answers.{IsLeft, IsUpgradeAnswered, IsUpgradePlan};
 
 use c_answers::{Answer, upgrade_on};
 use std::alloc::Global;
 
-/// The plan of making a registry of version 1 one of version 2; of one of version 2 nothing is
-/// written.
+/// Plans an upgrade of a registry of version 1 to version 2. If the registry already has version 2,
+/// the plan writes nothing.
 #[unsafe(no_mangle)]
 pub extern "C" fn rlibreg_plan_upgrade(
     alloc: Global,
@@ -15,13 +15,14 @@ pub extern "C" fn rlibreg_plan_upgrade(
     text: &mut [u8],
     answer: &mut Answer,
 ) -> u32
-    // A stop leaves the registry of version 1, or the one of version 2, and at the end this.
+    // A stop leaves the registry of version 1 or that of version 2. After the whole plan it leaves
+    // only that of version 2.
     ensures plan { result ≡ 0 → IsUpgradePlan disk.now plan.new answer.new }
     ensures answered { IsUpgradeAnswered disk.now plan.new text.new answer.new result }
     ensures left { IsLeft plan.old plan.new result }
     ensures status { answer.new.status ≡ result }
 
-    // S1 is never the answer: what a disk of bytes fails for is want of memory.
+    // The result is never S1 (Device): a disk of bytes fails only for lack of memory.
     ensures device { result ≢ 301 }
 {
     *answer = upgrade_on(alloc, disk, plan, text);

@@ -1,4 +1,4 @@
--- For readers and callers: the current root of two sectors is one, and what a commit's write makes of it.
+-- For readers and callers: two sectors have at most one current root, and a commit's write makes the next root current.
 use Rattle.std.proofs.Common.{◌≡◌, ℕ, ◌+◌, ◌<◌, ◌≤◌, ◌%◌, List, ltb, sym, ap, subst, ◌∙◌, ⊎_elim, inl, inr, arith}
 use Rattle.std.proofs.lemmas.Bool.{cases_lt, lt-ltb, le-ltb, cond-true, cond-false}
 use Rattle.roots.specs.declared.root.Root.{Root}
@@ -16,21 +16,21 @@ one_current s0 s1 a b (inr (even, odd, spells0, spells1, successive, keeps, is))
     let same1 : odd ≡ odd' = one_root s1 odd odd' spells1 spells1' in
     is ∙ ap (λ r. later r odd) same0 ∙ ap (later even') same1 ∙ sym is'
 
--- the later of two roots is one of them, by their generations
+-- the later of two roots is the one with the greater generation
 later_first : (a b : Root) → b.generation ≤ a.generation → later a b ≡ a
 later_first a b le = cond-false (ltb a.generation b.generation) b a (le-ltb a.generation b.generation le)
 
 later_second : (a b : Root) → a.generation < b.generation → later a b ≡ b
 later_second a b lt = cond-true (ltb a.generation b.generation) b a (lt-ltb a.generation b.generation lt)
 
--- and the earlier one is the other
+-- the earlier of two roots is the one with the lesser generation
 earlier_first : (a b : Root) → a.generation < b.generation → earlier a b ≡ a
 earlier_first a b lt = cond-true (ltb a.generation b.generation) a b (lt-ltb a.generation b.generation lt)
 
 earlier_second : (a b : Root) → b.generation ≤ a.generation → earlier a b ≡ b
 earlier_second a b le = cond-false (ltb a.generation b.generation) a b (le-ltb a.generation b.generation le)
 
--- a current root stands in the sector of its generation
+-- a current root is in the sector of its generation
 pub current-spelt_even : (sector0 sector1 : List ℕ) (root : Root) → IsCurrent sector0 sector1 root → slot_of root.generation ≡ 0 → SpellsRoot sector0 root
 current-spelt_even s0 s1 root (inl alone) slot = alone.0
 current-spelt_even s0 s1 root (inr (even, odd, spells0, spells1, successive, keeps, is)) slot = ⊎_elim
@@ -49,7 +49,7 @@ current-spelt_odd s0 s1 root (inr (even, odd, spells0, spells1, successive, keep
     absurd (omega (arith, slot, ap (λ (r : Root). r.generation % 2) even_is, successive.parity0)))
     (cases_lt even.generation odd.generation)
 
--- The root of the next generation, written to the other sector, is current where it may follow by its version.
+-- The root of the next generation, written to the other sector, is current if it may follow the current root by its version.
 pub current-next_odd : (sector0 sector1 written : List ℕ) (root next : Root) → IsCurrent sector0 sector1 root → slot_of root.generation ≡ 0
     → next.generation ≡ root.generation + 1 → KeepsVersion root next → SpellsRoot written next → IsCurrent sector0 written next
 current-next_odd s0 s1 written root next current slot follows keeps spells =

@@ -39,7 +39,7 @@ test_from_keeps One newer keeps = refl
 test_from_keeps Two One keeps = let gone : Two ≡ One = keeps refl in absurd cc
 test_from_keeps Two Two keeps = refl
 
--- an answer that is Ok where a test holds
+-- if an answer that depends on a test is Ok, the test holds
 ok_from_test : (test : Bool) (a b : Root) → ◌≡◌ {A = Answer} (cond test (Ok a) (Err Damaged)) (Ok b) → (test ≡ true) × (a ≡ b)
 ok_from_test true a b e = (refl, cc)
 ok_from_test false a b e = absurd cc
@@ -87,7 +87,7 @@ chosen_from_current s0 s1 (Good even) Bad is0 is1 root (inr (even', odd', spells
 chosen_from_current s0 s1 Empty slot1 is0 is1 root (inr (even', odd', spells0, spells1, successive, keeps, is)) = absurd (is0 (spelt_has_magic s0 even' spells0))
 chosen_from_current s0 s1 Bad slot1 is0 is1 root (inr (even', odd', spells0, spells1, successive, keeps, is)) = absurd (is0.1 even' spells0)
 
--- no root was ever written where neither sector has the magic
+-- if neither sector has the magic, the disk isn't formatted
 pub not_formatted : (sector0 sector1 : List ℕ) (slot0 slot1 : Slot) → IsSlotOf sector0 slot0 → IsSlotOf sector1 slot1
     → LacksMagic sector0 → LacksMagic sector1 → chosen slot0 slot1 ≡ Err NotFormatted
 not_formatted s0 s1 Empty Empty is0 is1 lacks0 lacks1 = refl
@@ -96,7 +96,7 @@ not_formatted s0 s1 Empty Bad is0 is1 lacks0 lacks1 = absurd (lacks1 is1.0)
 not_formatted s0 s1 (Good root) slot1 is0 is1 lacks0 lacks1 = absurd (lacks0 (spelt_has_magic s0 root is0))
 not_formatted s0 s1 Bad slot1 is0 is1 lacks0 lacks1 = absurd (lacks0 is0.0)
 
--- a test never answers NotFormatted
+-- an answer that depends on a test is never NotFormatted
 not_by_test : (test : Bool) (a : Root) → ◌≡◌ {A = Answer} (cond test (Ok a) (Err Damaged)) (Err NotFormatted) → ⊥
 not_by_test true a e = absurd cc
 not_by_test false a e = absurd cc
@@ -111,7 +111,7 @@ lack_from_refused s0 s1 Empty (Good other) is0 is1 e = absurd cc
 lack_from_refused s0 s1 Empty Bad is0 is1 e = absurd cc
 lack_from_refused s0 s1 Bad slot1 is0 is1 e = absurd cc
 
--- what is newer, of two roots in their slots that are one commit apart
+-- the newer of two roots that are in their slots and one commit apart
 pub odd_is_newer : (even odd : Root) (answer : Answer) → slot_of even.generation ≡ 0 → slot_of odd.generation ≡ 1 → abs_diff even.generation odd.generation ≡ 1 → even.generation < odd.generation
     → answer ≡ cond (keeps_version (version_of even) (version_of odd)) (Ok odd) (Err Damaged) → answer ≡ chosen (Good even) (Good odd)
 odd_is_newer even odd answer slot0 slot1 apart newer is = rw (slot0, slot1, apart, lt-ltb even.generation odd.generation newer) is

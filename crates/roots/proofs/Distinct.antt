@@ -1,4 +1,4 @@
--- Values that `==` tells apart, and the distinct numbers that they are.
+-- Values that `==` distinguishes, and distinct numbers.
 use Rattle.std.proofs.Common.{◌≡◌, ℕ, ◌+◌, ◌<◌, List, Bool, true, false, eqb, take, length, get_or, sym, ◌∙◌, ap, ap₂, subst, arith, true≢false, below_more, length-take, get_or-take}
 use Rattle.std.proofs.lemmas.List.{get_or_default}
 use Rattle.std.specs.Prelude.{AllPairs}
@@ -6,7 +6,7 @@ use Rattle.std.specs.List.{IsAnyAnswer}
 use Rattle.std.proofs.lemmas.Bool.{eqb-false}
 use Rattle.extents.specs.Extent.{AreDistinct}
 
--- ---- the value at i, beside those before it
+-- The value at position `i`, compared with the values before it.
 
 module _ {X : Type 0} (E : X → X → Bool) (xs : List X) (i : ℕ) (x : X) (same : x ≡ get_or xs i x) (within : i < length xs) where
   test_before : (j : ℕ) (d : X) → j < i → E (get_or (take i xs) j d) x ≡ E (get_or xs j d) (get_or xs i d)
@@ -22,7 +22,7 @@ module _ {X : Type 0} (E : X → X → Bool) (xs : List X) (i : ℕ) (x : X) (sa
       let less : found.0 < i = omega (arith, found.1, length-take i xs) in
       true≢false (sym (found.2 x) ∙ test_before found.0 x less ∙ apart found.0 i x less within)
 
--- ---- the used numbers of a list, which a split gave
+-- if `==` distinguishes all used numbers of a list, the used numbers are distinct
 
 pub distinct_front : (ns used : List ℕ) (n count : ℕ) → used ≡ take n ns → n ≡ count → AllPairs (λ a b. eqb a b ≡ false) used → AreDistinct (take count ns)
 distinct_front ns used n count front same tests =

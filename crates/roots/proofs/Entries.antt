@@ -1,4 +1,4 @@
--- The fields of an entry's spelling are the entry's, so no two entries share one.
+-- An entry's sector has the entry's fields, so it encodes no other entry.
 use Rattle.std.proofs.Common.{◌≡◌, ℕ, ◌<◌, ◌^◌, List, [], ◌++◌, length, take, drop, refl, ap, sym, ◌∙◌, append_assoc, arith, length-append}
 use Rattle.std.specs.Prelude.{codes}
 use Rattle.std.specs.List.{flat_map}
@@ -12,7 +12,7 @@ use Rattle.roots.specs.Entry.{IsDataExtent, no_extent, extent_bytes, entry_bytes
 use Rattle.roots.specs.inside.Reading.{number_at, values_at, extent_of, entry_of}
 use Rattle.roots.proofs.Pieces.{IsReadAgain, values_at-pieces, All-uses_first}
 
--- an extent of numbers of 32 bits
+-- an extent whose numbers have 32 bits
 record IsNarrow (extent : Extent) : Type 0 where
   start : extent.start < 2 ^ 32
   count : extent.count < 2 ^ 32
@@ -53,7 +53,7 @@ same_entry : (entry : Entry) (file_length name_length extent_count : ℕ) (name 
     → ◌≡◌ {A = Entry} (record { file_length = file_length; name_length = name_length; extent_count = extent_count; name = name; extents = extents }) entry
 same_entry entry f n c name extents e1 e2 e3 e4 e5 = rw (e1, e2, e3, e4, e5) refl
 
--- the fields of an entry's spelling are the entry's
+-- the fields of an entry's sector are the entry's
 entry_of-entry_bytes : (entry : Entry) → EntryHasSpelling entry → entry_of (entry_bytes entry) ≡ entry
 unfolding entry_of entry_bytes
 entry_of-entry_bytes entry fits =
@@ -62,11 +62,11 @@ entry_of-entry_bytes entry fits =
     let extent_count : number_at w16 10 (entry_bytes entry) ≡ entry.extent_count = from_le_bytes-to_le_bytes_2 entry.extent_count (omega (arith, fits.extents.listed.room)) in
     same_entry entry _ _ _ _ _ file_length name_length extent_count (name_again entry fits) (extents_again entry fits)
 
--- two entries with one spelling are one
+-- two entries that the same sector encodes are equal
 pub one_entry : (bytes : List ℕ) (a b : Entry) → SpellsEntry bytes a → SpellsEntry bytes b → a ≡ b
 one_entry bytes a b first second =
     sym (entry_of-entry_bytes a first.has_spelling) ∙ ap entry_of (sym first.spelling ∙ second.spelling) ∙ entry_of-entry_bytes b second.has_spelling
 
--- a sector that spells an entry has its fields
+-- a sector that encodes an entry has its fields
 pub entry_of-spelt : (bytes : List ℕ) (entry : Entry) → SpellsEntry bytes entry → entry_of bytes ≡ entry
 entry_of-spelt bytes entry spells = ap entry_of spells.spelling ∙ entry_of-entry_bytes entry spells.has_spelling

@@ -1,4 +1,4 @@
--- The list of a root, as its code writes it behind the fields that stand before it.
+-- The list of a root, as the code writes it after the fields before it.
 use Rattle.std.proofs.Common.{◌≡◌, ℕ, List, ◌++◌, ap, ◌∙◌, append_assoc}
 
 -- in three fields, as in version 1

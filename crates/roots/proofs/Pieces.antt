@@ -1,4 +1,4 @@
--- Lists of values that are spelt one after the other, each in so many bytes: what is spelt is read again.
+-- Lists of values that are encoded one after the other, each in a fixed number of bytes: what is encoded is read back.
 use Rattle.std.proofs.Common.{◌≡◌, ℕ, zero, suc, ◌+◌, ◌*◌, ◌<◌, ◌≤◌, List, [], ◌∷◌, ◌++◌, length, get_or, take, drop, ap, sym, subst, ◌∙◌, append_assoc, arith, length-append}
 use Rattle.std.specs.Prelude.{All}
 use Rattle.std.specs.List.{flat_map}
@@ -8,7 +8,7 @@ use Rattle.std.proofs.lemmas.List.FromFn.{fill_by_all}
 use Rattle.roots.specs.Fields.{UsesFirst}
 use Rattle.roots.specs.inside.Reading.{values_at}
 
--- each value that fits is spelt in so many bytes, and read again from the front of any bytes
+-- each value that fits is encoded in `step` bytes, and read back from the front of any bytes
 pub record IsReadAgain {A : Type 0} (read : List ℕ → A) (spell : A → List ℕ) (step : ℕ) (Fits : A → Type 0) : Type 0 where
   pub len : (x : A) → length (spell x) ≡ step
   pub again : (x : A) (rest : List ℕ) → Fits x → read (spell x ++ rest) ≡ x
@@ -31,7 +31,7 @@ drop-pieces spell step len (suc k) (x ∷ xs) rest inside =
     ∙ ap (drop (step * k)) first
     ∙ drop-pieces spell step len k xs rest (omega arith)
 
--- a list that is spelt from byte `at` on
+-- a list that is encoded from byte `at` on is read back
 pub values_at-pieces : {A : Type 0} (read : List ℕ → A) (spell : A → List ℕ) (step : ℕ) (Fits : A → Type 0) → IsReadAgain read spell step Fits
     → (front : List ℕ) (xs : List A) (rest : List ℕ) (n at : ℕ) (d : A) → length front ≡ at → length xs ≡ n → All Fits xs
     → values_at read step n at (front ++ flat_map spell xs ++ rest) ≡ xs
@@ -47,7 +47,7 @@ values_at-pieces read spell step Fits law front xs rest n at d front_len len fit
     ap (λ ys. flat_map spell ys ++ rest) (drop_more xs k d inside) ∙ append_assoc (spell (get_or xs k d)) (flat_map spell (drop (k + 1) xs)) rest in
     sym (ap read (here ∙ split) ∙ law.again (get_or xs k d) (flat_map spell (drop (k + 1) xs) ++ rest) (All-get_or Fits xs k d inside fits))))
 
--- what holds of each used value and of an unused one holds of all
+-- what holds for each used value and for an unused one holds for all
 pub All-uses_first : {A : Type 0} (places count : ℕ) (Fits Q : A → Type 0) (unused : A) (values : List A) → UsesFirst places count Fits unused values
     → ((x : A) → Fits x → Q x) → Q unused → All Q values
 All-uses_first places count Fits Q unused values uses weaker none =

@@ -7,7 +7,7 @@ use Rattle.extents.specs.Limits.{root_sectors}
 use Rattle.extents.specs.Extent.{AreDistinct}
 use Rattle.roots.specs.Fields.{zeros, UsesFirst, ListsSectors}
 
--- values that fit, with the unused one in the places behind them
+-- values that fit, followed by unused values, use the first places
 pub uses_first : {A : Type 0} (places : ℕ) (values : List A) (unused : A) (Fits : A → Type 0) → length values ≤ places → All Fits values
     → UsesFirst places (length values) Fits unused (values ++ replicate (places - length values) unused)
 uses_first {A} places values unused Fits room fits =
@@ -19,7 +19,7 @@ uses_first {A} places values unused Fits room fits =
       rest = subst (All (λ value. value ≡ unused)) (sym (drop_at values rest (length values) refl)) (All-replicate (λ value. value ≡ unused) (places - length values) unused refl);
     }
 
--- distinct sectors before `end`, with zeros behind them
+-- distinct sectors before `end`, followed by zeros, are a list of sectors in its places
 pub lists_sectors : (places end : ℕ) (sectors : List ℕ) → length sectors ≤ places → All (λ sector. (root_sectors ≤ sector) × (sector < end)) sectors → AreDistinct sectors
     → ListsSectors places (length sectors) end (sectors ++ zeros (places - length sectors))
 lists_sectors places end sectors room inside distinct = record {

@@ -1,4 +1,4 @@
--- For callers: the roots that list some entries or catalogues, and some preloads, and when they have a spelling.
+-- For callers: the roots that list some entries or catalogues, and some preloads, and when they can be encoded.
 use Rattle.std.proofs.Common.{◌≡◌, ℕ, ◌-◌, ◌<◌, ◌≤◌, List, length, refl, sym, subst, ◌∙◌, arith}
 use Rattle.std.specs.Prelude.{All}
 use Rattle.std.proofs.lemmas.List.{take_at, length-take-le}
@@ -47,12 +47,12 @@ root_over_catalogues-has_spelling generation sectors libraries catalogues preloa
   };
 }
 
--- What a root of version 1 lists are as many entries as it counts libraries,
+-- A root of version 1 lists as many entries as it counts libraries.
 places_1 : (libraries disk : ℕ) (list : EntryList) → ListFits libraries disk list → version_of_list list ≡ One → (length (used_places libraries list) ≡ libraries) × (libraries ≤ most_root_entries)
 places_1 libraries disk (InRoot sectors) fits is = (length-take-le libraries sectors (omega (arith, fits.listed.size, fits.listed.room)), fits.listed.room)
 places_1 libraries disk (InCatalogues count sectors) fits is = absurd cc
 
--- and one of version 2 as many catalogues as list them.
+-- A root of version 2 lists as many catalogues as are needed for its libraries.
 places_2 : (libraries disk : ℕ) (list : EntryList) → ListFits libraries disk list → version_of_list list ≡ Two
     → (length (used_places libraries list) ≡ catalogues_for libraries) × (libraries ≤ most_libraries)
 places_2 libraries disk (InRoot sectors) fits is = absurd cc

@@ -1,4 +1,4 @@
--- The fields of a root's spelling are the root's, so no two roots share one.
+-- A root's sector has the root's fields, so it encodes no other root.
 use Rattle.std.proofs.Common.{◌≡◌, ℕ, ◌<◌, ◌≤◌, ◌^◌, List, [], ◌∷◌, ◌++◌, length, take, drop, refl, ap, sym, subst, ◌∙◌, arith, length-append}
 use Rattle.std.specs.Int.{w16, w32, w64, to_le_bytes, from_le_bytes}
 use Rattle.std.proofs.lemmas.List.{drop_at}
@@ -24,7 +24,7 @@ eight : (list : EntryList) → length (magic_of list) ≡ 8
 eight (InRoot sectors) = refl
 eight (InCatalogues count sectors) = refl
 
--- a root counts so many libraries that its positions are numbers of 16 bits
+-- a root counts so few libraries that its positions are numbers of 16 bits
 count_fits : (libraries disk : ℕ) (list : EntryList) → ListFits libraries disk list → libraries ≤ 2048
 count_fits libraries disk (InRoot sectors) fits = omega (arith, fits.listed.room)
 count_fits libraries disk (InCatalogues count sectors) fits = fits.few
@@ -59,7 +59,7 @@ front_len root fits = omega (
   fits.preloads.listed.size,
 )
 
--- the spelling of a root with the magic of one list and the bytes of another
+-- the sector of a root, but with the magic of one list and the bytes of another list
 abbrev spelt_by : EntryList → Root → EntryList → List ℕ
 spelt_by version root list =
     magic_of version ++ to_le_bytes w64 root.generation ++ to_le_bytes w32 root.sectors ++ to_le_bytes w16 root.library_count
@@ -69,7 +69,7 @@ spelt : (root : Root) (list : EntryList) → root.list ≡ list → root_bytes r
 unfolding root_bytes
 spelt root list is = ap (λ l. spelt_by l root l) is
 
--- a list of sectors of entries is read again,
+-- a list of sectors of entries is read back
 entries_again : (root : Root) (sectors : List ℕ) → root.list ≡ InRoot sectors → RootHasSpelling root → values_at (from_le_bytes w32) 4 100 64 (root_bytes root) ≡ sectors
 unfolding root_bytes
 entries_again root sectors is fits =
@@ -80,7 +80,7 @@ entries_again root sectors is fits =
     ap (values_at (from_le_bytes w32) 4 100 64) regrouped
     ∙ sectors_again (front root ++ zeros 8) sectors (zeros 48) 100 root.library_count root.sectors 64 len (omega (arith, fits.sectors)) listed
 
--- and one of catalogues,
+-- a list of sectors of catalogues is read back
 catalogues_again : (root : Root) (count : ℕ) (sectors : List ℕ) → root.list ≡ InCatalogues count sectors → RootHasSpelling root → values_at (from_le_bytes w32) 4 32 64 (root_bytes root) ≡ sectors
 unfolding root_bytes
 catalogues_again root count sectors is fits =
@@ -92,7 +92,7 @@ catalogues_again root count sectors is fits =
     ap (values_at (from_le_bytes w32) 4 32 64) regrouped
     ∙ sectors_again before sectors (zeros 320) 32 count root.sectors 64 len (omega (arith, fits.sectors)) fit.listed
 
--- with their count
+-- the number of these catalogues is read back
 count_again : (root : Root) (count : ℕ) (sectors : List ℕ) → root.list ≡ InCatalogues count sectors → RootHasSpelling root → number_at w16 56 (root_bytes root) ≡ count
 unfolding root_bytes
 count_again root count sectors is fits =
@@ -101,7 +101,7 @@ count_again root count sectors is fits =
     drop_at (front root) (list_bytes root.list) 56 (front_len root fits) ∙ ap list_bytes is in
     ap (from_le_bytes w16) behind ∙ from_le_bytes-to_le_bytes_2 count (omega (arith, fit.listed.listed.room))
 
--- the list of a root's spelling is the root's
+-- the list in a root's sector is the root's
 list_again : (root : Root) (list : EntryList) → root.list ≡ list → RootHasSpelling root → list_of (root_bytes root) ≡ root.list
 unfolding list_of
 list_again root (InRoot sectors) is fits =
@@ -123,7 +123,7 @@ same_root : (root : Root) (generation sectors library_count preload_count : ℕ)
     → ◌≡◌ {A = Root} (record { generation = generation; sectors = sectors; library_count = library_count; preload_count = preload_count; preloads = preloads; list = list }) root
 same_root root g s l p ps es e1 e2 e3 e4 e5 e6 = rw (e1, e2, e3, e4, e5, e6) refl
 
--- the fields of a root's spelling are the root's, whatever its eight bytes of magic are, where its list is
+-- if the list is the root's, the fields of a root's sector are the root's, whatever the eight bytes of the magic are
 fields_again : (root : Root) (a b c d e f g h : ℕ)
     → root_bytes root ≡ (a ∷ b ∷ c ∷ d ∷ e ∷ f ∷ g ∷ h ∷ []) ++ to_le_bytes w64 root.generation ++ to_le_bytes w32 root.sectors
     ++ to_le_bytes w16 root.library_count ++ to_le_bytes w16 root.preload_count ++ numbers w16 root.preloads ++ list_bytes root.list
@@ -138,7 +138,7 @@ fields_again root a b c d e f g h same fits list =
     let preload_count : number_at w16 22 bytes ≡ root.preload_count = ap (number_at w16 22) same ∙ from_le_bytes-to_le_bytes_2 root.preload_count (omega (arith, fits.preloads.listed.room)) in
     same_root root _ _ _ _ _ _ generation sectors library_count preload_count (preloads_again root fits) list
 
--- so they are by its magic
+-- the fields of a root's sector are the root's, whichever magic the root has
 by_magic : (root : Root) (list : EntryList) → root.list ≡ list → RootHasSpelling root → root_of (root_bytes root) ≡ root
 by_magic root (InRoot places) is fits =
     fields_again root 82 76 73 66 82 69 71 49 (spelt root (InRoot places) is ∙ ap (λ l. spelt_by (InRoot places) root l) (sym is)) fits (list_again root (InRoot places) is fits)
@@ -150,7 +150,7 @@ by_magic root (InCatalogues count places) is fits =
 root_of-root_bytes : (root : Root) → RootHasSpelling root → root_of (root_bytes root) ≡ root
 root_of-root_bytes root fits = by_magic root root.list refl fits
 
--- a spelling begins with a magic
+-- a root's sector begins with a magic
 begins_with : (root : Root) (list : EntryList) → root.list ≡ list → HasMagic (root_bytes root)
 begins_with root (InRoot places) is =
     let first : take 8 (root_bytes root) ≡ codes "RLIBREG1" = ap (take 8) (spelt root (InRoot places) is) in
@@ -162,11 +162,11 @@ begins_with root (InCatalogues count places) is =
 pub spelt_has_magic : (bytes : List ℕ) (root : Root) → SpellsRoot bytes root → HasMagic bytes
 spelt_has_magic bytes root spells = subst HasMagic (sym spells.spelling) (begins_with root root.list refl)
 
--- two roots with one spelling are one
+-- two roots that the same sector encodes are equal
 pub one_root : (bytes : List ℕ) (a b : Root) → SpellsRoot bytes a → SpellsRoot bytes b → a ≡ b
 one_root bytes a b first second =
     sym (root_of-root_bytes a first.has_spelling) ∙ ap root_of (sym first.spelling ∙ second.spelling) ∙ root_of-root_bytes b second.has_spelling
 
--- a sector that spells a root has its fields
+-- a sector that encodes a root has its fields
 pub root_of-spelt : (bytes : List ℕ) (root : Root) → SpellsRoot bytes root → root_of bytes ≡ root
 root_of-spelt bytes root spells = ap root_of spells.spelling ∙ root_of-root_bytes root spells.has_spelling

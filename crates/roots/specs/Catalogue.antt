@@ -1,4 +1,4 @@
--- A catalogue: which catalogues have a spelling, and the sector that spells one.
+-- A catalogue: which catalogues can be encoded, and the sector that encodes one.
 use Rattle.std.specs.Prelude.{◌≡◌, ℕ, ◌-◌, ◌<◌, ◌≤◌, List, ◌++◌, length, take, codes, All}
 use Rattle.std.specs.Int.{w16, w32, to_le_bytes}
 use Rattle.extents.specs.Limits.{root_sectors, most_sectors}
@@ -16,13 +16,13 @@ catalogue_bytes catalogue =
     ++ numbers w32 catalogue.entry_sectors  -- 16
     ++ zeros 240  -- 272
 
--- The limits of the fields: a catalogue has a spelling exactly where it keeps to them. It lists at
--- least one entry, and names no disk, so its sectors are those of the largest one.
+-- The limits of the fields: a catalogue can be encoded exactly if it keeps to them. It lists at least one entry. It
+-- doesn't name its disk, so its sectors may be any of the largest disk.
 pub record CatalogueHasSpelling (catalogue : Catalogue) : Type 0 where
   pub some : 1 ≤ catalogue.count
   pub sectors : ListsSectors most_catalogue_entries catalogue.count most_sectors catalogue.entry_sectors
 
--- a sector spells a catalogue
+-- a sector encodes a catalogue
 pub record SpellsCatalogue (bytes : List ℕ) (catalogue : Catalogue) : Type 0 where
   pub has_spelling : CatalogueHasSpelling catalogue
   pub spelling : bytes ≡ catalogue_bytes catalogue
@@ -31,14 +31,15 @@ pub record SpellsCatalogue (bytes : List ℕ) (catalogue : Catalogue) : Type 0 w
 abbrev pub catalogued_sectors : Catalogue → List ℕ
 catalogued_sectors catalogue = take catalogue.count catalogue.entry_sectors
 
--- the catalogue that lists these, with zeros in the places behind them
+-- the catalogue that lists these sectors, with zeros in the places after them
 abbrev pub catalogue_of_sectors : List ℕ → Catalogue
 catalogue_of_sectors sectors = record {
   count = length sectors;
   entry_sectors = sectors ++ zeros (most_catalogue_entries - length sectors);
 }
 
--- What a list of sectors has to keep to, so that its catalogue has a spelling.
+-- The sectors can be listed by one catalogue: there are 1 to 64, they lie after the roots on the largest disk, and none
+-- occurs twice.
 pub record SectorsFit (sectors : List ℕ) : Type 0 where
   pub some : 1 ≤ length sectors
   pub few : length sectors ≤ most_catalogue_entries

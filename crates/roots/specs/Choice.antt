@@ -12,7 +12,7 @@ use Rattle.roots.specs.declared.choice.ChooseRefusal.{ChooseRefusal}
 use Rattle.roots.specs.declared.choice.ChooseRefusal.TheVariants.{NotFormatted, Damaged}
 use Rattle.roots.specs.Root.{version_of, LacksMagic, SpellsRoot}
 
--- the sector that holds the root of a generation: 0 for even ones, 1 for odd ones
+-- the sector that holds the root of a generation: 0 for even generations, 1 for odd ones
 abbrev pub slot_of : ℕ → ℕ
 slot_of generation = generation % root_sectors
 
@@ -33,29 +33,30 @@ abbrev pub keeps_version : Version → Version → Bool
 keeps_version Two One = false
 keeps_version older newer = true
 
--- whether two roots, each in its sector, are one commit apart, with versions that may follow so
+-- whether two roots, each in its sector, are one commit apart, and the later root's version may follow the earlier
+-- root's
 abbrev pub are_in_row : Root → Root → Bool
 are_in_row even odd =
     are_neighbours even.generation odd.generation && keeps_version (version_of (earlier even odd)) (version_of (later even odd))
 
--- the choice, row by row
+-- the choice, as a table
 abbrev pub chosen : Slot → Slot → Result Root ChooseRefusal
 chosen (Good even) (Good odd) = if are_in_row even odd then Ok (later even odd) else Err Damaged
 chosen (Good root) Empty = if root.generation == 0 then Ok root else Err Damaged
 chosen Empty Empty = Err NotFormatted
 chosen slot0 slot1 = Err Damaged
 
--- an even and an odd generation, one commit apart
+-- an even and an odd generation that are one commit apart
 pub record AreSuccessive (even odd : ℕ) : Type 0 where
   pub parity0 : slot_of even ≡ 0
   pub parity1 : slot_of odd ≡ 1
   pub apart : (odd ≡ even + 1) ⊎ (even ≡ odd + 1)
 
--- the newer root is of version 1 only where the older one is
+-- the newer root is of version 1 only if the older one is
 abbrev pub KeepsVersion : Root → Root → Type 0
 KeepsVersion older newer = version_of newer ≡ One → version_of older ≡ One
 
--- the root that is current in sectors 0 and 1: generation 0 alone, or the later of two neighbours
+-- the root that is current in sectors 0 and 1: generation 0 by itself, or the later of two neighbours
 abbrev pub IsCurrent : List ℕ → List ℕ → Root → Type 0
 IsCurrent sector0 sector1 root =
     (SpellsRoot sector0 root × (root.generation ≡ 0) × LacksMagic sector1)

@@ -1,4 +1,4 @@
--- An entry: which entries have a spelling, and the sector that spells one.
+-- An entry: which entries can be encoded, and the sector that encodes one.
 use Rattle.std.specs.Prelude.{◌≡◌, ◌≢◌, ℕ, ◌+◌, ◌-◌, ◌≤◌, List, ◌++◌, length, take, replicate, codes, sum_by}
 use Rattle.std.specs.List.{flat_map}
 use Rattle.std.specs.Int.{w16, w32, to_le_bytes, IsInRange, div_ceil}
@@ -19,11 +19,11 @@ pub record IsDataExtent (extent : Extent) : Type 0 where
   pub filled : 1 ≤ extent.count
   pub high : extent.start + extent.count ≤ most_sectors
 
--- what an unused place for an extent holds
+-- the content of an unused place for an extent
 abbrev pub no_extent : Extent
 no_extent = record { start = 0; count = 0 }
 
--- an extent as two numbers
+-- an extent encoded as two numbers
 abbrev pub extent_bytes : Extent → List ℕ
 extent_bytes extent = to_le_bytes w32 extent.start ++ to_le_bytes w32 extent.count
 
@@ -38,29 +38,29 @@ entry_bytes entry =
     ++ entry.name  -- 16
     ++ flat_map extent_bytes entry.extents  -- 256
 
--- places for the bytes of a name, which isn't empty
+-- the name isn't empty, and its bytes fit into their places
 pub record NameFits (entry : Entry) : Type 0 where
   pub some : 1 ≤ entry.name_length
   pub listed : UsesFirst most_name_bytes entry.name_length IsNameByte 0 entry.name
 
--- places for the extents, which have the sectors of the file, the last one perhaps in part
+-- the extents fit into their places, and have exactly the sectors of the file; the last sector may be used in part
 pub record ExtentsFit (entry : Entry) : Type 0 where
   pub some : 1 ≤ entry.extent_count
   pub listed : UsesFirst most_extents entry.extent_count IsDataExtent no_extent entry.extents
   pub sum : sum_by (λ extent. extent.count) (take entry.extent_count entry.extents) ≡ div_ceil entry.file_length sector_bytes
 
--- The limits of the fields: an entry has a spelling exactly where it keeps to them.
+-- The limits of the fields: an entry can be encoded exactly if it keeps to them.
 pub record EntryHasSpelling (entry : Entry) : Type 0 where
   pub file_length : IsInRange least_file_bytes most_file_bytes entry.file_length
   pub name : NameFits entry
   pub extents : ExtentsFit entry
 
--- a sector spells an entry
+-- a sector encodes an entry
 pub record SpellsEntry (bytes : List ℕ) (entry : Entry) : Type 0 where
   pub has_spelling : EntryHasSpelling entry
   pub spelling : bytes ≡ entry_bytes entry
 
--- the name that an entry has
+-- the name in an entry
 abbrev pub name_of : Entry → List ℕ
 name_of entry = take entry.name_length entry.name
 
@@ -68,7 +68,7 @@ name_of entry = take entry.name_length entry.name
 abbrev pub extents_of : Entry → List Extent
 extents_of entry = take entry.extent_count entry.extents
 
--- the entry of a file, with zeros in the places behind the name and the extents
+-- the entry of a file, with zeros in the places after the name and after the extents
 abbrev pub entry_of_file : List ℕ → ℕ → List Extent → Entry
 entry_of_file name file_length extents = record {
   file_length = file_length;

@@ -1,11 +1,11 @@
--- What sectors are made of: numbers, zeros, and lists in a fixed number of places.
+-- The parts of sectors: numbers, zeros, and lists in a fixed number of places.
 use Rattle.std.specs.Prelude.{◌≡◌, ℕ, ◌<◌, ◌≤◌, List, length, take, drop, replicate, All}
 use Rattle.std.specs.List.{flat_map}
 use Rattle.std.specs.Int.{Width, to_le_bytes}
 use Rattle.extents.specs.Limits.{root_sectors}
 use Rattle.extents.specs.Extent.{AreDistinct}
 
--- so many zero bytes
+-- n zero bytes
 abbrev pub zeros : ℕ → List ℕ
 zeros n = replicate n 0
 
@@ -13,14 +13,15 @@ zeros n = replicate n 0
 abbrev pub numbers : Width → List ℕ → List ℕ
 numbers w ns = flat_map (to_le_bytes w) ns
 
--- Of so many places the first `count` are used, each of them fits, and the others hold `unused`.
+-- Of `places` places the first `count` are used, each value in them fits, and the others hold `unused`.
 pub record UsesFirst {A : Type 0} (places count : ℕ) (Fits : A → Type 0) (unused : A) (values : List A) : Type 0 where
   pub size : length values ≡ places
   pub room : count ≤ places
   pub used : All Fits (take count values)
   pub rest : All (λ value. value ≡ unused) (drop count values)
 
--- A list of `count` sectors in so many places: behind the root sectors, before `end`, none twice.
+-- A list of `count` sectors in `places` places. The sectors lie after the root sectors and before `end`, and none
+-- occurs twice.
 pub record ListsSectors (places count end : ℕ) (sectors : List ℕ) : Type 0 where
   pub listed : UsesFirst places count (λ sector. (root_sectors ≤ sector) × (sector < end)) 0 sectors
   pub distinct : AreDistinct (take count sectors)

@@ -1,4 +1,4 @@
--- A root, of version 1 or 2: which roots have a spelling, and the sector that spells one.
+-- A root, of version 1 or 2: which roots can be encoded, and the sector that encodes one.
 use Rattle.std.specs.Prelude.{◌≡◌, ℕ, ◌-◌, ◌<◌, ◌≤◌, ◌^◌, List, [], ◌∷◌, ◌++◌, length, take, codes, All, Contains}
 use Rattle.std.specs.Int.{w16, w32, w64, to_le_bytes, IsInRange}
 use Rattle.extents.specs.Limits.{root_sectors, most_sectors}
@@ -13,41 +13,41 @@ use Rattle.roots.specs.Limits.{most_root_entries, most_catalogues}
 use Rattle.states.specs.Cost.{catalogues_for}
 use Rattle.roots.specs.Fields.{zeros, numbers, UsesFirst, ListsSectors}
 
--- how the root sectors of version 1 begin
+-- the first bytes of root sectors of version 1
 abbrev pub magic_1 : List ℕ
 magic_1 = codes "RLIBREG1"
 
--- how those of version 2 begin
+-- the first bytes of root sectors of version 2
 abbrev pub magic_2 : List ℕ
 magic_2 = codes "RLIBREG2"
 
--- how root sectors begin, of every version
+-- the first bytes of root sectors of every version
 abbrev pub root_magics : List (List ℕ)
 root_magics = magic_1 ∷ magic_2 ∷ []
 
--- the version that a list is of
+-- the version that has such a list
 abbrev pub version_of_list : EntryList → Version
 version_of_list (InRoot sectors) = One
 version_of_list (InCatalogues count sectors) = Two
 
--- the version that a root is of
+-- the version of a root
 abbrev pub version_of : Root → Version
 version_of root = version_of_list root.list
 
--- how the sector of a root begins, by the version of its list
+-- the first bytes of the sector of a root, by the version of its list
 abbrev pub magic_of : EntryList → List ℕ
 magic_of (InRoot sectors) = magic_1
 magic_of (InCatalogues count sectors) = magic_2
 
--- a root sector, good or bad
+-- the sector is a root sector, good or bad
 abbrev pub HasMagic : List ℕ → Type 0
 HasMagic bytes = Contains root_magics (take 8 bytes)
 
--- no root was written here
+-- the sector has no magic: no root was written to it
 abbrev pub LacksMagic : List ℕ → Type 0
 LacksMagic bytes = ¬ HasMagic bytes
 
--- a list, in the last 456 bytes of a root's sector
+-- a list, encoded in the last 456 bytes of a root's sector
 abbrev pub list_bytes : EntryList → List ℕ
 list_bytes (InRoot sectors) =
     zeros 8  -- at byte 56
@@ -70,31 +70,32 @@ root_bytes root =
     ++ numbers w16 root.preloads  -- 24
     ++ list_bytes root.list  -- 56
 
--- places for the preloads, each by its position in the list of libraries
+-- the preloads fit into their places: each is a position in the list of libraries, and none occurs twice
 pub record PreloadsFit (root : Root) : Type 0 where
   pub listed : UsesFirst most_preloads root.preload_count (λ position. position < root.library_count) 0 root.preloads
   pub distinct : AreDistinct (take root.preload_count root.preloads)
 
--- Places for the catalogues' sectors, which lie on the disk: just as many as list these libraries.
+-- The catalogues' sectors fit into their places and lie on the disk. There are exactly as many catalogues as list these
+-- libraries.
 pub record CatalogueListFits (libraries disk count : ℕ) (sectors : List ℕ) : Type 0 where
   pub few : libraries ≤ most_libraries
   pub enough : count ≡ catalogues_for libraries
   pub listed : ListsSectors most_catalogues count disk sectors
 
--- places for the sectors that a root of so many libraries lists, on a disk of so many sectors: in
--- version 1 those of the libraries' entries, in version 2 those of the catalogues
+-- the sectors that a root of `libraries` libraries lists fit into their places, on a disk of `disk` sectors: in version
+-- 1 those of the libraries' entries, in version 2 those of the catalogues
 abbrev pub ListFits : ℕ → ℕ → EntryList → Type 0
 ListFits libraries disk (InRoot sectors) = ListsSectors most_root_entries libraries disk sectors
 ListFits libraries disk (InCatalogues count sectors) = CatalogueListFits libraries disk count sectors
 
--- The limits of the fields: a root has a spelling exactly where it keeps to them.
+-- The limits of the fields: a root can be encoded exactly if it keeps to them.
 pub record RootHasSpelling (root : Root) : Type 0 where
   pub generation : root.generation < 2 ^ 64
   pub sectors : IsInRange least_sectors most_sectors root.sectors
   pub preloads : PreloadsFit root
   pub list : ListFits root.library_count root.sectors root.list
 
--- a sector spells a root
+-- a sector encodes a root
 pub record SpellsRoot (bytes : List ℕ) (root : Root) : Type 0 where
   pub has_spelling : RootHasSpelling root
   pub spelling : bytes ≡ root_bytes root
@@ -104,7 +105,7 @@ abbrev pub used_places : ℕ → EntryList → List ℕ
 used_places libraries (InRoot sectors) = take libraries sectors
 used_places libraries (InCatalogues count sectors) = take count sectors
 
--- the sectors that a root itself lists: in version 1 the entries', in version 2 the catalogues'
+-- the sectors that a root itself lists: in version 1 those of the entries, in version 2 those of the catalogues
 abbrev pub listed_sectors : Root → List ℕ
 listed_sectors root = used_places root.library_count root.list
 
@@ -112,7 +113,7 @@ listed_sectors root = used_places root.library_count root.list
 abbrev pub listed_preloads : Root → List ℕ
 listed_preloads root = take root.preload_count root.preloads
 
--- the root of so many libraries with this list and these preloads, and zeros in the places behind
+-- the root of `libraries` libraries with this list and these preloads, and zeros in the places after the preloads
 abbrev pub root_with : ℕ → ℕ → ℕ → EntryList → List ℕ → Root
 root_with generation sectors libraries list preloads = record {
   generation = generation;
@@ -128,12 +129,12 @@ abbrev pub root_over_entries : ℕ → ℕ → List ℕ → List ℕ → Root
 root_over_entries generation sectors entries preloads =
     root_with generation sectors (length entries) (InRoot (entries ++ zeros (most_root_entries - length entries))) preloads
 
--- the root of version 2 that counts so many libraries and lists these catalogues
+-- the root of version 2 that counts `libraries` libraries and lists these catalogues
 abbrev pub root_over_catalogues : ℕ → ℕ → ℕ → List ℕ → List ℕ → Root
 root_over_catalogues generation sectors libraries catalogues preloads =
     root_with generation sectors libraries (InCatalogues (length catalogues) (catalogues ++ zeros (most_catalogues - length catalogues))) preloads
 
--- What those of a root of version 2 have to keep to.
+-- With these parameters, a root of version 2 can be encoded.
 pub record CataloguesFit (generation sectors libraries : ℕ) (catalogues preloads : List ℕ) : Type 0 where
   pub generation_fits : generation < 2 ^ 64
   pub sectors_fit : IsInRange least_sectors most_sectors sectors

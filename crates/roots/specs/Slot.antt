@@ -1,11 +1,11 @@
--- What one of the two root sectors holds.
+-- The contents of one of the two root sectors.
 use Rattle.std.specs.Prelude.{List, ℕ}
 use Rattle.roots.specs.declared.root.Root.{Root}
 use Rattle.roots.specs.declared.slot.Slot.{Slot}
 use Rattle.roots.specs.declared.slot.Slot.TheVariants.{Empty, Good, Bad}
 use Rattle.roots.specs.Root.{HasMagic, LacksMagic, SpellsRoot}
 
--- Without a magic a sector is Empty; with one, Good where it spells a root, and else Bad.
+-- A sector without a magic is Empty. A sector with one is Good if it encodes a root, and otherwise Bad.
 abbrev pub IsSlotOf : List ℕ → Slot → Type 0
 IsSlotOf bytes Empty = LacksMagic bytes
 IsSlotOf bytes (Good root) = SpellsRoot bytes root

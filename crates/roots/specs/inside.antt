@@ -1,2 +1,2 @@
--- The fields of a sector at their offsets, as the code reads them. Nobody has to believe it.
+-- The fields of a sector at their offsets, as the code reads them. A reader needn't believe these definitions.
 pub mod Reading

@@ -1,4 +1,4 @@
-//! What a catalogue says.
+//! The value that a catalogue sector encodes.
 
 ghost use Rattle.std.specs.Prelude.{◌≡◌, ◌≤◌, ◌↔◌, IsTrue, length};
 ghost use Rattle.states.specs.Limits.{most_catalogue_entries};
@@ -9,18 +9,18 @@ use crate::limits::MOST_CATALOGUE_ENTRIES;
 use crate::lists::{lists_sectors, placed};
 use extents::MOST_SECTORS;
 
-/// A part of a list of libraries, by the sectors of their entries. In a spelling the places past
-/// the count are zero.
+/// A part of the list of libraries, given by the sectors of their entries. In a catalogue that can
+/// be encoded, the places after the count are zero.
 #[derive(Clone, Copy, PartialEq, Eq)]
 pub struct Catalogue {
-    /// How many entries it lists.
+    /// The number of entries that the catalogue lists.
     pub count: u16,
     /// The sectors of the entries, in the order of the list.
     pub entry_sectors: [u32; MOST_CATALOGUE_ENTRIES],
 }
 
 impl Catalogue {
-    /// The catalogue that lists these sectors of entries.
+    /// Returns the catalogue that lists these sectors of entries.
     pub fn new(sectors: &[u32]) -> Catalogue
         requires { length sectors.now ≤ most_catalogue_entries }
         ensures value { result ≡ catalogue_of_sectors sectors.now }
@@ -32,7 +32,7 @@ impl Catalogue {
         }
     }
 
-    /// The sectors of the entries, in the order of the list.
+    /// Returns the sectors of the entries, in the order of the list.
     pub fn sectors(&self) -> &[u32]
         requires { CatalogueHasSpelling self.now }
         ensures { result.now ≡ catalogued_sectors self.now }
@@ -40,8 +40,9 @@ impl Catalogue {
         &self.entry_sectors[..usize::from(self.count)]
     }
 
-    /// Whether each field keeps to the format's limits, so that a sector can spell this catalogue.
-    /// It compares each sector with those before it, 2,016 comparisons at most.
+    /// Returns whether each field is within the format's limits, so that a sector can encode this
+    /// catalogue. The call compares each sector with those before it, which takes at most 2,016
+    /// comparisons.
     pub fn has_spelling(&self) -> bool
         ensures { IsTrue result ↔ CatalogueHasSpelling self.now }
     {

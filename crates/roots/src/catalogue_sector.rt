@@ -1,4 +1,4 @@
-//! A catalogue as a sector.
+//! A catalogue encoded as a sector.
 
 ghost use Rattle.std.specs.Prelude.{◌≡◌, ◌↔◌, IsTrue, IfSome, Some};
 ghost use Rattle.roots.specs.declared.catalogue.Catalogue.{Catalogue};
@@ -12,12 +12,12 @@ use sector_disk::SECTOR_BYTES;
 
 const MAGIC: [u8; 4] = *b"LIBC";
 
-/// The sector that spells the catalogue. `Catalogue::has_spelling` tests its condition.
+/// Returns the sector that encodes the catalogue. `Catalogue::has_spelling` tests the condition.
 pub fn encode_catalogue(catalogue: &Catalogue) -> [u8; SECTOR_BYTES]
     requires { CatalogueHasSpelling catalogue.now }
     ensures spelling { result ≡ catalogue_bytes catalogue.now }
 
-    // No other catalogue has this spelling.
+    // This sector encodes no other catalogue.
     ensures alone { (other : Catalogue) → SpellsCatalogue result other → other ≡ catalogue.now }
 {
     let mut sector = SectorWriter::new();
@@ -28,12 +28,12 @@ pub fn encode_catalogue(catalogue: &Catalogue) -> [u8; SECTOR_BYTES]
     sector.finish()
 }
 
-/// The catalogue that a sector spells; None where it spells none.
+/// Returns the catalogue that a sector encodes, or None if it encodes none.
 pub fn decode_catalogue(bytes: &[u8; SECTOR_BYTES]) -> Option<Catalogue>
-    // What is read is spelt so.
+    // The sector encodes the returned catalogue.
     ensures read { IfSome result (λ catalogue. SpellsCatalogue bytes.now catalogue) }
 
-    // What is spelt is read so.
+    // If the sector encodes a catalogue, this catalogue is returned.
     ensures spelt { (catalogue : Catalogue) → SpellsCatalogue bytes.now catalogue
         → result ≡ Some catalogue }
 {
@@ -41,14 +41,14 @@ pub fn decode_catalogue(bytes: &[u8; SECTOR_BYTES]) -> Option<Catalogue>
     spells(bytes, &catalogue).then_some(catalogue)
 }
 
-// Whether the sector is the catalogue's spelling.
+// Returns whether the sector encodes the catalogue.
 fn spells(bytes: &[u8; SECTOR_BYTES], catalogue: &Catalogue) -> bool
     ensures { IsTrue result ↔ SpellsCatalogue bytes.now catalogue.now }
 {
     catalogue.has_spelling() && *bytes == encode_catalogue(catalogue)
 }
 
-// What the fields say, within their limits or not.
+// Returns the contents of the fields, within their limits or not.
 #[tactic(auto, unfolding(crate::specs::inside::Reading::catalogue_of))]
 fn catalogue_fields(bytes: &[u8; SECTOR_BYTES]) -> Catalogue
     ensures { result ≡ catalogue_of bytes.now }

@@ -1,4 +1,4 @@
-//! Which of two roots is current.
+//! The choice of the current root.
 
 ghost use Rattle.std.specs.Prelude.{◌≡◌, ◌<◌, ◌↔◌, ℕ, List, Ok, Err, if◌then◌else◌};
 ghost use Rattle.roots.specs.declared.root.Root.{Root};
@@ -21,7 +21,7 @@ pub enum ChooseRefusal {
     Damaged,
 }
 
-/// The sector that holds the root of a generation: 0 for even generations, 1 for odd ones.
+/// Returns the sector that holds the root of a generation: 0 for even generations, 1 for odd ones.
 pub fn slot_of(generation: u64) -> u32
     ensures value { result ≡ slot_of generation }
     ensures low { result < root_sectors }
@@ -29,22 +29,22 @@ pub fn slot_of(generation: u64) -> u32
     (generation % u64::from(ROOT_SECTORS)) as u32
 }
 
-/// The current root. Slot 0 is for even generations and slot 1 for odd ones.
+/// Returns the current root. Slot 0 is for even generations, and slot 1 for odd ones.
 pub fn choose(slot0: Slot, slot1: Slot) -> Result<Root, ChooseRefusal>
     ensures table { result ≡ chosen slot0 slot1 }
 
-    // Of any two sectors that these slots were read from, the answer is the current root,
+    // For any two sectors from which these slots were read, the answer is the current root.
     ensures ok { (sector0 sector1 : List ℕ) → IsSlotOf sector0 slot0 → IsSlotOf sector1 slot1
         → (root : Root) → (result ≡ Ok root) ↔ IsCurrent sector0 sector1 root }
 
-    // and NotFormatted where neither has the magic.
+    // The answer is NotFormatted if neither sector has the magic.
     ensures refused { (sector0 sector1 : List ℕ) → IsSlotOf sector0 slot0 → IsSlotOf sector1 slot1
         → (result ≡ Err ChooseRefusal.NotFormatted) ↔ (LacksMagic sector0 × LacksMagic sector1) }
 {
     by_table(slot0, slot1)
 }
 
-// The answer by the table. What it means for the sectors follows from this.
+// Answers by the table. The statements about the sectors follow from this.
 fn by_table(slot0: Slot, slot1: Slot) -> Result<Root, ChooseRefusal>
     ensures { result ≡ chosen slot0 slot1 }
 {
@@ -56,7 +56,7 @@ fn by_table(slot0: Slot, slot1: Slot) -> Result<Root, ChooseRefusal>
     }
 }
 
-// The later of two roots, where each stands in its slot, they differ by one commit, and the later
+// Returns the later of two roots, if each is in its slot, they differ by one commit, and the later
 // one may follow the other by its version.
 fn later(even: Root, odd: Root) -> Result<Root, ChooseRefusal>
     ensures { result ≡ chosen (Slot.Good even) (Slot.Good odd) }
@@ -74,7 +74,8 @@ fn later(even: Root, odd: Root) -> Result<Root, ChooseRefusal>
     }
 }
 
-// The newer of two roots that are a commit apart. None of version 1 follows one of version 2.
+// Returns the newer of two roots that are one commit apart. A root of version 1 doesn't follow one
+// of version 2.
 fn after(older: Root, newer: Root) -> Result<Root, ChooseRefusal>
     ensures { result ≡ (if keeps_version (version_of older) (version_of newer)
         then Ok newer else Err ChooseRefusal.Damaged) }

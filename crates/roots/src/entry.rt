@@ -1,4 +1,4 @@
-//! What an entry says.
+//! The value that an entry sector encodes.
 
 ghost use Rattle.std.specs.Prelude.{◌≡◌, ◌↔◌, ◌≤◌, IsTrue, length, sum_by};
 ghost use Rattle.extents.specs.Limits.{most_extents};
@@ -12,24 +12,24 @@ use crate::lists::placed;
 use extents::{Extent, MOST_EXTENTS, MOST_SECTORS, ROOT_SECTORS};
 use sector_disk::SECTOR_BYTES;
 
-/// A library's entry: its name, and where its file lies. In a spelling the places past a count
-/// are zero.
+/// A library's entry: its name, and the place of its file. In an entry that can be encoded, the
+/// places after a count are zero.
 #[derive(Clone, Copy, PartialEq, Eq)]
 pub struct Entry {
     /// The length of the file in bytes.
     pub file_length: u32,
     /// The length of the name in bytes.
     pub name_length: u16,
-    /// How many extents the file lies in.
+    /// The number of extents of the file.
     pub extent_count: u16,
     /// The name, in visible ASCII without `/`.
     pub name: [u8; MOST_NAME_BYTES],
-    /// Where the file's sectors lie, in the order of the file.
+    /// The extents of the file, in the order of the file.
     pub extents: [Extent; MOST_EXTENTS],
 }
 
 impl Entry {
-    /// The entry of a file of so many bytes, with this name and in these extents.
+    /// Returns the entry of a file of `file_length` bytes, with this name and these extents.
     pub fn new(name: &[u8], file_length: u32, extents: &[Extent]) -> Entry
         requires short_name { length name.now ≤ most_name_bytes }
         requires few_extents { length extents.now ≤ most_extents }
@@ -46,7 +46,7 @@ impl Entry {
         }
     }
 
-    /// The bytes of the name.
+    /// Returns the bytes of the name.
     pub fn name_bytes(&self) -> &[u8]
         requires { EntryHasSpelling self.now }
         ensures { result.now ≡ name_of self.now }
@@ -54,7 +54,7 @@ impl Entry {
         &self.name[..usize::from(self.name_length)]
     }
 
-    /// The extents of the file, in its order.
+    /// Returns the extents of the file, in its order.
     pub fn file_extents(&self) -> &[Extent]
         requires { EntryHasSpelling self.now }
         ensures { result.now ≡ extents_of self.now }
@@ -62,7 +62,8 @@ impl Entry {
         &self.extents[..usize::from(self.extent_count)]
     }
 
-    /// Whether each field keeps to the format's limits, so that a sector can spell this entry.
+    /// Returns whether each field is within the format's limits, so that a sector can encode this
+    /// entry.
     pub fn has_spelling(&self) -> bool
         ensures { IsTrue result ↔ EntryHasSpelling self.now }
     {

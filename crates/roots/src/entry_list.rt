@@ -1,4 +1,4 @@
-//! The list in a root, by the version of its disk.
+//! The list in a root, which depends on the version of the disk.
 
 ghost use Rattle.std.specs.Prelude.{◌≡◌, ◌↔◌, IsTrue};
 ghost use Rattle.roots.specs.Root.{version_of_list, ListFits};
@@ -7,23 +7,23 @@ use crate::limits::{MOST_CATALOGUES, MOST_LIBRARIES, MOST_ROOT_ENTRIES, catalogu
 use crate::lists::lists_sectors;
 use crate::version::Version;
 
-/// Where a root lists the entries of its libraries. Each version of the disk has its own list and
-/// its own magic.
+/// The list of a root, which leads to the entries of the libraries. Each version of the disk has
+/// its own list and its own magic.
 #[derive(Clone, Copy, PartialEq, Eq)]
 pub enum EntryList {
     /// Version 1: the root has the sectors of the entries, in the order of installation.
     InRoot([u32; MOST_ROOT_ENTRIES]),
-    /// Version 2: the root has the sectors of catalogues, which list those of the entries.
+    /// Version 2: the root has the sectors of catalogues, which list the sectors of the entries.
     InCatalogues {
-        /// How many catalogues there are.
+        /// The number of catalogues.
         count: u16,
-        /// Their sectors, in the order of the list.
+        /// The sectors of the catalogues, in the order of the list.
         sectors: [u32; MOST_CATALOGUES],
     },
 }
 
 impl EntryList {
-    /// The version that has such a list.
+    /// Returns the version that has such a list.
     pub fn version(&self) -> Version
         ensures { result ≡ version_of_list self.now }
     {
@@ -33,7 +33,8 @@ impl EntryList {
         }
     }
 
-    /// Whether a sector can spell it, for so many libraries on a disk of so many sectors.
+    /// Returns whether a sector can encode the list, if there are `libraries` libraries on a disk
+    /// of `disk` sectors.
     pub(crate) fn fits(&self, libraries: u16, disk: u32) -> bool
         ensures { IsTrue result ↔ ListFits libraries disk self.now }
     {

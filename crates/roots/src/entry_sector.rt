@@ -1,4 +1,4 @@
-//! An entry as a sector.
+//! An entry encoded as a sector.
 
 ghost use Rattle.std.specs.Prelude.{◌≡◌, ◌↔◌, IsTrue, IfSome, Some};
 ghost use Rattle.roots.specs.declared.entry.Entry.{Entry};
@@ -13,12 +13,12 @@ use sector_disk::SECTOR_BYTES;
 
 const MAGIC: [u8; 4] = *b"LIBE";
 
-/// The sector that spells the entry. `Entry::has_spelling` tests its condition.
+/// Returns the sector that encodes the entry. `Entry::has_spelling` tests the condition.
 pub fn encode_entry(entry: &Entry) -> [u8; SECTOR_BYTES]
     requires { EntryHasSpelling entry.now }
     ensures spelling { result ≡ entry_bytes entry.now }
 
-    // No other entry has this spelling.
+    // This sector encodes no other entry.
     ensures alone { (other : Entry) → SpellsEntry result other → other ≡ entry.now }
 {
     let mut sector = SectorWriter::new();
@@ -32,26 +32,26 @@ pub fn encode_entry(entry: &Entry) -> [u8; SECTOR_BYTES]
     sector.finish()
 }
 
-/// The entry that a sector spells; None where it spells none.
+/// Returns the entry that a sector encodes, or None if it encodes none.
 pub fn decode_entry(bytes: &[u8; SECTOR_BYTES]) -> Option<Entry>
-    // What is read is spelt so.
+    // The sector encodes the returned entry.
     ensures read { IfSome result (λ entry. SpellsEntry bytes.now entry) }
 
-    // What is spelt is read so.
+    // If the sector encodes an entry, this entry is returned.
     ensures spelt { (entry : Entry) → SpellsEntry bytes.now entry → result ≡ Some entry }
 {
     let entry = entry_fields(bytes);
     spells(bytes, &entry).then_some(entry)
 }
 
-// Whether the sector is the entry's spelling.
+// Returns whether the sector encodes the entry.
 fn spells(bytes: &[u8; SECTOR_BYTES], entry: &Entry) -> bool
     ensures { IsTrue result ↔ SpellsEntry bytes.now entry.now }
 {
     entry.has_spelling() && *bytes == encode_entry(entry)
 }
 
-// What the fields say, within their limits or not.
+// Returns the contents of the fields, within their limits or not.
 #[tactic(auto, unfolding(crate::specs::inside::Reading::entry_of))]
 fn entry_fields(bytes: &[u8; SECTOR_BYTES]) -> Entry
     ensures { result ≡ entry_of bytes.now }

@@ -1,4 +1,4 @@
-//! Values that take a fixed number of bytes, and arrays of them, at their places in a sector.
+//! Values of a fixed number of bytes, and arrays of them, at their places in a sector.
 
 ghost use Rattle.std.specs.Prelude.{◌≡◌, ℕ, List, ◌+◌, ◌*◌, ◌≤◌, ◌++◌, length, drop};
 ghost use Rattle.std.specs.Int.{w16, w32, w64, to_le_bytes, from_le_bytes};
@@ -10,25 +10,25 @@ use crate::writer::SectorWriter;
 use extents::Extent;
 use sector_disk::SECTOR_BYTES;
 
-/// A value that takes a fixed number of bytes in a sector.
+/// A value that has a fixed number of bytes in a sector.
 pub(crate) trait Field: Copy + Default {
-    /// How many bytes it takes.
+    /// The number of bytes of a value.
     const BYTES: usize;
 
     ghost BYTES: { ℕ };
 
-    // What the bytes at the front of a list say.
+    // The value that the first bytes of a list encode.
     ghost read: { List ℕ → Self };
 
-    // The bytes of a value.
+    // The bytes that encode a value.
     ghost spell: { Self → List ℕ };
 
-    /// The value whose bytes stand in the sector from `at` on.
+    /// Returns the value whose bytes are in the sector from `at` on.
     fn read_at(sector: &[u8; SECTOR_BYTES], at: usize) -> Self
         requires { at + BYTES ≤ sector_bytes }
         ensures { result ≡ read (drop at sector.now) };
 
-    /// Writes the value's bytes behind the fields that are written already.
+    /// Writes the value's bytes after the fields that are written already.
     fn put_to(self, sector: &mut SectorWriter)
         requires { length sector.old + BYTES ≤ sector_bytes }
         ensures fields { sector.new ≡ sector.old ++ spell self }
@@ -120,7 +120,7 @@ impl Field for Extent {
     }
 }
 
-/// The values whose bytes stand in the sector from `at` on, one after the other.
+/// Returns the values whose bytes are in the sector from `at` on, one after the other.
 pub(crate) fn values_at<T: Field, const N: usize>(sector: &[u8; SECTOR_BYTES], at: usize) -> [T; N]
     requires { at + T.BYTES * N ≤ sector_bytes }
     ensures { result ≡ values_at T.read T.BYTES N at sector.now }

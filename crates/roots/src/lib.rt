@@ -1,10 +1,10 @@
 //! The two root sectors, the entry sectors and the catalogue sectors of a registry's disk.
 //!
-//! After a stop two sectors decide which registry stands: `choose` picks its root. A root of
-//! version 1 lists the sectors of the entries, one of version 2 those of catalogues, which list the
-//! sectors of the entries; and each entry has a library's name, its file's length, and the
-//! extents that hold the file. A value has one spelling as a sector, and a sector is read exactly
-//! where it is the spelling of a value. No call takes memory.
+//! After a stop two sectors decide which registry is current: `choose` picks its root. A root of
+//! version 1 lists the sectors of the entries. A root of version 2 lists the sectors of catalogues,
+//! which list the sectors of the entries. Each entry has a library's name, its file's length, and
+//! the extents that hold the file. A value is encoded as a sector in exactly one way, and a sector
+//! is read exactly if it encodes a value. No call allocates memory.
 #![tactic(auto)]
 
 mod catalogue;

@@ -4,7 +4,8 @@ ghost use Rattle.roots.specs.Fields.{ListsSectors};
 
 use extents::ROOT_SECTORS;
 
-/// Whether no value stands twice. The number of steps grows as the square of the list's length.
+/// Returns whether no value occurs twice. The number of steps grows with the square of the list's
+/// length.
 pub(crate) fn are_distinct<T: PartialEq>(values: &[T]) -> bool
     ensures { IsTrue result ↔ AllPairs (λ a b. T.eq a b ≡ false) values.now }
 {
@@ -16,7 +17,7 @@ pub(crate) fn are_distinct<T: PartialEq>(values: &[T]) -> bool
     true
 }
 
-/// The values in the first of `N` places, and this one in the others.
+/// Returns `N` places that begin with `values`, and have `unused` in the others.
 pub(crate) fn placed<T: Copy, const N: usize>(values: &[T], unused: T) -> [T; N]
     requires { length values.now ≤ N }
     ensures { result ≡ values.now ++ replicate (N - length values.now) unused }
@@ -26,8 +27,8 @@ pub(crate) fn placed<T: Copy, const N: usize>(values: &[T], unused: T) -> [T; N]
     places
 }
 
-/// Whether the first `count` places hold sectors behind the roots and before `end`, each once, and
-/// the others zero.
+/// Returns whether the first `count` places hold distinct sectors after the roots and before `end`,
+/// and the other places are zero.
 pub(crate) fn lists_sectors(places: &[u32], count: u16, end: u32) -> bool
     ensures { IsTrue result ↔ ListsSectors (length places.now) count end places.now }
 {

@@ -1,4 +1,4 @@
-//! What a root says.
+//! The value that a root sector encodes.
 
 ghost use Rattle.std.specs.Prelude.{◌≡◌, ◌≤◌, ◌↔◌, IsTrue, length};
 ghost use Rattle.states.specs.Limits.{most_preloads};
@@ -12,27 +12,27 @@ use crate::lists::{are_distinct, placed};
 use crate::version::Version;
 use states::{MOST_PRELOADS, is_geometry};
 
-/// The root of a registry, as one of the two root sectors has it. In a spelling the places past a
-/// count are zero.
+/// The root of a registry, as one of the two root sectors holds it. In a root that can be encoded,
+/// the places after a count are zero.
 #[derive(Clone, Copy, PartialEq, Eq)]
 pub struct Root {
-    /// How many commits were made since the disk was formatted.
+    /// The number of commits that were made since the disk was formatted.
     pub generation: u64,
     /// The disk's size in sectors.
     pub sectors: u32,
-    /// How many libraries are installed.
+    /// The number of installed libraries.
     pub library_count: u16,
-    /// How many of them are preloads.
+    /// The number of preloads among them.
     pub preload_count: u16,
     /// The preloads in their order, each by its position in the list of libraries.
     pub preloads: [u16; MOST_PRELOADS],
-    /// Where the libraries' entries are listed, by the version of the disk.
+    /// The list that leads to the libraries' entries, by the version of the disk.
     pub list: EntryList,
 }
 
 impl Root {
-    /// The root of version 1 and of this generation, on a disk of so many sectors, that lists these
-    /// sectors of entries and these positions of preloads.
+    /// Returns the root of version 1 and of this generation, on a disk of `sectors` sectors. It
+    /// lists the sectors `entries` of entries, and the positions `preloads`.
     pub fn over_entries(generation: u64, sectors: u32, entries: &[u32], preloads: &[u16]) -> Root
         requires entries { length entries.now ≤ most_root_entries }
         requires preloads { length preloads.now ≤ most_preloads }
@@ -50,8 +50,9 @@ impl Root {
         }
     }
 
-    /// The root of version 2 and of this generation, on a disk of so many sectors, that counts so
-    /// many libraries, and lists these sectors of catalogues and these positions of preloads.
+    /// Returns the root of version 2 and of this generation, on a disk of `sectors` sectors. It
+    /// counts `library_count` libraries, and lists the sectors `catalogues` of catalogues and the
+    /// positions `preloads`.
     pub fn over_catalogues(
         generation: u64,
         sectors: u32,
@@ -79,15 +80,15 @@ impl Root {
         }
     }
 
-    /// The version of the disk that this root is of.
+    /// Returns the version of the disk to which this root belongs.
     pub fn version(&self) -> Version
         ensures { result ≡ version_of self.now }
     {
         self.list.version()
     }
 
-    /// The sectors that the root itself lists: those of the libraries' entries in version 1, those
-    /// of the catalogues in version 2, in the order of installation.
+    /// Returns the sectors that the root itself lists, in the order of installation. In version 1
+    /// these are the sectors of the libraries' entries, and in version 2 those of the catalogues.
     pub fn listed_sectors(&self) -> &[u32]
         requires { RootHasSpelling self.now }
         ensures { result.now ≡ listed_sectors self.now }
@@ -98,7 +99,7 @@ impl Root {
         }
     }
 
-    /// The positions of the preloads in the list of libraries, in their order.
+    /// Returns the positions of the preloads in the list of libraries, in their order.
     pub fn preload_positions(&self) -> &[u16]
         requires { RootHasSpelling self.now }
         ensures { result.now ≡ listed_preloads self.now }
@@ -106,12 +107,13 @@ impl Root {
         &self.preloads[..usize::from(self.preload_count)]
     }
 
-    /// Whether each field keeps to the format's limits, so that a sector can spell this root. It
-    /// compares each listed sector with those before it, 4,950 comparisons at most.
+    /// Returns whether each field is within the format's limits, so that a sector can encode this
+    /// root. The call compares each listed sector with those before it, which takes at most 4,950
+    /// comparisons.
     pub fn has_spelling(&self) -> bool
         ensures { IsTrue result ↔ RootHasSpelling self.now }
     {
-        // Each u64 is a generation: it is read here so that the proof knows that it is one.
+        // Each u64 is a generation. It is read here so that the proof knows that it is a u64.
         let _generation = self.generation;
         is_geometry(self.sectors)
             && self.preloads_fit()

@@ -1,4 +1,4 @@
-//! A root as a sector.
+//! A root encoded as a sector.
 
 ghost use Rattle.std.specs.Prelude.{◌≡◌, ◌↔◌, ◌+◌, ◌≤◌, ◌++◌, IsTrue, length};
 ghost use Rattle.sector_disk.specs.Disk.{sector_bytes};
@@ -15,19 +15,19 @@ use crate::slot::Slot;
 use crate::writer::SectorWriter;
 use sector_disk::SECTOR_BYTES;
 
-// How root sectors begin, by their version.
+// The first bytes of root sectors, by their version.
 const MAGIC_1: [u8; 8] = *b"RLIBREG1";
 
 const MAGIC_2: [u8; 8] = *b"RLIBREG2";
 
 const MAGICS: [[u8; 8]; 2] = [MAGIC_1, MAGIC_2];
 
-/// The sector that spells the root. `Root::has_spelling` tests its condition.
+/// Returns the sector that encodes the root. `Root::has_spelling` tests the condition.
 pub fn encode_root(root: &Root) -> [u8; SECTOR_BYTES]
     requires { RootHasSpelling root.now }
     ensures spelling { result ≡ root_bytes root.now }
 
-    // No other root has this spelling.
+    // This sector encodes no other root.
     ensures alone { (other : Root) → SpellsRoot result other → other ≡ root.now }
 {
     let mut sector = SectorWriter::new();
@@ -41,7 +41,7 @@ pub fn encode_root(root: &Root) -> [u8; SECTOR_BYTES]
     sector.finish()
 }
 
-// How the sector of a root with this list begins.
+// Returns the first bytes of the sector of a root with this list.
 fn magic_of(list: &EntryList) -> [u8; 8]
     ensures { result ≡ magic_of list.now }
 {
@@ -51,7 +51,7 @@ fn magic_of(list: &EntryList) -> [u8; 8]
     }
 }
 
-// Writes the list behind the fields that all versions have.
+// Writes the list after the fields that all versions have.
 fn put_list(sector: &mut SectorWriter, list: &EntryList)
     requires { length sector.old ≡ 56 }
     ensures fields { sector.new ≡ sector.old ++ list_bytes list.now }
@@ -72,12 +72,13 @@ fn put_list(sector: &mut SectorWriter, list: &EntryList)
     }
 }
 
-/// What a root sector holds: a root where it is exactly the root's spelling.
+/// Returns what a root sector holds. It holds a root if it is exactly the sector that encodes this
+/// root.
 pub fn decode_root(bytes: &[u8; SECTOR_BYTES]) -> Slot
-    // What is read is spelt so.
+    // The sector is read as this slot.
     ensures slot { IsSlotOf bytes.now result }
 
-    // What is spelt is read so.
+    // If the sector encodes a root, this root is returned.
     ensures spelt { (root : Root) → SpellsRoot bytes.now root → result ≡ Slot.Good root }
     ensures empty { LacksMagic bytes.now → result ≡ Slot.Empty }
 {
@@ -92,21 +93,21 @@ pub fn decode_root(bytes: &[u8; SECTOR_BYTES]) -> Slot
     }
 }
 
-// Whether the sector begins as a root of some version does.
+// Returns whether the sector begins as a root of some version does.
 fn has_magic(bytes: &[u8; SECTOR_BYTES]) -> bool
     ensures { IsTrue result ↔ HasMagic bytes.now }
 {
     MAGICS.iter().any(|magic| bytes.starts_with(magic))
 }
 
-// Whether the sector is the root's spelling.
+// Returns whether the sector encodes the root.
 fn spells(bytes: &[u8; SECTOR_BYTES], root: &Root) -> bool
     ensures { IsTrue result ↔ SpellsRoot bytes.now root.now }
 {
     root.has_spelling() && *bytes == encode_root(root)
 }
 
-// What the fields say, within their limits or not.
+// Returns the contents of the fields, within their limits or not.
 #[tactic(auto, unfolding(crate::specs::inside::Reading::root_of))]
 fn root_fields(bytes: &[u8; SECTOR_BYTES]) -> Root
     ensures { result ≡ root_of bytes.now }
@@ -121,7 +122,7 @@ fn root_fields(bytes: &[u8; SECTOR_BYTES]) -> Root
     }
 }
 
-// What the list says, by the magic.
+// Returns the contents of the list, which depend on the magic.
 #[tactic(auto, unfolding(crate::specs::inside::Reading::list_of))]
 fn list_fields(bytes: &[u8; SECTOR_BYTES]) -> EntryList
     ensures { result ≡ list_of bytes.now }

@@ -1,12 +1,12 @@
 use crate::root::Root;
 
-/// What one of the two root sectors holds.
+/// The contents of one of the two root sectors.
 #[derive(Clone, Copy, PartialEq, Eq)]
 pub enum Slot {
-    /// No root was written here: neither magic is there.
+    /// No root was written here: the sector has neither magic.
     Empty,
-    /// The sector spells this root.
+    /// The sector encodes this root.
     Good(Root),
-    /// The magic stands, and what follows it is no root.
+    /// The sector has one of the magics, but it encodes no root.
     Bad,
 }

@@ -3,6 +3,6 @@
 pub enum Version {
     /// Version 1: a root lists the entries of up to 100 libraries.
     One,
-    /// Version 2: a root lists catalogues, and those list the entries of up to 2,048 libraries.
+    /// Version 2: a root lists catalogues, which list the entries of up to 2,048 libraries.
     Two,
 }

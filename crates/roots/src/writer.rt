@@ -1,4 +1,4 @@
-//! A sector that is written field after field.
+//! A sector that is written field by field.
 
 ghost use Rattle.std.specs.Prelude.{◌≡◌, ℕ, List, [], ◌+◌, ◌-◌, ◌*◌, ◌≤◌, ◌++◌, length, take, drop};
 ghost use Rattle.std.specs.List.{flat_map};
@@ -9,7 +9,7 @@ use crate::field::Field;
 use sector_disk::SECTOR_BYTES;
 use std::marker::Model;
 
-/// The fields of a sector that are written so far. What follows them is zero.
+/// The fields of a sector that are written so far. The bytes after them are zero.
 #[derive(Drop)]
 pub(crate) struct SectorWriter {
     bytes: [u8; SECTOR_BYTES],
@@ -55,7 +55,7 @@ impl SectorWriter {
         }
     }
 
-    /// The sector: the fields, and zeros behind them.
+    /// Returns the sector: the fields, followed by zeros.
     pub(crate) fn finish(self) -> [u8; SECTOR_BYTES]
         ensures { result ≡ self ++ zeros (sector_bytes - length self) }
     {

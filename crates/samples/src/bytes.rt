@@ -1,6 +1,7 @@
 // Bytes of a file or a sector.
 
-/// Writes bytes over those of a file or a sector.
+/// Writes `bytes` over the bytes of a file or a sector, from offset `at` on. Bytes that would lie
+/// past the end are dropped.
 pub fn put(file: &mut [u8], at: usize, bytes: &[u8]) {
     for (i, byte) in bytes.iter().enumerate() {
         if let Some(place) = file.get_mut(at.saturating_add(i)) {

@@ -2,8 +2,8 @@
 use crate::bytes::put;
 use std::alloc::{AllocError, Global};
 
-/// The front of a file whose dynamic section stands behind it: the names a, b, c, d, e, p, f and z,
-/// and a symbol f that it exports.
+/// The bytes of a file up to its dynamic section. They have the names a, b, c, d, e, p, f and z,
+/// and a symbol f that the file exports.
 const FRONT: &[u8] =
     b"\x7fELF\x02\x01\x01\0\0\0\0\0\0\0\0\0\x03\0>\0\x01\0\0\0\0\0\0\0\0\0\0\0@\0\0\0\0\0\0\0\
       \0\0\0\0\0\0\0\0\0\0\0\0@\08\0\x02\0\0\0\0\0\0\0\x01\0\0\0\x06\0\0\0\0\0\0\0\0\0\0\0\0\0\
@@ -13,17 +13,17 @@ const FRONT: &[u8] =
       \0\0\0\0\0\0\0\0\0\0\0\0\0\0\0\0\0\0\0\0\0\0\0\x0d\0\0\0\x12\0\x01\0\0\0\0\0\0\0\0\0\x08\
       \0\0\0\0\0\0\0\0a\0b\0c\0d\0e\0p\0f\0z\0\0\0\0\0\0\0\0";
 
-/// What stands in the dynamic section behind the other entries.
+/// The last entries of the dynamic section. They follow the entries that a caller chooses.
 const TAIL: &[u8] =
     b"\x04\0\0\0\0\0\0\0\xb0\0\0\0\0\0\0\0\x05\0\0\0\0\0\0\0\xf8\0\0\0\0\0\0\0\x06\0\0\0\0\0\0\
       \0\xc8\0\0\0\0\0\0\0\x0a\0\0\0\0\0\0\0\x11\0\0\0\0\0\0\0\x0b\0\0\0\0\0\0\0\x18\0\0\0\0\0\
       \0\0\0\0\0\0\0\0\0\0\0\0\0\0\0\0\0\0";
 
-/// The names of the front, in their order.
+/// The names in `FRONT`, in their order.
 const LETTERS: &[u8] = b"abcdepfz";
 
-/// An entry of the dynamic section with a name of one letter: of tag 1 a needed library, of tag 14
-/// the library's own.
+/// Returns an entry of the dynamic section whose value is a name of one letter. With tag 1 it is a
+/// needed library, and with tag 14 the library's own name.
 pub fn named(tag: u64, letter: u8) -> [u8; 16] {
     let mut place = 1u64;
     for one in LETTERS {
@@ -38,7 +38,8 @@ pub fn named(tag: u64, letter: u8) -> [u8; 16] {
     entry
 }
 
-/// Writes the sizes of the whole file and of its dynamic section, in the file and in memory.
+/// Writes the size of the whole file and the size of its dynamic section into the program headers,
+/// both as the size in the file and as the size in memory.
 fn put_sizes(file: &mut [u8]) {
     let whole = file.len() as u64;
     let section = whole.saturating_sub(FRONT.len() as u64);
@@ -48,8 +49,9 @@ fn put_sizes(file: &mut [u8]) {
     put(file, 160, &section.to_le_bytes());
 }
 
-/// A file that needs libraries of one letter each, with an entry more, or with none, behind them,
-/// padded to so many bytes.
+/// Makes a file that needs the libraries `needs`, whose names have one letter. The entry `entry`,
+/// which may be empty, follows theirs. A file that is shorter than `size` bytes is padded with
+/// zeros to this size.
 pub fn needing_file(
     alloc: Global,
     needs: &[u8],

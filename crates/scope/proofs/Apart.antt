@@ -1,4 +1,4 @@
--- Places that differ, and the flags that tell which are there.
+-- Distinct places, and the flags of the places in a queue.
 use Rattle.std.proofs.Common.{◌≡◌, ℕ, ◌+◌, ◌<◌, ◌≤◌, eqb, nat_eq, Bool, true, false, ◌||◌, List, [], ◌∷◌, ◌++◌, length, take, get_or, set, Some}
 use Rattle.std.proofs.Common.{replicate, map, sym, ap, subst, ◌∙◌, refl, arith, length-take, length-append, append_assoc, append-nil, fold}
 use Rattle.std.proofs.Common.{if◌then◌else◌}
@@ -19,14 +19,14 @@ use Rattle.scope.specs.Queue.{grown_by, AreApart}
 use Rattle.scope.specs.inside.Growing.{grown}
 use Rattle.scope.specs.inside.Places.{AreTold}
 
--- there are at most as many as the limit says
+-- there are no more distinct places below a limit than the limit says
 pub few : (limit : ℕ) (places : List ℕ) → AreApart limit places → length places ≤ limit
 few limit places apart =
     length-le_from_distinct_below places limit apart.distinct (λ q there.
     let any = Any-from_list_any (eqb q) places there in
     subst (λ p. p < limit) (any.3 ∙ sym (eqb-true q any.1 any.4)) (apart.below any.0 any.1 any.2))
 
--- none yet
+-- if all flags are false, they are right for an empty queue
 pub told-none : (n : ℕ) → AreTold (replicate n false) []
 unfolding IsDistinct
 told-none n = record {
@@ -42,7 +42,7 @@ or_false : (a : Bool) → a ≡ (a || false)
 or_false true = refl
 or_false false = refl
 
--- one more
+-- if the flag of a new place is set and the place is appended, the flags stay right
 pub told-more : (flags : List Bool) (places : List ℕ) (p : ℕ) → AreTold flags places → p < length flags → get_or flags p false ≡ false
     → AreTold (set flags p true) (places ++ p ∷ [])
 told-more flags places p told lt fresh = record {
@@ -64,7 +64,7 @@ told-more flags places p told lt fresh = record {
         ∙ or_false (is_among places q) ∙ ap (λ b. is_among places q || (b || false)) (sym e)
         ∙ sym (list_any-append (λ x. eqb q x) places (p ∷ []))
 
--- of keys that differ none is among those before it
+-- in a list of distinct keys, no key is among those before it
 pub distinct-front : {K : Type 0} {eq : K → K → Bool} → IsEquivalence eq → (ks : List K) (i : ℕ) (d : K) → IsDistinct eq ks → i < length ks
     → list_any (eq (get_or ks i d)) (take i ks) ≡ false
 distinct-front {K} {eq} laws ks i d distinct lt =
@@ -73,14 +73,14 @@ distinct-front {K} {eq} laws ks i d distinct lt =
     let before : k < i = omega (arith, ltk, length-take i ks) in
     ap (eq (get_or ks i d)) (get_or-take i ks k d before) ∙ laws.symm (get_or ks i d) (get_or ks k d) ∙ apart_from_distinct eq ks k i d distinct before lt))
 
--- of places that differ the last is not among those before it
+-- in a list of distinct places that ends with `q`, `q` isn't among the places before
 fresh_last : (ps : List ℕ) (q : ℕ) → IsDistinct nat_eq (ps ++ q ∷ []) → is_among ps q ≡ false
 fresh_last ps q distinct =
     ap (λ k. is_among ps k) (sym (get_or-append_seam ps q [] 0))
     ∙ ap (λ l. is_among l (get_or (ps ++ q ∷ []) (length ps) 0)) (sym (take-append_seam ps (q ∷ [])))
     ∙ distinct-front nat_eq_equiv (ps ++ q ∷ []) (length ps) 0 distinct (omega (arith, length-append ps (q ∷ [])))
 
--- one less: as the places differ, the last isn't among those that stay
+-- if the last place and its flag are removed, the flags stay right, because the place occurs only once
 pub told-fewer : (flags : List Bool) (places : List ℕ) (p : ℕ) → AreTold flags (places ++ p ∷ []) → AreTold (set flags p false) places
 told-fewer flags places p told = record {
   told = λ q ltq. by q (omega (arith, ltq, length-set flags p false)) (eqb q p) refl;
@@ -100,7 +100,7 @@ told-fewer flags places p told = record {
         ∙ list_any-append (λ x. eqb q x) places (p ∷ []) ∙ ap (λ b. is_among places q || (b || false)) e
         ∙ sym (or_false (is_among places q))
 
--- what differs is taken as it is
+-- if the places of both lists are distinct, all places of the second list are added
 pub grown-apart : (ps qs : List ℕ) → IsDistinct nat_eq (ps ++ qs) → grown ps qs ≡ ps ++ qs
 unfolding grown
 grown-apart ps [] distinct = sym (append-nil ps)
@@ -126,7 +126,8 @@ unfolding IsDistinct
 distinct-raised [] h = tt
 distinct-raised (p ∷ ps) h = (raised p ps h.0, distinct-raised ps h.1)
 
--- level 0, of preloads that differ
+-- if the preloads are distinct, the places of level 0 are distinct, and adding the preloads to the
+-- program makes level 0
 pub distinct-level_0 : (preloads : List ℕ) → IsDistinct nat_eq preloads → IsDistinct nat_eq (level_0 preloads)
 unfolding IsDistinct
 distinct-level_0 preloads h = (above_0 preloads, distinct-raised preloads h)

@@ -1,4 +1,4 @@
--- The levels joined have no object twice.
+-- The joined levels have no object twice.
 use Rattle.std.proofs.Common.{◌≡◌, ℕ, zero, suc, nat_eq, Bool, true, false, List, [], ◌∷◌, ◌++◌, refl, sym, subst, append_assoc, append-nil, if◌then◌else◌}
 use Rattle.std.specs.List.{IsDistinct, flat_map, concat}
 use Rattle.std.proofs.lemmas.Cmp.{nat_eq_equiv}
@@ -21,7 +21,7 @@ grown-distinct ps [] distinct = distinct
 grown-distinct ps (q ∷ qs) distinct = grown-distinct (grown_by ps q) qs (grown_by-distinct ps q distinct)
 
 module _ (needs : ℕ → List ℕ) where
-  -- nor where the next level is joined to those up to one
+  -- if the levels so far have no object twice, they and the next level have none twice
   pub next-distinct : (earlier level : List ℕ) → IsDistinct nat_eq earlier → IsDistinct nat_eq (earlier ++ next_level needs earlier level)
   unfolding next_level
   next-distinct earlier level distinct = subst (IsDistinct nat_eq) (grown_is earlier (flat_map needs level)) (grown-distinct earlier (flat_map needs level) distinct)
@@ -35,7 +35,7 @@ module _ (needs : ℕ → List ℕ) where
       subst (IsDistinct nat_eq) (append_assoc earlier next rest)
       (more-distinct n (earlier ++ next) next (next-distinct earlier level distinct))
 
-  -- no object stands twice in the levels joined, where none does in level 0
+  -- if level 0 has no object twice, the joined levels have none twice
   pub joined_levels-distinct : (n : ℕ) (first : List ℕ) → IsDistinct nat_eq first → IsDistinct nat_eq (joined_levels needs n first)
   unfolding joined_levels levels
   joined_levels-distinct n first distinct = more-distinct n first first distinct

@@ -1,4 +1,4 @@
--- The first that stands of the values of a function at places in a row.
+-- The first value that a function returns at consecutive places.
 use Rattle.std.proofs.Common.{◌≡◌, ℕ, zero, suc, ◌+◌, ◌<◌, ◌≤◌, ◌∷◌, map, Option, None, Some, sym, ap, ◌∙◌, refl, arith, add-zero}
 use Rattle.std.specs.List.{range_with_len}
 use Rattle.elf_file.specs.FirstOf.{first_of}

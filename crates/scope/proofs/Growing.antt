@@ -1,4 +1,4 @@
--- What a list that grows by what it doesn't have yet comes to.
+-- The list that results if places are added unless they are in it.
 use Rattle.std.proofs.Common.{◌≡◌, ℕ, ◌≤◌, eqb, Bool, true, false, not, cond, ◌&&◌, ◌||◌, List, [], ◌∷◌, ◌++◌, length, filter, fold, take, sym, ap}
 use Rattle.std.proofs.Common.{◌∙◌, refl, append_assoc, append-nil, if◌then◌else◌, arith, length-append}
 use Rattle.std.proofs.lemmas.Bool.{eqb-true}
@@ -13,7 +13,7 @@ pick : (f : ℕ → Bool) (x : ℕ) (xs : List ℕ) (b : Bool) → filter f (con
 pick f x xs true = refl
 pick f x xs false = refl
 
--- one test after another
+-- filtering with two tests, one after the other, is filtering with the test that both pass
 filtered : (f g h : ℕ → Bool) → ((x : ℕ) → h x ≡ (g x && f x)) → (xs : List ℕ) → filter f (filter g xs) ≡ filter h xs
 filtered f g h same [] = refl
 filtered f g h same (x ∷ xs) =
@@ -37,7 +37,7 @@ nor false false = refl
 added : (ps : List ℕ) (q r : ℕ) → not (is_among (ps ++ q ∷ []) r) ≡ (not (eqb r q) && not (is_among ps r))
 added ps q r = ap not (list_any-append (λ x. eqb r x) ps (q ∷ [])) ∙ nor (is_among ps r) (eqb r q)
 
--- it has behind its own the first occurrences of what it lacks
+-- a list grows by the first occurrences of the places that it doesn't have
 pub grown_is : (ps qs : List ℕ) → grown ps qs ≡ ps ++ without ps (first_occurrences qs)
 unfolding grown
 grown_is ps [] = sym (append-nil ps)
@@ -55,7 +55,7 @@ grown_is ps (q ∷ qs) = by (is_among ps q) refl (λ l. grown_is l qs)
         ∙ append_assoc ps (q ∷ []) (without (ps ++ q ∷ []) (first_occurrences qs))
         ∙ ap (λ l. ps ++ q ∷ l) (sym (filtered (λ r. not (is_among ps r)) (λ r. not (eqb r q)) (λ r. not (is_among (ps ++ q ∷ []) r)) (added ps q) (first_occurrences qs)))
 
--- nothing more, one more, and some more
+-- the list after no place, one place, and the places of two lists were added
 pub grown-nil : (ps : List ℕ) → grown ps [] ≡ ps
 unfolding grown
 grown-nil ps = refl
@@ -68,10 +68,10 @@ pub grown-append : (ps qs rs : List ℕ) → grown ps (qs ++ rs) ≡ grown (grow
 unfolding grown
 grown-append ps qs rs = fold-append grown_by ps qs rs
 
--- its own front stays
+-- the first elements of the list stay as they are
 pub grown-take : (n : ℕ) (ps qs : List ℕ) → n ≤ length ps → take n (grown ps qs) ≡ take n ps
 grown-take n ps qs le = ap (take n) (grown_is ps qs) ∙ take-append-le n ps (without ps (first_occurrences qs)) le
 
--- it isn't shorter
+-- the list never becomes shorter
 pub grown-longer : (ps qs : List ℕ) → length ps ≤ length (grown ps qs)
 grown-longer ps qs = omega (arith, ap length (grown_is ps qs), length-append ps (without ps (first_occurrences qs)))

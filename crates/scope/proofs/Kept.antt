@@ -1,4 +1,4 @@
--- What is kept of definitions by numbers is what a search finds.
+-- The definitions that are kept for numbers are those that lookup finds.
 use Rattle.std.proofs.Common.{◌≡◌, ◌≢◌, ℕ, ◌<◌, ◌≤◌, ◌+◌, true, false, cond, List, [], ◌∷◌, ◌++◌, length, map, replicate, arith, refl, sym, ap, ◌∙◌, subst}
 use Rattle.std.proofs.Common.{get_or, set, Option, Some, None, inl, inr, ⊎_elim}
 use Rattle.std.specs.Prelude.{is_none, is_some}
@@ -47,14 +47,14 @@ own-other : (p o s : ℕ) → o ≢ p → own_of p (Some (At o s)) ≡ None
 unfolding own_of
 own-other p o s e = ap (λ b. cond b (Some (At o s)) None) (ne_eqb o p e)
 
--- Where none is kept yet, none is for any number.
+-- If no definition is kept, none is kept for any number.
 kept-none : (n k : ℕ) → nth_target (replicate n None) k ≡ None
 kept-none n k =
     let none : Option Target = None in
     ⊎_elim (λ inside. get_or-replicate n k none none inside)
     (λ behind. get_or-eq_default (replicate n none) none (omega (arith, behind, length-replicate n none))) (cases_lt k n)
 
--- in load order, and for a symbolic object what it exports itself before that
+-- for a symbolic object, lookup finds the definition that the object itself exports
 pub found-own : (objects : List Named) (object : ℕ) (name : List ℕ) (x : Target) → is_symbolic (file_at objects object) ≡ true → definition_at objects name object ≡ Some x
     → Some x ≡ lookup objects object name
 unfolding lookup
@@ -84,7 +84,7 @@ found-later objects object name symbolic none =
     sym (ap (λ b. first_of (map (definition_at objects name) (cond b (object ∷ all_places objects) (all_places objects)))) symbolic
     ∙ ap (λ (o : Option Target). first_of (o ∷ map (definition_at objects name) (all_places objects))) none)
 
--- the object at a place
+-- the file of object number p is that of the element at p
 pub file-is : (objects : List Named) (p : ℕ) (o : Named) → p < length objects → o ≡ get_or objects p o → file_at objects p ≡ o.file
 file-is objects p o lt is = get_or-map (λ (x : Named). x.file) objects p o [] lt ∙ ap (λ (x : Named). x.file) (sym is)
 
@@ -109,7 +109,8 @@ module _ (objects : List Named) (all : List NumberedSymbol) where
   one-more : (kept : List (Option Target)) (count n : ℕ) → IsOneOf objects all count kept n → IsOneOf objects all (count + 1) kept n
   one-more kept count n one = elim one [ inl none ↦ inl none | inr is ↦ inr (is.0, omega (arith, is.1), is.2) ]
 
-  -- what is kept for each number, with one symbol more
+  -- after one more symbol was kept, the definition of each number is absent or among the first k + 1
+  -- symbols
   one-new : (kept : List (Option Target)) (k : ℕ) → k < length all → IsExported objects (nth_symbol all k) → (nth_symbol all k).number < length kept → ((n : ℕ) → IsOneOf objects all k kept n)
       → (n : ℕ) → IsOneOf objects all (k + 1) (set kept (nth_symbol all k).number (Some (At (nth_symbol all k).object (nth_symbol all k).symbol))) n
   one-new kept k lt exported room each n =
@@ -136,7 +137,8 @@ module _ (objects : List Named) (all : List NumberedSymbol) where
     pub last-none : AreLast objects all 0 kept
     last-none = record { size = size-none; each = each-none; known = λ k lt. absurd (omega (arith, lt)) }
 
-  -- a symbol that is kept, since none was
+  -- if symbol number k was kept because its number had no definition, the kept definitions are the first
+  -- ones
   pub first-new : (kept : List (Option Target)) (k : ℕ) → k < length all → AreFirst objects all k kept → IsExported objects (nth_symbol all k) → (nth_symbol all k).number < length kept
       → nth_target kept (nth_symbol all k).number ≡ None
       → AreFirst objects all (k + 1) (set kept (nth_symbol all k).number (Some (At (nth_symbol all k).object (nth_symbol all k).symbol)))
@@ -158,7 +160,7 @@ module _ (objects : List Named) (all : List NumberedSymbol) where
         ];
       }
 
-  -- one that is
+  -- if symbol number k was kept in place of any before, the kept definitions are the last ones
   pub last-new : (kept : List (Option Target)) (k : ℕ) → k < length all → AreLast objects all k kept → IsExported objects (nth_symbol all k) → (nth_symbol all k).number < length kept
       → AreLast objects all (k + 1) (set kept (nth_symbol all k).number (Some (At (nth_symbol all k).object (nth_symbol all k).symbol)))
   last-new kept k lt last exported room =
@@ -181,7 +183,7 @@ module _ (objects : List Named) (all : List NumberedSymbol) where
       }
 
   module _ (numbered : AreNumbered (files_of objects) all) where
-    -- no symbol of a list is exported by an object under a name, so no symbol is
+    -- if the list has no exported symbol of an object with this name, the object doesn't define the name
     absent : (place : ℕ) (name : List ℕ) → place < length objects
         → ((m : ℕ) → m < length all → (nth_symbol all m).object ≡ place → IsExported objects (nth_symbol all m) → name_in (files_of objects) (nth_symbol all m) ≡ name → ⊥)
         → definition_of (file_at objects place) name ≡ None
@@ -201,7 +203,7 @@ module _ (objects : List Named) (all : List NumberedSymbol) where
     inside at lt = omega (arith, (numbered.are.each at lt).there, length-map objects (λ (o : Named). o.file))
 
     module _ (taken : All (λ (o : Named). IsTaken o.file) objects) where
-      -- a symbol that is exported is the definition of its name
+      -- an exported symbol is its object's definition of its own name
       defines : (at : ℕ) (name : List ℕ) → at < length all → IsExported objects (nth_symbol all at) → name_in (files_of objects) (nth_symbol all at) ≡ name
           → definition_of (file_at objects (nth_symbol all at).object) name ≡ Some (nth_symbol all at).symbol
       defines at name lt exported named =
@@ -212,7 +214,7 @@ module _ (objects : List Named) (all : List NumberedSymbol) where
           let is : IsTaken (file_at objects (nth_symbol all at).object) = subst IsTaken (sym file) (taken (nth_symbol all at).object d (inside at lt)) in
           sym (definition-one (file_at objects place) name (nth_symbol all at).symbol is.unique (as-exported (file_at objects place) name (nth_symbol all at).symbol exported named))
 
-      -- the first definition of the name of a symbol is what is kept for its number
+      -- the definition kept for a symbol's number is the first definition of its name in load order
       pub first-found : (kept : List (Option Target)) (k : ℕ) → k < length all → AreFirst objects all (length all) kept
           → nth_target kept (nth_symbol all k).number ≡ first_of (map (definition_at objects (name_in (files_of objects) (nth_symbol all k))) (all_places objects))
       first-found kept k lt first =
@@ -246,7 +248,8 @@ module _ (objects : List Named) (all : List NumberedSymbol) where
                 ∙ ap (option_map (At place)) (defines at name is.1 here.exported (numbered.same at k is.1 lt here.told))))
           ]
 
-      -- what is kept for the number of a symbol, if it is of its object, is what this exports under its name
+      -- if the definition kept for a symbol's number belongs to the symbol's object, it is this object's
+      -- definition of the name; otherwise the object doesn't define the name
       pub own-found : (kept : List (Option Target)) (count k : ℕ) → k < length all → AreLast objects all count kept → AreUpTo all count (nth_symbol all k).object
           → own_of (nth_symbol all k).object (nth_target kept (nth_symbol all k).number) ≡ own_definition objects (nth_symbol all k)
       own-found kept count k lt last up_to =
@@ -288,7 +291,8 @@ module _ (objects : List Named) (all : List NumberedSymbol) where
                 ])
           ]
 
--- what objects export under the names of their symbols, with one symbol more
+-- if the list is right for the first `at` symbols, and the right definition is appended, it is right for
+-- one symbol more
 pub own-more : (objects : List Named) (all : List NumberedSymbol) (own : List (Option Target)) (at : ℕ) (x : Option Target) → length own ≡ at
     → ((k : ℕ) → k < at → nth_target own k ≡ own_definition objects (nth_symbol all k)) → x ≡ own_definition objects (nth_symbol all at)
     → (k : ℕ) → k < at + 1 → nth_target (own ++ x ∷ []) k ≡ own_definition objects (nth_symbol all k)

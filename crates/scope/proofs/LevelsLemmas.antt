@@ -1,6 +1,6 @@
--- For readers and callers: the levels pinned down from outside. First occurrences are the same objects, each once and
--- in their order; each object of a level is needed by one of the level just before it; and the levels joined are
--- closed: what an object of them needs stands in them too.
+-- The meaning of the levels, for readers and callers. First occurrences are the same objects, each only
+-- once and in their order. Each object of a level is needed by an object of the level just before. The
+-- joined levels are closed: they have every object that one of their objects needs.
 use Rattle.std.proofs.Common.{◌≡◌, ◌⊎◌, ◌↔◌, ℕ, zero, suc, ◌+◌, ◌<◌, ◌≤◌, eqb, nat_eq, Bool, true, false, not, cond, ◌&&◌, ◌||◌, List, [], ◌∷◌}
 use Rattle.std.proofs.Common.{◌++◌, length, get_or, take, filter, refl, sym, ap, subst, ◌∙◌, ⊎_elim, inl, inr, arith, append_assoc, append-nil}
 use Rattle.std.proofs.Common.{length-append}
@@ -20,7 +20,7 @@ use Rattle.scope.proofs.Apart.{few}
 use Rattle.scope.proofs.DistinctLevels.{grown-distinct, next-distinct}
 use Rattle.scope.specs.Levels.{is_among, first_occurrences, without, next_level, levels_after, levels, joined_levels}
 
--- an object is one of these, as the definitions test it
+-- the object is in the list, by the test that the definitions use
 abbrev In : List ℕ → ℕ → Type 0
 In xs x = is_among xs x ≡ true
 
@@ -52,7 +52,7 @@ in-right xs ys x h = list_any-append (eqb x) xs ys ∙ or_right (is_among xs x) 
 in-cases : (xs ys : List ℕ) (x : ℕ) → In (xs ++ ys) x → In xs x ⊎ In ys x
 in-cases xs ys x h = or_cases (is_among xs x) (is_among ys x) (sym (list_any-append (eqb x) xs ys) ∙ h)
 
--- what passes a test is there before it and passes, and the other way round
+-- an element is in a filtered list exactly if it is in the list and passes the test
 among-filter : (f : ℕ → Bool) (xs : List ℕ) (x : ℕ) → is_among (filter f xs) x ≡ (f x && is_among xs x)
 among-filter f [] x = nothing (f x)
   where
@@ -76,7 +76,7 @@ among-filter f (y ∷ ys) x = by (f y) refl (among-filter f ys x)
     by true fy more = ap (λ b. eqb x y || b) more ∙ kept (eqb x y) (f x) (is_among ys x) (λ e. ap f (eqb-true x y e) ∙ fy)
     by false fy more = more ∙ dropped (eqb x y) (f x) (is_among ys x) (λ e. ap f (eqb-true x y e) ∙ fy)
 
--- the first occurrences are of the same objects
+-- an object is among the first occurrences exactly if it is in the list
 among-first_occurrences : (ps : List ℕ) (x : ℕ) → is_among (first_occurrences ps) x ≡ is_among ps x
 among-first_occurrences [] x = refl
 among-first_occurrences (p ∷ ps) x =
@@ -116,7 +116,7 @@ module _ (needs : ℕ → List ℕ) where
       among-filter (λ p. not (is_among earlier p)) (first_occurrences (flat_map needs level)) x
       ∙ ap (λ b. not (is_among earlier x) && b) (among-first_occurrences (flat_map needs level) x)
 
-  -- what an object of a level needs stands in the levels up to the next one
+  -- an object that an object of a level needs is in the levels up to the next one
   in-or_next : (earlier level : List ℕ) (x y : ℕ) → In level y → In (needs y) x → In (earlier ++ next_level needs earlier level) x
   in-or_next earlier level x y h g = by (is_among earlier x) refl
     where
@@ -125,7 +125,7 @@ module _ (needs : ℕ → List ℕ) where
       by false e = in-right earlier (next_level needs earlier level) x
           (among-next earlier level x ∙ ap (λ b. not b && is_among (flat_map needs level) x) e ∙ in-flat_map needs level x y h g)
 
-  -- an object of the next level isn't in the levels up to the one before, and one of that needs it
+  -- an object of the next level is needed by an object of the level
   next-in : (earlier level : List ℕ) (x : ℕ) → In (next_level needs earlier level) x → (y : ℕ) × In level y × In (needs y) x
   next-in earlier level x h = flat_map-in needs level x (and_parts (not (is_among earlier x)) (is_among (flat_map needs level) x) (sym (among-next earlier level x) ∙ h)).1
 
@@ -136,7 +136,7 @@ module _ (needs : ℕ → List ℕ) where
   needed-after (suc n) zero earlier level x h = next-in earlier level x h
   needed-after (suc n) (suc k) earlier level x h = needed-after n k (earlier ++ next_level needs earlier level) (next_level needs earlier level) x h
 
-  -- Each object of a level but level 0 is needed by one of the level just before it.
+  -- Each object of a level, except level 0, is needed by an object of the level just before.
   pub level-needed : (n k : ℕ) (first : List ℕ) (x : ℕ) → Contains (get_or (levels needs n first) (k + 1) []) x
       → (y : ℕ) × Contains (get_or (levels needs n first) k []) y × Contains (needs y) x
   unfolding levels
@@ -145,21 +145,22 @@ module _ (needs : ℕ → List ℕ) where
       (subst (λ l. Contains l x) (get_or-suc first (levels_after needs n first first) k) h)) in
       (r.0, among-contains _ r.0 r.1, among-contains _ x r.2)
 
-  -- where the next level is empty, none behind it has an object
+  -- if the next level is empty, all levels after it are empty
   none_after : (n : ℕ) (earlier level : List ℕ) → next_level needs earlier level ≡ [] → concat (levels_after needs n earlier level) ≡ []
   unfolding levels_after next_level
   none_after zero earlier level none = refl
   none_after (suc n) earlier level none =
       ap (λ l. l ++ concat (levels_after needs n (earlier ++ l) l)) none ∙ none_after n (earlier ++ []) [] refl
 
-  -- what an object of these needs is one of these, but for what objects of a level need
+  -- the list has every object that an object of it needs, except perhaps objects that only those of
+  -- `level` need
   abbrev IsClosedBut : List ℕ → List ℕ → Type 0
   IsClosedBut level xs = (y x : ℕ) → In xs y → In (needs y) x → In level y ⊎ In xs x
 
   abbrev IsClosed : List ℕ → Type 0
   IsClosed xs = (y x : ℕ) → In xs y → In (needs y) x → In xs x
 
-  -- so many numbers below a limit that differ are all
+  -- if a list has `limit` distinct numbers below `limit`, it has every number below it
   full : (limit : ℕ) (xs : List ℕ) (x : ℕ) → AreApart limit xs → limit ≤ length xs → x < limit → In xs x
   full limit xs x apart many lt = by (is_among xs x) refl
     where
@@ -172,7 +173,7 @@ module _ (needs : ℕ → List ℕ) where
           } in
           absurd (omega (arith, few limit (xs ++ x ∷ []) more, length-append xs (x ∷ []), many))
 
-  -- what is so of each object is so of all
+  -- if a fact is true of each object that is in the list, `All` has it
   all-in : (P : ℕ → Type 0) (xs : List ℕ) → ((x : ℕ) → In xs x → P x) → All P xs
   all-in P xs h = All-from_get_or P xs 0 (λ i lt. h (get_or xs i 0) (contains-among xs (get_or xs i 0) (Contains-get_or xs i 0 lt)))
 
@@ -216,7 +217,7 @@ module _ (needs : ℕ → List ℕ) where
             (λ there. in-left earlier [] x there)
             (closed y x (subst (λ l. In l y) (append-nil earlier) h) g))
 
-    -- where the levels up to one have all objects, the next one is empty
+    -- if the levels so far have all objects, the next level is empty
     next-none : (earlier level : List ℕ) → AreApart limit earlier → limit ≤ length earlier → next_level needs earlier level ≡ []
     next-none earlier level apart many = empty (next_level needs earlier level) (λ x h.
         let r = next-in earlier level x h in
@@ -245,7 +246,7 @@ module _ (needs : ℕ → List ℕ) where
             ap (λ l. next ++ l)
             (same (omega (arith, room, length-append earlier next, ap length e)) (omega (arith, more, length-append earlier next, ap length e)))
 
-    -- More levels than objects make no difference.
+    -- If there are already as many levels as objects, further levels change nothing.
     pub joined_levels-enough : (n m : ℕ) (first : List ℕ) → All (λ p. p < limit) first → IsDistinct nat_eq first → limit ≤ length first + n → limit ≤ length first + m
         → joined_levels needs n first ≡ joined_levels needs m first
     unfolding joined_levels levels
@@ -260,14 +261,14 @@ module _ (needs : ℕ → List ℕ) where
         subst (AreApart limit) (append_assoc earlier next (concat (levels_after needs n (earlier ++ next) next)))
         (apart-after n (earlier ++ next) next (next-apart earlier level apart))
 
-    -- The levels joined have no other objects than level 0 and what is needed.
+    -- If level 0 and the needs have only objects below a limit, the joined levels have only such objects.
     pub joined_levels-below : (n : ℕ) (first : List ℕ) → All (λ p. p < limit) first → IsDistinct nat_eq first → All (λ p. p < limit) (joined_levels needs n first)
     unfolding joined_levels levels
     joined_levels-below n first low distinct =
         let apart : AreApart limit (first ++ concat (levels_after needs n first first)) = apart-after n first first (record { below = low; distinct = distinct }) in
         apart.below
 
-    -- What an object of the levels joined needs stands in them, where there are at least as many levels as objects.
+    -- The joined levels have every object that one of their objects needs, if there are at least as many levels as objects.
     pub joined_levels-closed : (n : ℕ) (first : List ℕ) → All (λ p. p < limit) first → IsDistinct nat_eq first → limit ≤ length first + n
         → (y x : ℕ) → Contains (joined_levels needs n first) y → Contains (needs y) x → Contains (joined_levels needs n first) x
     unfolding joined_levels levels
@@ -283,7 +284,7 @@ among-concat (l ∷ ls) x h = ⊎_elim
     (λ later. let r = among-concat ls x later in (suc r.0, r.1))
     (in-cases l (concat ls) x h)
 
--- Each of the levels joined is of one level.
+-- Each object of the joined levels is in one of the levels.
 pub joined_levels-level : (needs : ℕ → List ℕ) (n : ℕ) (first : List ℕ) (x : ℕ) → Contains (joined_levels needs n first) x
     → (k : ℕ) × Contains (get_or (levels needs n first) k []) x
 unfolding joined_levels
@@ -291,13 +292,13 @@ joined_levels-level needs n first x h =
     let r = among-concat (levels needs n first) x (contains-among (joined_levels needs n first) x h) in
     (r.0, among-contains (get_or (levels needs n first) r.0 []) x r.1)
 
--- The levels joined begin with level 0.
+-- The joined levels begin with level 0.
 pub joined_levels-first : (needs : ℕ → List ℕ) (n : ℕ) (first : List ℕ) → take (length first) (joined_levels needs n first) ≡ first
 unfolding joined_levels levels
 joined_levels-first needs n first =
     take-append-le (length first) first (concat (levels_after needs n first first)) (omega arith) ∙ take-length first
 
--- The first occurrences are of the same objects, and each stands once.
+-- The first occurrences are the same objects as the list, and each is there only once.
 pub first_occurrences-contains : (ps : List ℕ) (x : ℕ) → Contains (first_occurrences ps) x ↔ Contains ps x
 first_occurrences-contains ps x = (
   λ h. among-contains ps x (sym (among-first_occurrences ps x) ∙ contains-among (first_occurrences ps) x h),
@@ -321,7 +322,7 @@ without-same ps qs (r ∷ rs) same =
     ap (λ l. cond (not (is_among ps r)) (r ∷ l) l) (without-same ps qs rs same)
     ∙ ap (λ b. cond (not b) (r ∷ without qs rs) (without qs rs)) (same r)
 
--- They keep their order: those of two lists joined are those of the first, and then the new ones of the second.
+-- First occurrences keep their order: those of two joined lists are those of the first list, followed by the new ones of the second.
 pub first_occurrences-append : (ps qs : List ℕ) → first_occurrences (ps ++ qs) ≡ first_occurrences ps ++ without ps (first_occurrences qs)
 first_occurrences-append ps qs =
     sym (first_occurrences-grown (ps ++ qs)) ∙ grown-append [] ps qs ∙ ap (λ l. grown l qs) (first_occurrences-grown ps)

@@ -1,6 +1,6 @@
--- For readers and callers: the load order pinned down from outside. It begins with the program and the preloads, has no
--- object twice, and where no name is missing it has a library for each name that an object of it needs; each library
--- in it but a preload is needed by an object of the level just before its own.
+-- The meaning of the load order, for readers and callers. It begins with the program and the preloads,
+-- and has no object twice. If no name is missing, it has a library for each name that one of its objects
+-- needs. Each library, except the preloads, is needed by an object of the level just before its own.
 use Rattle.std.proofs.Common.{◌≡◌, ◌⊎◌, ℕ, zero, suc, ◌+◌, ◌<◌, Bool, true, false, cond, List, [], ◌∷◌, length, map, take, get_or, nat_eq, Option}
 use Rattle.std.proofs.Common.{Some, None, refl, sym, ap, subst, ◌∙◌, ⊎_elim, inl, inr, arith}
 use native.Mathlib.Numerals.{unary_clauses}
@@ -34,7 +34,7 @@ pub contains-here : {X : Type 0} (x : X) (ys : List X) → Contains (x ∷ ys) x
 contains-here x ys = (0, omega arith, refl)
 
 module _ {X Y : Type 0} (f : X → Option Y) where
-  -- what is kept comes from one that gives it, and the other way round
+  -- an element is in the result of `filter_map` exactly if `f` returns it for an element of the list
   from_filter_map : (xs : List X) (y : Y) → Contains (filter_map f xs) y → (x : X) × Contains xs x × (f x ≡ Some y)
   from_filter_map [] y (k, lt, is) = absurd (omega (arith, lt))
   from_filter_map (x ∷ xs) y h = by (f x) refl h (λ g. from_filter_map xs y g)
@@ -80,7 +80,7 @@ contains-flat_map f (z ∷ zs) x y h g = ⊎_elim
     (λ later. Contains-append_right (f z) (flat_map f zs) y (contains-flat_map f zs x y later g))
     (contains-cons x z zs h)
 
--- where none passes, one of them doesn't
+-- if `find` returns none, no element of the list passes the test
 find-none : {X : Type 0} (p : X → Bool) (xs : List X) (x : X) → find p xs ≡ None → Contains xs x → p x ≡ false
 find-none p [] x none (k, lt, is) = absurd (omega (arith, lt))
 find-none {X} p (z ∷ zs) x none h = by (p z) refl none (λ rest later. find-none p zs x rest later)
@@ -89,7 +89,7 @@ find-none {X} p (z ∷ zs) x none h = by (p z) refl none (λ rest later. find-no
     by true e some more = absurd (false≢true (ap is_none some))
     by false e rest more = ⊎_elim (λ same. ap p (sym same) ∙ e) (more rest) (contains-cons x z zs h)
 
--- the place of a name: there is one with that name
+-- if a name has a place, the library at this place has the name
 pub place_of-is : (names : List (List ℕ)) (name : List ℕ) (p : ℕ) → place_of names name ≡ Some p
     → (i : ℕ) × (p ≡ i + 1) × (i < length names) × (get_or names i [] ≡ name)
 place_of-is names name p e = by (nat_lt i (length names)) refl e
@@ -104,7 +104,7 @@ place_of-is names name p e = by (nat_lt i (length names)) refl e
         let inside : i < length names = ltb-true i (length names) lt in
         (i, sym (ap (λ o. unwrap_or o 0) some), inside, sym ((bytes_eq-Decides name (get_or names i [])).0 (passes_at_first (bytes_eq name) names [] inside)))
 
--- a name that isn't missing has a place
+-- if a name isn't missing, it has a place
 place-there : (o : Option ℕ) → is_none o ≡ false → (p : ℕ) × (o ≡ Some p)
 place-there None e = absurd (false≢true (sym e))
 place-there (Some p) e = (p, refl)
@@ -129,21 +129,21 @@ module _ (program : List ℕ) (libraries : List Named) where
       place-below r.0 x r.2
 
   module _ (preloads : List ℕ) where
-    -- the levels of places whose join the load order is
+    -- the levels of places that are joined to the load order
     abbrev pub load_levels : List (List ℕ)
     load_levels = levels (needs_of program libraries) (length (available program libraries)) (level_0 preloads)
 
-    -- It begins with the program and the preloads, in their order.
+    -- The load order begins with the program and the preloads, in their order.
     pub load_order-first : take (length (level_0 preloads)) (load_places program libraries preloads) ≡ level_0 preloads
     unfolding load_places
     load_order-first = joined_levels-first (needs_of program libraries) (length (available program libraries)) (level_0 preloads)
 
-    -- Each object of it is of one level.
+    -- Each object of the load order is in one level.
     pub load_order-level : (x : ℕ) → Contains (load_places program libraries preloads) x → (k : ℕ) × Contains (get_or load_levels k []) x
     unfolding load_places
     load_order-level x h = joined_levels-level (needs_of program libraries) (length (available program libraries)) (level_0 preloads) x h
 
-    -- Each object of a level but level 0 goes by a name that an object of the level just before it needs.
+    -- Each object of a level, except level 0, has a name that an object of the level just before needs.
     pub load_order-needed : (k x : ℕ) → Contains (get_or load_levels (k + 1) []) x
         → (y : ℕ) × Contains (get_or load_levels k []) y × Contains (needed (file_at (available program libraries) y)) (name_at (available program libraries) x)
     load_order-needed k x h =
@@ -158,7 +158,7 @@ module _ (program : List ℕ) (libraries : List Named) where
           (All-map (λ p. p < length (available program libraries)) (λ p. p + 1) preloads
           (All-weaker (λ p. p < length libraries) (λ p. p + 1 < length (available program libraries)) (λ p lt. omega (arith, lt)) preloads low))
 
-      -- No object stands in it twice, and each is one of those that there are.
+      -- No object is in the load order twice, and each is the program or an installed library.
       pub load_order-distinct : IsDistinct nat_eq (load_places program libraries preloads)
       unfolding load_places
       load_order-distinct = joined_levels-distinct (needs_of program libraries) (length (available program libraries)) (level_0 preloads) (distinct-level_0 preloads distinct)
@@ -169,7 +169,8 @@ module _ (program : List ℕ) (libraries : List Named) where
           joined_levels-below (needs_of program libraries) (length (available program libraries)) needs-below
           (length (available program libraries)) (level_0 preloads) low-level_0 (distinct-level_0 preloads distinct)
 
-      -- Where the program and the libraries go by different names, so do its objects.
+      -- If the names of the program and the libraries are distinct, the names of the objects of the load
+      -- order are too.
       pub load_order-names : IsDistinct bytes_eq (names_of (available program libraries)) → IsDistinct bytes_eq (names_of (load_order program libraries preloads))
       unfolding load_order
       load_order-names names =
@@ -209,7 +210,7 @@ module _ (program : List ℕ) (libraries : List Named) where
               order)
               (cases_order a b)
 
-      -- Where no name is missing each name that an object of it needs is one that an object of it goes by.
+      -- If no name is missing, each name that an object of the load order needs is the name of one of its objects.
       pub load_order-closed : missing program libraries preloads ≡ None → (object : Named) (name : List ℕ)
           → Contains (load_order program libraries preloads) object → Contains (needed object.file) name
           → Contains (names_of (load_order program libraries preloads)) name

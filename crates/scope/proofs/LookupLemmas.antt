@@ -1,5 +1,5 @@
--- For readers and callers: lookup gives a symbolic object its own definition, else the first one by place in load order, and
--- none only where there is none.
+-- The result of lookup, for readers and callers. It is a symbolic object's own definition, or else the
+-- first definition in load order. Lookup finds none only if there is none.
 use Rattle.std.proofs.Common.{◌≡◌, ℕ, zero, suc, ◌+◌, ◌<◌, ◌≤◌, Bool, true, false, cond, List, ◌∷◌, length, map, Option, None, Some, refl, sym, ap, ◌∙◌, ◌⊎◌, ⊎_elim, arith}
 use Rattle.std.specs.Prelude.{is_none, unwrap_or}
 use Rattle.std.specs.List.{range_with_len}
@@ -13,7 +13,8 @@ use Rattle.scope.specs.Lookup.{all_places, definition_at, lookup}
 use Rattle.scope.specs.declared.target.Target.{Target}
 use Rattle.scope.specs.declared.target.Target.TheVariants.{Zero, At}
 
--- the place where the first that stands of the values of a function at places in a row is taken
+-- of the places from `a` up to, but not including, a + n, `at` is the first at which `f` has a value,
+-- and this value is `x`
 record IsFirst {R : Type 0} (f : ℕ → Option R) (a n : ℕ) (x : R) : Type 0 where
   at : ℕ
   from : a ≤ at
@@ -48,7 +49,7 @@ module _ {R : Type 0} (f : ℕ → Option R) where
                 (cases_lt a k);
           }
 
--- The first of the objects that define a name, with the symbol.
+-- The object at `place` is the first that defines the name, and its definition is `symbol`.
 pub record IsFirstDefinition (objects : List Named) (name : List ℕ) (place symbol : ℕ) : Type 0 where
   pub inside : place < length objects
   pub defines : definition_of (file_at objects place) name ≡ Some symbol
@@ -58,7 +59,7 @@ no_definition : (place : ℕ) (o : Option ℕ) → option_map (At place) o ≡ N
 no_definition place None e = refl
 no_definition place (Some s) e = absurd (false≢true (ap is_none e))
 
--- A symbolic object's own definition is found before every other one.
+-- Lookup finds a symbolic object's own definition before all others.
 pub lookup-own : (objects : List Named) (object : ℕ) (name : List ℕ) (symbol : ℕ) → is_symbolic (file_at objects object) ≡ true
     → definition_of (file_at objects object) name ≡ Some symbol → lookup objects object name ≡ Some (At object symbol)
 unfolding lookup
@@ -68,7 +69,8 @@ lookup-own objects object name symbol symbolic defines = by (is_symbolic (file_a
     by true e = ap (λ o. first_of (option_map (At object) o ∷ map (definition_at objects name) (all_places objects))) defines
     by false e = absurd (false≢true e)
 
--- where an object isn't symbolic, or doesn't define the name, its scope is as good as the load order
+-- if an object isn't symbolic, or doesn't define the name, searching its scope finds the same as
+-- searching in load order
 in_order : (objects : List Named) (object : ℕ) (name : List ℕ) (s : Bool) → (s ≡ false) ⊎ (definition_of (file_at objects object) name ≡ None)
     → first_of (map (definition_at objects name) (cond s (object ∷ all_places objects) (all_places objects)))
     ≡ first_of (map (definition_at objects name) (all_places objects))
@@ -78,7 +80,7 @@ in_order objects object name true h = ⊎_elim
     (λ none. ap (λ o. first_of (option_map (At object) o ∷ map (definition_at objects name) (all_places objects))) none)
     h
 
--- Whatever else lookup finds is a symbol of the first object that defines the name.
+-- In all other cases, lookup finds a symbol of the first object that defines the name.
 pub lookup-first : (objects : List Named) (object : ℕ) (name : List ℕ) (found : Target)
     → (is_symbolic (file_at objects object) ≡ false) ⊎ (definition_of (file_at objects object) name ≡ None) → lookup objects object name ≡ Some found
     → (place : ℕ) × (symbol : ℕ) × (found ≡ At place symbol) × IsFirstDefinition objects name place symbol
@@ -123,7 +125,7 @@ none-in_order : (objects : List Named) (object : ℕ) (name : List ℕ) (s : Boo
 none-in_order objects object name false e = e
 none-in_order objects object name true e = none-behind (definition_at objects name object) (map (definition_at objects name) (all_places objects)) e
 
--- Where lookup finds none, no object defines the name.
+-- If lookup finds nothing, no object defines the name.
 pub lookup-nowhere : (objects : List Named) (object : ℕ) (name : List ℕ) → lookup objects object name ≡ None
     → (k : ℕ) → k < length objects → definition_of (file_at objects k) name ≡ None
 unfolding lookup

@@ -18,7 +18,8 @@ abbrev pub is_absent : List (List ℕ) → List ℕ → Bool
 is_absent names name = is_none (place_of names name)
 
 module _ {X : Type 0} (p : X → Bool) where
-  -- one more that isn't it, the first that is
+  -- if the first i elements don't pass and the next one doesn't, the first i + 1 don't; and if an
+  -- element is the first to pass, `find` returns it
   pub find-more : (xs : List X) (i : ℕ) (d : X) → i < length xs → find p (take i xs) ≡ None → p (get_or xs i d) ≡ false → find p (take (i + 1) xs) ≡ None
   find-more xs i d lt none not_it =
       ap (find p) (take_more xs i d lt) ∙ find-append p (take i xs) (get_or xs i d ∷ [])
@@ -42,12 +43,13 @@ module _ {X Y : Type 0} (f : X → Y) (p : Y → Bool) where
   find-map (x ∷ xs) =
       ap (λ o. cond (p (f x)) (Some (f x)) o) (find-map xs) ∙ chosen (p (f x)) x (find (λ x. p (f x)) xs)
 
--- what is said of the names that an object needs
+-- the first missing need of an object is its first needed name that isn't installed, with the object's
+-- name
 pub missing-by : (names : List (List ℕ)) (object : Named)
     → find (is_missing names) (needed_by object) ≡ option_map (λ name. record { needer = object.name; name = name }) (find (is_absent names) (needed object.file))
 missing-by names object = find-map (λ name. let n : Need = record { needer = object.name; name = name } in n) (is_missing names) (needed object.file)
 
--- a name more, under which a library is installed
+-- if the next needed name is installed, adding its place to the queue adds the needs up to this name
 pub needs-more : (places : List ℕ) (names needs : List (List ℕ)) (k p : ℕ) (d : List ℕ) → k < length needs → place_of names (get_or needs k d) ≡ Some p
     → grown places (filter_map (place_of names) (take (k + 1) needs)) ≡ grown_by (grown places (filter_map (place_of names) (take k needs))) p
 needs-more places names needs k p d lt is =

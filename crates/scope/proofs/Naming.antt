@@ -1,4 +1,4 @@
--- The place of a name, among names that are kept in other forms too, and the object at a place.
+-- The place of a name among distinct names, and the object at a place.
 use Rattle.std.proofs.Common.{◌≡◌, ℕ, suc, ◌+◌, ◌<◌, Bool, not, cond, ◌||◌, List, [], ◌∷◌, length, map, get_or, Some, None, ap, ◌∙◌, refl, arith}
 use Rattle.std.specs.Prelude.{position, nat_lt}
 use Rattle.std.specs.List.{list_any, position_or_len, IsDistinct}
@@ -27,7 +27,7 @@ module _ {A B : Type 0} (f : A → B) (p : B → Bool) where
       ap (λ n. cond (nat_lt n (length (map f xs))) (Some n) None) (position_or_len_of xs)
       ∙ ap (λ m. cond (nat_lt (position_or_len (λ x. p (f x)) xs) m) (Some (position_or_len (λ x. p (f x)) xs)) None) (length-map xs f)
 
--- the place of a name among names that differ
+-- in a list of distinct names, the place of name number k is k + 1
 pub place_of-distinct : (names : List (List ℕ)) (k : ℕ) → IsDistinct bytes_eq names → k < length names → place_of names (get_or names k []) ≡ Some (k + 1)
 place_of-distinct names k distinct lt =
     let name : List ℕ = get_or names k [] in
@@ -38,7 +38,7 @@ place_of-distinct names k distinct lt =
     ap (λ i. option_map (λ p. p + 1) (cond (nat_lt i (length names)) (Some i) None)) is
     ∙ ap (λ b. option_map (λ p. p + 1) (cond b (Some k) None)) (lt-ltb k (length names) lt)
 
--- the object at a place behind the first
+-- the object at place i + 1 of a list is element i of the list without the first element
 pub object_later : (first : Named) (rest : List Named) (i : ℕ) (d : Named) → i < length rest → object_at (first ∷ rest) (suc i) ≡ get_or rest i d
 object_later first rest i d lt =
     ap (λ n. let o : Named = record { name = n; file = get_or (map (λ (r : Named). r.file) rest) i [] } in o) (get_or-map (λ (r : Named). r.name) rest i d [] lt)

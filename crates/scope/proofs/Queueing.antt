@@ -1,4 +1,4 @@
--- The levels joined, and the first name that isn't installed, from a walk of the queue.
+-- The queue finds the joined levels, and the first name that isn't installed.
 use Rattle.std.proofs.Common.{◌≡◌, ℕ, ◌+◌, ◌<◌, ◌≤◌, List, [], ◌∷◌, ◌++◌, length, map, take, drop, get_or, Option, Some, None, refl, sym, ap, ◌∙◌, arith, append-nil}
 use Rattle.std.specs.Prelude.{slice_get}
 use Rattle.std.specs.Option.{option_map, option_or}
@@ -19,11 +19,11 @@ use Rattle.scope.proofs.Growing.{grown-take}
 use Rattle.scope.proofs.Reaching.{reached-at, reached-next, reached-end, at-begins}
 
 module _ (program : List ℕ) (libraries : List Named) (preloads : List ℕ) where
-  -- what the objects at some places need, with their names
+  -- the needs of the objects at these places
   abbrev pub listed : List ℕ → List Need
   listed places = flat_map needed_by (map (object_at (available program libraries)) places)
 
-  -- the first of these under which nothing is installed
+  -- the first of these needs that isn't installed
   abbrev pub first_missing : List Need → Option Need
   first_missing needs = find (is_missing (names_of libraries)) needs
 
@@ -38,7 +38,8 @@ module _ (program : List ℕ) (libraries : List Named) (preloads : List ℕ) whe
   listed-one : (x : ℕ) → listed (x ∷ []) ≡ needed_by (object_at (available program libraries) x)
   listed-one x = append-nil (needed_by (object_at (available program libraries) x))
 
-  -- the queue after an object's needs
+  -- after the needs of object number i were added, the first i + 1 objects of the queue have been
+  -- processed
   pub reached-more : (places : List ℕ) (i : ℕ) → IsReached places i → i < length places → length places ≤ length (available program libraries)
       → IsReached (grown places (needs_of program libraries (get_or places i 0))) (i + 1)
   reached-more places i r lt few = reached-next _ _ _ (reached-at _ _ _ places i r lt few)
@@ -54,7 +55,8 @@ module _ (program : List ℕ) (libraries : List Named) (preloads : List ℕ) whe
       ∙ ap first_missing (listed-one (get_or places i 0))
       ∙ found
 
-  -- a name that isn't installed
+  -- if the first missing need is found at object number i of the queue, it is the first missing one of
+  -- the load order
   missing-at : (places : List ℕ) (i : ℕ) (need : Need) → IsReached places i → i < length places → length places ≤ length (available program libraries)
       → first_missing (listed (take i places)) ≡ None
       → first_missing (needed_by (object_at (available program libraries) (get_or places i 0))) ≡ Some need
@@ -78,7 +80,7 @@ module _ (program : List ℕ) (libraries : List Named) (preloads : List ℕ) whe
   refused-at places i (Missing needer name) r lt few clear h = missing-at places i (record { needer = needer; name = name }) r lt few clear h
   refused-at places i OutOfMemory r lt few clear h = tt
 
-  -- the end of the queue
+  -- if all objects of the queue have been processed, its places are those of the load order
   pub places-end : (places : List ℕ) (i : ℕ) → IsReached places i → length places ≤ i → load_places program libraries preloads ≡ places
   unfolding load_places
   places-end places i r outside = reached-end _ _ _ places i r outside
@@ -90,17 +92,17 @@ module _ (program : List ℕ) (libraries : List Named) (preloads : List ℕ) whe
       let e : length places ≡ i = omega (arith, inside, outside) in
       ap (λ l. first_missing (listed l)) (places-end places i r outside ∙ sym (take-length places) ∙ ap (λ k. take k places) e) ∙ clear
 
-  -- the load order behind the program
+  -- the load order without the program is the objects at its places, without the first place
   pub order-behind : drop 1 (load_order program libraries preloads) ≡ map (object_at (available program libraries)) (drop 1 (load_places program libraries preloads))
   unfolding load_order load_places joined_levels levels
   order-behind = refl
 
-  -- the whole of it
+  -- the load order is the program, followed by the rest of the load order
   pub order-whole : load_order program libraries preloads ≡ available program (drop 1 (load_order program libraries preloads))
   unfolding load_order load_places joined_levels levels
   order-whole = refl
 
-  -- the program comes first
+  -- the program is the first object of the load order
   pub program-first : option_map (λ (o : Named). o.name) (slice_get (load_order program libraries preloads) 0) ≡ Some program_name
   unfolding load_order load_places joined_levels levels
   program-first = refl

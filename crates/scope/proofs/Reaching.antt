@@ -1,4 +1,5 @@
--- Walking a list from its front, while it grows by what each of its objects needs, gives the levels joined.
+-- If a queue is processed from its beginning, and what each of its objects needs is added to its end, it
+-- becomes the joined levels.
 use Rattle.std.proofs.Common.{◌≡◌, ℕ, zero, suc, ◌+◌, ◌<◌, ◌≤◌, List, [], ◌∷◌, ◌++◌, length, take, drop, get_or, sym, ap, subst, ◌∙◌, refl, append_assoc, append-nil, arith, length-append, add-zero}
 use Rattle.std.specs.List.{flat_map, concat}
 use Rattle.std.proofs.Math.Seq.{drop-append_seam}
@@ -9,14 +10,15 @@ use Rattle.scope.specs.inside.Growing.{grown}
 use Rattle.scope.specs.inside.Reached as inside
 use Rattle.scope.proofs.Growing.{grown_is, grown-nil, grown-append, grown-take}
 
--- the first of what is left behind a front
+-- if x is the first element of a list after i elements, it is element i of any list that begins with
+-- this list
 item_at : (ps ms : List ℕ) (i x : ℕ) (left : List ℕ) → drop i ps ≡ x ∷ left → get_or (ps ++ ms) i 0 ≡ x
 item_at ps ms i x left e =
     get_or_append_left ps ms 0 i (omega (arith, length-drop i ps, ap length e))
     ∙ sym (get_or-drop i ps 0 0 ∙ ap (λ k. get_or ps k 0) (add-zero i))
     ∙ ap (λ l. get_or l 0 0) e
 
--- where a level needs nothing new, no level after it has an object
+-- if a level needs no new objects, all levels after it are empty
 no_more : (needs : ℕ → List ℕ) (t : ℕ) (earlier level : List ℕ) → next_level needs earlier level ≡ [] → concat (levels_after needs t earlier level) ≡ []
 unfolding levels_after next_level
 no_more needs zero earlier level none = refl
@@ -27,7 +29,7 @@ module _ (needs : ℕ → List ℕ) (n : ℕ) (first : List ℕ) where
   abbrev Reached : List ℕ → ℕ → Type 0
   Reached places i = inside.Reached needs n first places i
 
-  -- the same where the object number i is x
+  -- `Reached` is true of the first `i` objects, and object number `i` is `x`, the next one to process
   pub record At (places : List ℕ) (i x : ℕ) : Type 0 where
     pub earlier : List ℕ
     pub walked : List ℕ
@@ -69,7 +71,8 @@ module _ (needs : ℕ → List ℕ) (n : ℕ) (first : List ℕ) where
     room = at.room;
   }
 
-  -- where the walk hasn't come to the end of the list, it has come to an object, maybe the first of a new level
+  -- before the end of the queue, there is a next object to process; it may be the first one of a new
+  -- level
   pub reached-at : (places : List ℕ) (i : ℕ) → Reached places i → i < length places → length places ≤ n → At places i (get_or places i 0)
   unfolding levels_after next_level
   reached-at places i r inside few = by r.left refl
@@ -131,7 +134,7 @@ module _ (needs : ℕ → List ℕ) (n : ℕ) (first : List ℕ) where
             room = r.room;
           })
 
-  -- at the end of the list it is the levels joined
+  -- if all objects of the queue have been processed, its places are the joined levels
   pub reached-end : (places : List ℕ) (i : ℕ) → Reached places i → length places ≤ i → joined_levels needs n first ≡ places
   unfolding next_level
   reached-end places i r outside =
@@ -145,7 +148,7 @@ module _ (needs : ℕ → List ℕ) (n : ℕ) (first : List ℕ) where
       ∙ ap (λ l. r.earlier ++ l) (no_more needs r.turns r.earlier r.walked none ∙ sym none)
       ∙ sym split
 
-  -- what is known of the levels joined at an object: they begin with the list up to it
+  -- the joined levels begin with the first `i` objects of the queue, followed by object `x`
   pub record Begins (places : List ℕ) (i x : ℕ) : Type 0 where
     pub more : List ℕ
     pub begins : joined_levels needs n first ≡ take i places ++ x ∷ more

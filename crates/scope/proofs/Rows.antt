@@ -1,4 +1,4 @@
--- What is found for symbols, in rows.
+-- The rows of definitions found for symbols.
 use Rattle.std.proofs.Common.{◌≡◌, ℕ, ◌<◌, ◌+◌, List, [], length, map, arith, sym, ap, ◌∙◌, subst, get_or, set, Option, None, inl, inr}
 use Rattle.std.proofs.lemmas.Bool.{cases_lt, cases_eq}
 use Rattle.std.proofs.lemmas.List.{length-set, get_or-set_other, get_or-set_same, length-map, map-set}
@@ -31,7 +31,7 @@ put-row rows place symbol found lt room =
       ];
     }
 
--- an element of a row is another one
+-- if an element of a row is set, and the row is put back, `IsPutAt` is true of the old and the new rows
 pub put-at : {A : Type 0} (items : A → List (Option Target)) (rows : List A) (place symbol : ℕ) (v : A) (found : Option Target) → place < length rows
     → symbol < length (get_or (map items rows) place []) → items v ≡ set (get_or (map items rows) place []) symbol found
     → IsPutAt (map items rows) (map items (set rows place v)) place symbol found
@@ -47,7 +47,8 @@ room-more objects rows new place symbol found room put = record {
   sizes = λ p lt. put.sizes p ∙ room.sizes p lt;
 }
 
--- one symbol more
+-- if the definition found for symbol number `at` is stored, the rows have the definitions of one symbol
+-- more
 pub found-more : (objects : List Named) (all : List NumberedSymbol) (at : ℕ) (rows new : List (List (Option Target))) (found : Option Target) → AreFound objects all at rows
     → found ≡ lookup objects (nth_symbol all at).object (name_in (files_of objects) (nth_symbol all at))
     → IsPutAt rows new (nth_symbol all at).object (nth_symbol all at).symbol found → AreFound objects all (at + 1) new
@@ -72,7 +73,7 @@ found-more objects all at rows new found are is put =
     before : (k : ℕ) → k < at + 1 → (k ≡ at → ⊥) → k < at
     before k lt other = elim (cases_lt k at) [ inl less ↦ less | inr more ↦ absurd (other (omega (arith, lt, more))) ]
 
--- all symbols
+-- if the rows have the definitions of all symbols in the list, `IsFound` is true of them
 pub found-all : (objects : List Named) (all : List NumberedSymbol) (rows : List (List (Option Target))) → AreNumbered (files_of objects) all → AreFound objects all (length all) rows
     → IsFound objects rows
 found-all objects all rows numbered are = record {

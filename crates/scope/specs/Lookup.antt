@@ -1,5 +1,5 @@
--- The search for a name among objects (gABI chapter 5, "Shared Object Dependencies", DT_SYMBOLIC
--- and DF_SYMBOLIC; ld.so(8): the first definition is taken, weak or not).
+-- The search for a name among objects (gABI chapter 5, "Shared Object Dependencies", DT_SYMBOLIC and
+-- DF_SYMBOLIC; ld.so(8): the first definition counts, whether it is weak or not).
 use Rattle.std.specs.Prelude.{ℕ, List, ◌∷◌, length, map, Option, if◌then◌else◌}
 use Rattle.std.specs.List.{range_with_len}
 use Rattle.std.specs.Option.{option_map}
@@ -14,16 +14,16 @@ use Rattle.scope.specs.declared.target.Target.TheVariants.{At}
 abbrev pub all_places : List Named → List ℕ
 all_places objects = range_with_len 0 (length objects)
 
--- The places that are searched, in this order, for the symbols of the object at a place: all, in
--- load order; before these the object's own, where it is symbolic.
+-- The places that are searched for the symbols of an object, in this order: its own place if it is
+-- symbolic, and then all places in load order.
 abbrev pub scope_of : List Named → ℕ → List ℕ
 scope_of objects object =
     if is_symbolic (file_at objects object) then object ∷ all_places objects else all_places objects
 
--- the symbol that the object at a place exports under a name
+-- the symbol that the object at `place` exports under `name`, as a target
 abbrev pub definition_at : List Named → List ℕ → ℕ → Option Target
 definition_at objects name place = option_map (At place) (definition_of (file_at objects place) name)
 
--- the first definition of a name in the scope of the object at a place, weak or not
+-- the first definition of `name`, weak or not, in the places that are searched for an object
 unfoldable pub lookup : List Named → ℕ → List ℕ → Option Target
 lookup objects object name = first_of (map (definition_at objects name) (scope_of objects object))

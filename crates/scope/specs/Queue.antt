@@ -1,18 +1,18 @@
--- The queue of a walk by levels (own).
+-- The queue with which the levels are computed (own).
 use Rattle.std.specs.Prelude.{ℕ, ◌<◌, List, [], ◌∷◌, ◌++◌, if◌then◌else◌, nat_eq}
 use Rattle.std.specs.List.{All, IsDistinct}
 use Rattle.scope.specs.Levels.{is_among}
 
--- the places of a queue in the order in which they were added, and what they are all below
+-- the places of a queue, in the order in which they were added, and a number that all of them are below
 pub record Queue : Type 0 where
   pub limit : ℕ
   pub places : List ℕ
 
--- the places are below the limit, and no place stands among them twice
+-- the places are below the limit, and no place occurs twice
 pub record AreApart (limit : ℕ) (places : List ℕ) : Type 0 where
   pub below : All (λ p. p < limit) places
   pub distinct : IsDistinct nat_eq places
 
--- places with one more at their end, unless it is among them
+-- the places, with `p` appended unless it is one of them
 abbrev pub grown_by : List ℕ → ℕ → List ℕ
 grown_by ps p = if is_among ps p then ps else ps ++ p ∷ []

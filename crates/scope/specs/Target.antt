@@ -1,4 +1,4 @@
--- What a symbol of an object is bound to (gABI chapter 4, symbol table: binding and visibility).
+-- The target to which a symbol is bound (gABI chapter 4, symbol table: binding and visibility).
 use Rattle.std.specs.Prelude.{ℕ, ◌==◌, List, slice_get, Bool, not, ◌&&◌, ◌||◌, if◌then◌else◌, Option, Some, None}
 use Rattle.std.specs.Option.{option_and_then, option_or}
 use Rattle.elf_file.specs.FirstOf.{◌when◌}
@@ -10,23 +10,25 @@ use Rattle.scope.specs.Lookup.{lookup}
 use Rattle.scope.specs.declared.target.Target.{Target}
 use Rattle.scope.specs.declared.target.Target.TheVariants.{Zero, At}
 
--- no other object can replace it: it is local, or defined here and its visibility isn't the default
+-- no other object can replace the symbol: it is local, or it is defined in its object and its visibility isn't the default
 abbrev pub is_own : Symbol → Bool
 is_own s = is_local s || (is_defined s && not (has_default_visibility s))
 
--- no other object can give it: it isn't defined here, and hidden or internal
+-- no other object can define the symbol for its object: it isn't defined there, and it is hidden or internal
 abbrev pub is_withheld : Symbol → Bool
 is_withheld s = not (is_defined s) && is_hidden s
 
--- The target of symbol i, which is s, of the object at a place: itself where it is the object's
--- own; else, unless it is withheld, what is found under its name; else 0 where it is weak; else
--- none.
+-- The target of symbol number `i` of the object at place `object`; `s` has the symbol's fields. The
+-- target is the symbol itself if `is_own` is true of it. Otherwise, unless it is withheld, the target is
+-- the definition that lookup finds under its name. If there is no such definition, the target of a weak
+-- symbol is 0, and other symbols have none.
 abbrev pub target_of : List Named → ℕ → ℕ → Symbol → Option Target
 target_of objects object i s =
     if is_own s then Some (At object i)
     else option_or (if is_withheld s then None else lookup objects object (name_of (file_at objects object) i)) (Zero when is_weak s)
 
--- the target of symbol i of the object at a place, none where it is undefined; of symbol 0 it is 0
+-- the target of symbol number `i` of the object at place `object`, or none if the symbol is undefined;
+-- the target of symbol number 0 is 0
 unfoldable pub target : List Named → ℕ → ℕ → Option Target
 target objects object i =
     if i == 0 then Some Zero else option_and_then (target_of objects object i) (slice_get (symbols (file_at objects object)) i)

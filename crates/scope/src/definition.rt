@@ -1,4 +1,4 @@
-// A definition that is kept for a name.
+// The definition that is kept for a name.
 
 ghost use Rattle.std.specs.Prelude.{◌≡◌, ◌≤◌, None, Some};
 ghost use Rattle.scope.specs.declared.target.Target.TheVariants.{At};
@@ -6,8 +6,8 @@ ghost use Rattle.scope.specs.declared.target.Target.TheVariants.{At};
 use crate::target::Target;
 use std::marker::Model;
 
-/// A definition in load order, or none, in eight bytes: one is kept for each symbol. No definition
-/// is of symbol number 0. Contracts see the target that it is.
+/// A definition in load order, or none, in eight bytes. There is one for each symbol. Symbol number
+/// 0 means that there is no definition. Contracts see the definition as a target, or none.
 #[derive(Clone, Drop)]
 pub(crate) struct Definition {
     object: u32,
@@ -25,7 +25,7 @@ impl Model for Definition {
 }
 
 impl Definition {
-    /// None.
+    /// Makes the value that means no definition.
     #[tactic(auto, unfolding(crate::specs::inside::Definitions::kept_target))]
     pub(crate) fn none() -> Definition
         ensures { result ≡ None }
@@ -36,7 +36,7 @@ impl Definition {
         }
     }
 
-    /// The symbol of a number of the object at a place.
+    /// Returns symbol number `symbol` of the object at place `object`, as a definition.
     #[tactic(auto, unfolding(crate::specs::inside::Definitions::kept_target))]
     pub(crate) fn at(object: u32, symbol: u32) -> Definition
         requires { 1 ≤ symbol }
@@ -45,7 +45,7 @@ impl Definition {
         Definition { object, symbol }
     }
 
-    /// The same once more.
+    /// Returns a copy of the definition.
     pub(crate) fn copied(&self) -> Definition
         ensures { result ≡ self.now }
     {
@@ -55,7 +55,7 @@ impl Definition {
         }
     }
 
-    /// Its target.
+    /// Returns the definition as a target, or `None` if there is none.
     #[tactic(auto, unfolding(crate::specs::inside::Definitions::kept_target))]
     pub(crate) fn target(&self) -> Option<Target>
         ensures { result ≡ self.now }

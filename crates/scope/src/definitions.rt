@@ -1,4 +1,4 @@
-// The definitions of names that are told by numbers.
+// The definitions of names that are identified by numbers.
 
 ghost use Rattle.std.specs.Prelude.{◌≡◌, ◌<◌, ◌≤◌, ◌+◌, ◌^◌, ℕ, length, map, None, IfOk};
 ghost use Rattle.std.specs.Prelude.{replicate};
@@ -15,7 +15,7 @@ use crate::target::Target;
 use hash_check::NumberedSymbol;
 use std::alloc::{AllocError, Global};
 
-/// Room for so many definitions, of which none is there.
+/// Returns `count` values that all mean no definition.
 pub(crate) fn no_definitions(alloc: Global, count: usize) -> Result<Vec<Definition>, AllocError>
     ensures { IfOk result (λ v. v.items ≡ replicate count None) }
 {
@@ -26,7 +26,7 @@ pub(crate) fn no_definitions(alloc: Global, count: usize) -> Result<Vec<Definiti
     Ok(kept)
 }
 
-/// Whether a symbol is exported.
+/// Returns whether a symbol is exported.
 fn is_exported(objects: &[LoadedObject<'_>], symbol: NumberedSymbol) -> bool
     requires there { symbol.object < length objects.now }
     requires within { symbol.symbol < length (symbols (file_at objects.now symbol.object)) }
@@ -35,7 +35,8 @@ fn is_exported(objects: &[LoadedObject<'_>], symbol: NumberedSymbol) -> bool
     objects[symbol.object].object().is_exported(symbol.symbol)
 }
 
-/// Keeps a symbol as the definition of its number, if it is exported and the first one.
+/// Keeps the symbol at `at` as the definition of its number, if it is exported and the number has
+/// none yet.
 fn keep_first(
     objects: &[LoadedObject<'_>],
     symbols: &[NumberedSymbol],
@@ -55,7 +56,7 @@ fn keep_first(
     }
 }
 
-/// The first definition in load order of each number, weak or not.
+/// Returns, for each number, the first definition in load order, weak or not.
 pub(crate) fn first_definitions(
     alloc: Global,
     objects: &[LoadedObject<'_>],
@@ -73,7 +74,7 @@ pub(crate) fn first_definitions(
     Ok(first)
 }
 
-/// Keeps a symbol as the definition of its number, if it is exported.
+/// Keeps the symbol at `at` as the definition of its number, if it is exported.
 fn keep_last(
     objects: &[LoadedObject<'_>],
     symbols: &[NumberedSymbol],
@@ -92,8 +93,8 @@ fn keep_last(
     }
 }
 
-/// Keeps the definitions of the objects up to the one at a place, of which some are kept. It gives
-/// how many symbols they have.
+/// Keeps the definitions of the objects up to the one at `place`. Those of the first `kept` symbols
+/// are kept already. Returns the number of symbols whose definitions have been kept after the call.
 fn keep_up_to(
     objects: &[LoadedObject<'_>],
     symbols: &[NumberedSymbol],
@@ -117,7 +118,7 @@ fn keep_up_to(
     at
 }
 
-/// A definition, if it is one of the object at a place.
+/// Returns `found` if it belongs to the object at `place`, and otherwise no definition.
 #[tactic(auto, unfolding(crate::specs::inside::Definitions::own_of))]
 fn own_one(found: &Definition, place: usize) -> Definition
     ensures { result ≡ own_of place found.now }
@@ -128,7 +129,7 @@ fn own_one(found: &Definition, place: usize) -> Definition
     }
 }
 
-/// For each symbol what its own object exports under its name.
+/// Returns, for each symbol of `symbols`, the symbol that its own object exports under its name.
 pub(crate) fn own_definitions(
     alloc: Global,
     objects: &[LoadedObject<'_>],

@@ -10,7 +10,8 @@ use indexmap::IndexSet;
 use std::alloc::{AllocError, Global};
 use std::marker::Model;
 
-/// The names of installed libraries, to be found. Contracts see them in their order.
+/// The names of installed libraries, in a form that is fast to search. Contracts see them in their
+/// order.
 #[derive(Drop)]
 pub(crate) struct Installed<'a> {
     names: IndexSet<&'a [u8]>,
@@ -27,7 +28,7 @@ impl<'a> Model for Installed<'a> {
 }
 
 impl<'a> Installed<'a> {
-    /// The names of some libraries.
+    /// Makes the searchable form of the libraries' names.
     pub(crate) fn new(
         alloc: Global,
         libraries: &'a [Library<'a>],
@@ -42,7 +43,8 @@ impl<'a> Installed<'a> {
         Ok(Installed { names })
     }
 
-    /// The place of the library that goes by a name, the first of them being at place 1.
+    /// Returns the place of the library with this name, if there is one. The first library is at
+    /// place 1.
     pub(crate) fn place_of(&self, name: &[u8]) -> Option<usize>
         ensures place { result ≡ place_of self.now name.now }
         ensures within { IfSome result (λ place. place ≤ length self.now) }

@@ -1,4 +1,4 @@
-// The first level.
+// Level 0 of the load order.
 
 ghost use Rattle.std.specs.Prelude.{◌≡◌, ◌<◌, ◌+◌, ◌^◌, IfOk, nat_eq};
 ghost use Rattle.std.specs.List.{All, IsDistinct};
@@ -7,7 +7,8 @@ ghost use Rattle.scope.specs.LoadOrder.{level_0};
 use crate::places::Places;
 use std::alloc::{AllocError, Global};
 
-/// The program and the preloads, of `count` libraries, with room for all libraries.
+/// Returns a queue with level 0: the program, and the preloads, which are numbers of libraries. The
+/// queue is for the places of the program and of `count` libraries.
 pub fn first_level(alloc: Global, count: usize, preloads: &[usize]) -> Result<Places, AllocError>
     requires room { count + 1 < 2 ^ 64 }
     requires preloads { All (λ p. p < count) preloads.now }

@@ -1,14 +1,14 @@
-//! Load order and lookup: which symbol each symbol of a program is bound to (System V gABI
-//! chapters 4 and 5, ld.so(8)).
+//! Load order and lookup: which symbol each symbol of a program is bound to (System V gABI chapters
+//! 4 and 5, ld.so(8)).
 //!
-//! `load_order` puts a program and the libraries that it needs, and preloads, into their order.
-//! `resolve` gives the target of a symbol of one of them: a symbol, 0, or nothing where it is
-//! undefined.
+//! `load_order` puts a program, the preloads, and the libraries that these need into load order.
+//! `resolve` returns the target of a symbol of one of these objects. The target is a symbol or 0.
+//! An undefined symbol has none.
 #![tactic(auto)]
 
 mod definition;
+mod definition_table;
 mod definitions;
-mod found;
 mod installed;
 mod level;
 mod library;

@@ -21,14 +21,14 @@ impl<'a> Model for Library<'a> {
 }
 
 impl<'a> Library<'a> {
-    /// The name.
+    /// The name of the library.
     pub fn name(&self) -> &'a [u8]
         ensures { result.now ≡ self.now.name }
     {
         self.name
     }
 
-    /// The object.
+    /// The library's object.
     pub fn object(&self) -> &Admitted<'a>
         ensures { result.now ≡ self.now.file }
     {

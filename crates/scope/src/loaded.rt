@@ -7,8 +7,8 @@ ghost use Rattle.scope.specs.Objects.{IsTaken};
 use hash_check::Admitted;
 use std::marker::Model;
 
-/// An object in load order: the name that it goes by, the object, and whether that is symbolic,
-/// which is read once here, and not once a symbol. Contracts see the name and the file's bytes.
+/// An object in load order, with its name. The flag that says whether it is symbolic is read once
+/// here, and not once for each symbol. Contracts see the name and the file's bytes.
 #[derive(Drop)]
 pub(crate) struct LoadedObject<'a> {
     name: &'a [u8],
@@ -53,7 +53,8 @@ impl<'a> LoadedObject<'a> {
         self.object
     }
 
-    /// Whether the object itself is looked in first for its own references.
+    /// Returns whether the symbols to which the object itself refers are looked up in the object
+    /// first.
     pub(crate) fn is_symbolic(&self) -> bool
         ensures { result ≡ is_symbolic self.now.file }
     {

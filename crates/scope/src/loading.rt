@@ -18,7 +18,7 @@ use crate::refusal::OrderRefusal;
 use hash_check::Admitted;
 use std::alloc::{AllocError, Global};
 
-/// The object at a place: the program at 0, then the libraries.
+/// Returns the object at `place`. The program is at place 0, and the libraries follow.
 fn object_at<'a>(
     program: &'a Admitted<'a>,
     libraries: &'a [Library<'a>],
@@ -36,7 +36,7 @@ fn object_at<'a>(
     }
 }
 
-/// The objects at some places.
+/// Returns the objects at these places, in the order of the places.
 fn objects_at<'a>(
     alloc: Global,
     program: &'a Admitted<'a>,
@@ -55,7 +55,8 @@ fn objects_at<'a>(
     Ok(objects)
 }
 
-/// The places of the objects in load order. Each object of the queue adds what it needs to its end.
+/// Returns the places of the objects in load order. Goes through a queue, and adds the libraries
+/// that each object needs to its end.
 fn load_places<'a>(
     alloc: Global,
     program: &'a Admitted<'a>,
@@ -82,10 +83,11 @@ fn load_places<'a>(
     Ok(places.into_vec())
 }
 
-/// Puts a program, the libraries that are preloaded and all that these need into load order, or
-/// gives the first needed name that isn't installed. `preloads` are numbers of libraries. One pass
-/// over the dynamic section of each object, with one search for each needed name; it takes some 40
-/// bytes a library, and more for each symbol where walks may cost more than one look at all.
+/// Puts a program, the preloads, and all libraries that these need into load order, or returns the
+/// first needed name that isn't installed. `preloads` are numbers of libraries. Makes one pass over
+/// the dynamic section of each object, with one search for each needed name. Allocates about 40
+/// bytes a library. Allocates more for each symbol if lookups by walks may cost more than finding
+/// all definitions at once.
 pub fn load_order<'a>(
     alloc: Global,
     program: &'a Admitted<'a>,
@@ -97,10 +99,10 @@ pub fn load_order<'a>(
     requires distinct { IsDistinct nat_eq preloads.now }
     ensures ok { IfOk result (λ order. order ≡ load_order program.now libraries.now preloads.now) }
 
-    // Every needed name is installed.
+    // Returns an order only if every needed name is installed.
     ensures found { OnOk result (missing program.now libraries.now preloads.now ≡ None) }
 
-    // The first that isn't, or want of memory in place of any answer.
+    // Otherwise returns the first needed name that isn't installed, or that memory was refused.
     ensures refused { IfErr result (IsRefusal (missing program.now libraries.now preloads.now)) }
 {
     let places = load_places(alloc, program, libraries, preloads)?;

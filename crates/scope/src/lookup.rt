@@ -12,7 +12,8 @@ use crate::order::Order;
 use crate::target::Target;
 use hash_check::elf_hash;
 
-/// The symbol that the object at a place exports under a name of this hash.
+/// Returns the symbol that the object at `place` exports under `name`. `hash` is the hash of
+/// `name`.
 fn definition_at(order: &Order<'_>, place: usize, name: &[u8], hash: u32) -> Option<Target>
     requires place { place < length order.now }
     requires hash { hash ≡ elf_hash name.now }
@@ -27,8 +28,8 @@ fn definition_at(order: &Order<'_>, place: usize, name: &[u8], hash: u32) -> Opt
     }
 }
 
-/// The first definition of a name of this hash in load order, weak or not, by a walk in each object
-/// up to the one that defines it.
+/// Returns the first definition of `name` in load order, weak or not. `hash` is the hash of `name`.
+/// Follows one walk in each object, up to the object that defines the name.
 fn first_by_walks(order: &Order<'_>, name: &[u8], hash: u32) -> Option<Target>
     requires { hash ≡ elf_hash name.now }
     ensures { result ≡ first_of
@@ -42,8 +43,9 @@ fn first_by_walks(order: &Order<'_>, name: &[u8], hash: u32) -> Option<Target>
     None
 }
 
-/// The first definition of the name of a symbol, weak or not, for the object at a place, that asks:
-/// in load order, and before that in the object itself where it is symbolic.
+/// Returns the first definition, weak or not, of the name of symbol number `symbol` of the object
+/// at place `object`. If this object is symbolic, it is searched first. Then all objects are
+/// searched in load order.
 #[tactic(auto, unfolding(crate::specs::Lookup::lookup))]
 pub(crate) fn lookup(order: &Order<'_>, object: usize, symbol: u32) -> Option<Target>
     requires object { object < length order.now }

@@ -6,12 +6,12 @@ use names::Name;
 use std::alloc::{AllocError, Global};
 use std::marker::Model;
 
-/// A name that an object needs, with the name of that object.
+/// A name that an object needs, with the name of this object.
 #[derive(Drop)]
 pub struct NeededName {
-    /// The name of the object that needs it.
+    /// The name of the object that needs `name`.
     pub needer: Name,
-    /// The name that it needs.
+    /// The needed name.
     pub name: Name,
 }
 
@@ -24,7 +24,7 @@ impl Model for NeededName {
 }
 
 impl NeededName {
-    /// With copies of these names.
+    /// Returns a needed name with copies of these names.
     pub fn copy_of(alloc: Global, needer: &[u8], name: &[u8]) -> Result<NeededName, AllocError>
         ensures { IfOk result (λ need. need ≡ record { needer = needer.now; name = name.now }) }
     {

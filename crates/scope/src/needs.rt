@@ -1,4 +1,4 @@
-// What an object needs.
+// The libraries that an object needs.
 
 ghost use Rattle.std.specs.Prelude.{◌≡◌, ◌<◌, length, None, OnOk, IfErr};
 ghost use Rattle.std.specs.List.{find, filter_map};
@@ -13,8 +13,8 @@ use crate::places::Places;
 use crate::refusal::OrderRefusal;
 use std::alloc::Global;
 
-/// Adds the libraries that an object needs, or gives the first that isn't installed. One pass over
-/// the object's dynamic section.
+/// Adds the libraries that an object needs to the queue, or returns the first needed name that
+/// isn't installed. Makes one pass over the object's dynamic section.
 pub(crate) fn add_needed(
     alloc: Global,
     places: &mut Places,

@@ -7,7 +7,7 @@ ghost use Rattle.scope.specs.LoadOrder.{available};
 ghost use Rattle.scope.specs.Objects.{IsOrder, IsTaken, name_at, file_at, program_name};
 ghost use Rattle.scope.specs.inside.Definitions.{IsFound};
 
-use crate::found::Found;
+use crate::definition_table::DefinitionTable;
 use crate::library::Library;
 use crate::loaded::LoadedObject;
 use crate::worth::worthy_table;
@@ -15,23 +15,23 @@ use hash_check::Admitted;
 use std::alloc::{AllocError, Global};
 use std::marker::Model;
 
-/// The name that a program goes by, which no file spells as its own.
+/// The name of a program. It has a slash, so no library of a registry has it.
 const PROGRAM_NAME: &[u8] = b"/program";
 
-/// The name that a program goes by, which no file spells as its own.
+/// Returns the name of a program, `/program`.
 pub fn program_name<'a>() -> &'a [u8]
     ensures { result.now ≡ program_name }
 {
     PROGRAM_NAME
 }
 
-/// A program and the libraries that are bound with it, in load order: the program is the first and
-/// goes by the name `/program`. Contracts see the names and the files' bytes. Where walks may cost
-/// more, it keeps what is found for each symbol.
+/// A program and the libraries that are bound with it, in load order. The program is the first
+/// object, and its name is `/program`. Contracts see the names and the files' bytes. If lookups by
+/// walks may cost more, the order keeps the definitions found for all symbols.
 #[derive(Drop)]
 pub struct Order<'a> {
     objects: Vec<LoadedObject<'a>>,
-    table: Option<Found>,
+    table: Option<DefinitionTable>,
 }
 
 impl<'a> Model for Order<'a> {
@@ -48,8 +48,8 @@ impl<'a> Model for Order<'a> {
 }
 
 impl<'a> Order<'a> {
-    /// An order of these objects. It takes memory for what is found for each symbol where walks may
-    /// cost more, and goes without where that memory is refused.
+    /// Makes an order of these objects. If lookups by walks may cost more, finds the definitions
+    /// for all symbols and keeps them. If memory for them is refused, the order does without them.
     pub(crate) fn new(alloc: Global, objects: Vec<LoadedObject<'a>>) -> Order<'a>
         requires { IsOrder objects.items }
         ensures { result ≡ objects.entry.items }
@@ -58,15 +58,15 @@ impl<'a> Order<'a> {
         Order { objects, table }
     }
 
-    /// The order of a program and of libraries that are in load order already, for callers that
-    /// have found it themselves. It takes some 30 bytes a library, and more for each symbol where
-    /// walks may cost more than one look at all of them.
+    /// Makes the order of a program and of libraries that are in load order already, for callers
+    /// that have found this order themselves. Allocates about 30 bytes a library. Allocates more
+    /// for each symbol if lookups by walks may cost more than finding all definitions at once.
     pub fn of(
         alloc: Global,
         program: &'a Admitted<'a>,
         libraries: &'a [Library<'a>],
     ) -> Result<Order<'a>, AllocError>
-        // The program, then these.
+        // The order has the program, followed by the libraries.
         ensures { IfOk result (λ order. order ≡ available program.now libraries.now) }
     {
         let mut objects = Vec::with_capacity(alloc, libraries.len() + 1)?;
@@ -77,17 +77,17 @@ impl<'a> Order<'a> {
         Ok(Order::new(alloc, objects))
     }
 
-    /// How many objects there are.
+    /// The number of objects.
     pub fn count(&self) -> usize
         ensures count { result ≡ length self.now }
 
-        // The first is the program, and each file is taken.
+        // The first object is the program, and no test refuses any file.
         ensures order { IsOrder self.now }
     {
         self.objects.len()
     }
 
-    /// The name that the object number `i` goes by.
+    /// Returns the name of object number `i`.
     pub fn name(&self, i: usize) -> &'a [u8]
         requires { i < length self.now }
         ensures name { result.now ≡ name_at self.now i }
@@ -96,7 +96,7 @@ impl<'a> Order<'a> {
         self.objects[i].name()
     }
 
-    /// The object number `i`.
+    /// Returns object number `i`.
     pub fn object(&self, i: usize) -> &'a Admitted<'a>
         requires { i < length self.now }
         ensures file { result.now ≡ file_at self.now i }
@@ -113,8 +113,8 @@ impl<'a> Order<'a> {
         &self.objects
     }
 
-    /// What is found for all symbols, if that is known.
-    pub(crate) fn table(&self) -> Option<&Found>
+    /// The definitions found for all symbols, if the order has them.
+    pub(crate) fn table(&self) -> Option<&DefinitionTable>
         ensures { IfSome result (λ t. IsFound self.now (map (λ r. r.items) t.now.rows.items)) }
     {
         match &self.table {
@@ -123,7 +123,8 @@ impl<'a> Order<'a> {
         }
     }
 
-    /// Whether the object number `i` is looked in first for its own references.
+    /// Returns whether the symbols to which object number `i` itself refers are looked up in this
+    /// object first.
     pub(crate) fn is_symbolic(&self, i: usize) -> bool
         requires { i < length self.now }
         ensures { result ≡ is_symbolic (file_at self.now i) }

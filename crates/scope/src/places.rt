@@ -8,9 +8,9 @@ ghost use Rattle.scope.specs.Queue.{grown_by, AreApart};
 use std::alloc::{AllocError, Global};
 use std::marker::Model;
 
-/// Places below a limit in the order in which they were added, each once: the queue of a walk, for
-/// callers too that find needed libraries one after the other. Contracts see the limit and the
-/// places.
+/// A queue of places below a limit. Each place is in it at most once, in the order of adding. Load
+/// order is computed with it, also by callers that find the needed libraries one after the other.
+/// Contracts see the limit and the places.
 #[derive(Drop)]
 pub struct Places {
     places: Vec<usize>,
@@ -30,7 +30,7 @@ impl Model for Places {
 }
 
 impl Places {
-    /// None yet.
+    /// Makes an empty queue for places below `limit`.
     pub fn new(alloc: Global, limit: usize) -> Result<Places, AllocError>
         ensures { IfOk result (λ q. q ≡ record { limit = limit; places = [] }) }
     {
@@ -39,7 +39,7 @@ impl Places {
         Ok(Places { places, flags })
     }
 
-    /// How many there are.
+    /// The number of places in the queue.
     pub fn count(&self) -> usize
         ensures count { result ≡ length self.now.places }
         ensures few { length self.now.places ≤ self.now.limit }
@@ -48,7 +48,7 @@ impl Places {
         self.places.len()
     }
 
-    /// The place number `i`.
+    /// Returns place number `i` of the queue.
     pub fn at(&self, i: usize) -> usize
         requires { i < length self.now.places }
         ensures at { result ≡ slice_index self.now.places i }
@@ -57,13 +57,13 @@ impl Places {
         self.places[i]
     }
 
-    /// Adds a place, unless it is there: that takes no memory.
+    /// Adds a place, unless the queue has it. Allocates nothing if the queue has the place.
     pub fn add(&mut self, place: usize) -> Result<(), AllocError>
         requires { place < self.old.limit }
         ensures ok { OnOk result (self.new
             ≡ record { limit = self.old.limit; places = grown_by self.old.places place }) }
 
-        // Only a place that isn't there takes memory, and where that is refused nothing changed.
+        // Memory is refused only for a new place, and then nothing has changed.
         ensures err { OnErr result (is_among self.old.places place ≡ false) }
         ensures same { OnErr result (self.new ≡ self.old) }
     {
@@ -74,8 +74,8 @@ impl Places {
         Ok(())
     }
 
-    /// Takes the last places off, down to this many; nothing where there are no more. It takes no
-    /// memory, and costs what it takes off.
+    /// Removes the last places, until `count` are left. Does nothing if the queue has no more than
+    /// `count` places. Allocates nothing. The time depends on the number of removed places.
     pub fn shorten(&mut self, count: usize)
         ensures { self.new
             ≡ record { limit = self.old.limit; places = take count self.old.places } }
@@ -85,7 +85,7 @@ impl Places {
         }
     }
 
-    // Takes the last place off, with its flag.
+    // Removes the last place and its flag.
     fn drop_last(&mut self)
         requires { 0 < length self.old.places }
         ensures { self.new ≡ record {
@@ -98,7 +98,7 @@ impl Places {
         }
     }
 
-    /// All of them.
+    /// Returns all places of the queue.
     pub fn into_vec(self) -> Vec<usize>
         ensures places { result.items ≡ self.places }
         ensures apart { AreApart self.limit result.items }

@@ -1,4 +1,4 @@
-// Why there is no load order.
+// The reasons why there is no load order.
 
 ghost use Rattle.std.specs.Prelude.{Some};
 ghost use Rattle.scope.specs.Refusal.{IsRefusal};
@@ -7,17 +7,17 @@ use crate::needed_name::NeededName;
 use names::Name;
 use std::alloc::{AllocError, Global};
 
-/// Why there is no load order.
+/// The reason why there is no load order.
 #[derive(Debug, Drop, PartialEq, Eq)]
 pub enum OrderRefusal {
     /// An object needs a library that isn't installed.
     Missing {
-        /// The name of the object that needs it.
+        /// The name of the object that needs the library.
         needer: Name,
-        /// The name that it needs.
+        /// The name of the library.
         name: Name,
     },
-    /// A growth of memory was refused.
+    /// Memory was refused.
     OutOfMemory,
 }
 
@@ -33,7 +33,7 @@ impl From<AllocError> for OrderRefusal {
 }
 
 impl OrderRefusal {
-    /// `Missing` with copies of the names, or `OutOfMemory` where they aren't copied.
+    /// Returns `Missing` with copies of the names, or `OutOfMemory` if memory for them was refused.
     pub(crate) fn missing(alloc: Global, needer: &[u8], name: &[u8]) -> OrderRefusal
         ensures { IsRefusal (Some (record { needer = needer.now; name = name.now })) result }
     {

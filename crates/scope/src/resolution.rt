@@ -1,4 +1,4 @@
-// What a symbol is bound to.
+// The binding of symbols to their targets.
 
 ghost use Rattle.std.specs.Prelude.{◌≡◌, ◌<◌, length, Some, None, MatchResult};
 ghost use Rattle.elf_dynamic.specs.Symbol.{symbols};
@@ -10,23 +10,23 @@ use crate::order::Order;
 use crate::target::{Target, Undefined};
 use elf_dynamic::Symbol;
 
-/// Whether no other object can replace a symbol.
+/// Returns whether a symbol is bound to itself, because no other object can replace it.
 pub(crate) fn is_own(symbol: Symbol) -> bool
     ensures { result ≡ is_own symbol }
 {
     symbol.is_local() || (symbol.is_defined() && !symbol.has_default_visibility())
 }
 
-/// Whether no other object can give a symbol.
+/// Returns whether a symbol isn't defined in its object, and no other object can define it.
 pub(crate) fn is_withheld(symbol: Symbol) -> bool
     ensures { result ≡ is_withheld symbol }
 {
     !symbol.is_defined() && symbol.is_hidden()
 }
 
-/// The target of the symbol of an index of the object at a place. It takes no memory; a symbol that
-/// has to be looked up costs one hash of its name and one walk in each object up to the one that
-/// defines it, and in a symbolic object one walk more.
+/// Returns the target of symbol number `symbol` of the object at place `object`. Allocates nothing.
+/// If the symbol has to be looked up, hashes its name once, and follows one walk in each object up
+/// to the one that defines it. A symbolic object costs one more walk.
 #[tactic(auto, unfolding(crate::specs::Target::target))]
 pub fn resolve(order: &Order<'_>, object: usize, symbol: u32) -> Result<Target, Undefined>
     requires object { object < length order.now }

@@ -1,6 +1,6 @@
-// What a symbol is bound to.
+// The targets of symbols.
 
-/// What a symbol is bound to.
+/// The target of a symbol.
 #[derive(Clone, Copy, PartialEq, Eq)]
 pub enum Target {
     /// The number 0.
@@ -14,6 +14,6 @@ pub enum Target {
     },
 }
 
-/// A symbol is bound to nothing: no object defines it, and it isn't weak.
+/// The symbol isn't bound to anything: no object defines it, and it isn't weak.
 #[derive(Clone, Copy, PartialEq, Eq)]
 pub struct Undefined;

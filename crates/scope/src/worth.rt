@@ -1,20 +1,20 @@
-// Whether all symbols are looked up at once.
+// Whether finding the definitions of all symbols at once may be cheaper than walks.
 
 ghost use Rattle.std.specs.Prelude.{◌≤◌, map, IfSome};
 ghost use Rattle.std.specs.List.{All};
 ghost use Rattle.scope.specs.Objects.{IsTaken};
 ghost use Rattle.scope.specs.inside.Definitions.{IsFound};
 
-use crate::found::Found;
+use crate::definition_table::DefinitionTable;
 use crate::loaded::LoadedObject;
 use elf_dynamic::{Object, R_X86_64_64, R_X86_64_GLOB_DAT, R_X86_64_JUMP_SLOT, Relocation};
-use hash_check::Room;
+use hash_check::NameBudget;
 use std::alloc::Global;
 
-/// How many steps of walks take as long as a name takes to be put into a table, or less.
+/// The number of walk steps that take as long as putting one name into a table, or less.
 const STEPS_OF_A_NAME: u64 = 2;
 
-/// Whether a relocation asks for the value of its symbol.
+/// Returns whether a relocation uses the value of its symbol.
 fn is_lookup(relocation: Relocation) -> bool {
     matches!(
         relocation.kind,
@@ -22,8 +22,8 @@ fn is_lookup(relocation: Relocation) -> bool {
     )
 }
 
-/// How many symbols of an object are looked up, at most: as many as its relocations name, and no
-/// more than it has.
+/// Returns the maximum number of lookups for an object: the number of its relocations that use a
+/// symbol's value, or the number of its symbols if that is smaller.
 fn lookups_of(object: &Object<'_>) -> u64 {
     let mut naming = 0;
     for i in 0..object.rela_count() {
@@ -34,7 +34,7 @@ fn lookups_of(object: &Object<'_>) -> u64 {
     u64::from(object.symbol_count()).min(naming)
 }
 
-/// How many symbols a walk looks at from one of them on, up to so many.
+/// Returns the number of symbols on the walk from index `from`, but at most `most`.
 fn walk_length(object: &Object<'_>, from: u32, most: u32) -> u32
     ensures { result ≤ most }
 {
@@ -48,8 +48,9 @@ fn walk_length(object: &Object<'_>, from: u32, most: u32) -> u32
     most
 }
 
-/// How many symbols the longest walk of an object looks at; as many as the object has where walks
-/// share symbols, so that no more steps are made than that.
+/// Returns the number of symbols on the longest walk of an object. If all walks together have as
+/// many steps as the object has symbols, some walks share symbols. Then it stops, and returns the
+/// number of all symbols.
 fn longest_walk(object: &Object<'_>) -> u32 {
     let mut left = object.symbol_count();
     let mut longest = 0;
@@ -64,9 +65,11 @@ fn longest_walk(object: &Object<'_>) -> u32 {
     longest
 }
 
-/// Whether the lookups, times the longest walk of each object and a step to come to it, are more
-/// than twice the names. So walks that are followed look at two symbols a name at most, and at four
-/// where objects are symbolic; a table takes a constant time for each name, as its admission did.
+/// Returns whether walks may cost more than a table. The cost of walks is the number of lookups,
+/// multiplied by the sum over all objects of the longest walk and one step to reach it. It is
+/// compared with twice the number of names. So if walks are followed, they compare at most two
+/// symbols a name, and at most four if objects are symbolic. A table takes a constant time for each
+/// name, as the name's admission did.
 fn may_be_long(objects: &[LoadedObject<'_>]) -> bool {
     let (mut lookups, mut steps, mut names) = (0u64, 0u64, 0u64);
     for loaded in objects {
@@ -78,15 +81,16 @@ fn may_be_long(objects: &[LoadedObject<'_>]) -> bool {
     lookups.saturating_mul(steps) > names.saturating_mul(STEPS_OF_A_NAME)
 }
 
-/// Whether the names of the symbols that an object looks up have so many bytes that many of them
-/// are tails of others: hashed one by one, they would cost the sum of their lengths.
+/// Returns whether the names of the symbols that an object looks up have so many bytes in total
+/// that many of them are tails of others. Hashing such names one by one would cost the sum of their
+/// lengths.
 fn share_bytes(object: &Object<'_>) -> bool {
-    let mut room = Room::new(object.string_table().len());
+    let mut budget = NameBudget::new(object.string_table().len());
     for i in 0..object.rela_count() {
         let relocation = object.rela(i);
         if is_lookup(relocation)
             && relocation.symbol < object.symbol_count()
-            && !room.take(object.name_of(relocation.symbol).len())
+            && !budget.take(object.name_of(relocation.symbol).len())
         {
             return true;
         }
@@ -103,13 +107,14 @@ fn any_share_bytes(objects: &[LoadedObject<'_>]) -> bool {
     false
 }
 
-/// What is found for all symbols, where walks may cost more and there is memory for it.
-pub(crate) fn worthy_table(alloc: Global, objects: &[LoadedObject<'_>]) -> Option<Found>
+/// Finds the definitions of all symbols, if lookups by walks may cost more. Returns `None` if they
+/// don't, or if memory is refused.
+pub(crate) fn worthy_table(alloc: Global, objects: &[LoadedObject<'_>]) -> Option<DefinitionTable>
     requires { All (λ o. IsTaken o.file) objects.now }
     ensures { IfSome result (λ t. IsFound objects.now (map (λ r. r.items) t.rows.items)) }
 {
     if !may_be_long(objects) && !any_share_bytes(objects) {
         return None;
     }
-    Found::new(alloc, objects).ok()
+    DefinitionTable::new(alloc, objects).ok()
 }

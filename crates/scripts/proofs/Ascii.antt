@@ -37,6 +37,6 @@ ascii_base [] h = absurd (omega (arith, (base_digits [] h).0))
 ascii_base (a ∷ []) h = absurd (omega (arith, (base_digits (a ∷ []) h).0))
 ascii_base (a ∷ b ∷ rest) h = ascii_front a b rest (base_front (a ∷ b ∷ rest) h) (all_small rest (base_digits (a ∷ b ∷ rest) h).2)
 
--- what isn't UTF-8 is no base
+-- bytes that aren't UTF-8 aren't a base
 pub no_base : (word : List ℕ) → (IsUtf8 word → ⊥) → base_of word ≡ None
 no_base word h = none_unless (is_base word) (digits_value 16 (drop 2 word)) (λ is. h (IsUtf8-from_ascii word (ascii_base word is)))

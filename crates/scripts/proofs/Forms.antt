@@ -1,4 +1,4 @@
--- A line of none of the forms.
+-- A line that has none of the forms.
 use Rattle.std.proofs.Common.{◌≡◌, ◌∙◌, ℕ, List, codes, Bool, true, false, cond, None, refl}
 use Rattle.std.specs.Prelude.{bytes_eq}
 use Rattle.scripts.specs.Asked.{request_meaning}

@@ -1,4 +1,4 @@
--- The bytes in front of the first that fails a test.
+-- Lemmas about the bytes before the first byte that fails a test.
 use Rattle.std.proofs.Common.{◌≡◌, ◌≤◌, Bool, true, false, cond, List, [], ◌∷◌, length, arith, refl, ◌∙◌, sym, ap, take}
 use Rattle.std.specs.Prelude.{take_while}
 use Rattle.std.proofs.lemmas.List.Sums.{take_while-cons}

@@ -1,4 +1,4 @@
--- HEX by pieces.
+-- Lemmas about HEX that is decoded in pieces.
 use Rattle.std.proofs.Common.{◌≡◌, ℕ, zero, suc, ◌+◌, ◌*◌, ◌/◌, ◌%◌, ◌<◌, ◌≤◌, ◌==◌, Bool, true, false, if◌then◌else◌, List, [], ◌∷◌, ◌++◌, length}
 use Rattle.std.proofs.Common.{length-take, length-drop, take, drop, slice_index, slice_index_or, is_some, Option, Some, None, Result, Ok, Err, refl, sym, ap}
 use Rattle.std.proofs.Common.{◌∙◌, arith, append_assoc, take-append-drop, get_or-take}
@@ -11,7 +11,7 @@ use Rattle.hex.specs.Hex.{decode_of, decode_pairs, decode_sized, digit_or_error,
 use Rattle.hex.specs.declared.error.FromHexError.{FromHexError}
 use Rattle.scripts.specs.Words.{hex_bytes}
 
--- two digits that may be none
+-- the byte that two digits encode, either of which may not be a digit
 abbrev paired : ℕ → ℕ → ℕ → Option ℕ → Option ℕ → Result ℕ FromHexError
 paired a b i high low = digit_or_error a i high >>= (λ h. digit_or_error b (i + 1) low >>= (λ l. Ok (h * 16 + l)))
 
@@ -19,11 +19,11 @@ paired a b i high low = digit_or_error a i high >>= (λ h. digit_or_error b (i +
 pub digit-below : (c v : ℕ) → hex_digit_value c ≡ Some v → v < 16
 digit-below c v h = grind (arith)
 
--- two digits are a byte
+-- two digits encode a byte
 pub read-pair : (a b i v w : ℕ) → hex_digit_value a ≡ Some v → hex_digit_value b ≡ Some w → pair_value a b i ≡ Ok (v * 16 + w)
 read-pair a b i v w high low = ap (λ h. paired a b i h (hex_digit_value b)) high ∙ ap (λ l. paired a b i (Some v) l) low
 
--- text with a byte that is no digit spells nothing
+-- if a byte of a text isn't a digit, the text encodes nothing
 pub not-all : (s : List ℕ) (k : ℕ) → k < length s → hex_digit_value (slice_index s k) ≡ None → None ≡ result_ok (decode_of s)
 not-all s k within none = by (decode_of s) refl
   where
@@ -31,7 +31,7 @@ not-all s k within none = by (decode_of s) refl
     by (Ok bytes) is = absurd (cc (sym (ap is_some none) ∙ (decode_of-ok s bytes is).1 k 0 within))
     by (Err e) is = refl
 
--- bytes before others, where both are there
+-- the bytes `front` and then the bytes `rest`, if there are both
 abbrev pub joined : Option (List ℕ) → Option (List ℕ) → Option (List ℕ)
 joined (Some front) (Some rest) = Some (front ++ rest)
 joined front rest = None
@@ -58,12 +58,12 @@ joined-three None (Some b) None = refl
 joined-three None None (Some c) = refl
 joined-three None None None = refl
 
--- a byte, where there is one
+-- the list of the one byte, if there is one
 abbrev one : Option ℕ → Option (List ℕ)
 one (Some b) = Some (b ∷ [])
 one None = None
 
--- the first pair, and the others
+-- the bytes of a pair and of the other pairs are joined if both are valid
 step-ok : (byte : Result ℕ FromHexError) (rest : Result (List ℕ) FromHexError)
     → result_ok (byte >>= (λ b. rest >>= (λ bs. Ok (b ∷ bs)))) ≡ joined (one (result_ok byte)) (result_ok rest)
 step-ok (Ok b) (Ok bs) = refl
@@ -80,7 +80,7 @@ pair-anywhere a b i j (Some h) (Some l) = refl
 pair-anywhere a b i j (Some h) None = refl
 pair-anywhere a b i j None low = refl
 
--- what pairs spell doesn't hang on their place
+-- the bytes that pairs encode don't depend on the position of the pairs
 pub anywhere : (i j : ℕ) (s : List ℕ) → result_ok (decode_pairs i s) ≡ result_ok (decode_pairs j s)
 unfolding decode_pairs
 anywhere i j [] = refl
@@ -91,7 +91,7 @@ anywhere i j (x ∷ y ∷ s) =
     ∙ ap (λ r. joined (one (result_ok (pair_value x y j))) r) (anywhere (i + 2) (j + 2) s)
     ∙ sym (first-pair j x y s)
 
--- pairs and then others spell what these spell, one behind the other
+-- two rows of pairs together encode the bytes of the first and then those of the second
 pub pairs-append : (i : ℕ) (a b : List ℕ) → length a % 2 ≡ 0 → result_ok (decode_pairs i (a ++ b)) ≡ joined (result_ok (decode_pairs i a)) (result_ok (decode_pairs 0 b))
 unfolding decode_pairs
 pairs-append i [] b even = anywhere i 0 b ∙ sym (joined-nil (result_ok (decode_pairs 0 b)))
@@ -102,7 +102,7 @@ pairs-append i (x ∷ y ∷ a) b even =
     ∙ joined-three (one (result_ok (pair_value x y i))) (result_ok (decode_pairs (i + 2) a)) (result_ok (decode_pairs 0 b))
     ∙ ap (λ r. joined r (result_ok (decode_pairs 0 b))) (sym (first-pair i x y a))
 
--- one of the pairs
+-- pair number i is the two values at position 2 * i
 pair-at : (n i : ℕ) (bytes d : List ℕ) → i < n → slice_index_or (first_chunks 2 n bytes) i d ≡ take 2 (drop (2 * i) bytes)
 pair-at zero i bytes d h = absurd (omega arith)
 pair-at (suc n) zero bytes d h = refl
@@ -110,20 +110,20 @@ pair-at (suc n) (suc i) bytes d h =
     let e : 2 + 2 * i ≡ 2 * suc i = omega arith in
     pair-at n i (drop 2 bytes) d (omega arith) ∙ ap (take 2) (drop-drop (2 * i) 2 bytes ∙ ap (λ k. drop k bytes) e)
 
--- its first value
+-- the first value of pair number i is value number 2 * i
 pub pair-high : (n i : ℕ) (pairs : List (List ℕ)) (values d : List ℕ) → pairs ≡ first_chunks 2 n values → i < n → slice_index (slice_index_or pairs i d) 0 ≡ slice_index values (2 * i)
 pair-high n i pairs values d are within =
     let at : 2 * i + 0 ≡ 2 * i = omega arith in
     ap (λ l. slice_index (slice_index_or l i d) 0) are ∙ ap (λ l. slice_index l 0) (pair-at n i values d within) ∙ get_or-take 2 (drop (2 * i) values) 0 0 (omega arith)
     ∙ get_or-drop (2 * i) values 0 0 ∙ ap (λ k. slice_index values k) at
 
--- and its second one
+-- the second value of pair number i is value number 2 * i + 1
 pub pair-low : (n i : ℕ) (pairs : List (List ℕ)) (values d : List ℕ) → pairs ≡ first_chunks 2 n values → i < n → slice_index (slice_index_or pairs i d) 1 ≡ slice_index values (2 * i + 1)
 pair-low n i pairs values d are within =
     ap (λ l. slice_index (slice_index_or l i d) 1) are ∙ ap (λ l. slice_index l 1) (pair-at n i values d within) ∙ get_or-take 2 (drop (2 * i) values) 1 0 (omega arith)
     ∙ get_or-drop (2 * i) values 1 0
 
--- one of the whole pieces
+-- whole piece number i is the 32 digits at position 32 * i
 pub piece-at : (n i : ℕ) (bytes d : List ℕ) → i < n → slice_index_or (first_chunks 32 n bytes) i d ≡ take 32 (drop (32 * i) bytes)
 piece-at zero i bytes d h = absurd (omega arith)
 piece-at (suc n) zero bytes d h = refl
@@ -131,7 +131,7 @@ piece-at (suc n) (suc i) bytes d h =
     let e : 32 + 32 * i ≡ 32 * suc i = omega arith in
     piece-at n i (drop 32 bytes) d (omega arith) ∙ ap (take 32) (drop-drop (32 * i) 32 bytes ∙ ap (λ k. drop k bytes) e)
 
--- the next piece, and what is behind it
+-- piece number i and the digits after it are the digits from its beginning on
 behind-piece : (i : ℕ) (word : List ℕ) → take 32 (drop (32 * i) word) ++ drop (32 * (i + 1)) word ≡ drop (32 * i) word
 behind-piece i word =
     let e : 32 * i + 32 ≡ 32 * (i + 1) = omega arith in
@@ -144,7 +144,7 @@ split-piece i word piece is len =
     ∙ pairs-append 0 piece (drop (32 * (i + 1)) word) (omega (arith, len))
     ∙ ap (λ r. joined r (result_ok (decode_pairs 0 (drop (32 * (i + 1)) word)))) (sym (ap result_ok (decode_of-even piece (omega (arith, len)))))
 
--- one more piece is decoded
+-- if piece number i is decoded, its bytes are appended to those of the earlier pieces
 pub piece-read : (i : ℕ) (word piece bytes decoded : List ℕ) → piece ≡ take 32 (drop (32 * i) word) → length piece ≡ 32 → Some decoded ≡ result_ok (decode_of piece)
     → result_ok (decode_pairs 0 word) ≡ joined (Some bytes) (result_ok (decode_pairs 0 (drop (32 * i) word)))
     → result_ok (decode_pairs 0 word) ≡ joined (Some (bytes ++ decoded)) (result_ok (decode_pairs 0 (drop (32 * (i + 1)) word)))
@@ -152,7 +152,7 @@ piece-read i word piece bytes decoded is len read so_far =
     let rest = result_ok (decode_pairs 0 (drop (32 * (i + 1)) word)) in
     so_far ∙ ap (joined (Some bytes)) (split-piece i word piece is len ∙ ap (λ r. joined r rest) (sym read)) ∙ joined-assoc bytes decoded rest
 
--- a piece that isn't all digits
+-- if a byte of piece number i isn't a digit, the word encodes nothing
 pub piece-refused : (i : ℕ) (word piece bytes : List ℕ) → piece ≡ take 32 (drop (32 * i) word) → length piece ≡ 32 → None ≡ result_ok (decode_of piece)
     → result_ok (decode_pairs 0 word) ≡ joined (Some bytes) (result_ok (decode_pairs 0 (drop (32 * i) word)))
     → result_ok (decode_pairs 0 word) ≡ None
@@ -160,7 +160,7 @@ piece-refused i word piece bytes is len refused so_far =
     let rest = result_ok (decode_pairs 0 (drop (32 * (i + 1)) word)) in
     so_far ∙ ap (joined (Some bytes)) (split-piece i word piece is len ∙ ap (λ r. joined r rest) (sym refused) ∙ joined-none rest)
 
--- what was decoded into a slice, or wasn't
+-- the slice has the encoded bytes if decoding into it succeeded
 pub sized-read : {E : Type 0} (d : Result (List ℕ) E) (r : Result Unit E) (out : List ℕ) → MatchResult d (λ bytes. (r ≡ Ok tt) × (out ≡ bytes)) (λ e. r ≡ Err e) → r ≡ Ok tt → result_ok d ≡ Some out
 sized-read (Ok bytes) r out h is = ap (λ l. Some l) (sym h.1)
 sized-read (Err e) r out h is = cc (sym h ∙ is)
@@ -174,7 +174,8 @@ piece-length : (i n : ℕ) (word piece : List ℕ) → i < n → 32 * n ≤ leng
 piece-length i n word piece within room is =
     ap length is ∙ omega (arith, within, room, length-take 32 (drop (32 * i) word), length-drop (32 * i) word)
 
--- the same of a piece by its place
+-- if whole piece number i is decoded, its bytes are appended to those before; otherwise the word encodes
+-- nothing
 pub next-read : (n i : ℕ) (pieces : List (List ℕ)) (word d bytes decoded : List ℕ) → pieces ≡ first_chunks 32 n word → i < n → 32 * n ≤ length word
     → Some decoded ≡ result_ok (decode_of (slice_index_or pieces i d))
     → result_ok (decode_pairs 0 word) ≡ joined (Some bytes) (result_ok (decode_pairs 0 (drop (32 * i) word)))
@@ -193,7 +194,8 @@ next-refused n i pieces word d bytes are within room refused so_far =
     let is : piece ≡ take 32 (drop (32 * i) word) = ap (λ l. slice_index_or l i d) are ∙ piece-at n i word d within in
     piece-refused i word piece bytes is (piece-length i n word piece within room is) refused so_far
 
--- the digits behind the whole pieces, which were decoded into a slice of half their length, or weren't
+-- if the digits after the whole pieces are decoded into a slice of half their length, or can't be, the
+-- word has this result
 pub last-digits : (i n : ℕ) (word rest bytes : List ℕ) (o : Option (List ℕ)) → rest ≡ drop (32 * i) word → length rest ≡ 2 * n → result_ok (decode_sized rest n) ≡ o
     → result_ok (decode_pairs 0 word) ≡ joined (Some bytes) (result_ok (decode_pairs 0 (drop (32 * i) word)))
     → result_ok (decode_pairs 0 word) ≡ joined (Some bytes) o
@@ -204,7 +206,7 @@ last-digits i n word rest bytes o is even read so_far =
 pub front-half : (rest : List ℕ) (front : List ℕ) → length rest % 2 ≡ 0 → length rest / 2 ≤ length front → length rest ≡ 2 * length (take (length rest / 2) front)
 front-half rest front even room = omega (arith, even, room, length-take (length rest / 2) front)
 
--- what HEX spells where its length is even and not 0
+-- if the length of HEX is even and not 0, HEX encodes the bytes of its pairs
 pub hex_bytes-even : (word : List ℕ) → (length word == 0) ≡ false → length word % 2 ≡ 0 → hex_bytes word ≡ result_ok (decode_pairs 0 word)
 hex_bytes-even word some even =
     ap (λ b. if b then None else result_ok (decode_of word)) some ∙ ap result_ok (decode_of-even word even)

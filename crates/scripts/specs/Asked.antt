@@ -6,7 +6,8 @@ use Rattle.scripts.specs.Words.{has_front, hex_bytes, named, names_behind, progr
 use Rattle.scripts.specs.declared.command.AskedCommand.{AskedCommand}
 use Rattle.scripts.specs.declared.command.AskedCommand.TheVariants as asked
 
--- the command that a line without its newline asks for: none of these forms asks for none
+-- the command that a line without its newline asks for; a line that has none of these forms asks for
+-- none
 abbrev pub request_meaning : List ℕ → Option Request
 request_meaning line =
     if has_front (codes "install ") line then option_map install (hex_bytes (drop 8 line))
@@ -17,7 +18,7 @@ request_meaning line =
     else if bytes_eq line (codes "list") then Some list
     else None
 
--- what a command asks that was read in a line
+-- the request of a command that was read in a line
 abbrev pub request_asked : AskedCommand → Request
 request_asked (asked.Install bytes) = install bytes.items
 request_asked (asked.Replace bytes) = replace bytes.items

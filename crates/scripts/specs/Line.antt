@@ -1,9 +1,9 @@
--- A line of a script, and the texts of those that aren't run (own).
+-- A line of a script, and the texts for lines that aren't run (own).
 use Rattle.std.specs.Prelude.{◌≢◌, ℕ, List, [], ◌∷◌, ◌++◌, All, codes}
 use Rattle.scripts.specs.declared.line_refusal.LineRefusal.{LineRefusal}
 use Rattle.scripts.specs.declared.line_refusal.LineRefusal.TheVariants.{BadLine, CutLine}
 
--- no newline is among these bytes
+-- none of these bytes is a newline
 abbrev pub IsLine : List ℕ → Type 0
 IsLine bytes = All (λ b. b ≢ 10) bytes
 
@@ -11,7 +11,7 @@ IsLine bytes = All (λ b. b ≢ 10) bytes
 abbrev pub ended : List ℕ → List ℕ
 ended line = line ++ 10 ∷ []
 
--- what is written of a line that isn't run
+-- the text that is written for a line that isn't run
 abbrev pub line_refusal_text : LineRefusal → List ℕ
 line_refusal_text BadLine = codes "refused L1 BadLine\n"
 line_refusal_text CutLine = codes "refused L2 CutLine\n"

@@ -6,44 +6,44 @@ use Rattle.std.specs.Result.{result_ok}
 use Rattle.hex.specs.Hex.{decode_of}
 use Rattle.program_parts.specs.Base.{base_of}
 
--- HEX: one or more pairs of hexadecimal digits of either case, and the bytes that they spell
+-- the bytes that HEX encodes, which is one or more pairs of hexadecimal digits of either case
 abbrev pub hex_bytes : List ℕ → Option (List ℕ)
 hex_bytes word = if length word == 0 then None else result_ok (decode_of word)
 
--- a byte that a NAME may have
+-- whether a NAME may have this byte
 abbrev pub is_visible : ℕ → Bool
 is_visible b = nat_le 0x21 b && nat_le b 0x7e
 
--- NAME: one or more visible bytes
+-- whether a word is a NAME: one or more visible bytes
 abbrev pub is_name : List ℕ → Bool
 is_name word = not (length word == 0) && list_all is_visible word
 
--- the name that a word is, where it is one
+-- the word, if it is a NAME
 abbrev pub named : List ℕ → Option (List ℕ)
 named word = if is_name word then Some word else None
 
--- any number of NAMEs, each behind a space
+-- the list of NAMEs, each of which comes after a space
 abbrev pub names_behind : List ℕ → Option (List (List ℕ))
 names_behind [] = Some []
 names_behind (b ∷ rest) =
     let words = slice_split (λ b. b == 32) rest in
     if (b == 32) && list_all is_name words then Some words else None
 
--- the bytes in front of the first space; all where there is none
+-- the bytes before the first space, or all bytes if there is no space
 abbrev pub word_in_front : List ℕ → List ℕ
 word_in_front bytes = take_while (λ b. not (b == 32)) bytes
 
--- the bytes of a program with its base, where both are read
+-- the bytes of a program with its base, if both could be read
 abbrev pub placed_at : Option ℕ → Option (List ℕ) → Option (List ℕ × ℕ)
 placed_at (Some base) (Some program) = Some (program, base)
 placed_at base program = None
 
--- BASE and HEX with a space between: the bytes of a program, and its base
+-- the bytes of a program and its base, from BASE and HEX with a space between them
 abbrev pub program_behind : List ℕ → Option (List ℕ × ℕ)
 program_behind rest =
     let word = word_in_front rest in
     placed_at (base_of word) (hex_bytes (drop (length word + 1) rest))
 
--- a line begins so
+-- whether a line begins with `front`
 abbrev pub has_front : List ℕ → List ℕ → Bool
 has_front front line = bytes_eq (take (length front) line) front

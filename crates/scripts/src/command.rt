@@ -11,23 +11,22 @@ use crate::word::{base_in, named, names_behind, word_in_front};
 use requests::Command;
 use std::alloc::{AllocError, Global};
 
-/// The command that a line asks for, with what it takes memory for: the bytes that HEX spells, and
-/// the list of NAMEs.
+/// The command that a line asks for. It owns the bytes that HEX encodes, and the list of NAMEs.
 #[derive(Drop)]
 pub enum AskedCommand<'a> {
-    /// Installs a library: the bytes of its file.
+    /// Installs the library with these bytes.
     Install(Vec<u8>),
-    /// Puts a file in the place of the one of the same name.
+    /// Replaces the library with the same name by the library with these bytes.
     Replace(Vec<u8>),
-    /// Removes the library of a name.
+    /// Removes the library with this name.
     Remove(&'a [u8]),
-    /// Sets the names of the preloads, in their order.
+    /// Sets the preloads to these names, in their order.
     SetPreloads(Vec<&'a [u8]>),
     /// Binds a program with the libraries and the preloads.
     Bind {
-        /// The bytes of its file.
+        /// The bytes of the program's file.
         program: Vec<u8>,
-        /// The address at which it starts.
+        /// The address at which the program is bound.
         base: u64,
     },
     /// Lists the libraries and the preloads.
@@ -35,7 +34,7 @@ pub enum AskedCommand<'a> {
 }
 
 impl<'a> AskedCommand<'a> {
-    /// The command, as a registry takes it.
+    /// Returns this command as a command for a registry.
     pub fn as_command(&self) -> Command<'_>
         ensures { request_of result ≡ request_asked self.now }
     {
@@ -53,7 +52,7 @@ impl<'a> AskedCommand<'a> {
     }
 }
 
-/// What follows a front.
+/// Returns the bytes after `front` in a line, or `None` if the line doesn't begin with `front`.
 pub fn behind<'a>(line: &'a [u8], front: &[u8]) -> Option<&'a [u8]>
     ensures { MatchOption result (has_front front.now line.now ≡ false)
         (λ rest. (has_front front.now line.now ≡ true)
@@ -62,7 +61,7 @@ pub fn behind<'a>(line: &'a [u8], front: &[u8]) -> Option<&'a [u8]>
     line.strip_prefix(front)
 }
 
-/// BASE and HEX with a space between: the bytes of a program, and the address at which it starts.
+/// Reads BASE and HEX with a space between them. Returns the bytes of a program and its base.
 pub fn program_behind(alloc: Global, rest: &[u8]) -> Result<Option<(Vec<u8>, u64)>, AllocError>
     ensures { IfOk result (λ both. option_map (λ p. (p.0.items, p.1)) both
         ≡ program_behind rest.now) }
@@ -80,8 +79,8 @@ pub fn program_behind(alloc: Global, rest: &[u8]) -> Result<Option<(Vec<u8>, u64
     }
 }
 
-/// The command that a line asks for, or none where it is none of the forms. Its only error is want
-/// of memory.
+/// Returns the command that a line asks for, or `None` if the line has none of the forms. The only
+/// error is that memory is refused.
 pub fn parse_command(alloc: Global, line: &[u8]) -> Result<Option<AskedCommand<'_>>, AllocError>
     ensures { IfOk result
         (λ asked. option_map request_asked asked ≡ request_meaning line.now) }

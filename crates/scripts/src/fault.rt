@@ -1,4 +1,4 @@
-// Why a run couldn't go on.
+// The reason why a script can't be read or written any further.
 
 ghost use Rattle.std.specs.Prelude.{◌≡◌};
 ghost use Rattle.scripts.specs.declared.fault.ScriptFault.TheVariants.{OutOfMemory, Write};
@@ -7,7 +7,7 @@ use std::alloc::AllocError;
 use text_output::WriteFault;
 use thiserror::Error;
 
-/// A reader or a writer failed, or memory was refused, so that not all was read or written.
+/// The reason why not all of a script was read, or not all of the answers were written.
 #[derive(Clone, Copy, Debug, PartialEq, Eq, Error)]
 pub enum ScriptFault {
     /// The reader failed.

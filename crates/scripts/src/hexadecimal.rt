@@ -1,4 +1,4 @@
-// HEX: pairs of hexadecimal digits, and the bytes that they spell.
+// HEX: pairs of hexadecimal digits, and the bytes that they encode.
 
 ghost use Rattle.std.specs.Prelude.{◌≡◌, ◌+◌, ◌*◌, ◌<◌, ℕ, slice_index, Some, None};
 ghost use Rattle.std.specs.Prelude.{unwrap_or, IfOk, IfSome};
@@ -9,17 +9,17 @@ ghost use Rattle.scripts.specs.Words.{hex_bytes};
 
 use std::alloc::{AllocError, Global};
 
-/// How many bytes are decoded at once.
+/// The number of bytes that are decoded at once.
 const PIECE: usize = 16;
 
-/// How many digits they have.
+/// The number of digits of a piece.
 const DIGITS: usize = 2 * PIECE;
 
-/// What stands for the value of a byte that is no digit.
+/// The value that marks a byte that isn't a digit.
 const NO_DIGIT: u8 = 16;
 
-/// The value of a digit of either case. Arithmetic in place of a table lets the compiler read all
-/// digits of a piece at once.
+/// Returns the value of a digit of either case. It uses arithmetic instead of a table, so that the
+/// compiler can read all digits of a piece at once.
 fn digit_value(digit: u8) -> u8
     ensures { result ≡ unwrap_or (hex_digit_value digit) NO_DIGIT }
 {
@@ -34,7 +34,7 @@ fn digit_value(digit: u8) -> u8
     }
 }
 
-/// The values of the digits of a piece, where all of it is digits.
+/// Returns the values of the digits of a piece, or `None` if one of its bytes isn't a digit.
 fn values_of(digits: &[u8; DIGITS]) -> Option<[u8; DIGITS]>
     ensures all { IfSome result (λ values. (k : ℕ) → k < 32
         → hex_digit_value (slice_index digits.now k) ≡ Some (slice_index values k)) }
@@ -42,7 +42,7 @@ fn values_of(digits: &[u8; DIGITS]) -> Option<[u8; DIGITS]>
         → (k : ℕ) × (k < 32) × (hex_digit_value (slice_index digits.now k) ≡ None) }
 {
     let mut values = [0; DIGITS];
-    // The greatest of all values: `NO_DIGIT` once there is a byte that is no digit.
+    // The greatest value so far. It is `NO_DIGIT` if a byte so far isn't a digit.
     let mut greatest = 0u8;
     for i in 0..DIGITS {
         let value = digit_value(digits[i]);
@@ -56,8 +56,8 @@ fn values_of(digits: &[u8; DIGITS]) -> Option<[u8; DIGITS]>
     }
 }
 
-/// The byte of the values of two digits. One number in place of two lets the compiler make all
-/// bytes of a piece at once.
+/// Returns the byte that the values of two digits encode. It computes with one number instead of
+/// two, so that the compiler can make all bytes of a piece at once.
 fn byte_of(values: [u8; 2]) -> u8
     requires high { slice_index values 0 < 16 }
     requires low { slice_index values 1 < 16 }
@@ -67,7 +67,7 @@ fn byte_of(values: [u8; 2]) -> u8
     ((pair * 16 + pair / 256) % 256) as u8
 }
 
-/// The bytes of a piece, where all of it is digits.
+/// Returns the bytes of a piece, or `None` if one of its characters isn't a digit.
 fn decode_piece(digits: &[u8; DIGITS]) -> Option<[u8; PIECE]>
     ensures { result ≡ result_ok (decode_of digits.now) }
 {
@@ -82,7 +82,8 @@ fn decode_piece(digits: &[u8; DIGITS]) -> Option<[u8; PIECE]>
     Some(bytes)
 }
 
-/// The bytes that HEX spells. An odd number of digits is refused without memory.
+/// Returns the bytes that HEX encodes, or `None` if the word isn't HEX. If the number of digits is
+/// odd, allocates no memory.
 pub(crate) fn hex_bytes(alloc: Global, word: &[u8]) -> Result<Option<Vec<u8>>, AllocError>
     ensures { IfOk result (λ bytes. option_map (λ v. v.items) bytes ≡ hex_bytes word.now) }
 {

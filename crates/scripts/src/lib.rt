@@ -1,8 +1,9 @@
-//! The lines of a script: how they are read, and which command of a registry each asks for.
+//! The lines of a script: how they are read, and which command of a registry each line asks for.
 //!
-//! `next_line` reads the next line, and sends the answers that wait before it asks its reader for
-//! more. `parse_command` says which command a line asks for; what else its program knows is built
-//! of `behind` and `program_behind`. `put_line_refusal` has the texts of L1 and L2.
+//! `next_line` reads the next line. Before it asks its reader for more bytes, it sends the buffered
+//! answers. `parse_command` returns the command that a line asks for. A program reads its other
+//! forms of lines with `behind` and `program_behind`. `put_line_refusal` appends the texts of L1
+//! (BadLine) and L2 (CutLine).
 #![tactic(auto)]
 
 mod command;

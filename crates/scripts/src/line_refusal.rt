@@ -1,4 +1,4 @@
-// Why a line isn't run.
+// The reason why a line isn't run.
 
 ghost use Rattle.std.specs.Prelude.{◌≡◌, true, OnOk, OnErr};
 ghost use Rattle.text_output.specs.Sends.{Sends};
@@ -8,16 +8,16 @@ use program_parts::Line;
 use std::io::Write;
 use text_output::WriteFault;
 
-/// Why a line isn't run.
+/// The reason why a line isn't run.
 #[derive(Clone, Copy)]
 pub enum LineRefusal {
-    /// L1: it asks nothing.
+    /// L1: the line has none of the forms.
     BadLine,
-    /// L2: it is the last one and has no newline.
+    /// L2: the line is the last one and has no newline.
     CutLine,
 }
 
-/// Puts the text of a refusal behind what waits.
+/// Appends the text of a refusal to the buffered answers.
 pub fn put_line_refusal<W: Write>(
     waiting: &mut Line,
     out: &mut W,

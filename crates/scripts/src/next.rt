@@ -1,4 +1,4 @@
-// Reading the next line of a script, while answers to lines before wait.
+// Reads the next line of a script, while answers to earlier lines may be buffered.
 
 ghost use Rattle.std.specs.Prelude.{◌≡◌, ◌≢◌, ◌⊎◌, [], IfOk, IfErr};
 ghost use Rattle.std.specs.Io.{StopsAt};
@@ -13,8 +13,8 @@ use memchr::memchr;
 use program_parts::Line;
 use std::io::{BufReader, Read, Write};
 
-/// Reads a line of which the reader has to be asked for more. Nothing waits then, so that whoever
-/// writes line by line has had all answers.
+/// Reads a line, and asks the reader for more bytes. No answer is buffered then, so a caller that
+/// writes line by line has received all answers.
 fn ask_line<R: Read>(
     pages: &mut BufReader<&mut R>,
     line: &mut Vec<u8>,
@@ -32,8 +32,8 @@ fn ask_line<R: Read>(
     read_line(pages, line)
 }
 
-/// Reads the next line. Where no whole one is left of what was read before, whatever waits is sent
-/// before the reader is asked.
+/// Reads the next line. If the bytes that were read before have no whole line left, sends all
+/// buffered answers before it asks the reader.
 pub fn next_line<R: Read, W: Write>(
     pages: &mut BufReader<&mut R>,
     line: &mut Vec<u8>,
@@ -48,7 +48,7 @@ pub fn next_line<R: Read, W: Write>(
         (reader_remaining (λ r. R.remaining r.now) pages.new)
         (append_known (W.contents writer.old) waiting.old.waiting)
         (append_known (W.contents writer.new) waiting.new.waiting) line.new.items) }
-    // Where the reader was asked nothing waits.
+    // If the reader was asked, no answer is buffered.
     ensures asked { IfOk result
         (λ _. HasLine (reader_buffer pages.old) ⊎ (waiting.new.waiting ≡ [])) }
 {

@@ -1,4 +1,4 @@
-// Reading a line.
+// Reads a line.
 
 ghost use Rattle.std.specs.Prelude.{◌≡◌, ◌≢◌, ◌==◌, ℕ, List, Option, Some, length};
 ghost use Rattle.std.specs.Prelude.{if◌then◌else◌, IfOk, IfErr, OnErr};
@@ -14,17 +14,17 @@ use crate::fault::ScriptFault;
 use memchr::memchr;
 use std::io::{BufRead, BufReader, Error, ErrorKind, Read};
 
-/// What one read of a line gave.
+/// The result of one read of a line.
 pub enum Got {
-    /// A line that had a newline, without it.
+    /// A line that had a newline, without the newline.
     Whole,
-    /// What stands behind the last newline.
+    /// The bytes after the last newline.
     Cut,
-    /// Nothing, at the end.
+    /// Nothing, at the end of the input.
     End,
 }
 
-/// The fault of a read.
+/// Returns the fault for an error of a read.
 fn fault_of(error: &Error) -> ScriptFault
     ensures { result ≢ ScriptFault.Write }
 {
@@ -35,15 +35,16 @@ fn fault_of(error: &Error) -> ScriptFault
     }
 }
 
-/// What a line is that nothing follows.
+/// Returns the result of a read that has reached the end of the input, with `line` as its last
+/// bytes.
 fn last_part(line: &[u8]) -> Got
     ensures { result ≡ (if length line.now == 0 then Got.End else Got.Cut) }
 {
     if line.is_empty() { Got::End } else { Got::Cut }
 }
 
-/// Puts what the reader has at hand behind a part of a line, up to the newline, and says what the
-/// line is once it has ended. After an error all is as it was.
+/// Appends the bytes that the reader has ready to a part of a line, up to the newline. If the line
+/// has ended, returns the result. After an error nothing has changed.
 fn read_part<R: BufRead>(reader: &mut R, line: &mut Vec<u8>) -> Result<Option<Got>, ScriptFault>
     requires { IsLine line.old.items }
     ensures ok { IfOk result (λ got. (before : Option (List ℕ))
@@ -76,7 +77,7 @@ fn read_part<R: BufRead>(reader: &mut R, line: &mut Vec<u8>) -> Result<Option<Go
     }
 }
 
-/// Reads a line into the buffer, in place of what was there.
+/// Reads a line into `line`, and overwrites what `line` had before.
 pub(crate) fn read_line<R: BufRead>(reader: &mut R, line: &mut Vec<u8>) -> Result<Got, ScriptFault>
     ensures ok { IfOk result
         (GotLine (R.remaining reader.old) (R.remaining reader.new) line.new.items) }
@@ -94,8 +95,8 @@ pub(crate) fn read_line<R: BufRead>(reader: &mut R, line: &mut Vec<u8>) -> Resul
     Err(ScriptFault::Read)
 }
 
-/// Takes a line whose newline stands at this place of what was read before, and puts it into the
-/// buffer, in place of what was there. Nothing is asked of the reader.
+/// Takes the line whose newline is at position `end` of the bytes that were read before, and puts
+/// it into `line`, overwriting what `line` had. Doesn't ask the reader for more bytes.
 pub(crate) fn take_line<R: Read>(
     pages: &mut BufReader<&mut R>,
     end: usize,

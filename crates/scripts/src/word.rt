@@ -11,42 +11,43 @@ use program_parts::parse_base;
 use std::alloc::{AllocError, Global};
 use std::str;
 
-/// Whether all bytes are visible.
+/// Returns whether all bytes are visible.
 fn are_visible(word: &[u8]) -> bool
     ensures { result ≡ list_all is_visible word.now }
 {
     word.iter().all(|b| *b >= 0x21 && *b <= 0x7e)
 }
 
-/// Whether a word is a NAME.
+/// Returns whether a word is a NAME.
 fn is_name(word: &[u8]) -> bool
     ensures { result ≡ is_name word.now }
 {
     !word.is_empty() && are_visible(word)
 }
 
-/// A NAME.
+/// Returns the word if it is a NAME, otherwise `None`.
 pub(crate) fn named(word: &[u8]) -> Option<&[u8]>
     ensures { option_map (λ n. n.now) result ≡ named word.now }
 {
     if is_name(word) { Some(word) } else { None }
 }
 
-/// Whether all words are NAMEs.
+/// Returns whether all words are NAMEs.
 fn are_names(words: &[u8]) -> bool
     ensures { result ≡ list_all is_name (slice_split (λ b. b == 32) words.now) }
 {
     words.split(|b| *b == b' ').all(|word| is_name(word))
 }
 
-/// The words.
+/// Returns the words between the spaces.
 fn words_of(alloc: Global, words: &[u8]) -> Result<Vec<&[u8]>, AllocError>
     ensures { IfOk result (λ v. map (λ w. w.now) v.items ≡ slice_split (λ b. b == 32) words.now) }
 {
     words.split(|b| *b == b' ').collect(alloc)
 }
 
-/// NAMEs, each behind a space.
+/// Returns the NAMEs in `rest`, each of which comes after a space, or `None` if `rest` has another
+/// form.
 pub(crate) fn names_behind(alloc: Global, rest: &[u8]) -> Result<Option<Vec<&[u8]>>, AllocError>
     ensures { IfOk result
         (λ names. option_map (λ v. map (λ n. n.now) v.items) names ≡ names_behind rest.now) }
@@ -60,7 +61,7 @@ pub(crate) fn names_behind(alloc: Global, rest: &[u8]) -> Result<Option<Vec<&[u8
     Ok(Some(words_of(alloc, words)?))
 }
 
-/// How many bytes stand in front of the first space.
+/// Returns the number of bytes before the first space.
 #[tactic(auto, using(crate::proofs::Fronts::front_short))]
 fn front_length(bytes: &[u8]) -> usize
     ensures is { result ≡ length (word_in_front bytes.now) }
@@ -69,7 +70,7 @@ fn front_length(bytes: &[u8]) -> usize
     bytes.iter().take_while(|b| **b != b' ').count()
 }
 
-/// The bytes in front of the first space; all where there is none.
+/// Returns the bytes before the first space, or all bytes if there is no space.
 #[tactic(auto, using(crate::proofs::Fronts::take_front))]
 pub(crate) fn word_in_front(bytes: &[u8]) -> &[u8]
     ensures is { result.now ≡ word_in_front bytes.now }
@@ -78,7 +79,7 @@ pub(crate) fn word_in_front(bytes: &[u8]) -> &[u8]
     &bytes[..front_length(bytes)]
 }
 
-/// The number that a BASE spells.
+/// Returns the number that BASE encodes, or `None` if the word isn't a BASE.
 pub(crate) fn base_in(word: &[u8]) -> Option<u64>
     ensures { result ≡ base_of word.now }
 {

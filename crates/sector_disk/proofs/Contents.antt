@@ -1,4 +1,4 @@
--- The contents after some writes, a write at a time.
+-- The contents after some writes, one write at a time.
 use Rattle.std.proofs.Common.{◌≡◌, ℕ, ◌+◌, ◌<◌, List, [], ◌∷◌, ◌++◌, length, get_or, set, take, refl, ◌∙◌, ap}
 use Rattle.std.proofs.lemmas.List.{take_more}
 use Rattle.sector_disk.specs.declared.written.Written.{Written}

@@ -1,4 +1,4 @@
--- A call that a fuse passes on: what holds of the inner disk holds of the fuse.
+-- A call that a fuse passes on: what holds for the inner disk holds for the fuse.
 use Rattle.std.proofs.Common.{◌≡◌, ⊎_elim, inl, inr, ◌↔◌, ℕ, ◌+◌, ◌≤◌, List, [], ◌∷◌, ◌++◌, length, drop, true, Result, Err, refl, sym, ◌∙◌, ap, subst, arith}
 use Rattle.std.proofs.lemmas.List.{length-append, drop-append-le}
 use Rattle.std.proofs.lemmas.List.Elements.{filter-append}
@@ -10,7 +10,7 @@ use Rattle.sector_disk.specs.Disk.{Sector, DiskFacts, MayLeave, KeepsPast, IsUnc
 use Rattle.sector_disk.specs.Fuse.{reached, inner_moment, fused}
 use Rattle.sector_disk.specs.inside.FuseLaws.{inner_now}
 
--- what a stop of the fuse now may leave is what a stop of the inner disk may
+-- a stop of the fuse now may leave exactly what a stop of the inner disk may leave
 pub present : (plan : Plan) (inner : DiskFacts) (past : List Step) (k : ℕ) (c : Sector) → MayLeave (fused plan inner past) k c ↔ MayLeave inner k c
 present plan inner past k c = (
   λ left. subst (λ u. inner.may_leave u k c) (inner_now inner.time past) left,
@@ -58,7 +58,7 @@ module _ (plan : Plan) (inner inner' : DiskFacts) (past past' : List Step) (step
       → IsRead (fused plan inner past) (fused plan inner' past') at content result
   read_through at content result r = record { past = keeps_past r.past; same = unchanged_through r.same; ok = r.ok }
 
-  -- it was made there, and fails here
+  -- the read was made on the inner disk, and fails on the fuse
   pub late_read : {S F T E : Type 0} → (at : ℕ) (content : Sector) (result : Result S F) (fault : E) → IsRead inner inner' at content result
       → IsRead {T = T} (fused plan inner past) (fused plan inner' past') at content (Err fault)
   late_read at content result fault r = record { past = keeps_past r.past; same = unchanged_through r.same; ok = tt }
@@ -98,7 +98,7 @@ module _ (plan : Plan) (inner inner' : DiskFacts) (past past' : List Step) (step
         );
       }
 
-  -- it was made there, and fails here
+  -- the sync was made on the inner disk, and fails on the fuse
   pub late_sync : {S F T E : Type 0} → (result : Result S F) (fault : E) → IsSync inner inner' result → IsSync {T = T} (fused plan inner past) (fused plan inner' past') (Err fault)
   late_sync result fault s = record {
     past = keeps_past s.past;

@@ -1,4 +1,4 @@
--- A call of a disk in memory: what it keeps of the past, and what it adds to the choices.
+-- The effect of a call of a disk in memory, on the past and on the choices of a stop.
 use Rattle.std.proofs.Common.{◌≡◌, inl, inr, ⊎_elim, ◌⊎◌, ℕ, ◌+◌, ◌%◌, ◌<◌, ◌≤◌, List, [], ◌∷◌, ◌++◌, length, get_or, set, take, drop, map, eqb, All, false, refl, sym, ◌∙◌, ap, subst, arith}
 use Rattle.std.proofs.lemmas.Bool.{cases_lt, cases_eq}
 use Rattle.std.proofs.lemmas.List.{length-append, get_or_append_left, get_or_default, get_or_past, get_or_push, get_or-set_same, get_or-set_other}
@@ -14,7 +14,7 @@ use Rattle.sector_disk.specs.Memory.{IsPicked}
 use Rattle.sector_disk.specs.Moments.{moment_at, facts_of}
 use Rattle.sector_disk.specs.inside.MemoryLaws.{left_now, now_leaves}
 
--- what a moment knows of the disk, but for whether its call failed
+-- two moments are the same, except whether the call that ended them failed
 pub record SameMoment (a b : Moment) : Type 0 where
   pub writes : a.writes ≡ b.writes
   pub synced : a.synced ≡ b.synced
@@ -55,7 +55,7 @@ module _ (start : List Sector) (writes : List Written) (synced : ℕ) (past : Li
       ∙ ap (λ n. choices start (take (was u).writes writes') n k) (same_moment u le).synced
       ∙ ap (λ ws. choices start ws (was u).synced k) (front (was u).writes (was_low u))
 
-  -- what was left stays
+  -- what a stop might have left at past moments stays the same
   pub keeps_past : KeepsPast (facts_of start writes synced past) (facts_of start writes' synced' (past ++ moment ∷ []))
   keeps_past = record {
     sectors = refl;
@@ -67,7 +67,7 @@ module _ (start : List Sector) (writes : List Written) (synced : ℕ) (past : Li
     );
   }
 
--- the same, of what a call ensures
+-- what a stop might have left at past moments stays the same after a call, as the call's contract states it
 pub keeps_past_to : (start : List Sector) (writes : List Written) (synced : ℕ) (past : List Moment)
     → All (λ (moment : Moment). moment.writes ≤ length writes) past → (writes' : List Written) (synced' : ℕ) (past' : List Moment) (moment : Moment)
     → SameMoment moment (record { writes = length writes; synced = synced; failed = false })
@@ -76,7 +76,7 @@ pub keeps_past_to : (start : List Sector) (writes : List Written) (synced : ℕ)
 keeps_past_to start writes synced past no_later writes' synced' past' moment is_moment front is_past =
     subst (λ p. KeepsPast (facts_of start writes synced past) (facts_of start writes' synced' p)) (sym is_past) (keeps_past start writes synced past no_later writes' synced' moment is_moment front)
 
--- a write more to sector k is a choice more
+-- one more write to sector k is one more choice
 pub written_to-append : (k : ℕ) (writes : List Written) (w : Written) → written_to k (writes ++ w ∷ []) ≡ written_to k writes ++ written_to k (w ∷ [])
 written_to-append k writes w =
     let to_k = λ (x : Written). eqb x.at k in
@@ -89,7 +89,7 @@ choices-append start writes synced k w le =
     ap (λ ws. sector (contents start ws) k ∷ written_to k (drop synced (writes ++ w ∷ []))) (take-append-le synced writes (w ∷ []) le)
     ∙ ap (λ cs. sector (contents start (take synced writes)) k ∷ cs) (ap (written_to k) (drop-append-le synced writes (w ∷ []) le) ∙ written_to-append k (drop synced writes) w)
 
--- what is among one is that one
+-- a member of a list of one element is that element
 the_one : (x c : Sector) → Contains (x ∷ []) c → c ≡ x
 the_one x c found = let first : found.0 ≡ 0 = omega (arith, found.1) in sym (subst (λ n. get_or (x ∷ []) n c ≡ c) first found.2)
 
@@ -127,11 +127,11 @@ module _ (start : List Sector) (writes : List Written) (synced : ℕ) (past past
         (λ this. newest k c this.0 this.1)
         either))
 
-    -- the set of its sector grows by what is written
+    -- the set of the written sector grows by the written content
     pub grows : GrowsBy (facts_of start writes synced past) now w.at w.content
     grows = record { each = λ k c. (there k c, back k c) }
 
-  -- what a stop now may leave doesn't read the past
+  -- what a stop now may leave doesn't depend on the past
   pub unchanged : IsUnchanged (facts_of start writes synced past) (facts_of start writes synced past')
   unchanged = record {
     now = refl;
@@ -142,7 +142,7 @@ module _ (start : List Sector) (writes : List Written) (synced : ℕ) (past past
     );
   }
 
-  -- where all is synced the one choice is what reads give
+  -- if everything is synced, the one choice is what reads return
   one_choice : (k : ℕ) → choices start writes (length writes) k ≡ sector (contents start writes) k ∷ []
   one_choice k =
       ap (λ ws. sector (contents start ws) k ∷ written_to k (drop (length writes) writes)) (take_all (length writes) writes (omega arith))
@@ -159,7 +159,7 @@ module _ (start : List Sector) (writes : List Written) (synced : ℕ) (past past
     );
   }
 
-  -- a sector that the disk doesn't have is empty, before and after
+  -- what reads return is one of the choices before the sync; a sector that the disk doesn't have is empty, before and after
   now_among_choices : (k : ℕ) → Contains (before k) (sector (contents start writes) k)
   now_among_choices k = ⊎_elim
       (λ lt. now_chosen start writes synced k lt)
@@ -174,7 +174,7 @@ module _ (start : List Sector) (writes : List Written) (synced : ℕ) (past past
   pub no_more : LeavesNoMore (facts_of start writes synced past) (facts_of start writes (length writes) past')
   no_more = record { each = λ k c left. left_now start writes synced past k c (subst (λ x. Contains (before k) x) (sym (last_choice k c left)) (now_among_choices k)) }
 
--- how many of some writes go to a sector
+-- the number of writes that go to a sector is at most the number of all writes
 pub length-written_to : (k : ℕ) (writes : List Written) → length (written_to k writes) ≤ length writes
 length-written_to k [] = omega arith
 length-written_to k (w ∷ writes) = ⊎_elim
@@ -182,7 +182,7 @@ length-written_to k (w ∷ writes) = ⊎_elim
     (λ other. omega (arith, ap length (written_to_other k w writes other), length-written_to k writes))
     (cases_eq w.at k)
 
--- one write more is counted at its sector
+-- one more write is counted at its sector
 pub counted_more : (counts : List ℕ) (writes : List Written) (synced : ℕ) (w : Written) (sectors : ℕ) → synced ≤ length writes
     → length counts ≡ sectors → w.at < sectors → ((k : ℕ) → k < sectors → get_or counts k 0 ≡ length (written_to k (drop synced writes))) → (k : ℕ)
     → k < sectors → get_or (set counts w.at (get_or counts w.at 0 + 1)) k 0 ≡ length (written_to k (drop synced (writes ++ w ∷ [])))
@@ -203,21 +203,21 @@ counted_more counts writes synced w sectors le size in_range counted k lt =
     (λ other. omega (arith, more, counted k lt, get_or-set_other counts w.at k (get_or counts w.at 0 + 1) 0 (λ e. other (sym e)), ap length (written_to_other k w [] other)))
     (cases_eq w.at k)
 
--- what is picked is one of the choices
+-- the picked content is one of the choices
 pub among_picked : (IsNamed : ℕ → Type 0) (cs : List Sector) (content : Sector) → 0 < length cs → IsPicked IsNamed cs content → Contains cs content
 among_picked IsNamed cs content some picked =
     let place = picked.0 % length cs in
     let in_range : place < length cs = omega arith in
     (place, in_range, get_or_default cs place content [] in_range ∙ sym picked.2)
 
--- a disk with no writes and no moments starts
+-- a disk with no writes and no moments is at its start
 pub fresh : (start : List Sector) (writes : List Written) (past : List Moment) → writes ≡ [] → past ≡ [] → StartsWith (facts_of start writes 0 past) (contents start writes)
 fresh start writes past no_writes no_past =
     subst (λ ws. StartsWith (facts_of start ws 0 past) (contents start ws)) (sym no_writes)
     (subst (λ p. StartsWith (facts_of start [] 0 p) start) (sym no_past)
     (record { honest = refl; sectors = refl; now = refl; alone = alone start [] 0 [] []; time = refl; failures = refl; log = refl }))
 
--- the same sectors, writes and past make a copy
+-- two disks with the same sectors, writes and past are copies of each other
 pub copied : (start start' : List Sector) (writes writes' : List Written) (synced : ℕ) (past past' : List Moment)
     → start' ≡ start → writes' ≡ writes → past' ≡ past → IsCopy (facts_of start writes synced past) (facts_of start' writes' synced past')
 copied start start' writes writes' synced past past' starts writes_are pasts =

@@ -1,17 +1,17 @@
--- How what a stop leaves goes on from call to call.
+-- How the statements about what a stop leaves carry over from call to call.
 use Rattle.std.proofs.Common.{◌≡◌, ⊎_elim, ℕ, ◌+◌, ◌<◌, ◌≤◌, List, [], ◌++◌, Result, refl, sym, ◌∙◌, ap, subst, arith}
 use Rattle.std.proofs.lemmas.Bool.{cases_lt}
 use Rattle.std.proofs.lemmas.List.{length-append, append-nil, append_assoc}
 use Rattle.sector_disk.specs.Disk.{Sector, DiskFacts, Logged, LogGrows, MixtureAt, Mixture, KeepsPast, IsCall, AreCalls, AreCallsExactly, AreCallsAtMost, LeavesOnly}
 
--- a mixture of a past moment was one then
+-- a mixture of a past moment was a mixture at that moment
 pub past_mixture : {old new : DiskFacts} → KeepsPast old new → (u : ℕ) → u ≤ old.time → (m : List Sector) → MixtureAt new u m → MixtureAt old u m
 past_mixture keeps u le m mixture = record {
   size = mixture.size ∙ keeps.sectors;
   each = λ k lt. (keeps.past u k _ le).0 (mixture.each k (subst (λ n. k < n) (sym keeps.sectors) lt));
 }
 
--- the past stays over two calls
+-- if two calls each keep the past, both together keep it
 pub keeps_past : {old mid new : DiskFacts} → KeepsPast old mid → KeepsPast mid new → KeepsPast old new
 keeps_past {mid = mid} first second = record {
   sectors = second.sectors ∙ first.sectors;
@@ -22,7 +22,8 @@ keeps_past {mid = mid} first second = record {
       (λ now. (first.past u k c le).0 ((second.past u k c le').0 now), λ was. (second.past u k c le').1 ((first.past u k c le).1 was));
 }
 
--- from old to new there is one call
+-- if all mixtures before and after one call have the property, a stop at any moment of the call leaves only such
+-- mixtures
 pub one_call : {old new : DiskFacts} {T E : Type 0} {result : Result T E} (P : List Sector → Type 0) → IsCall old new result → KeepsPast old new
     → ((m : List Sector) → Mixture old m → P m) → ((m : List Sector) → Mixture new m → P m) → LeavesOnly old new P
 one_call {old = old} {new = new} P call keeps before after = record {
@@ -33,7 +34,8 @@ one_call {old = old} {new = new} P call keeps before after = record {
       (cases_lt old.time left.0);
 }
 
--- and then there are more calls
+-- if a stop during some calls leaves only such mixtures, and so does a stop during later calls, the same is true of all
+-- these calls
 pub goes_on : {old mid new : DiskFacts} (P : List Sector → Type 0) → LeavesOnly old mid P → LeavesOnly mid new P → LeavesOnly old new P
 goes_on {mid = mid} P first second = record {
   past = keeps_past first.past second.past;
@@ -43,26 +45,26 @@ goes_on {mid = mid} P first second = record {
       (cases_lt mid.time left.0);
 }
 
--- what is left has a weaker property too
+-- what is left also has any weaker property
 pub weaken : {old new : DiskFacts} (P Q : List Sector → Type 0) → ((m : List Sector) → P m → Q m) → LeavesOnly old new P → LeavesOnly old new Q
 weaken P Q to leaves = record { past = leaves.past; each = λ m left. to m (leaves.each m left) }
 
--- there is no call
+-- if no call was made, and all mixtures have the property, a stop leaves only such mixtures
 pub at_rest : (disk : DiskFacts) (P : List Sector → Type 0) → ((m : List Sector) → Mixture disk m → P m) → LeavesOnly disk disk P
 at_rest disk P now = record {
   past = record { sectors = refl; later = omega arith; marks = λ u le. refl; past = λ u k c le. (λ x. x, λ x. x) };
   each = λ m left. let same : left.0 ≡ disk.time = omega (arith, left.1, left.2) in now m (subst (λ u. MixtureAt disk u m) same left.3);
 }
 
--- what is left since old at the present moment
+-- what is left at the present moment has the property
 pub left_now : {old new : DiskFacts} (P : List Sector → Type 0) → LeavesOnly old new P → (m : List Sector) → Mixture new m → P m
 left_now {new = new} P leaves m mixture = leaves.each m (new.time, leaves.past.later, omega arith, mixture)
 
--- a log that stayed
+-- a log that stayed the same grew by at most `most` calls
 pub same_log : {old new : List Logged} {most : ℕ} → new ≡ old → LogGrows most old new
 same_log {old = old} same = record { more = []; few = omega arith; grown = same ∙ sym (append-nil old) }
 
--- a log that grew, and then more
+-- if a log grew twice, it grew by at most the sum of the calls
 pub longer_log : {old mid new : List Logged} {few more most : ℕ} → LogGrows few old mid → LogGrows more mid new → few + more ≤ most → LogGrows most old new
 longer_log {old = old} first second le = record {
   more = first.more ++ second.more;
@@ -70,15 +72,15 @@ longer_log {old = old} first second le = record {
   grown = second.grown ∙ ap (λ l. l ++ second.more) first.grown ∙ append_assoc old first.more second.more;
 }
 
--- a higher bound
+-- a log that grew by at most `few` calls grew by at most any greater number of calls
 pub log_at_most : {few most : ℕ} {old new : List Logged} → LogGrows few old new → few ≤ most → LogGrows most old new
 log_at_most grows le = record { more = grows.more; few = omega (arith, grows.few, le); grown = grows.grown }
 
--- no call is some calls
+-- if no call was made, `AreCalls` holds
 pub no_calls : (disk : DiskFacts) → AreCalls disk disk
 no_calls disk = record { honest = refl; sectors = refl; plans = refl; log = same_log refl; later = omega arith; failures = omega arith; few_failures = omega arith }
 
--- some calls, and then more
+-- some calls, followed by more calls, are some calls
 pub more_calls : {old mid new : DiskFacts} → AreCalls old mid → AreCalls mid new → AreCalls old new
 more_calls first second = record {
   honest = second.honest ∙ first.honest;
@@ -90,22 +92,22 @@ more_calls first second = record {
   few_failures = omega (arith, first.later, second.later, first.failures, second.failures, first.few_failures, second.few_failures);
 }
 
--- no call is 0 calls
+-- no call is exactly 0 calls
 pub exactly_none : (disk : DiskFacts) → AreCallsExactly 0 disk disk
 exactly_none disk = record { some = no_calls disk; time = omega arith }
 
--- so many calls, and then so many more, are their sum
+-- exactly `calls` calls and then exactly `more` calls are exactly their sum
 pub exactly_sum : {calls more total : ℕ} {old mid new : DiskFacts} → AreCallsExactly calls old mid → AreCallsExactly more mid new → calls + more ≡ total → AreCallsExactly total old new
 exactly_sum first second sum = record { some = more_calls first.some second.some; time = omega (arith, first.time, second.time, sum) }
 
--- and a log grew by as many at most
+-- exactly `calls` calls make a log grow by at most `calls`
 pub exactly_logged : {calls : ℕ} {old new : DiskFacts} → AreCallsExactly calls old new → LogGrows calls old.log new.log
 exactly_logged exactly = log_at_most exactly.some.log (omega (arith, exactly.time))
 
--- exactly so many calls are at most so many, and at most more
+-- exactly `calls` calls are at most `most` calls, if `calls` is at most `most`
 pub exactly_at_most : {calls most : ℕ} {old new : DiskFacts} → AreCallsExactly calls old new → calls ≤ most → AreCallsAtMost most old new
 exactly_at_most exactly le = record { some = exactly.some; time = omega (arith, exactly.time, le) }
 
--- at most so many calls, and then at most so many more, are at most their sum
+-- at most `calls` calls and then at most `more` calls are at most their sum
 pub at_most_sum : {calls more most : ℕ} {old mid new : DiskFacts} → AreCallsAtMost calls old mid → AreCallsAtMost more mid new → calls + more ≤ most → AreCallsAtMost most old new
 at_most_sum first second sum = record { some = more_calls first.some second.some; time = omega (arith, first.time, second.time, sum) }

@@ -1,4 +1,4 @@
--- One write on, where of the writes to each sector the one with some number is made.
+-- One step of the loop that makes, for each sector, the write with a given number.
 use Rattle.std.proofs.Common.{◌≡◌, ◌≢◌, ⊎_elim, ℕ, zero, suc, ◌-◌, ◌<◌, ◌≤◌, List, [], ◌∷◌, length, get_or, set, refl, sym, ◌∙◌, ap, subst, arith}
 use Rattle.std.proofs.lemmas.Bool.{cases_eq}
 use Rattle.std.proofs.lemmas.List.{get_or-set_same, get_or-set_other}
@@ -7,11 +7,12 @@ use Rattle.sector_disk.specs.Disk.{Sector, sector}
 use Rattle.sector_disk.specs.Written.{written_to}
 use Rattle.sector_disk.specs.inside.WrittenLaws.{written_to_same, written_to_other}
 
--- what a sector comes to hold: with number 0 what it holds, else the write of that number
+-- the content that a sector gets: with number 0 its own content, otherwise that of the write with this number
 abbrev pub settled : List Sector → List ℕ → List Written → ℕ → Sector
 settled sectors numbers writes k = sector (sector sectors k ∷ written_to k writes) (get_or numbers k 0)
 
--- the write is passed by, and the number counts down
+-- if a write isn't the one with this number, the content is found without this write under the number that is less by
+-- one
 countdown : (c x : Sector) (cs : List Sector) (r : ℕ) → r ≢ 1 → sector (c ∷ cs) (r - 1) ≡ sector (c ∷ x ∷ cs) r
 countdown c x cs zero not = refl
 countdown c x cs (suc zero) not = absurd (not refl)
@@ -68,14 +69,15 @@ module _ (sectors : List Sector) (numbers : List ℕ) (w : Written) (writes : Li
           ap (λ r. sector (sector sectors k ∷ written_to k writes) r) (less_there k other)
           ∙ ap (λ cs. sector (sector sectors k ∷ cs) (get_or numbers k 0)) (sym (written_to_other k w writes other))
 
-  -- no number is greater than there are writes
+  -- no number is greater than the number of writes to its sector
   pub less_made : (k : ℕ) → get_or numbers k 0 ≤ length (written_to k (w ∷ writes)) → get_or less k 0 ≤ length (written_to k writes)
   less_made k le = ⊎_elim
       (λ same. omega (arith, le, less_here, ap (λ j. get_or less j 0) same, ap (λ j. get_or numbers j 0) same, ap length (written_to_same k w writes same)))
       (λ other. omega (arith, le, less_there k other, ap length (written_to_other k w writes other)))
       (cases_eq w.at k)
 
--- where each number is how many writes there are, it is so behind the first of them, which counts its own down
+-- if each number is the number of writes to its sector, the same is true of the writes after the first one, once 1 is
+-- subtracted at the first write's sector
 pub counted_less : (counts : List ℕ) (w : Written) (writes : List Written) → w.at < length counts → (k : ℕ) → get_or counts k 0 ≡ length (written_to k (w ∷ writes))
     → get_or (set counts w.at (get_or counts w.at 0 - 1)) k 0 ≡ length (written_to k writes)
 counted_less counts w writes inside k counted =

@@ -1,10 +1,10 @@
--- Answers that are given in turn.
+-- Answers that are returned in turn.
 use Rattle.std.proofs.Common.{◌≡◌, ◌+◌, ◌%◌, ◌∷◌, ◌++◌, [], ℕ, List, length, ap, sym, ◌∙◌}
 use Rattle.std.proofs.Math.ListN.{length-append}
 use Rattle.std.proofs.Math.Nat.{suc-mod}
 use Rattle.std.proofs.Math.Numerals.{suc-eq-add-one}
 
--- the place of the next answer, once one more was given
+-- after one more answer, the position of the next answer is one further, modulo the number of answers
 pub next_in_turn : {A : Type 0} (next count : ℕ) (given more : List A) (one : A) → next ≡ length given % count → more ≡ given ++ one ∷ [] → (next + 1) % count ≡ length more % count
 next_in_turn next count given more one is more_is =
     let e : (length given + 1) % count ≡ (length given % count + 1) % count = simp suc-eq-add-one at (suc-mod (length given) count) in

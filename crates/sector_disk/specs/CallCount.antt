@@ -1,17 +1,17 @@
--- How many calls were made of a disk, and what is said of a disk of which nothing else is known.
+-- The numbers of calls made of a disk, and the facts of a disk about which nothing else is known.
 use Rattle.std.specs.Prelude.{ℕ, false, length, filter, []}
 use Rattle.sector_disk.specs.declared.call_count.CallCount.{CallCount}
 use Rattle.sector_disk.specs.Disk.{DiskFacts}
 
--- how many calls were made
+-- the number of calls that were made
 abbrev pub calls_made : CallCount → ℕ
 calls_made count = length count.failed.items
 
--- how many of them failed
+-- the number of calls that failed
 abbrev pub calls_failed : CallCount → ℕ
 calls_failed count = length (filter (λ failed. failed) count.failed.items)
 
--- a disk that isn't known to be honest: nothing is said of it but its size and its calls
+-- the facts of a disk that isn't known to be honest: nothing is stated except its size and its calls
 abbrev pub unknown_disk : ℕ → CallCount → DiskFacts
 unknown_disk sectors count = record {
   honest = false;

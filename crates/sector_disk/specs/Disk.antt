@@ -1,17 +1,17 @@
--- The disk model: what is said of a disk, what a stop may leave of it, and what each call does.
+-- The disk model: the facts of a disk, what a stop may leave of it, and what each call does.
 use Rattle.std.specs.Prelude.{◌≡◌, ◌<◌, ◌≤◌, ◌+◌, ◌-◌, ◌↔◌, ◌⊎◌, ℕ, Bool, ◌∷◌, ◌++◌}
 use Rattle.std.specs.Prelude.{IsTrue, List, [], length, set, slice_index_or, All, Result, OnOk, OnErr}
 use Rattle.sector_disk.specs.declared.fuse.Plan.{Plan}
 
--- the bytes of a sector
+-- the number of bytes of a sector
 abbrev pub sector_bytes : ℕ
 sector_bytes = 512
 
--- what a sector holds: the list of its bytes
+-- the content of a sector: the list of its bytes
 abbrev pub Sector : Type 0
 Sector = List ℕ
 
--- a content is whole: it has the bytes of a sector, each below 256
+-- a content is whole: it has as many bytes as a sector, each below 256
 pub record IsWhole (content : Sector) : Type 0 where
   pub size : length content ≡ sector_bytes
   pub bytes : All (λ byte. byte < 256) content
@@ -20,26 +20,27 @@ pub record IsWhole (content : Sector) : Type 0 where
 abbrev pub sector : List Sector → ℕ → Sector
 sector sectors k = slice_index_or sectors k []
 
--- a call that a log has: a write, or a sync
+-- a call that a log records: a write or a sync
 pub data Logged : Type 0 where
   Wrote : Logged
   Synced : Logged
 
--- What is said of a disk. Its moments are 0 to `time`, and each call makes one more.
+-- The facts of a disk. Its moments are 0 to `time`, and each call makes one more.
 pub record DiskFacts : Type 1 where
-  -- whether it follows the table of steps below
+  -- whether the disk is honest: `IsRead`, `IsWrite` and `IsSync` hold for its calls
   pub honest : Bool
   pub sectors : ℕ
   pub time : ℕ
-  -- the mark of each moment: of a disk over a file the file's time then, of any other the moment itself
+  -- the mark of each moment: for a disk over a file, the file's time at that moment; for any other disk, the moment
+  -- itself
   pub marks : ℕ → ℕ
-  -- how many calls have failed
+  -- the number of calls that have failed
   pub failures : ℕ
-  -- of each fuse that its calls go through, which of them fail
+  -- for each fuse that the disk's calls go through, the plan of the calls that fail
   pub plans : List Plan
-  -- the writes and syncs that it keeps a log of, in their order: none where it keeps none
+  -- the writes and syncs that the disk logs, in their order; empty if it keeps no log
   pub log : List Logged
-  -- what reads give
+  -- the contents that reads return
   pub now : List Sector
   -- the set of a sector at a moment: the contents with which a stop then may leave it
   pub may_leave : ℕ → ℕ → Sector → Type 0
@@ -48,46 +49,46 @@ pub record DiskFacts : Type 1 where
 abbrev pub MayLeave : DiskFacts → ℕ → Sector → Type 0
 MayLeave disk k c = disk.may_leave disk.time k c
 
--- a mixture of a moment: each sector, by itself, with a content that a stop then may leave there
+-- a mixture of a moment: each sector, by itself, has a content that a stop at that moment may leave there
 pub record MixtureAt (disk : DiskFacts) (moment : ℕ) (m : List Sector) : Type 0 where
   pub size : length m ≡ disk.sectors
   pub each : (k : ℕ) → k < disk.sectors → disk.may_leave moment k (sector m k)
 
--- a mixture of this moment: what a stop now may leave
+-- a mixture of the present moment: what a stop now may leave
 abbrev pub Mixture : DiskFacts → List Sector → Type 0
 Mixture disk m = MixtureAt disk disk.time m
 
--- left since a time: a mixture of some moment from then up to the present
+-- left since a moment: a mixture of some moment from `since` up to the present one
 abbrev pub LeftSince : DiskFacts → ℕ → List Sector → Type 0
 LeftSince disk since m = (u : ℕ) × (since ≤ u) × (u ≤ disk.time) × MixtureAt disk u m
 
--- what reads give is one of the mixtures
+-- what reads return is one of the mixtures
 abbrev pub HoldsNow : DiskFacts → Type 0
 HoldsNow disk = Mixture disk disk.now
 
--- what reads give, and all that a stop might have left at a moment up to now, are whole sectors
+-- what reads return, and all that a stop might have left at a moment up to now, consists of whole sectors
 pub record HasWholeSectors (disk : DiskFacts) : Type 0 where
   pub now : (k : ℕ) → k < disk.sectors → IsWhole (sector disk.now k)
   pub left : (u k : ℕ) (c : Sector) → u ≤ disk.time → k < disk.sectors → disk.may_leave u k c → IsWhole c
 
--- a stop now leaves what reads give, and nothing else (`LeavesNowAlone` says so sector by sector)
+-- a stop now leaves what reads return, and nothing else (`LeavesNowAlone` states this sector by sector)
 pub record IsSynced (disk : DiskFacts) : Type 0 where
   pub each : (m : List Sector) → Mixture disk m → m ≡ disk.now
 
--- at each moment of old the sets of the sectors stay as they were, and so does the mark
+-- at each moment of `old`, the sets of the sectors and the mark are the same in `new`
 pub record KeepsPast (old new : DiskFacts) : Type 0 where
   pub sectors : new.sectors ≡ old.sectors
   pub later : old.time ≤ new.time
   pub marks : (u : ℕ) → u ≤ old.time → new.marks u ≡ old.marks u
   pub past : (u k : ℕ) (c : Sector) → u ≤ old.time → new.may_leave u k c ↔ old.may_leave u k c
 
--- reads give the same, a stop may leave the same, and the log is the same
+-- reads return the same, a stop may leave the same, and the log is the same
 pub record IsUnchanged (old new : DiskFacts) : Type 0 where
   pub now : new.now ≡ old.now
   pub log : new.log ≡ old.log
   pub stop : (k : ℕ) (c : Sector) → MayLeave new k c ↔ MayLeave old k c
 
--- no set grows
+-- no sector's set grows
 pub record LeavesNoMore (old new : DiskFacts) : Type 0 where
   pub each : (k : ℕ) (c : Sector) → MayLeave new k c → MayLeave old k c
 
@@ -95,35 +96,35 @@ pub record LeavesNoMore (old new : DiskFacts) : Type 0 where
 pub record GrowsBy (old new : DiskFacts) (at : ℕ) (content : Sector) : Type 0 where
   pub each : (k : ℕ) (c : Sector) → MayLeave new k c ↔ (MayLeave old k c ⊎ (k ≡ at) × (c ≡ content))
 
--- the set of sector `at` grows by at most this content, and no other set grows
+-- the set of sector `at` grows by at most this content, and the set of no other sector grows
 pub record GrowsByAtMost (old new : DiskFacts) (at : ℕ) (content : Sector) : Type 0 where
   pub each : (k : ℕ) (c : Sector) → MayLeave new k c → MayLeave old k c ⊎ (k ≡ at) × (c ≡ content)
 
--- The set of each sector has what reads give there, and no other content.
+-- The set of each sector contains what reads return there, and no other content.
 pub record LeavesNowAlone (disk : DiskFacts) : Type 0 where
   pub each : (k : ℕ) (c : Sector) → k < disk.sectors → MayLeave disk k c ↔ (c ≡ sector disk.now k)
 
--- the old sectors, or with this content in sector `at`
+-- the old sectors, or the old sectors with this content in sector `at`
 abbrev pub IsOldOrSet : List Sector → ℕ → Sector → List Sector → Type 0
 IsOldOrSet old at content m = (m ≡ old) ⊎ (m ≡ set old at content)
 
--- a log grew, by so many at most
+-- a log grew by at most `most` calls
 pub record LogGrows (most : ℕ) (old new : List Logged) : Type 0 where
   pub more : List Logged
   pub few : length more ≤ most
   pub grown : new ≡ old ++ more
 
--- a log stayed, or got a sync more
+-- a log stayed the same, or grew by one sync
 pub record MayAddSync (old new : List Logged) : Type 0 where
   pub either : (new ≡ old) ⊎ (new ≡ old ++ Synced ∷ [])
 
--- A log stayed, or got a sync more, and grew behind that by so many at most.
+-- A log stayed the same or grew by one sync, and after that it grew by at most `most` calls.
 pub record GrowsBehindSync (most : ℕ) (old new : List Logged) : Type 0 where
   pub begun : List Logged
   pub sync : MayAddSync old begun
   pub more : LogGrows most begun new
 
--- One call, on any disk: time goes on by one, and a failure is counted. Size and honesty stay.
+-- One call, on any disk: the time is greater by one, and a failure is counted. Size and honesty stay the same.
 pub record IsCall {T E : Type 0} (old new : DiskFacts) (result : Result T E) : Type 0 where
   pub honest : new.honest ≡ old.honest
   pub sectors : new.sectors ≡ old.sectors
@@ -133,36 +134,36 @@ pub record IsCall {T E : Type 0} (old new : DiskFacts) (result : Result T E) : T
   pub ok : OnOk result (new.failures ≡ old.failures)
   pub err : OnErr result (new.failures ≡ old.failures + 1)
 
--- A read of an honest disk changes nothing, and where it succeeds it gives the latest content.
+-- A read of an honest disk changes nothing. If it succeeds, it returns the latest content.
 pub record IsRead {T E : Type 0} (old new : DiskFacts) (at : ℕ) (content : Sector) (result : Result T E) : Type 0 where
   pub past : KeepsPast old new
   pub same : IsUnchanged old new
   pub ok : OnOk result (content ≡ sector old.now at)
 
--- A write to an honest disk: reads give the new content, and the set of its sector grows by it.
+-- A write to an honest disk: reads return the new content, and the set of its sector grows by this content.
 pub record IsWrite {T E : Type 0} (old new : DiskFacts) (at : ℕ) (content : Sector) (result : Result T E) : Type 0 where
   pub past : KeepsPast old new
   pub ok : OnOk result (new.now ≡ set old.now at content)
-  -- where it fails, reads may give the old content, and any set may lose contents
+  -- if the write fails, reads may return the old content, and any set may lose contents
   pub err : OnErr result (IsOldOrSet old.now at content new.now)
   pub stop : GrowsByAtMost old new at content
   pub stop_ok : OnOk result (GrowsBy old new at content)
 
--- A sync of an honest disk: reads give the same; at Ok each set has the latest content alone.
+-- A sync of an honest disk: reads return the same. If it succeeds, each set contains only the latest content.
 pub record IsSync {T E : Type 0} (old new : DiskFacts) (result : Result T E) : Type 0 where
   pub past : KeepsPast old new
   pub now : new.now ≡ old.now
   pub log : MayAddSync old.log new.log
-  -- where it fails, any set may lose contents
+  -- if the sync fails, any set may lose contents
   pub stop : LeavesNoMore old new
   pub stop_ok : OnOk result (LeavesNowAlone new)
 
--- how many calls were made from old to new: each of them made one moment
+-- the number of calls that were made from `old` to `new`: each call made one moment
 abbrev pub calls_between : DiskFacts → DiskFacts → ℕ
 calls_between old new = new.time - old.time
 
--- Some calls, on any disk: size and honesty stay, no more calls failed than were made, and the log
--- grew by no more.
+-- Some calls, on any disk: size and honesty stay the same. At most as many calls failed as were made, and the log
+-- grew by at most as many.
 pub record AreCalls (old new : DiskFacts) : Type 0 where
   pub honest : new.honest ≡ old.honest
   pub sectors : new.sectors ≡ old.sectors
@@ -172,42 +173,42 @@ pub record AreCalls (old new : DiskFacts) : Type 0 where
   pub failures : old.failures ≤ new.failures
   pub few_failures : new.failures - old.failures ≤ calls_between old new
 
--- exactly so many calls
+-- exactly `calls` calls were made
 pub record AreCallsExactly (calls : ℕ) (old new : DiskFacts) : Type 0 where
   pub some : AreCalls old new
   pub time : new.time ≡ old.time + calls
 
--- at most so many calls
+-- at most `calls` calls were made
 pub record AreCallsAtMost (calls : ℕ) (old new : DiskFacts) : Type 0 where
   pub some : AreCalls old new
   pub time : new.time ≤ old.time + calls
 
--- From old to new, a stop at any moment leaves a list of sectors that has P.
+-- From `old` to `new`, a stop at any moment leaves a list of sectors that has P.
 pub record LeavesOnly (old new : DiskFacts) (P : List Sector → Type 0) : Type 0 where
   pub past : KeepsPast old new
   pub each : (m : List Sector) → LeftSince new old.time m → P m
 
--- the same in every sector but these
+-- both lists have the same content in every sector except those in `places`
 pub record SameBut (places : ℕ → Type 0) (old new : List Sector) : Type 0 where
   pub size : length new ≡ length old
   pub others : (k : ℕ) → (places k → ⊥) → sector new k ≡ sector old k
 
--- a mixture of this moment, but for these sectors
+-- a mixture of the present moment, except for the sectors in `places`
 abbrev pub IsMixtureBut : (ℕ → Type 0) → DiskFacts → List Sector → Type 0
 IsMixtureBut places disk m = (m' : List Sector) × Mixture disk m' × SameBut places m' m
 
--- a mixture of the disk, or such a one with this content in sector `at`
+-- a mixture of the disk, or such a mixture with this content in sector `at`
 abbrev pub IsMixtureOrSet : DiskFacts → ℕ → Sector → List Sector → Type 0
 IsMixtureOrSet disk at content m = Mixture disk m ⊎ ((m' : List Sector) × Mixture disk m' × (m ≡ set m' at content))
 
--- the same disk by another clock, at this moment; nothing is said of moments before it
+-- the same disk by another clock, at the present moment; nothing is stated about earlier moments
 pub record IsSameDisk (old new : DiskFacts) : Type 0 where
   pub honest : new.honest ≡ old.honest
   pub sectors : new.sectors ≡ old.sectors
   pub mark : new.marks new.time ≡ old.marks old.time
   pub same : IsUnchanged old new
 
--- nothing tells the one from the other: what is true of old at each of its moments is true of new
+-- the two disks can't be distinguished: whatever is true of `old` at each of its moments is true of `new`
 pub record IsCopy (old new : DiskFacts) : Type 0 where
   pub honest : new.honest ≡ old.honest
   pub sectors : new.sectors ≡ old.sectors
@@ -219,7 +220,7 @@ pub record IsCopy (old new : DiskFacts) : Type 0 where
   pub now : new.now ≡ old.now
   pub past : (u k : ℕ) (c : Sector) → new.may_leave u k c ↔ old.may_leave u k c
 
--- an honest disk as it starts: it holds these sectors, all synced, and no call was made
+-- an honest disk at its start: it holds these sectors, all synced, and no call was made
 pub record StartsWith (disk : DiskFacts) (contents : List Sector) : Type 0 where
   pub honest : IsTrue disk.honest
   pub sectors : disk.sectors ≡ length contents
@@ -229,7 +230,7 @@ pub record StartsWith (disk : DiskFacts) (contents : List Sector) : Type 0 where
   pub failures : disk.failures ≡ 0
   pub log : disk.log ≡ []
 
--- a disk after a stop: it starts with one of the mixtures
+-- a disk after a stop: it starts with one of the mixtures of the disk before
 pub record IsStopped (old new : DiskFacts) : Type 0 where
   pub mixture : Mixture old new.now
   pub starts : StartsWith new new.now

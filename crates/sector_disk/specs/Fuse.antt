@@ -1,4 +1,4 @@
--- What is said of a disk behind a fuse, and what the fuse makes of each call.
+-- The facts of a disk under a fuse, and the outcome of each call.
 use Rattle.std.specs.Prelude.{◌≡◌, ◌==◌, ◌-◌, ◌+◌, ◌&&◌, ℕ, nat_lt, if◌then◌else◌}
 use Rattle.std.specs.Prelude.{IsTrue, List, ◌∷◌, length, drop, filter, Result, Err}
 use Rattle.sector_disk.specs.declared.disk.DiskFault.{DiskFault}
@@ -6,27 +6,27 @@ use Rattle.sector_disk.specs.declared.disk.DiskFault.TheVariants.{Failed}
 use Rattle.sector_disk.specs.declared.fuse.Fuse.{Fuse}
 use Rattle.sector_disk.specs.declared.fuse.Plan.{Plan}
 use Rattle.sector_disk.specs.declared.fuse.Step.{Step}
-use Rattle.sector_disk.specs.declared.fuse.Turn.{Turn}
-use Rattle.sector_disk.specs.declared.fuse.Turn.TheVariants.{Pass, Early, Late}
+use Rattle.sector_disk.specs.declared.fuse.CallOutcome.{CallOutcome}
+use Rattle.sector_disk.specs.declared.fuse.CallOutcome.TheVariants.{Pass, Early, Late}
 use Rattle.sector_disk.specs.Disk.{Sector, DiskFacts, IsCall, IsRead, IsWrite, IsSync}
 
--- call n: the planned one fails early or late; with `forever` later ones fail early; others pass
-abbrev pub turn : Plan → ℕ → Turn
-turn plan n =
+-- the outcome of call n: the planned call fails early or late; with `forever` later calls fail early; all others pass
+abbrev pub outcome_of : Plan → ℕ → CallOutcome
+outcome_of plan n =
     if n == plan.call
     then (if plan.late then Late else Early)
     else (if plan.forever && nat_lt 0 plan.call && nat_lt plan.call n then Early else Pass)
 
--- how many of these calls reached the inner disk
+-- the number of these calls that reached the inner disk
 abbrev pub reached : List Step → ℕ
 reached steps = length (filter (λ step. step.reached) steps)
 
--- the inner disk's moment at moment u: its present one, less the calls since u that reached it
+-- the moment of the inner disk at moment u of the fuse: its present moment, minus the calls since u that reached it
 abbrev pub inner_moment : ℕ → List Step → ℕ → ℕ
 inner_moment time past u = time - reached (drop u past)
 
--- What is said of the inner disk, but by the fuse's own clock, its own count of failures, and with
--- its plan. A moment's mark is that of the inner disk then.
+-- The facts of the inner disk, but with the fuse's own clock and its own count of failures, and with its plan added.
+-- The mark of a moment is the mark of the inner disk at that moment.
 abbrev pub fused : Plan → DiskFacts → List Step → DiskFacts
 fused plan inner past = record {
   honest = inner.honest;
@@ -40,42 +40,42 @@ fused plan inner past = record {
   may_leave = λ u. inner.may_leave (inner_moment inner.time past u);
 }
 
--- what is said of a fuse
+-- the facts of a fuse
 abbrev pub fuse_facts : {D : Type 0} → (D → DiskFacts) → Fuse D → DiskFacts
 fuse_facts facts fuse = fused fuse.plan (facts fuse.inner) fuse.past.items
 
--- the disk behind a fuse
+-- the disk under a fuse
 abbrev pub inner_of : {D : Type 0} → Fuse D → D
 inner_of fuse = fuse.inner
 
--- which calls fail
+-- the plan of a fuse: which calls fail
 abbrev pub plan_of : {D : Type 0} → Fuse D → Plan
 plan_of fuse = fuse.plan
 
--- what becomes of the next call
-abbrev pub next_turn : {D : Type 0} → Fuse D → Turn
-next_turn fuse = turn fuse.plan (length fuse.past.items + 1)
+-- the outcome of the next call
+abbrev pub next_outcome : {D : Type 0} → Fuse D → CallOutcome
+next_outcome fuse = outcome_of fuse.plan (length fuse.past.items + 1)
 
--- the inner disk was asked to read, once, and gave this reply and this content
+-- the inner disk was read once, and returned this reply and this content
 abbrev pub WasRead : {D : Type 0} → (D → DiskFacts) → Fuse D → Fuse D → ℕ → Sector → Result (Unit {0}) DiskFault → Type 0
 WasRead facts old new at content reply =
     IsCall (facts old.inner) (facts new.inner) reply
     × (IsTrue (facts old.inner).honest → IsRead (facts old.inner) (facts new.inner) at content reply)
 
--- the inner disk was asked to write, once, and gave this reply
+-- the inner disk was written to once, and returned this reply
 abbrev pub WasWritten : {D : Type 0} → (D → DiskFacts) → Fuse D → Fuse D → ℕ → Sector → Result (Unit {0}) DiskFault → Type 0
 WasWritten facts old new at content reply =
     IsCall (facts old.inner) (facts new.inner) reply
     × (IsTrue (facts old.inner).honest → IsWrite (facts old.inner) (facts new.inner) at content reply)
 
--- the inner disk was asked to sync, once, and gave this reply
+-- the inner disk was synced once, and returned this reply
 abbrev pub WasSynced : {D : Type 0} → (D → DiskFacts) → Fuse D → Fuse D → Result (Unit {0}) DiskFault → Type 0
 WasSynced facts old new reply =
     IsCall (facts old.inner) (facts new.inner) reply
     × (IsTrue (facts old.inner).honest → IsSync (facts old.inner) (facts new.inner) reply)
 
--- a call passes, or fails early, before it reaches the inner disk, or late, after it was made there
-abbrev pub TakesTurn : {D : Type 0} → Turn → Fuse D → Fuse D → (Result (Unit {0}) DiskFault → Type 0) → Result (Unit {0}) DiskFault → Type 0
-TakesTurn Pass old new WasAsked result = WasAsked result
-TakesTurn Early old new WasAsked result = (new.inner ≡ old.inner) × (result ≡ Err Failed)
-TakesTurn Late old new WasAsked result = ((reply : Result (Unit {0}) DiskFault) × WasAsked reply) × (result ≡ Err Failed)
+-- a call passes, or fails early, before it reaches the inner disk, or fails late, after it was made there
+abbrev pub HasOutcome : {D : Type 0} → CallOutcome → Fuse D → Fuse D → (Result (Unit {0}) DiskFault → Type 0) → Result (Unit {0}) DiskFault → Type 0
+HasOutcome Pass old new WasAsked result = WasAsked result
+HasOutcome Early old new WasAsked result = (new.inner ≡ old.inner) × (result ≡ Err Failed)
+HasOutcome Late old new WasAsked result = ((reply : Result (Unit {0}) DiskFault) × WasAsked reply) × (result ≡ Err Failed)

@@ -1,15 +1,15 @@
--- What is said of a disk in memory, and of the choices that a stop of it has.
+-- The facts of a disk in memory, and the choices that a stop of it has.
 use Rattle.std.specs.Prelude.{◌≡◌, ◌≢◌, ◌<◌, ◌%◌, ℕ, List, [], ◌∷◌, ◌++◌, length}
 use Rattle.sector_disk.specs.declared.memory.Memory.{Memory}
 use Rattle.sector_disk.specs.Disk.{Sector, sector, DiskFacts}
 use Rattle.sector_disk.specs.Moments.{facts_of}
 use Rattle.sector_disk.specs.Written.{choices}
 
--- what is said of a disk in memory
+-- the facts of a disk in memory
 abbrev pub memory_facts : Memory → DiskFacts
 memory_facts m = facts_of m.start.items m.writes.items m.synced m.past.items
 
--- a stop's choices for sector k, in their order: the synced content, then each written since
+-- the choices of a stop for sector k, in their order: the synced content, then each content written since
 abbrev pub memory_choices : Memory → ℕ → List Sector
 memory_choices m k = choices m.start.items m.writes.items m.synced k
 
@@ -17,15 +17,15 @@ memory_choices m k = choices m.start.items m.writes.items m.synced k
 pub record KeepsChoices (old new : Memory) : Type 0 where
   pub each : (k : ℕ) → memory_choices new k ≡ memory_choices old k
 
--- sector `at` has one choice more, the last: this content. No other sector's choices change.
+-- Sector `at` has one more choice, this content, which comes last. No other sector's choices change.
 pub record AddsChoice (old new : Memory) (at : ℕ) (content : Sector) : Type 0 where
   pub here : memory_choices new at ≡ memory_choices old at ++ content ∷ []
   pub others : (k : ℕ) → k ≢ at → memory_choices new k ≡ memory_choices old k
 
--- every sector has one choice, which is what reads give
+-- every sector has exactly one choice, which is what reads return
 pub record HasOneChoice (disk : Memory) : Type 0 where
   pub each : (k : ℕ) → k < (memory_facts disk).sectors → memory_choices disk k ≡ sector (memory_facts disk).now k ∷ []
 
--- the content is the choice whose number is named, modulo how many there are
+-- the content is choice number `named`, modulo the number of choices
 abbrev pub IsPicked : (ℕ → Type 0) → List Sector → Sector → Type 0
 IsPicked IsNamed cs content = (named : ℕ) × IsNamed named × (content ≡ sector cs (named % length cs))

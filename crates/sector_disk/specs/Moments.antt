@@ -1,15 +1,15 @@
--- What is said of a disk in memory, by its writes and the marks of its moments.
+-- The facts of a disk in memory, computed from its writes and its moments.
 use Rattle.std.specs.Prelude.{ℕ, List, [], take, length, true, false, slice_index_or, filter, Contains}
 use Rattle.sector_disk.specs.declared.moment.Moment.{Moment}
 use Rattle.sector_disk.specs.declared.written.Written.{Written}
 use Rattle.sector_disk.specs.Disk.{Sector, DiskFacts}
 use Rattle.sector_disk.specs.Written.{contents, choices}
 
--- the mark of a moment: of a past one, or else of the present one
+-- moment number u: a past one, or otherwise the present one
 abbrev pub moment_at : List Written → ℕ → List Moment → ℕ → Moment
 moment_at writes synced past u = slice_index_or past u (record { writes = length writes; synced = synced; failed = false })
 
--- a disk with these contents at first, after these writes, of which the first `synced` are synced
+-- the facts of a disk with these contents at its start, after these writes, of which the first `synced` are synced
 abbrev pub facts_of : List Sector → List Written → ℕ → List Moment → DiskFacts
 facts_of start writes synced past = record {
   honest = true;

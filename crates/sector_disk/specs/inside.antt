@@ -1,4 +1,4 @@
--- What follows of what is said of the two disks. Nobody has to believe it.
+-- Consequences of the facts of the two disks. A reader needn't believe them, because they are proved.
 pub mod FuseLaws
 pub mod MemoryLaws
 pub mod WrittenLaws

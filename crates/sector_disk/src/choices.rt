@@ -1,4 +1,5 @@
-// What a stop picks: for each sector its synced content, or one of the writes to it since.
+// A stop picks a content for each sector: its synced content, or one of the writes to it since
+// then.
 ghost use Rattle.std.specs.Prelude.{◌≡◌, ◌<◌, ◌≤◌, ◌+◌, ◌%◌, ◌^◌, ◌∷◌, ℕ};
 ghost use Rattle.std.specs.Prelude.{length, slice_index_or, All, drop};
 ghost use Rattle.sector_disk.specs.Disk.{sector};
@@ -8,9 +9,10 @@ ghost use Rattle.sector_disk.specs.Memory.{IsPicked};
 use crate::disk::SECTOR_BYTES;
 use crate::written::{Written, apply};
 
-/// Makes of contents and all writes to them the mixture that `pick` names: in each sector `at`,
-/// with `n` choices, choice `pick(at, n) % n`. The counts are those of the writes to each sector
-/// from `synced` on, and end at 0. Linear in the sectors and the writes.
+/// Turns `sectors` into the mixture that `pick` names. `sectors` holds the contents before all
+/// `writes`. Each sector `at` that has `n` choices gets choice `pick(at, n) % n`. `counts` has the
+/// number of writes to each sector from number `synced` on; afterwards all counts are 0. The time
+/// is linear in the sectors and the writes.
 pub(crate) fn mix<F: Fn(u32, usize) -> usize>(
     sectors: &mut [[u8; SECTOR_BYTES]],
     counts: &mut [usize],
@@ -35,11 +37,11 @@ pub(crate) fn mix<F: Fn(u32, usize) -> usize>(
     let (kept, loose) = writes.split_at(synced);
     apply(sectors, kept);
     choose(counts, pick);
-    settle(sectors, counts, loose);
+    set_contents(sectors, counts, loose);
 }
 
-/// Replaces the count of writes to each sector `at` by `pick(at, n) % n`, where n is one more
-/// than the count: by 0, or by the number of one of these writes, counted from 1.
+/// Replaces the count of writes to each sector `at` by `pick(at, n) % n`. Here `n` is the count
+/// plus one. The result is 0, or the number of one of these writes, counted from 1.
 fn choose<F: Fn(u32, usize) -> usize>(counts: &mut [usize], pick: F)
     requires few { length counts.old < 2 ^ 32 }
     requires fits { (at : ℕ) → at < length counts.old
@@ -56,9 +58,9 @@ fn choose<F: Fn(u32, usize) -> usize>(counts: &mut [usize], pick: F)
     }
 }
 
-/// Makes of the writes to each sector the one with this number, counted from 1; with 0 none.
-/// Leaves all numbers at 0.
-fn settle(sectors: &mut [[u8; SECTOR_BYTES]], numbers: &mut [usize], writes: &[Written])
+/// Sets each sector `at` to the content of its write number `numbers[at]`, counted from 1. A sector
+/// for which this number is 0 keeps its content. All numbers are 0 afterwards.
+fn set_contents(sectors: &mut [[u8; SECTOR_BYTES]], numbers: &mut [usize], writes: &[Written])
     requires in_range { All (λ write. write.at < length sectors.old) writes.now }
     requires numbered { length numbers.old ≡ length sectors.old }
     requires made { (k : ℕ) → k < length numbers.old
@@ -77,7 +79,7 @@ fn settle(sectors: &mut [[u8; SECTOR_BYTES]], numbers: &mut [usize], writes: &[W
     }
 }
 
-/// Takes the writes from `start` on off the counts of writes to each sector.
+/// Subtracts the writes from number `start` on from the counts of writes to each sector.
 pub(crate) fn uncount(counts: &mut [usize], writes: &[Written], start: usize)
     requires made { start ≤ length writes.now }
     requires in_range { All (λ write. write.at < length counts.old) writes.now }

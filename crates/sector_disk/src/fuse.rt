@@ -1,11 +1,11 @@
-// A disk that fails at a call of its caller's choice.
+// A disk that fails at a call that its caller chooses.
 ghost use Rattle.std.specs.Prelude.{◌≡◌, ◌-◌, length};
 
 use crate::disk::{Disk, DiskFault, SECTOR_BYTES};
 use crate::past::Past;
 
-/// Which calls fail: number `call`, counted from 1, and with `forever` all later ones. With
-/// `late` that call reaches the inner disk before it fails.
+/// Which calls fail: call number `call`, counted from 1, and with `forever` all later calls too.
+/// With `late`, call number `call` reaches the inner disk before it fails.
 #[derive(Clone, Copy)]
 pub(crate) struct Plan {
     pub call: u64,
@@ -13,27 +13,27 @@ pub(crate) struct Plan {
     pub late: bool,
 }
 
-/// What becomes of a call: it passes, or fails before or after it reached the inner disk.
+/// The outcome of a call: it passes, or it fails before or after it has reached the inner disk.
 #[derive(Clone, Copy)]
-pub(crate) enum Turn {
+pub(crate) enum CallOutcome {
     Pass,
     Early,
     Late,
 }
 
-/// A call that was made.
+/// A past call: whether it reached the inner disk, and whether it failed.
 #[derive(Clone, Copy)]
 pub(crate) struct Step {
     pub reached: bool,
     pub failed: bool,
 }
 
-/// A disk that passes its calls on to an inner one, up to a call that fails. What reads give and
-/// what a stop may leave is what the inner disk gives and leaves.
+/// A disk that passes its calls on to an inner disk, and fails at planned calls. Reads return what
+/// the inner disk returns, and a stop may leave what it may leave of the inner disk.
 pub struct Fuse<D> {
     inner: D,
     plan: Plan,
-    // How many calls there are up to the planned one, 0 after it.
+    // The number of calls up to and including the planned one; 0 after it.
     wait: u64,
     past: Past<Step>,
     ghost waits: { wait ≡ plan.call - length past.items },
@@ -42,11 +42,11 @@ pub struct Fuse<D> {
 impl<D: Disk> Fuse<D> {
     ghost use Rattle.std.specs.Prelude.{◌++◌, ◌∷◌, [], is_err};
     ghost use Rattle.sector_disk.specs.Disk.{IsSameDisk};
-    ghost use Rattle.sector_disk.specs.Fuse.{fuse_facts, inner_of, plan_of, next_turn};
+    ghost use Rattle.sector_disk.specs.Fuse.{fuse_facts, inner_of, plan_of, next_outcome};
 
-    /// The k-th read, write or sync fails, counted from 1, and with `forever` all later ones fail
-    /// too, without reaching `inner`. With `late` the k-th reaches `inner` first. With k 0 none
-    /// fails but where `inner` does.
+    /// Makes a fuse over `inner`. Its `k`-th read, write or sync fails, counted from 1. With
+    /// `forever` all later calls fail too, without reaching `inner`. With `late` the `k`-th call
+    /// reaches `inner` first. If `k` is 0, a call fails only if it fails on `inner`.
     pub fn new(inner: D, k: u64, forever: bool, late: bool) -> Fuse<D>
         ensures inner { inner_of result ≡ inner }
         ensures plan { plan_of result ≡ record { call = k; forever = forever; late = late } }
@@ -66,7 +66,7 @@ impl<D: Disk> Fuse<D> {
         }
     }
 
-    /// The inner disk, as the calls that reached it left it.
+    /// Returns the inner disk, as the calls that reached it left it.
     pub fn into_inner(self) -> D
         ensures inner { result ≡ inner_of self }
         ensures same { IsSameDisk (fuse_facts D.facts self) (D.facts result) }
@@ -80,24 +80,24 @@ impl<D: Disk> Fuse<D> {
         inner
     }
 
-    // What becomes of the next call.
-    fn next_turn(&self) -> Turn
-        ensures { result ≡ next_turn self.now }
+    // Returns the outcome of the next call.
+    fn next_outcome(&self) -> CallOutcome
+        ensures { result ≡ next_outcome self.now }
     {
         if self.wait == 1 {
             if self.plan.late {
-                Turn::Late
+                CallOutcome::Late
             } else {
-                Turn::Early
+                CallOutcome::Early
             }
         } else if self.wait == 0 && self.plan.call > 0 && self.plan.forever {
-            Turn::Early
+            CallOutcome::Early
         } else {
-            Turn::Pass
+            CallOutcome::Pass
         }
     }
 
-    // Ends a call with this reply.
+    // Ends a call with `reply`. `reached` states whether the call reached the inner disk.
     fn end_call(&mut self, reached: bool, reply: Result<(), DiskFault>) -> Result<(), DiskFault>
         ensures reply { result ≡ reply }
         ensures inner { self.new.inner ≡ self.old.inner }
@@ -114,7 +114,7 @@ impl<D: Disk> Fuse<D> {
     }
 }
 
-// As that of a disk in memory.
+// Written by hand for the same reason as the drop of `Memory`.
 impl<D: Drop> Drop for Fuse<D> {
     fn drop(self) {
         let Fuse {
@@ -129,7 +129,7 @@ impl<D: Drop> Drop for Fuse<D> {
 impl<D: Disk> Disk for Fuse<D> {
     ghost use Rattle.std.specs.Prelude.{◌<◌, IsTrue};
     ghost use Rattle.sector_disk.specs.Disk.{IsCall, IsRead, IsWrite, IsSync};
-    ghost use Rattle.sector_disk.specs.Fuse.{fuse_facts, plan_of, next_turn, TakesTurn};
+    ghost use Rattle.sector_disk.specs.Fuse.{fuse_facts, plan_of, next_outcome, HasOutcome};
     ghost use Rattle.sector_disk.specs.Fuse.{WasRead, WasWritten, WasSynced};
     ghost use Rattle.sector_disk.specs.inside.FuseLaws.{fused_holds, fused_whole};
 
@@ -153,17 +153,17 @@ impl<D: Disk> Disk for Fuse<D> {
         ensures honest { IsTrue (fuse_facts D.facts self.old).honest
             → IsRead (fuse_facts D.facts self.old) (fuse_facts D.facts self.new)
             at into.new result }
-        ensures turn { TakesTurn (next_turn self.old) self.old self.new
+        ensures outcome { HasOutcome (next_outcome self.old) self.old self.new
             (WasRead D.facts self.old self.new at into.new) result }
         ensures plan { plan_of self.new ≡ plan_of self.old }
     {
-        match self.next_turn() {
-            Turn::Pass => {
+        match self.next_outcome() {
+            CallOutcome::Pass => {
                 let reply = self.inner.read(at, into);
                 self.end_call(true, reply)
             }
-            Turn::Early => self.end_call(false, Err(DiskFault::Failed)),
-            Turn::Late => {
+            CallOutcome::Early => self.end_call(false, Err(DiskFault::Failed)),
+            CallOutcome::Late => {
                 let _ = self.inner.read(at, into);
                 self.end_call(true, Err(DiskFault::Failed))
             }
@@ -176,17 +176,17 @@ impl<D: Disk> Disk for Fuse<D> {
         ensures honest { IsTrue (fuse_facts D.facts self.old).honest
             → IsWrite (fuse_facts D.facts self.old) (fuse_facts D.facts self.new)
             at from.now result }
-        ensures turn { TakesTurn (next_turn self.old) self.old self.new
+        ensures outcome { HasOutcome (next_outcome self.old) self.old self.new
             (WasWritten D.facts self.old self.new at from.now) result }
         ensures plan { plan_of self.new ≡ plan_of self.old }
     {
-        match self.next_turn() {
-            Turn::Pass => {
+        match self.next_outcome() {
+            CallOutcome::Pass => {
                 let reply = self.inner.write(at, from);
                 self.end_call(true, reply)
             }
-            Turn::Early => self.end_call(false, Err(DiskFault::Failed)),
-            Turn::Late => {
+            CallOutcome::Early => self.end_call(false, Err(DiskFault::Failed)),
+            CallOutcome::Late => {
                 let _ = self.inner.write(at, from);
                 self.end_call(true, Err(DiskFault::Failed))
             }
@@ -197,17 +197,17 @@ impl<D: Disk> Disk for Fuse<D> {
         ensures calls { IsCall (fuse_facts D.facts self.old) (fuse_facts D.facts self.new) result }
         ensures honest { IsTrue (fuse_facts D.facts self.old).honest
             → IsSync (fuse_facts D.facts self.old) (fuse_facts D.facts self.new) result }
-        ensures turn { TakesTurn (next_turn self.old) self.old self.new
+        ensures outcome { HasOutcome (next_outcome self.old) self.old self.new
             (WasSynced D.facts self.old self.new) result }
         ensures plan { plan_of self.new ≡ plan_of self.old }
     {
-        match self.next_turn() {
-            Turn::Pass => {
+        match self.next_outcome() {
+            CallOutcome::Pass => {
                 let reply = self.inner.sync();
                 self.end_call(true, reply)
             }
-            Turn::Early => self.end_call(false, Err(DiskFault::Failed)),
-            Turn::Late => {
+            CallOutcome::Early => self.end_call(false, Err(DiskFault::Failed)),
+            CallOutcome::Late => {
                 let _ = self.inner.sync();
                 self.end_call(true, Err(DiskFault::Failed))
             }

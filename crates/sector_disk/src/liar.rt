@@ -5,14 +5,15 @@ use crate::call_count::CallCount;
 use crate::disk::{Disk, DiskFault, SECTOR_BYTES};
 use crate::past::Past;
 
-/// A disk that isn't honest, for what is promised on any disk. Whichever sector is read, reads give
-/// its answers in turn, from the first again after the last, and zeros where there is none. Writes
-/// and syncs succeed and keep nothing. No call fails or takes memory.
+/// A disk that isn't honest, for testing what is promised on any disk. Its reads return its answers
+/// in turn, whichever sector is read. After the last answer comes the first one again; if there are
+/// no answers, reads return zeros. Writes and syncs succeed and store nothing. No call fails or
+/// allocates memory.
 #[derive(Drop)]
 pub struct Liar {
     sectors: u32,
     answers: Vec<[u8; SECTOR_BYTES]>,
-    // The place of the next answer.
+    // The position of the next answer.
     next: usize,
     calls: CallCount,
     // The sectors that were read.
@@ -24,8 +25,8 @@ pub struct Liar {
 impl Liar {
     ghost use Rattle.sector_disk.specs.Liar.{liar_facts, answers_of, reads_of};
 
-    /// A disk of so many sectors, of which read number k, counted from 0, gives answer k modulo
-    /// their number.
+    /// Makes a disk of `sectors` sectors. Read number k, counted from 0, returns answer number k
+    /// modulo the number of answers.
     pub fn new(sectors: u32, answers: Vec<[u8; SECTOR_BYTES]>) -> Liar
         ensures sectors { (liar_facts result).sectors ≡ sectors }
         ensures time { (liar_facts result).time ≡ 0 }

@@ -1,9 +1,9 @@
 //! A disk of sectors, and what a power cut may leave of it.
 //!
-//! `Disk` is the one contract that everything above stands on: until a sync succeeds a stop may
+//! `Disk` is the one contract on which everything above relies. Until a sync succeeds, a stop may
 //! leave each sector with its synced content, or with any content that was written to it since.
-//! `Memory` is such a disk in memory, which can be stopped at any moment; `Fuse` is a disk that
-//! fails at a planned call, and `Liar` one that gives planned answers and keeps nothing.
+//! `Memory` is such a disk in memory, which can be stopped at any moment. `Fuse` is a disk that
+//! fails at a planned call. `Liar` is a disk that returns planned answers and stores nothing.
 #![tactic(auto)]
 
 mod call_count;

@@ -11,16 +11,16 @@ use crate::past::Past;
 use crate::written::Written;
 use std::alloc::{AllocError, Global};
 
-/// An honest disk in memory, which can be stopped at any moment. It keeps every write until then,
-/// so its memory grows with each. A read, a write and `choices` take constant time, a sync is
-/// linear in the writes that it syncs.
+/// An honest disk in memory, which can be stopped at any moment. It keeps every write until it is
+/// stopped, so its memory grows with each write. A read, a write and `choices` take constant time.
+/// A sync is linear in the writes that it syncs.
 pub struct Memory {
     start: Vec<[u8; SECTOR_BYTES]>,
     writes: Vec<Written>,
     synced: usize,
-    // What `start` and `writes` come to, so that a read needn't go through them.
+    // The contents of `start` after `writes`, so that a read needn't go through the writes.
     latest: Vec<[u8; SECTOR_BYTES]>,
-    // For each sector, how many of its writes aren't synced.
+    // For each sector, the number of its writes that aren't synced.
     unsynced: Vec<usize>,
     past: Past<Moment>,
     ghost few: { length start.items < 2 ^ 32 },
@@ -42,7 +42,7 @@ impl Memory {
     ghost use Rattle.sector_disk.specs.Memory.{memory_facts, memory_choices};
     ghost use Rattle.sector_disk.specs.Memory.{KeepsChoices, HasOneChoice, IsPicked};
 
-    /// A disk of so many sectors of zeros, all synced.
+    /// Makes a disk of `sectors` sectors of zeros, all of them synced.
     pub fn new(alloc: Global, sectors: u32) -> Result<Memory, AllocError>
         ensures ok { IfOk result (λ disk.
             StartsWith (memory_facts disk) (replicate sectors (replicate sector_bytes 0))) }
@@ -58,8 +58,8 @@ impl Memory {
         })
     }
 
-    /// A second disk with the same contents, choices and past. Linear in the sectors and in all
-    /// writes that were made.
+    /// Makes a second disk with the same contents, choices and past. The time is linear in the
+    /// sectors and in all writes that were made.
     pub fn copy(&self) -> Result<Memory, AllocError>
         ensures ok { IfOk result (λ disk. IsCopy (memory_facts self.now) (memory_facts disk)) }
         ensures choices { IfOk result (KeepsChoices self.now) }
@@ -75,22 +75,22 @@ impl Memory {
         })
     }
 
-    /// How many choices a stop has for this sector: its synced content, and each content that was
-    /// written to it since.
+    /// Returns the number of choices that a stop has for sector `at`: its synced content, and each
+    /// content that was written to it since.
     pub fn choices(&self, at: u32) -> usize
         requires { at < (memory_facts self.now).sectors }
         ensures count { result ≡ length (memory_choices self.now at) }
 
-        // They are what a stop now may leave.
+        // The choices are what a stop now may leave.
         ensures left { (c : Sector)
             → MayLeave (memory_facts self.now) at c ↔ Contains (memory_choices self.now at) c }
     {
         self.unsynced[at as usize] + 1
     }
 
-    /// The disk after a stop. For each sector `at` of `n` choices it holds choice
-    /// `pick(at, n) % n`: 0 is the synced content, and k the k-th that was written since. Linear
-    /// in the sectors and in all writes that were made.
+    /// Returns the disk after a stop. Each sector `at` that has `n` choices holds choice
+    /// `pick(at, n) % n`. Choice 0 is the synced content, and choice k is the k-th content that was
+    /// written since. The time is linear in the sectors and in all writes that were made.
     pub fn stop<F: Fn(u32, usize) -> usize>(self, pick: F) -> Memory
         requires { (at : ℕ) → at < (memory_facts self).sectors
             → F.pre pick at (length (memory_choices self at)) }
@@ -121,7 +121,7 @@ impl Memory {
         }
     }
 
-    // The present moment, as a call that succeeds ends it.
+    // Returns the present moment, as a successful call ends it.
     fn moment(&self) -> Moment
         ensures { result ≡ record {
           writes = length self.now.writes.items;
@@ -137,7 +137,8 @@ impl Memory {
     }
 }
 
-// Taken apart in one place: a derived drop is proved anew on each way out of whatever has a disk.
+// Written by hand so that the fields are taken apart in one place. A derived drop would be proved
+// again on each way out of every function that has a disk.
 impl Drop for Memory {
     fn drop(self) {
         let Memory {
@@ -183,7 +184,7 @@ impl Disk for Memory {
         Ok(())
     }
 
-    /// Fails where it finds no memory, and then changes nothing.
+    /// Fails if memory is refused, and then changes nothing.
     fn write(&mut self, at: u32, from: &[u8; SECTOR_BYTES]) -> Result<(), DiskFault>
         requires { at < (memory_facts self.old).sectors }
         ensures calls { IsCall (memory_facts self.old) (memory_facts self.new) result }
@@ -227,7 +228,7 @@ impl Disk for Memory {
     }
 }
 
-// So many of the same item.
+// Makes a vector of `count` copies of `item`.
 fn filled<T: Copy>(alloc: Global, count: u32, item: T) -> Result<Vec<T>, AllocError>
     ensures { IfOk result (λ items. items.items ≡ replicate count item) }
 {

@@ -1,10 +1,11 @@
-// A list that only clauses read. It has no bytes.
+// A list that only clauses read. It has no bytes at run time.
 ghost use Rattle.std.specs.Prelude.{◌≡◌, List, [], ◌∷◌, ◌++◌};
 ghost use Rattle.std.specs.Borrow.{ftrue};
 
 use std::marker::{Model, PhantomData};
 
-/// What is past, oldest first. It has no bytes at run time: clauses alone read it.
+/// The items of the past, the oldest first. The list has no bytes at run time: only clauses read
+/// it.
 #[derive(Drop)]
 pub struct Past<A> {
     of: PhantomData<A>,
@@ -16,21 +17,21 @@ impl<A> Model for Past<A> {
 }
 
 impl<A> Past<A> {
-    /// Nothing is past.
+    /// Makes an empty past.
     pub fn new() -> Past<A>
         ensures { result.items ≡ [] }
     {
         Past { of: PhantomData }
     }
 
-    /// The same, and then this.
+    /// Returns the same past with `item` added at its end.
     pub fn and(&self, item: &A) -> Past<A>
         ensures { result.items ≡ self.now.items ++ item.now ∷ [] }
     {
         Past { of: PhantomData }
     }
 
-    /// The same.
+    /// Returns the same past.
     pub fn copy(&self) -> Past<A>
         ensures { result.items ≡ self.now.items }
     {

@@ -1,4 +1,4 @@
--- Byte strings are held one by one, and let go again where one is refused.
+-- Holding byte strings one by one, and releasing them again if a hold is refused.
 use Rattle.std.proofs.Common.{◌≡◌, ⊎_elim, ℕ, suc, ◌+◌, ◌<◌, ◌≤◌, ◌==◌, eqb, if◌then◌else◌, List, [], ◌∷◌, ◌++◌, length, get_or, Ok, Err, IsFalse, refl, sym, ap, subst, ◌∙◌, arith}
 use Rattle.std.proofs.lemmas.Bool.{cases_eq, cases_lt, cond-false, false≢true, ne_eqb}
 use Rattle.std.proofs.lemmas.List.{get_or_append_left, get_or_push, length-append}
@@ -15,13 +15,14 @@ use Rattle.store.proofs.HeldRows.{by_one}
 use Rattle.snapshots.specs.Snapshot.{LetsAllGo, times}
 use Rattle.snapshots.specs.inside.HoldsAll.{HoldsFirst, StaysBeside}
 
--- one handle more is as often among handles, and once more for its own sector
+-- with one more handle, each sector is among the handles as often as before, and the handle's own
+-- sector once more
 pub times-push : (sector handle : ℕ) (handles : List ℕ) → times sector (handles ++ handle ∷ []) ≡ times sector handles + (if handle == sector then 1 else 0)
 times-push sector handle handles =
     let one : ℕ → ℕ = λ h. if h == sector then 1 else 0 in
     omega (arith, sum_by-append one handles (handle ∷ []), sum_by-cons one handle [])
 
--- a byte string that somebody holds has a row,
+-- a byte string that somebody holds has a row
 some_row : (held : List HeldRow) (sector : ℕ) → 0 < holders_of held sector → (placed : PlacedEntry) × IsHeldBy held sector placed
 some_row [] sector some = absurd (omega (arith, some))
 some_row (row ∷ rows) sector some = ⊎_elim
@@ -32,7 +33,7 @@ some_row (row ∷ rows) sector some = ⊎_elim
     (later.0, record { place = suc later.1.place; inside = omega (arith, later.1.inside); is = later.1.is; its = later.1.its }))
     (cases_eq row.placed.at sector)
 
--- and where each row was there before, none is where none was
+-- if the new rows were all there before, and there were none before, there are none now
 none_after : (old new : List HeldRow) → ((sector : ℕ) (placed : PlacedEntry) → IsHeldBy new sector placed → IsHeldBy old sector placed) → old ≡ [] → new ≡ []
 none_after old [] back none = refl
 none_after old (row ∷ rows) back none =
@@ -40,7 +41,7 @@ none_after old (row ∷ rows) back none =
     absurd (omega (arith, was.inside, ap length none))
 
 module _ {D : Type 0} (facts : D → DiskFacts) {old : Opened D} where
-  -- what a store that is as it was stays beside
+  -- an unchanged store keeps everything that was held
   pub stays : AreFlagged old → StaysBeside facts old old
   stays flags = record {
     others = λ sector library is. is;
@@ -50,7 +51,7 @@ module _ {D : Type 0} (facts : D → DiskFacts) {old : Opened D} where
     same = λ s at. at;
   }
 
-  -- no byte string is held yet,
+  -- at the beginning, no handle holds a byte string
   pub none_held : AreFlagged old → HoldsFirst facts old old 0 []
   none_held flags = record {
     size = refl;
@@ -60,7 +61,7 @@ module _ {D : Type 0} (facts : D → DiskFacts) {old : Opened D} where
     beside = stays flags;
   }
 
-  -- and one more is
+  -- one more byte string is held
   module _ {between new : Opened D} (count handle : ℕ) (handles : List ℕ) (before : HoldsFirst facts old between count handles) (now : TakesHold facts between new count (Ok handle)) where
     abbrev more : List ℕ
     more = handles ++ handle ∷ []
@@ -100,7 +101,7 @@ module _ {D : Type 0} (facts : D → DiskFacts) {old : Opened D} where
       };
     }
 
-  -- Once the handles let their byte strings go again, as many hold each as before,
+  -- Once the handles have released their byte strings again, each has as many holders as before.
   module _ {between new : Opened D} {count : ℕ} {handles : List ℕ} (sound : AreHolds old) (before : HoldsFirst facts old between count handles) (gone : LetsAllGo facts between new handles) where
     pub undone : (sector : ℕ) → holders_of new.held sector ≡ holders_of old.held sector
     undone sector = omega (arith, gone.holders sector, before.holders sector)
@@ -108,7 +109,7 @@ module _ {D : Type 0} (facts : D → DiskFacts) {old : Opened D} where
     still : (sector : ℕ) (placed : PlacedEntry) → IsHeldBy old.held sector placed → 0 < holders_of new.held sector
     still sector placed by = omega (arith, undone sector, sound.holders sector placed by)
 
-    -- and all that was held is
+    -- everything that was held before is held
     pub undone_beside : StaysBeside facts old new
     undone_beside = record {
       others = λ sector library is. gone.others sector library (still sector is.placed is.by) (before.beside.others sector library is);
@@ -118,7 +119,7 @@ module _ {D : Type 0} (facts : D → DiskFacts) {old : Opened D} where
       same = λ s at. gone.same s (before.beside.same s at);
     }
 
-    -- and nothing else, since each has one row.
+    -- nothing else is held, because each byte string has one row
     module _ (own : AreHolds new) where
       undone_holds : (sector : ℕ) (placed : PlacedEntry) → IsHeldBy new.held sector placed → IsHeldBy old.held sector placed
       undone_holds sector placed by =
@@ -133,7 +134,8 @@ module _ {D : Type 0} (facts : D → DiskFacts) {old : Opened D} where
         none = none_after old.held new.held undone_holds;
       }
 
--- A refusal to hold in a store that hasn't failed is want of memory, and changes nothing.
+-- A hold in a store that hasn't failed is refused only for lack of memory, and then changes
+-- nothing.
 pub memory_refused : {D : Type 0} (facts : D → DiskFacts) {between new : Opened D} {position : ℕ} {e : StoreRefusal} → IsFalse between.failed
     → TakesHold facts between new position (Err e) → e ≡ OutOfMemory
 memory_refused facts usable refused = ⊎_elim

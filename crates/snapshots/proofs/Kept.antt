@@ -1,4 +1,4 @@
--- What keeps a snapshot: it is one of the store that it was taken of, whatever the store does since.
+-- What keeps a snapshot valid: it stays one of the store that it was taken of, whatever the store does since.
 use Rattle.std.proofs.Common.{◌≡◌, ℕ, ◌<◌, List, length, get_or, IsTrue, Result, sym, subst, arith}
 use Rattle.sector_disk.specs.Disk.{DiskFacts}
 use Rattle.states.specs.State.{Library}
@@ -9,12 +9,12 @@ use Rattle.store.specs.Opened.{Opened}
 use Rattle.store.specs.Stands.{no_library}
 use Rattle.snapshots.specs.Snapshot.{AreHeldAs, IsSnapshotOf, LetsAllGo, Taken, Takes}
 
--- a disk that is the same is as honest
+-- the same disk is equally honest
 same_honest : {D : Type 0} (facts : D → DiskFacts) {old new : D} → new ≡ old → IsTrue (facts old).honest → IsTrue (facts new).honest
 same_honest facts same = subst (λ disk. IsTrue (facts disk).honest) (sym same)
 
 module _ {D : Type 0} (facts : D → DiskFacts) {taken now new : Opened D} {snapshot : Taken} (is : IsSnapshotOf facts taken now snapshot) where
-  -- It stays one where its byte strings are held as they were, as byte strings too while the disk was honest and is.
+  -- A snapshot stays valid if its byte strings are still held. On an honest disk they must also keep their bytes.
   moved : (IsTrue (facts now.disk).honest → IsTrue (facts new.disk).honest)
       → ((i : ℕ) (placed : PlacedEntry) → i < length snapshot.handles → IsHeldBy now.held (get_or snapshot.handles i 0) placed → IsHeldBy new.held (get_or snapshot.handles i 0) placed)
       → (IsTrue (facts now.disk).honest → (i : ℕ) (library : Library) → i < length snapshot.handles
@@ -38,19 +38,19 @@ module _ {D : Type 0} (facts : D → DiskFacts) {taken now new : Opened D} {snap
         (honest was.0, held);
   }
 
-  -- Whatever keeps what is held keeps a snapshot,
+  -- Whatever keeps the held byte strings keeps a snapshot valid.
   pub snapshot_kept : KeepsHeld facts now new → (IsTrue (facts now.disk).honest → IsTrue (facts new.disk).honest) → IsSnapshotOf facts taken new snapshot
   snapshot_kept keeps honest = moved honest
       (λ i placed lt. (keeps.holds (get_or snapshot.handles i 0) placed).0)
       (λ was i library lt. keeps.bytes was (get_or snapshot.handles i 0) library)
 
-  -- so does taking another one,
+  -- Taking another snapshot keeps a snapshot valid.
   pub snapshot_beside : {result : Result Taken StoreRefusal} → Takes facts now new result → IsSnapshotOf facts taken new snapshot
   snapshot_beside takes = moved (same_honest facts takes.kept.0)
       (λ i placed lt. takes.holds (get_or snapshot.handles i 0) placed)
       (λ was i library lt. takes.others (get_or snapshot.handles i 0) library)
 
-  -- and so does letting others go, where somebody still holds each of its byte strings.
+  -- Releasing other byte strings keeps a snapshot valid, if somebody still holds each of its byte strings.
   pub snapshot_left : {handles : List ℕ} → LetsAllGo facts now new handles
       → ((i : ℕ) → i < length snapshot.handles → 0 < holders_of new.held (get_or snapshot.handles i 0)) → IsSnapshotOf facts taken new snapshot
   snapshot_left gone still = moved (same_honest facts gone.kept.0)

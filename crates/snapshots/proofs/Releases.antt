@@ -1,4 +1,4 @@
--- Handles are let go one by one.
+-- Releasing handles one by one.
 use Rattle.std.proofs.Common.{◌≡◌, ℕ, ◌+◌, ◌<◌, ◌==◌, if◌then◌else◌, List, [], ◌∷◌, refl, ◌∙◌, arith}
 use Rattle.std.proofs.lemmas.List.Sums.{sum_by-cons}
 use Rattle.sector_disk.specs.Disk.{DiskFacts}
@@ -6,12 +6,13 @@ use Rattle.store.specs.Holds.{AreHolds, LetsHoldGo, holders_of}
 use Rattle.store.specs.Opened.{Opened}
 use Rattle.snapshots.specs.Snapshot.{LetsAllGo, times}
 
--- one handle more is as often among handles, and once more for its own sector
+-- with one more handle, each sector is among the handles as often as before, and the handle's own
+-- sector once more
 pub times-cons : (sector handle : ℕ) (handles : List ℕ) → times sector (handle ∷ handles) ≡ (if handle == sector then 1 else 0) + times sector handles
 times-cons sector handle handles = sum_by-cons (λ h. if h == sector then 1 else 0) handle handles
 
 module _ {D : Type 0} (facts : D → DiskFacts) {old : Opened D} where
-  -- where no handle is let go, nothing changes,
+  -- if no handle is released, nothing changes
   pub none_gone : AreHolds old → LetsAllGo facts old old []
   none_gone sound = record {
     holders = λ sector. omega arith;
@@ -22,7 +23,7 @@ module _ {D : Type 0} (facts : D → DiskFacts) {old : Opened D} where
     same = λ s at. at;
   }
 
-  -- and one more goes
+  -- releasing one more handle releases it together with those before
   pub one_gone : {between new : Opened D} (handle : ℕ) (gone : List ℕ) → LetsAllGo facts old between gone → LetsHoldGo facts between new handle → LetsAllGo facts old new (handle ∷ gone)
   one_gone {between = between} {new = new} handle gone before now = record {
     holders = λ sector. omega (arith, now.holders sector, before.holders sector, times-cons sector handle gone);

@@ -1,4 +1,5 @@
--- All byte strings of a store as they were at one moment: taking them, and letting them go.
+-- All byte strings of a store as they were at one moment: taking a snapshot of them, and releasing
+-- it.
 use Rattle.std.specs.Prelude.{◌≡◌, ◌↔◌, ◌⊎◌, ℕ, ◌+◌, ◌-◌, ◌<◌, ◌==◌}
 use Rattle.std.specs.Prelude.{List, length, slice_index_or, IsTrue, Result, Err, IfOk, IfErr, OnErr}
 use Rattle.std.specs.List.{count_by}
@@ -15,32 +16,32 @@ use Rattle.store.specs.Opened.{Opened, IsAt}
 use Rattle.store.specs.Stands.{no_library}
 
 -- what a snapshot keeps: a handle for each byte string, their positions in the order of the names,
--- and those of the preloads
+-- and the positions of the preloads
 pub record Taken : Type 0 where
   pub handles : List ℕ
   pub order : List ℕ
   pub preloads : List ℕ
 
--- how often a sector is among handles
+-- the number of times that a sector is among handles
 abbrev pub times : ℕ → List ℕ → ℕ
 times sector handles = count_by (λ handle. handle == sector) handles
 
--- each of these entries is held by the handle at its place
+-- each of these entries is held by the handle at its position
 pub record AreHeldBy (held : List HeldRow) (handles : List ℕ) (entries : List PlacedEntry) : Type 0 where
   pub count : length handles ≡ length entries
   pub each : (i : ℕ) (d : PlacedEntry) → i < length entries → IsHeldBy held (slice_index_or handles i 0) (slice_index_or entries i d)
 
--- The snapshot has these entries: it holds each, and their names have its order.
+-- The snapshot has these entries: it holds each of them, and its order is that of their names.
 pub record IsTakenOf (table : List HeldRow) (snapshot : Taken) (entries : List PlacedEntry) : Type 0 where
   pub held : AreHeldBy table snapshot.handles entries
   pub order : IsOrderOf (entry_names entries) snapshot.order
 
--- In every mixture of the disk the byte strings that are held are these.
+-- In every mixture of the disk, the held byte strings are these libraries.
 pub record AreHeldAs {D : Type 0} (facts : D → DiskFacts) (store : Opened D) (handles : List ℕ) (libraries : List Library) : Type 0 where
   pub count : length handles ≡ length libraries
   pub each : (i : ℕ) → i < length libraries → HeldIs facts store (slice_index_or handles i 0) (slice_index_or libraries i no_library)
 
--- The snapshot was taken of a store, and holds in the store as it is now what that one had.
+-- The snapshot was taken of the store `taken`. In the store `now` it still holds the byte strings that `taken` had.
 pub record IsSnapshotOf {D : Type 0} (facts : D → DiskFacts) (taken now : Opened D) (snapshot : Taken) : Type 0 where
   pub entries : IsTakenOf now.held snapshot taken.entries
   pub preloads : snapshot.preloads ≡ listed_preloads taken.root
@@ -51,7 +52,7 @@ pub record Takes {D : Type 0} (facts : D → DiskFacts) (old new : Opened D) (re
   pub ok : IfOk result (λ snapshot. IsSnapshotOf facts old new snapshot)
   pub holders : IfOk result (λ snapshot. (sector : ℕ) → holders_of new.held sector ≡ holders_of old.held sector + times sector snapshot.handles)
   pub unheld : OnErr result ((sector : ℕ) → holders_of new.held sector ≡ holders_of old.held sector)
-  -- a refusal leaves the same byte strings held, no fewer and no more, each by as many
+  -- a refusal leaves exactly the same byte strings held, each by as many holders as before
   pub refused : OnErr result (KeepsHeld facts old new)
   pub others : (sector : ℕ) (library : Library) → HeldIs facts old sector library → HeldIs facts new sector library
   pub holds : (sector : ℕ) (placed : PlacedEntry) → IsHeldBy old.held sector placed → IsHeldBy new.held sector placed
@@ -61,7 +62,7 @@ pub record Takes {D : Type 0} (facts : D → DiskFacts) (old new : Opened D) (re
   pub reopen : (result ≡ Err Reopen) ↔ IsTrue old.failed
   pub refusals : IfErr result (λ e. (e ≡ Reopen) ⊎ (e ≡ OutOfMemory))
 
--- All these handles let their byte strings go, and nothing else changes.
+-- All these handles released their byte strings, and nothing else changed.
 pub record LetsAllGo {D : Type 0} (facts : D → DiskFacts) (old new : Opened D) (handles : List ℕ) : Type 0 where
   pub holders : (sector : ℕ) → holders_of new.held sector ≡ holders_of old.held sector - times sector handles
   pub others : (sector : ℕ) (library : Library) → 0 < holders_of new.held sector → HeldIs facts old sector library → HeldIs facts new sector library

@@ -1,3 +1,4 @@
--- What the code keeps as it goes. No public clause cites it, and nobody has to believe it.
+-- Definitions of the data that the code keeps while it runs. No public clause cites these
+-- definitions, so no reader has to believe them.
 pub mod HoldsAll
 pub mod Places

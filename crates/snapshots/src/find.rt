@@ -12,12 +12,12 @@ ghost use Rattle.store.specs.inside.NameIndex.{IsPlace, order_to};
 use sector_disk::Disk;
 use store::{Held, Store};
 
-/// The name of what is held; the empty one where nobody holds it in this store.
+/// Returns the name of a held byte string, or the empty name if nobody holds it in this store.
 pub(crate) fn held_name<'a, D: Disk>(store: &'a Store<D>, held: &Held) -> &'a [u8]
     ensures { (placed : PlacedEntry) → IsHeldBy store.now.held held.now placed
         → result.now ≡ name_of placed.entry }
 {
-    // What is held has holders, so what has no name is held by nobody.
+    // A held byte string has a holder, so a byte string without a name is held by nobody.
     store.holds_are_sound();
     match store.held_name(held) {
         Some(name) => name,
@@ -25,7 +25,7 @@ pub(crate) fn held_name<'a, D: Disk>(store: &'a Store<D>, held: &Held) -> &'a [u
     }
 }
 
-/// The name of what is held at a position; the empty one where there is none.
+/// Returns the name of the held byte string at `position`, or the empty name if there is none.
 fn name_at<'a, D: Disk>(store: &'a Store<D>, handles: &[Held], position: u16) -> &'a [u8]
     ensures { (entries : List PlacedEntry) → AreHeldBy store.now.held handles.now entries
         → result.now ≡ name_at (entry_names entries) position }
@@ -36,7 +36,7 @@ fn name_at<'a, D: Disk>(store: &'a Store<D>, handles: &[Held], position: u16) ->
     }
 }
 
-/// Whether the name at a position comes before this one.
+/// Returns whether the name at `position` comes before `name`.
 fn precedes<D: Disk>(store: &Store<D>, handles: &[Held], position: u16, name: &[u8]) -> bool
     ensures { (entries : List PlacedEntry) → AreHeldBy store.now.held handles.now entries
         → result ≡ is_lt (order_to (entry_names entries) name.now position) }
@@ -44,7 +44,7 @@ fn precedes<D: Disk>(store: &Store<D>, handles: &[Held], position: u16, name: &[
     name_at(store, handles, position).cmp(name).is_lt()
 }
 
-/// The place of a name in the order: as many names come before it.
+/// Returns the place of a name in the order: the number of names that come before it.
 fn place_of<D: Disk>(store: &Store<D>, handles: &[Held], order: &[u16], name: &[u8]) -> usize
     ensures { (entries : List PlacedEntry) → AreHeldBy store.now.held handles.now entries
         → IsOrderOf (entry_names entries) order.now
@@ -53,7 +53,7 @@ fn place_of<D: Disk>(store: &Store<D>, handles: &[Held], order: &[u16], name: &[
     order.partition_point(|position| precedes(store, handles, *position, name))
 }
 
-/// The position of the handle whose byte string has this name.
+/// Returns the position of the handle whose byte string has the name `name`.
 pub(crate) fn find<D: Disk>(
     store: &Store<D>,
     handles: &[Held],

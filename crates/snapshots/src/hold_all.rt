@@ -7,8 +7,8 @@ use crate::release::release;
 use sector_disk::Disk;
 use store::{Held, Store, StoreRefusal};
 
-/// Holds each byte string of a store, in the order of the positions. The handles go into the room
-/// that is given; where one is refused, those that there are let go.
+/// Holds each byte string of a store, in the order of the positions, and puts the handles into the
+/// vector `room`. If a hold is refused, releases what the handles so far hold.
 pub(crate) fn hold_all<D: Disk>(
     store: &mut Store<D>,
     room: Vec<Held>,
@@ -28,7 +28,7 @@ pub(crate) fn hold_all<D: Disk>(
             },
             Err(refusal) => {
                 release(store, handles);
-                // What is held has one row, so it is what was held before.
+                // Each held byte string has one row, so exactly what was held before is held now.
                 store.holds_are_sound();
                 return Err(refusal);
             }

@@ -1,8 +1,8 @@
-//! Snapshots of a store: all its byte strings as they are at one moment, held, found by name, and
-//! read as they were, whatever the store does since.
+//! Snapshots of a store: all its byte strings at one moment. They are held, can be found by name,
+//! and can be read as they were, whatever the store does since.
 //!
-//! `Snapshot::take` holds each byte string of a store, and `Snapshot::let_go` lets all of them go.
-//! What a snapshot of a store is, is defined in specs/Snapshot.antt.
+//! `Snapshot::take` holds each byte string of a store, and `Snapshot::let_go` releases all of them.
+//! specs/Snapshot.antt defines what a snapshot of a store is.
 #![tactic(auto)]
 
 mod find;

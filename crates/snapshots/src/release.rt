@@ -1,14 +1,14 @@
-// Letting go of byte strings.
+// Releasing byte strings.
 ghost use Rattle.snapshots.specs.Snapshot.{LetsAllGo};
 
 use sector_disk::Disk;
 use store::{Held, Store};
 
-/// Lets all these byte strings go. It takes no memory.
+/// Releases all these byte strings. Allocates nothing.
 pub(crate) fn release<D: Disk>(store: &mut Store<D>, handles: Vec<Held>)
     ensures { LetsAllGo D.facts store.old store.new handles.items }
 {
-    // What is held has holders, also where no handle is given.
+    // Held byte strings have holders, also if there are no handles.
     store.holds_are_sound();
     let mut left = handles;
     while let Some(held) = left.pop() {

@@ -6,12 +6,12 @@ use std::alloc::Global;
 use std::marker::Model;
 use store::{Held, Store, StoreRefusal};
 
-/// All byte strings of a store as they were when it was taken, held one by one. It is good for its
-/// own store alone, as each handle is, until it is given to `let_go`.
+/// All byte strings of a store as they were when the snapshot was taken, held one by one. A
+/// snapshot is valid only for its own store, as each handle is, until it is passed to `let_go`.
 #[derive(Drop)]
 pub struct Snapshot {
     handles: Vec<Held>,
-    // Positions in the order of the names, and those of the preloads.
+    // The positions in the order of the names, and the positions of the preloads.
     order: Vec<u16>,
     preloads: Vec<u16>,
 }
@@ -40,12 +40,12 @@ impl Snapshot {
     ghost use Rattle.store.specs.Holds.{IsHeldBy, ReadsHeld};
     ghost use Rattle.store.specs.Stands.{name_of};
 
-    /// Holds all byte strings of a store as they are now. It makes no call of the disk, and copies
-    /// none of their bytes. All its own memory is taken before the first byte string is held.
+    /// Holds all byte strings of a store as they are now. Makes no call of the disk, and copies no
+    /// bytes. The snapshot's own memory is allocated before the first byte string is held.
     pub fn take<D: Disk>(alloc: Global, store: &mut Store<D>) -> Result<Snapshot, StoreRefusal>
         ensures { Takes D.facts store.old store.new result }
     {
-        // Also after a refusal what is held counts as listed just where it is.
+        // Also after a refusal, a held byte string counts as listed exactly if the state lists it.
         store.holds_are_sound();
         let count = store.count();
         if store.has_failed() {
@@ -62,7 +62,7 @@ impl Snapshot {
         })
     }
 
-    /// How many byte strings there are.
+    /// The number of byte strings.
     pub fn count(&self) -> usize
         ensures count { result ≡ length self.now.handles }
         ensures few { result ≤ 2048 }
@@ -74,15 +74,15 @@ impl Snapshot {
     pub fn preloads(&self) -> &[u16]
         ensures value { result.now ≡ self.now.preloads }
 
-        // On any disk: each is the position of a byte string, and none stands twice.
+        // On any disk, each is the position of a byte string, and none occurs twice.
         ensures inside { All (λ p. p < length self.now.handles) result.now }
         ensures once { IsDistinct nat_eq result.now }
     {
         &self.preloads
     }
 
-    /// The name of the byte string at a position; the empty one where nobody holds it in this
-    /// store.
+    /// Returns the name of the byte string at `position`, or the empty name if nobody holds the
+    /// byte string in this store.
     pub fn name<'a, D: Disk>(&self, store: &'a Store<D>, position: usize) -> &'a [u8]
         requires { position < length self.now.handles }
         ensures { (placed : PlacedEntry)
@@ -92,8 +92,8 @@ impl Snapshot {
         held_name(store, &self.handles[position])
     }
 
-    /// The position of the byte string of this name. It halves the order of the names: 13
-    /// comparisons at most, each with a look into the store's table of holds.
+    /// Returns the position of the byte string with the name `name`. Makes a binary search by name:
+    /// at most 13 comparisons, each with a look-up in the store's table of held byte strings.
     pub fn position<D: Disk>(&self, store: &Store<D>, name: &[u8]) -> Option<usize>
         ensures within { IfSome result (λ i. i < length self.now.handles) }
         ensures few { length self.now.handles ≤ 2048 }
@@ -106,7 +106,7 @@ impl Snapshot {
         find(store, &self.handles, &self.order, name)
     }
 
-    /// The byte string at a position, as it was. It reads each of its sectors once, and writes
+    /// Returns the byte string at `position`, as it was. Reads each of its sectors once, and writes
     /// nothing.
     pub fn read<D: Disk>(
         &self,
@@ -121,7 +121,8 @@ impl Snapshot {
         store.read_held(alloc, &self.handles[position])
     }
 
-    /// Lets all of it go. It takes no memory and makes no call of the disk, also after S2.
+    /// Releases all byte strings of the snapshot. Allocates nothing and makes no call of the disk,
+    /// also after S2.
     pub fn let_go<D: Disk>(self, store: &mut Store<D>)
         ensures { LetsAllGo D.facts store.old store.new self.handles }
     {

@@ -7,11 +7,11 @@ pub record Library : Type 0 where
   pub name : List ℕ
   pub bytes : List ℕ
 
--- what is held: the libraries with their names and bytes, and which of them are preloads
+-- a state: the libraries with their names and bytes, and the preloads among them
 pub record State : Type 0 where
-  -- how many changes were accepted since the disk was formatted
+  -- the number of changes that were accepted since the disk was formatted
   pub generation : ℕ
-  -- in the order in which they were installed
+  -- the libraries in the order in which they were installed
   pub libraries : List Library
   -- the names of the preloads, in their order
   pub preloads : List (List ℕ)
@@ -24,6 +24,6 @@ empty_state = record { generation = 0; libraries = []; preloads = [] }
 abbrev pub names_of : List Library → List (List ℕ)
 names_of libraries = map (λ l. l.name) libraries
 
--- one of the names is this one
+-- whether `name` is one of the names
 abbrev pub has_name : List (List ℕ) → List ℕ → Bool
 has_name names name = list_any (bytes_eq name) names

@@ -4,7 +4,7 @@ ghost use Rattle.states.specs.Geometry.{is_geometry};
 use crate::limits::LEAST_SECTORS;
 use extents::MOST_SECTORS;
 
-/// Whether a disk of so many sectors can hold a registry: 8 to 4,194,304.
+/// Returns whether a disk of `sectors` sectors can hold a registry: 8 to 4,194,304.
 pub fn is_geometry(sectors: u32) -> bool
     ensures { result ≡ is_geometry sectors }
 {

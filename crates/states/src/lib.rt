@@ -1,8 +1,8 @@
-//! What a registry holds: its state, what a change makes of it, what it costs in sectors, and its
-//! limits.
+//! The contents of a registry: its state, the states that changes make of it, its costs in sectors,
+//! and its limits.
 //!
-//! Nearly all of it is definitions, in specs/: the store, the registry and the program cite them.
-//! The one call is `is_geometry`: the sizes that a disk may have.
+//! Nearly all of this crate is definitions, in specs/. The store, the registry and the program cite
+//! them. The only call is `is_geometry`, which decides the sizes that a disk may have.
 #![tactic(auto)]
 
 mod geometry;

@@ -1,5 +1,5 @@
-/// The least sectors that a disk has.
+/// The minimum number of sectors of a disk.
 pub(crate) const LEAST_SECTORS: u32 = 8;
 
-/// The most preloads of a state.
+/// The maximum number of preloads of a state.
 pub const MOST_PRELOADS: usize = 16;

@@ -1,4 +1,4 @@
--- The sectors in use before a change and after it, and those that it took and gave back.
+-- The sectors in use before and after a change, and those that the change takes and gives back.
 use Rattle.std.proofs.Common.{◌≡◌, ℕ, ◌+◌, Bool, List, [], ◌∷◌, ◌++◌, length, All, refl, sym, ap, subst, ◌∙◌, arith}
 use Rattle.std.specs.Prelude.{Contains}
 use Rattle.std.proofs.lemmas.List.{append-nil}
@@ -21,12 +21,12 @@ use Rattle.passes.proofs.Parts.{distinct-parts}
 use Rattle.store.proofs.Claiming.{all-part}
 use Rattle.store.proofs.Counts.{one, occurs, occurs-append, contains_occurs, occurs_contains, distinct_occurs, occurs_distinct}
 
--- all that is kept can be used
+-- all sectors that are in use lie on the disk, after the roots
 pub all_usable : {root : Root} {entries : List PlacedEntry} {held : List HeldRow} {layout : List Bool} → (kept : IsKept root entries held layout)
     → All (IsUsable root.sectors) (in_use root entries held)
 all_usable {root = root} {entries = entries} {held = held} kept = All-append (IsUsable root.sectors) (used root entries) (lone_sectors held) kept.apart.inside kept.claimed.inside
 
--- lists in which each number stands as often have the same elements
+-- two lists in which each number occurs equally often have the same elements
 pub same_elements : (a b : List ℕ) → ((k : ℕ) → occurs k a ≡ occurs k b) → (s : ℕ) → Contains a s → Contains b s
 same_elements a b counts s found = occurs_contains s b (omega (arith, counts s, contains_occurs s a found))
 
@@ -36,7 +36,7 @@ claims_as flags a b counts just = claims-same_elements flags a b (λ s. (same_el
 pub distinct_as : (a b : List ℕ) → ((k : ℕ) → occurs k a ≡ occurs k b) → AreDistinct a → AreDistinct b
 distinct_as a b counts once = occurs_distinct b (λ k. omega (arith, counts k, distinct_occurs k a once))
 
--- the same sectors in another order are claimed as well
+-- if sectors are claimed, the same sectors in another order are claimed
 pub claimed_as : (old mid : List Bool) (a b : List ℕ) → ((k : ℕ) → occurs k a ≡ occurs k b) → IsClaimedBeside old mid a → IsClaimedBeside old mid b
 claimed_as old mid a b counts claimed = record {
   size = claimed.size;
@@ -48,7 +48,7 @@ claimed_as old mid a b counts claimed = record {
     beside : (used : List ℕ) (k : ℕ) → occurs k (used ++ a) ≡ occurs k (used ++ b)
     beside used k = omega (arith, occurs-append k used a, occurs-append k used b, counts k)
 
--- the room of a put, in the order of the entry's sectors
+-- if the room of a put is claimed, the sectors of its entry and of its catalogues are claimed
 pub put_claimed : (old mid : List Bool) (extents : List Extent) (at : ℕ) (catalogues : List ℕ) (put : PlacedEntry) → extents_of put.entry ≡ extents → put.at ≡ at
     → IsClaimedBeside old mid (places extents ++ at ∷ catalogues) → IsClaimedBeside old mid (sectors_of put ++ catalogues)
 put_claimed old mid extents at catalogues put its there claimed =
@@ -65,7 +65,7 @@ put_claimed old mid extents at catalogues put its there claimed =
       occurs-append k (places extents) catalogues,
     )
 
--- where nothing is given back all is as it was
+-- if nothing is given back, the layout stays the same
 pub released_nothing : (mid : List Bool) → IsReleased mid mid []
 released_nothing mid = record { size = refl; each = λ kept just once. subst (ClaimsJust mid) (append-nil kept) just }
 
@@ -74,7 +74,7 @@ module _ {root : Root} {entries : List PlacedEntry} {held : List HeldRow} {layou
   abbrev before : List ℕ
   before = in_use root entries held
 
-  -- what was in use, and what is taken
+  -- the sectors that were in use, and those that are taken
   abbrev all : List ℕ
   all = before ++ more
 
@@ -84,7 +84,7 @@ module _ {root : Root} {entries : List PlacedEntry} {held : List HeldRow} {layou
   once : AreDistinct all
   once = claimed.once before kept.claimed.claims kept.claimed.once
 
-  -- what is taken lies apart behind the roots,
+  -- the taken sectors lie on the disk, after the roots
   pub more_inside : All (IsUsable root.sectors) more
   more_inside = subst (λ n. All (IsUsable n) more) kept.size claimed.inside
 
@@ -94,7 +94,7 @@ module _ {root : Root} {entries : List PlacedEntry} {held : List HeldRow} {layou
   pub more_once : AreDistinct more
   more_once = occurs_distinct more (λ k. omega (arith, occurs-append k before more, distinct_occurs k all once))
 
-  -- and none of it was in use, by the state or by a holder;
+  -- no taken sector was in use, by the state or by a holder
   pub more_free : (k : ℕ) → Contains more k → Contains (in_use root entries held) k → ⊥
   more_free k found there = distinct-parts before more k once there found
 
@@ -107,7 +107,7 @@ module _ {root : Root} {entries : List PlacedEntry} {held : List HeldRow} {layou
   pub moved_size : (new : List Bool) {back : List ℕ} → IsReleased mid new back → length new ≡ root.sectors
   moved_size new released = released.size ∙ size
 
-  -- it can be given back, and then all is kept as it was
+  -- the taken sectors can be given back: they are claimed, each once
   pub more_held : AreClaimedOnce mid more
   more_held = (before, claims, once, subst (λ n. All (IsUsable n) more) (sym size) more_inside)
 
@@ -124,9 +124,9 @@ module _ {root : Root} {entries : List PlacedEntry} {held : List HeldRow} {layou
     claimed = record { inside = kept.claimed.inside; once = kept.claimed.once; claims = released.each before claims once };
   }
 
-  -- What is used then lies apart too, and with it the rest can be given back.
+  -- After the change, no sector is used twice either, and the sectors that are no longer used can be given back.
   module _ (next : Root) (others : List PlacedEntry) {gone : List ℕ} (moved : IsMoved (used root entries) more (used next others) gone) where
-    -- what is in use where holders keep what they had,
+    -- the sectors in use if holders keep the sectors that they had
     abbrev after : List ℕ
     after = used next others ++ lone_sectors held
 
@@ -171,7 +171,7 @@ module _ {root : Root} {entries : List PlacedEntry} {held : List HeldRow} {layou
       claims = released.each after (claims_as mid all (after ++ gone) counts claims) (distinct_as all (after ++ gone) counts once);
     }
 
-    -- and where holders keep some of what the state gave up, and the rest is given back.
+    -- Holders keep some of the sectors that the state gave up, and the others are given back.
     module _ (lone freed own catalogues : List ℕ) (is : gone ≡ own ++ catalogues) (parts : (k : ℕ) → occurs k lone + occurs k freed ≡ occurs k (lone_sectors held) + occurs k own) where
       abbrev left : List ℕ
       left = used next others ++ lone

@@ -1,4 +1,4 @@
--- A disk of a size that no store has.
+-- A disk whose number of sectors no store can have is refused with BadGeometry.
 use Rattle.std.proofs.Common.{ℕ, Bool, true, false, if◌then◌else◌, List, length, inl, inr, sym, subst, arith}
 use Rattle.std.specs.Int.{IsInRange}
 use Rattle.std.proofs.lemmas.Bool.Decides.{nat_tests}
@@ -27,12 +27,12 @@ current_fits zero one root (inl alone) = alone.0.has_spelling
 current_fits zero one root (inr (even, odd, spells0, spells1, successive, keeps, is)) =
     subst RootHasSpelling (sym is) (either_fits _ _ _ spells1.has_spelling spells0.has_spelling)
 
--- it holds no state
+-- if no store can have this number of sectors, the sectors hold no state
 pub no_geometry : (m : List Sector) → (IsGeometry (length m) → ⊥) → (version : Version) (s : State) → StandsAs version m s → ⊥
 no_geometry m none version s (root, entries, by) =
     none (subst IsGeometry by.intact.size (geometry_of root.sectors (current_fits (sector m 0) (sector m 1) root by.intact.current).sectors))
 
--- and is refused so
+-- If no store can have this number of sectors, they may be refused with BadGeometry.
 module _ (StandsFor : List Sector → State → Type 0) (m : List Sector) (none : IsGeometry (length m) → ⊥) where
   pub geometry_refused : RefusesLook StandsFor m BadGeometry
   geometry_refused = record { may = none; unformatted = λ is. cc; formatted = λ is. cc; damaged = λ is. cc; memory = λ is. cc }

@@ -1,4 +1,4 @@
--- What a store keeps where nobody holds anything.
+-- What a store keeps if nobody holds anything.
 use Rattle.std.proofs.Common.{◌≡◌, Bool, ℕ, ◌≤◌, List, [], sym, ap, subst, ◌∙◌, arith}
 use Rattle.std.proofs.lemmas.List.{append-nil}
 use Rattle.extents.specs.Extent.{AreDistinct}
@@ -20,11 +20,11 @@ none_beside {layout = layout} used once claims = record {
   claims = subst (ClaimsJust layout) (sym (append-nil used)) claims;
 }
 
--- what is in use then is what the state uses,
+-- if nothing is held, exactly the sectors that the state uses are in use
 pub in_use_alone : (root : Root) (entries : List PlacedEntry) (held : List HeldRow) → held ≡ [] → in_use root entries held ≡ used root entries
 in_use_alone root entries held unheld = ap (in_use root entries) unheld ∙ append-nil (used root entries)
 
--- and there is as much room
+-- entries that have room on a disk have room on a larger disk
 pub room_more : (few many : ℕ) (list : EntryList) (entries : List PlacedEntry) → few ≤ many → HasRoom few list entries → HasRoom many list entries
 room_more few many (InRoot listed) entries more room = tt
 room_more few many (InCatalogues count listed) entries more room = omega (arith, more, room)

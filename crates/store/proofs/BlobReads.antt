@@ -1,4 +1,4 @@
--- What reading a byte string does, by what reading its sectors did.
+-- The effect of reading a byte string, derived from the effect of reading its sectors.
 use Rattle.std.proofs.Common.{◌≡◌, ◌⊎◌, inl, inr, ⊎_elim, ℕ, ◌<◌, length, get_or, IsTrue, IsFalse, Result, Ok, Err, IfErr, IfOk, OnOk, refl, sym, ap, subst, ◌∙◌, arith}
 use Rattle.std.specs.Global.{Vec}
 use Rattle.std.specs.Int.{div_ceil}
@@ -21,7 +21,7 @@ use Rattle.store.proofs.KeepsHolders.{keeps_reads}
 use Rattle.store.proofs.Queries.{library_is}
 
 module _ (version : Version) {D : Type 0} (facts : D → DiskFacts) (store : Opened D) where
-  -- What a store that failed answers.
+  -- A store that failed answers a read with Reopen.
   pub blob_refused : (position : ℕ) → IsTrue store.failed → ReadsBlob version facts store store position (Err Reopen)
   blob_refused position failed = record {
     any_moment = λ honest. (no_reads (facts store.disk)).leaves;
@@ -40,7 +40,7 @@ module _ (version : Version) {D : Type 0} (facts : D → DiskFacts) (store : Ope
     calls = λ d. record { some = no_calls (facts store.disk); time = omega arith };
   }
 
-  -- What reading the sectors of the entry at this position leaves.
+  -- The effect of reading the sectors of the entry at this position.
   module _ (after : D) (position : ℕ) (placed : PlacedEntry) (usable : IsFalse store.failed) (inside : position < length store.entries)
       (its : placed ≡ get_or store.entries position placed)
       (holds : IsTrue (facts store.disk).honest → HoldsNow (facts store.disk))

@@ -1,4 +1,4 @@
--- How far the reading of catalogues has come.
+-- The progress of reading catalogues.
 use Rattle.std.proofs.Common.{◌≡◌, ◌≢◌, ⊎_elim, ◌↔◌, ℕ, ◌+◌, ◌-◌, ◌*◌, ◌<◌, ◌≤◌, min, List, [], ◌++◌, length, get_or, drop, Option, Some, None}
 use Rattle.std.proofs.Common.{Result, Ok, IsTrue, refl, sym, ap, subst, ◌∙◌, arith, length-append}
 use Rattle.std.proofs.lemmas.List.{same_lists, length-drop, length-take, length-take-le, length-replicate, get_or-replicate, take-append-drop}
@@ -15,11 +15,11 @@ use Rattle.roots.proofs.CatalogueLemmas.{catalogued_sectors-catalogue_of_sectors
 use Rattle.store.specs.Stands.{catalogue_part, AreCatalogued}
 use Rattle.store.proofs.CatalogueParts.{part-append, part-behind}
 
--- A catalogue lists as many sectors as it counts, 64 at most,
+-- A catalogue lists as many sectors as it counts, at most 64.
 pub length-catalogued : (catalogue : Catalogue) → CatalogueHasSpelling catalogue → (length (catalogued_sectors catalogue) ≡ catalogue.count) × (catalogue.count ≤ 64)
 length-catalogued catalogue fits = (length-take-le catalogue.count catalogue.entry_sectors (omega (arith, fits.sectors.listed.size, fits.sectors.listed.room)), fits.sectors.listed.room)
 
--- and is the catalogue of what it lists.
+-- A catalogue is the catalogue of the sectors that it lists.
 pub catalogue_again : (catalogue : Catalogue) → CatalogueHasSpelling catalogue → catalogue_of_sectors (catalogued_sectors catalogue) ≡ catalogue
 catalogue_again catalogue fits = λ i. record { count = size i; entry_sectors = (tail ∙ take-append-drop catalogue.count catalogue.entry_sectors) i }
   where
@@ -45,11 +45,12 @@ catalogue_again catalogue fits = λ i. record { count = size i; entry_sectors = 
     tail : catalogued_sectors catalogue ++ zeros rest ≡ catalogued_sectors catalogue ++ unused
     tail = ap (λ l. catalogued_sectors catalogue ++ l) zero_there
 
--- some calls were made, and one more
+-- after fewer than `most` calls and one more call, at most `most` calls were made
 pub one_call_more : {first old new : DiskFacts} {T E : Type 0} {result : Result T E} {done most : ℕ} → CallsSoFar done first old → IsCall old new result → done < most → AreCallsAtMost most first new
 one_call_more so_far call le = in_row_at_most (then_in_row so_far (one_in_row call)) (omega (arith, le))
 
--- So many catalogues were read, and these sectors are in them: all of them full but perhaps the last.
+-- `done` catalogues were read, and `listed` are the sectors in them. All of these catalogues are full, except
+-- perhaps the last.
 pub record CataloguesSoFar (first current : DiskFacts) (catalogues : List ℕ) (libraries done : ℕ) (listed : List ℕ) : Type 0 where
   pub calls : CallsSoFar done first current
   pub reads : IsTrue first.honest → AreReads first current
@@ -76,11 +77,11 @@ module _ {first old new : DiskFacts} {catalogues : List ℕ} {libraries done : �
   here : IsTrue first.honest → content ≡ sector first.now (get_or catalogues done 0)
   here honest = (read (at_old honest)).ok ∙ ap (λ m. sector m (get_or catalogues done 0)) (so_far.reads honest).same.now
 
-  -- those before it are full
+  -- the catalogues before this one are full
   full : length listed ≡ 64 * done
   full = omega (arith, so_far.count, enough, lt)
 
-  -- one catalogue more is read, and it has the count that it must have
+  -- if one more catalogue is read, and it has the count that it must have, the reading is one catalogue further
   pub next_catalogue : (catalogue : Catalogue) → found ≡ Some catalogue → length (catalogued_sectors catalogue) ≡ min (libraries - length listed) 64
       → CataloguesSoFar first new catalogues libraries (done + 1) (listed ++ catalogued_sectors catalogue)
   next_catalogue catalogue was size = record {
@@ -111,17 +112,17 @@ module _ {first old new : DiskFacts} {catalogues : List ℕ} {libraries done : �
           (subst (SpellsCatalogue (sector first.now (get_or catalogues done 0))) (sym here_is)
           (subst (λ c. SpellsCatalogue c catalogue) (here honest) spells))
 
-  -- what is read where sectors are catalogued so
+  -- The next read, if the catalogues list `sectors`.
   module _ (honest : IsTrue first.honest) (sectors : List ℕ) (size : length sectors ≡ libraries) (catalogued : AreCatalogued first.now catalogues sectors) where
     pub found_is : found ≡ Some (catalogue_of_sectors (catalogue_part done sectors))
     found_is = (is (catalogue_of_sectors (catalogue_part done sectors))).1
         (subst (λ c. SpellsCatalogue c (catalogue_of_sectors (catalogue_part done sectors))) (sym (here honest)) (catalogued.each done lt))
 
-    -- the sector spells no catalogue
+    -- if the catalogues list `sectors`, the next catalogue's sector encodes a catalogue
     pub no_catalogue_there : found ≡ None → ⊥
     no_catalogue_there was = let e = found_is in absurd cc
 
-    -- it has another count than it must have
+    -- if the catalogues list `sectors`, the next catalogue has the count that it must have
     pub wrong_count_there : (catalogue : Catalogue) → found ≡ Some catalogue → length (catalogued_sectors catalogue) ≢ min (libraries - length listed) 64 → ⊥
     wrong_count_there catalogue was other = other (
         ap (λ (c : Catalogue). length (catalogued_sectors c)) (let e = found_is in let e' : catalogue ≡ catalogue_of_sectors (catalogue_part done sectors) = cc in e')
@@ -129,7 +130,7 @@ module _ {first old new : DiskFacts} {catalogues : List ℕ} {libraries done : �
         ∙ omega (arith, length-take 64 (drop (64 * done) sectors), length-drop (64 * done) sectors, size, full)
         )
 
--- All were read.
+-- All catalogues were read.
 module _ {first current : DiskFacts} {catalogues : List ℕ} {libraries done : ℕ} {listed : List ℕ}
     (so_far : CataloguesSoFar first current catalogues libraries done listed) (all : length catalogues ≤ done) where
   pub all_count : length catalogues ≡ catalogues_for libraries → length listed ≡ libraries

@@ -18,7 +18,7 @@ use Rattle.store.specs.inside.Catalogues.{CanBeCatalogued}
 use Rattle.store.proofs.Counts.{one, occurs, occurs-append, distinct_occurs, occurs_distinct}
 use Rattle.store.proofs.UsedAlone.{own_used}
 
--- the entries' own sectors are some of the used ones
+-- a sector occurs at most as often among the entries' own sectors as among all sectors of the entries
 own_once : (k : ℕ) (entries : List PlacedEntry) → occurs k (entry_sectors entries) ≤ occurs k (flat_map sectors_of entries)
 own_once k [] = omega arith
 own_once k (e ∷ entries) = omega (
@@ -29,7 +29,7 @@ own_once k (e ∷ entries) = omega (
   own_once k entries,
 )
 
--- Entries whose sectors are used apart can be catalogued by as many catalogues as they need.
+-- Entries whose sectors are distinct can be listed by as many catalogues as they need.
 pub can_be_catalogued : (sectors catalogues : ℕ) (root : Root) (entries : List PlacedEntry) → sectors ≤ most_sectors
     → catalogues ≡ catalogues_for (length entries) → length entries ≤ most_libraries → UsesApart sectors root entries
     → CanBeCatalogued catalogues (entry_sectors entries)
@@ -50,6 +50,6 @@ can_be_catalogued sectors catalogues root entries fit enough few apart =
       distinct = occurs_distinct (entry_sectors entries) here;
     }
 
--- Single sectors are where their places are.
+-- If `P` holds of all places, it holds of the place of each single sector.
 pub all_singles : (P : ℕ → Type 0) (singles : List SingleSector) → All P (single_places singles) → All (λ single. P single.at) singles
 all_singles P singles all i d lt = All-contains P (single_places singles) (get_or singles i d).at all (place_among singles i d lt)

@@ -1,4 +1,4 @@
--- The draft of an update that begins, and what giving a draft up leaves.
+-- The draft of an update that begins, and what is left after a draft is given up.
 use Rattle.std.proofs.Common.{◌≡◌, ℕ, Bool, List, length, All, IsTrue, IsFalse, sym, ap, subst, ◌∙◌, arith}
 use Rattle.std.specs.List.{flat_map}
 use Rattle.std.proofs.lemmas.List.{length-take-le}
@@ -28,7 +28,7 @@ use Rattle.store.proofs.Preloads.{few_in, room_in}
 use Rattle.store.proofs.Rooms.{kept_sectors}
 
 module _ {sectors : ℕ} (kept : Kept) (stored : IsStored sectors kept) where
-  -- the list that stands is a draft's list,
+  -- the current list can be a draft's list
   pub standing_list : IsDraftList kept.entries.items kept.entries.items
   standing_list = record {
     fit = stored.0.entries_fit;
@@ -39,7 +39,7 @@ module _ {sectors : ℕ} (kept : Kept) (stored : IsStored sectors kept) where
     each = λ i d lt listed. Contains-get_or kept.entries.items i d lt;
   }
 
-  -- and its preloads are a draft's.
+  -- the current preloads can be a draft's
   pub standing_preloads : ArePreloads (length kept.entries.items) (listed_preloads kept.root)
   standing_preloads =
       let listed = stored.0.root_fits.preloads.listed in
@@ -49,7 +49,7 @@ module _ {sectors : ℕ} (kept : Kept) (stored : IsStored sectors kept) where
         once = stored.0.root_fits.preloads.distinct;
       }
 
-  -- nothing is staged, and there is the room of the next change
+  -- when an update begins, nothing is written yet, and there is room for the next change
   pub standing_staged : IsStagedIn kept kept.entries.items
   standing_staged = record {
     standing = kept.layout;
@@ -81,7 +81,7 @@ module _ {sectors : ℕ} (kept : Kept) (stored : IsStored sectors kept) where
       first = λ _. preloads;
     }
 
-    -- reads give what stands
+    -- when an update begins, the draft's state is the current state
     pub begins_at : {D : Type 0} (facts : D → DiskFacts) (disk : D) → (IsTrue (facts disk).honest → HoldsNow (facts disk)) → (s : State) → IsAt facts (opened disk kept) s
         → IsDraftedAt facts (drafting disk kept draft) s s
     begins_at facts disk holds s at =
@@ -95,7 +95,7 @@ module _ {sectors : ℕ} (kept : Kept) (stored : IsStored sectors kept) where
               ∙ (λ i. draft_state now s.generation (sym its i) (sym preloads i));
         }
 
--- once what a draft wrote is free, all is kept as it stood
+-- once the sectors that a draft wrote are free, the store keeps what it kept before the update
 pub given_up : {sectors : ℕ} (kept : Kept) (draft : Draft) → IsDrafting sectors kept draft → (layout : List Bool)
     → IsReleased kept.layout layout (own_sectors_in kept.entries.items draft.entries.items) → IsStored sectors (with_layout kept layout)
 given_up kept draft is layout released = (

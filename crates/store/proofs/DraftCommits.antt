@@ -1,4 +1,4 @@
--- Committing a draft: the root that follows what stands, what is kept with it, and what it makes of sectors.
+-- Committing a draft: the next root, what is kept with it, and the state that the sectors then hold.
 use Rattle.std.proofs.Common.{◌≡◌, ◌≢◌, ◌⊎◌, ⊎_elim, IsFalse, Ok, ℕ, zero, suc, ◌+◌, ◌-◌, ◌^◌, ◌<◌, ◌≤◌, Bool, false, List, [], ◌∷◌, ◌++◌, length, get_or, map, take, sum_by, All, refl, sym, ap, subst, ◌∙◌, arith}
 use Rattle.std.specs.Prelude.{Contains}
 use Rattle.std.specs.List.{flat_map}
@@ -47,7 +47,7 @@ use Rattle.store.specs.inside.Moved.{IsMoved}
 use Rattle.store.specs.inside.Next.{IsNext, next_root}
 use Rattle.store.specs.inside.Prepared.{IsReady, Makes}
 use Rattle.store.specs.inside.Room.{AreClaimedOnce, IsReleased}
-use Rattle.store.specs.inside.Settled.{CanSettle, IsSettledIn}
+use Rattle.store.specs.inside.Unlisted.{CanReleaseUnlisted, ReleasesUnlisted}
 use Rattle.store.specs.inside.Stored.{IsStored, opened}
 use Rattle.store.proofs.Anew.{released_nothing, back_kept, claimed_as, left_claimed, more_held, more_inside, more_once, moved_apart, moved_held, moved_size}
 use Rattle.store.proofs.Claiming.{all-part}
@@ -66,7 +66,7 @@ use Rattle.store.proofs.Releases.{held_rest, released_rest, released_some}
 use Rattle.store.proofs.Rooms.{costs_are}
 use Rattle.store.proofs.Untouched.{untouched}
 
--- what the entries of a draft have beside a list, entry by entry
+-- if the list `others` doesn't have an entry, the entry's sectors are among those that `others` doesn't use
 own_has : (others entries : List PlacedEntry) (i : ℕ) (d : PlacedEntry) → i < length entries → lists others (get_or entries i d) ≡ false
     → (k : ℕ) → Contains (sectors_of (get_or entries i d)) k → Contains (own_sectors_in others entries) k
 own_has others [] i d lt isnt k found = absurd (omega (arith, lt))
@@ -75,12 +75,12 @@ own_has others (e ∷ entries) zero d lt isnt k found =
 own_has others (e ∷ entries) (suc i) d lt isnt k found =
     Contains-append_right (own_in others e) (own_sectors_in others entries) k (own_has others entries i d (omega (arith, lt)) isnt k found)
 
--- what is the same of each entry is the same of all
+-- if two functions agree on each entry, they agree on the list of entries
 map_same : (f g : PlacedEntry → Library) (entries : List PlacedEntry) → All (λ p. f p ≡ g p) entries → map f entries ≡ map g entries
 map_same f g [] each = refl
 map_same f g (p ∷ entries) each = λ i. each 0 p (omega arith) i ∷ map_same f g entries (λ k d lt. each (suc k) d (omega (arith, lt))) i
 
--- and what is the same of all is the same of each
+-- if two functions agree on the list of entries, they agree on each entry
 member_same : (f g : PlacedEntry → Library) (entries : List PlacedEntry) (p : PlacedEntry) → map f entries ≡ map g entries → Contains entries p → f p ≡ g p
 member_same f g entries p same found =
     sym (ap f found.2)
@@ -89,7 +89,7 @@ member_same f g entries p same found =
     ∙ get_or-map g entries found.0 p (f p) found.1
     ∙ ap g found.2
 
--- what was changed
+-- if the list was changed, something was changed
 pub list_changed : (t : Touched) → t ≡ touched.List → t ≢ touched.Nothing
 list_changed t is nothing = let never : touched.List ≡ touched.Nothing = sym is ∙ nothing in cc never
 
@@ -106,7 +106,7 @@ module _ {sectors : ℕ} {kept : Kept} {draft : Draft} (is : IsDrafting sectors 
   abbrev entries : List PlacedEntry
   entries = draft.entries.items
 
-  -- what is staged, and what goes
+  -- the sectors that the update wrote, and the sectors that the commit gives up
   abbrev own : List ℕ
   own = own_sectors_in standing entries
 
@@ -120,20 +120,22 @@ module _ {sectors : ℕ} {kept : Kept} {draft : Draft} (is : IsDrafting sectors 
   standing_once = own_places standing (occurs_distinct (flat_map sectors_of standing)
       (λ k. omega (arith, distinct_occurs k (used kept.root standing) stands.apart.once, occurs-append k (catalogues_of kept.root) (flat_map sectors_of standing))))
 
-  -- What the draft has and what goes are what stands and what is staged.
+  -- The draft's entries and the sectors that the commit gives up have together the same sectors as the current entries
+  -- and what the update wrote.
   both : (h : List ℕ → ℕ) → h [] ≡ 0
       → sum_by (λ p. h (sectors_of p)) entries + sum_by (λ p. h (own_in entries p)) standing ≡ sum_by (λ p. h (sectors_of p)) standing + sum_by (λ p. h (own_in standing p)) entries
   both h none = swapped h none entries standing is.list.once standing_once is.list.each
 
-  -- There is a next generation where anything was changed.
+  -- If anything was changed, there is a next generation.
   pub commit_later : draft.touched ≢ touched.Nothing → kept.root.generation + 1 < 2 ^ 64
   commit_later changed = omega (arith, is.later changed, stands.root_fits.generation)
 
-  -- There is room for the catalogues,
+  -- The unused sectors are enough for the catalogues of the draft's list.
   pub commit_enough : catalogues_for (length entries) ≤ unused_count kept.layout
   commit_enough = omega (arith, is.staged.room)
 
-  -- and all sectors are counted.
+  -- The disk consists of the roots, the catalogues, the sectors of the draft's entries, the sectors that the commit
+  -- gives up, the sectors that only holders use, and the unused ones.
   pub commit_counted : root_sectors + length (catalogues_of kept.root) + entries_cost entries + length gone + length (lone_sectors kept.held) + unused_count kept.layout ≡ kept.root.sectors
   commit_counted =
       let before = in_use kept.root standing kept.held in
@@ -157,13 +159,13 @@ module _ {sectors : ℕ} {kept : Kept} {draft : Draft} (is : IsDrafting sectors 
         costs_are entries is.list.fit,
       )
 
-  -- Catalogues are taken, and the next root lists the draft by them.
+  -- Catalogues are claimed, and the next root lists the draft's entries by these catalogues.
   module _ {mid : List Bool} {taken : List ℕ} {next : Root} (claimed : IsClaimedBeside kept.layout mid taken)
       (is_next : next ≡ next_root kept.root (length entries) taken draft.preloads.items) where
     listed : catalogues_of next ≡ taken
     listed = ap catalogues_of is_next ∙ listed_sectors-root_over_catalogues (kept.root.generation + 1) kept.root.sectors (length entries) taken draft.preloads.items
 
-    -- they are claimed beside what stands, with what is staged
+    -- the catalogues are claimed beside the current state, together with what the update wrote
     with_own : IsClaimedBeside is.staged.standing mid (own ++ taken)
     with_own = joined stands is.staged.claimed claimed
 
@@ -185,11 +187,12 @@ module _ {sectors : ℕ} {kept : Kept} {draft : Draft} (is : IsDrafting sectors 
       );
     }
 
-    -- There is room for the list, also where holders keep all that goes.
+    -- There is room for the list, even if holders keep all sectors that the commit gives up.
     pub commit_room : (size : ℕ) → kept.root.sectors ≤ size + (length (lone_sectors kept.held) + length gone) → HasRoom size next.list entries
     commit_room size enough = subst (λ r. HasRoom size r.list entries) (sym is_next) (omega (arith, commit_counted, is.staged.room, enough))
 
-    -- Where a call fails all that was taken is given back.
+    -- The catalogues and the update's sectors are claimed beside the current state, so that they can be given back if a
+    -- call fails.
     turned : IsClaimedBeside is.staged.standing mid (taken ++ own)
     turned = claimed_as is.staged.standing mid (own ++ taken) (taken ++ own) (λ k. omega (arith, occurs-append k own taken, occurs-append k taken own)) with_own
 
@@ -216,7 +219,7 @@ module _ {sectors : ℕ} {kept : Kept} {draft : Draft} (is : IsDrafting sectors 
         preloads_once = is.preloads.once;
       }
 
-      -- the catalogues can be written,
+      -- The catalogues can be written.
       pub commit_place : CanBeStaged sectors (Catalogues taken) draft.sectors.items
       commit_place = subst (λ n. CanBeStaged n (Catalogues taken) draft.sectors.items) (sym is.size)
           (subst (CanBeStaged kept.root.sectors (Catalogues taken)) (sym is.places) (
@@ -227,8 +230,8 @@ module _ {sectors : ℕ} {kept : Kept} {draft : Draft} (is : IsDrafting sectors 
             can_be_catalogued kept.root.sectors (length taken) next entries (omega (arith, stands.root_fits.sectors)) count is.list.few commit_next.apart,
           ))
 
-      -- what goes can be settled,
-      pub commit_can : CanSettle kept.root standing entries kept.held mid
+      -- The sectors that the commit gives up can be settled.
+      pub commit_can : CanReleaseUnlisted kept.root standing entries kept.held mid
       commit_can = record {
         before = is.staged.standing;
         kept = stands;
@@ -236,15 +239,15 @@ module _ {sectors : ℕ} {kept : Kept} {draft : Draft} (is : IsDrafting sectors 
         claimed = moved_held stands with_own next entries commit_moved;
       }
 
-      -- and all is kept once it is.
-      pub commit_kept : {left : List HeldRow} {new : List Bool} → IsSettledIn kept.root standing entries kept.held left mid new → IsKept next entries left new
+      -- Once they are settled, the store keeps the draft's list.
+      pub commit_kept : {left : List HeldRow} {new : List Bool} → ReleasesUnlisted kept.root standing entries kept.held left mid new → IsKept next entries left new
       commit_kept {left = left} {new = new} settled = following_kept commit_next stands.root_fits left new
           (moved_size stands with_own new settled.released)
           (commit_room (kept.root.sectors - length (lone_sectors left)) (omega (arith, settled.few)))
           settled.rows
           (left_claimed stands with_own next entries commit_moved (lone_sectors left) settled.freed gone (catalogues_of kept.root) refl settled.parts new settled.released)
 
-  -- The catalogues are taken of the sectors in use.
+  -- The catalogues are taken from the sectors that weren't in use.
   pub commit_taken : (taken : List ℕ) → AreTaken kept.layout taken
       → AreTaken (layout_of kept.root.sectors (in_use kept.root standing kept.held ++ flat_map sectors_of (apart_from standing entries))) taken
   commit_taken taken of_layout =
@@ -256,7 +259,7 @@ module _ {sectors : ℕ} {kept : Kept} {draft : Draft} (is : IsDrafting sectors 
       (singles_same taken kept.layout here (same-from_used kept.layout here (before ++ own)
       (claimed.size ∙ stands.size ∙ sym (length-map-range_with_len _ 0 kept.root.sectors)) (claimed.each before stands.claimed.claims) claims) of_layout)
 
-  -- What stands, by the disk that a draft is at.
+  -- A disk with the current state `s` and the draft's state `d`.
   module _ {D : Type 0} {facts : D → DiskFacts} {disk : D} {s d : State} (at : IsDraftedAt facts (drafting disk kept draft) s d) (holds : HoldsNow (facts disk)) where
     abbrev now : List Sector
     now = (facts disk).now
@@ -264,20 +267,20 @@ module _ {sectors : ℕ} {kept : Kept} {draft : Draft} (is : IsDrafting sectors 
     by_now : StandsBy Two now kept.root standing s
     by_now = at.stands.stands now holds
 
-    -- In sectors where this stands, and what the draft wrote,
+    -- Sectors that hold the current state and have what the draft wrote.
     module _ {m : List Sector} (by : StandsBy Two m kept.root standing s) (written : AreWritten now (staged (drafting disk kept draft)) m) where
       wrote : (i : ℕ) (e : PlacedEntry) → i < length entries → lists standing (get_or entries i e) ≡ false
           → (k : ℕ) → Contains (sectors_of (get_or entries i e)) k → sector m k ≡ sector now k
       wrote i e lt isnt k found = written.each k (subst (λ l. Contains l k) (own_apart standing entries) (own_has standing entries i e lt isnt k found))
 
-      -- the draft's entries are spelt,
+      -- Sectors that hold the current state and have what the draft wrote encode the draft's entries.
       draft_spelt : All (λ placed. SpellsEntry (sector m placed.at) placed.entry) entries
       draft_spelt i e lt = ⊎_elim
           (λ listed. All-contains (λ (p : PlacedEntry). SpellsEntry (sector m p.at) p.entry) standing (get_or entries i e) by.intact.listed.each (is.list.each i e lt listed))
           (λ isnt. subst (λ content. SpellsEntry content (get_or entries i e).entry) (sym (wrote i e lt isnt (get_or entries i e).at (0, omega arith, refl))) (at.spelt i e lt))
           (cases_Bool (lists standing (get_or entries i e)))
 
-      -- and its byte strings are there.
+      -- Sectors that hold the current state and have what the draft wrote have the draft's byte strings.
       draft_library : All (λ p. library_of m p ≡ library_of now p) entries
       draft_library i e lt =
           let p = get_or entries i e in
@@ -300,7 +303,7 @@ module _ {sectors : ℕ} {kept : Kept} {draft : Draft} (is : IsDrafting sectors 
           let generation = ap (λ (t : State). t.generation + 1) by_now.is in
           λ i. record { generation = generation i; libraries = libraries i; preloads = preloads i }
 
-    -- So the catalogues and the next root make the draft's state of what stands.
+    -- The catalogues and the next root turn the current state into the draft's state.
     module _ {mid : List Bool} {taken : List ℕ} {next : Root} (claimed : IsClaimedBeside kept.layout mid taken)
         (is_next : next ≡ next_root kept.root (length entries) taken draft.preloads.items)
         (count : length taken ≡ catalogues_for (length entries)) (later : kept.root.generation + 1 < 2 ^ 64) where
@@ -316,7 +319,7 @@ module _ {sectors : ℕ} {kept : Kept} {draft : Draft} (is : IsDrafting sectors 
                 (draft_spelt by written) (draft_next by written);
           })
 
-  -- Where the preloads alone were chosen, the same catalogues are listed.
+  -- If only the preloads were set, the same catalogues are listed.
   module _ {next : Root} (same : entries ≡ standing) (is_next : next ≡ next_root kept.root (length standing) (catalogues_of kept.root) draft.preloads.items)
       (later : kept.root.generation + 1 < 2 ^ 64) where
     counted_next : next ≡ next_root kept.root kept.root.library_count (catalogues_of kept.root) draft.preloads.items
@@ -353,7 +356,7 @@ module _ {sectors : ℕ} {kept : Kept} {draft : Draft} (is : IsDrafting sectors 
           usable = usable;
         }
 
-    -- They make the draft's state of what stands.
+    -- The new preloads turn the current state into the draft's state.
     pub chosen_makes : {D : Type 0} {facts : D → DiskFacts} {disk : D} {s d : State} → IsDraftedAt facts (drafting disk kept draft) s d → HoldsNow (facts disk)
         → Makes (facts disk).now [] kept choice [] s (next_state s d.libraries d.preloads)
     chosen_makes {facts = facts} {disk = disk} {s = s} {d = d} at holds =
@@ -365,7 +368,7 @@ module _ {sectors : ℕ} {kept : Kept} {draft : Draft} (is : IsDrafting sectors 
         subst (λ t. Makes now [] kept choice [] s t) (λ i. next_state s (libraries i) (preloads i))
         (preloads_followed chosen_next stands.root_fits is.two now s [] (entry_sectors standing))
 
--- A commit of a draft of which nothing was changed makes no call, and the store is as it was.
+-- The commit of a draft in which nothing was changed makes no call, and the store is unchanged.
 module _ {D : Type 0} (facts : D → DiskFacts) (disk : D) {sectors : ℕ} {kept : Kept} {draft : Draft} (is : IsDrafting sectors kept draft)
     (nothing : draft.touched ≡ touched.Nothing) where
   not_list : draft.touched ≢ touched.List

@@ -1,4 +1,4 @@
--- What is known of a draft's state by what is kept: the room for it, and the longest free runs.
+-- The room for a draft's state and the longest unused runs, computed from what is kept.
 use Rattle.std.proofs.Common.{◌≡◌, ℕ, ◌+◌, ◌*◌, List, ◌++◌, length, not, All, Option, IsFalse, IsTrue, refl, sym, ap, subst, ◌∙◌, arith}
 use Rattle.std.specs.List.{flat_map}
 use Rattle.std.proofs.lemmas.List.{length-append}
@@ -49,7 +49,7 @@ module _ {sectors : ℕ} {kept : Kept} {draft : Draft} (is : IsDrafting sectors 
   abbrev own : List ℕ
   own = own_sectors_in standing entries
 
-  -- all that is claimed
+  -- all sectors that are claimed
   abbrev all : List ℕ
   all = in_use kept.root standing kept.held ++ own
 
@@ -65,12 +65,13 @@ module _ {sectors : ℕ} {kept : Kept} {draft : Draft} (is : IsDrafting sectors 
   size : length kept.layout ≡ kept.root.sectors
   size = is.staged.claimed.size ∙ is.staged.stands.size
 
-  -- the entries that stand are each in a sector of their own
+  -- each entry of the current list is in a sector of its own
   pub standing_once : AreDistinct (entry_sectors standing)
   standing_once = own_places standing (occurs_distinct (flat_map sectors_of standing)
       (λ k. omega (arith, distinct_occurs k (used kept.root standing) is.staged.stands.apart.once, occurs-append k (catalogues_of kept.root) (flat_map sectors_of standing))))
 
-  -- What the draft's entries cost and what was left out of them is what the standing ones cost and what is staged.
+  -- The draft's entries and the current entries that were left out cost together as much as the current entries and the
+  -- entries that the update wrote.
   costs_swapped : entries_cost entries + entries_cost (apart_from entries standing) ≡ entries_cost standing + length own
   costs_swapped = omega (
     arith,
@@ -85,7 +86,7 @@ module _ {sectors : ℕ} {kept : Kept} {draft : Draft} (is : IsDrafting sectors 
     rooms.costs_are (apart_from entries standing) (All-filter (λ placed. not (lists entries placed)) (λ (p : PlacedEntry). EntryHasSpelling p.entry) standing is.staged.stands.entries_fit),
   )
 
-  -- What is claimed and what is free are all sectors.
+  -- The claimed sectors and the unused ones are, together, all sectors.
   claimed_free : 2 + length (catalogues_of kept.root) + entries_cost standing + length (lone_sectors kept.held) + length own + unused_count kept.layout ≡ kept.root.sectors
   claimed_free = omega (
     arith,
@@ -109,11 +110,11 @@ module _ {sectors : ℕ} {kept : Kept} {draft : Draft} (is : IsDrafting sectors 
     layout_claims = subst (λ l. ClaimsJust (layout_of kept.root.sectors (in_use kept.root standing kept.held ++ l)) all) (own_apart standing entries)
         (layout_of-claims kept.root.sectors all (λ k d lt. (all_inside k d lt).1))
 
-    -- The longest free runs are the layout's,
+    -- The longest unused runs of the kept layout are those of the draft's layout.
     pub longest_is : longest_in kept ≡ longest_drafted here
     longest_is = ap sector_count (longest_runs-same kept.layout (layout_drafted here) (same-from_used kept.layout (layout_drafted here) all layout_size all_claims layout_claims))
 
-    -- and what is taken of it is taken of what is in use.
+    -- The sectors that are taken from the layout are taken from those that aren't in use.
     pub taken_drafted : {need at : ℕ} {extents : List Extent} {catalogues : List ℕ} → All IsDataExtent extents → All (IsOnDisk (length kept.layout)) extents
         → IsTaken kept.layout need extents at catalogues → IsTaken (layout_drafted here) need extents at catalogues
     taken_drafted {need = need} {at = at} {extents = extents} {catalogues = catalogues} filled on_disk taken =
@@ -132,7 +133,7 @@ module _ {sectors : ℕ} {kept : Kept} {draft : Draft} (is : IsDrafting sectors 
           omega (arith, (All-contains (IsUsable kept.root.sectors) all k all_inside among).1, disk_size)) in
           ap taken_by at.is ∙ omega (arith, costs, length-libraries now entries)
 
-      -- So a draft's state is counted.
+      -- The numbers of a draft's state agree with what is kept.
       pub draft_counted : (s d : State) → IsDraftedAt facts here s d → IsDraftCounted kept (length entries) (room_drafted here) d
       draft_counted s d at = record {
         generation = generation_drafted facts here holds at;
@@ -140,7 +141,7 @@ module _ {sectors : ℕ} {kept : Kept} {draft : Draft} (is : IsDrafting sectors 
         free = omega (arith, taken_is at, costs_swapped, claimed_free, is.staged.room);
       }
 
-      -- and what is answered by what is kept is answered by what contracts see.
+      -- An answer that is right for what is kept is right for what contracts see.
       pub refused_as : {u : Drafted D} → here ≡ u → (First : (sectors longest : ℕ) → State → Option StoreRefusal) (Answered : Option StoreRefusal → Type 0)
           → (IsFalse kept.failed → (sectors : ℕ) (d : State) → IsDraftCounted kept (length entries) sectors d → Answered (First sectors (longest_in kept) d))
           → (s d : State) → IsDraftedAt facts u s d → Answered (First (room_drafted u) (longest_drafted u) d)

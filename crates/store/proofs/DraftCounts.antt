@@ -1,4 +1,5 @@
--- Two lists with entries in common: what is counted of the one, and of what the other has beside it.
+-- Counts over two lists with entries in common: over all entries of one list, and over the entries that only the other
+-- list has.
 use Rattle.std.proofs.Common.{◌≡◌, ◌≢◌, ⊎_elim, ℕ, suc, ◌+◌, ◌<◌, nat_eq, true, false, if◌then◌else◌, ◌||◌, List, [], ◌∷◌, length, get_or, sum_by, All, refl, sym, ap, subst, ◌∙◌, arith}
 use Rattle.std.proofs.lemmas.Bool.{cases_Bool, cases_lt, eq-eqb, eqb-true, eqb-false, ne_eqb}
 use Rattle.std.proofs.lemmas.List.{get_or_default, get_or-map, length-map}
@@ -10,7 +11,7 @@ use Rattle.store.specs.Draft.{lists}
 use Rattle.store.specs.Stands.{entry_sectors, sectors_of}
 use Rattle.store.specs.inside.Draft.{IsOneOrApart, own_in}
 
--- entries in sectors of their own are told by these
+-- two entries at different positions have different sectors
 pub same_at : (entries : List PlacedEntry) → AreDistinct (entry_sectors entries) → (i j : ℕ) (d : PlacedEntry) → i < j → j < length entries
     → (get_or entries i d).at ≢ (get_or entries j d).at
 same_at entries once i j d less lt same =
@@ -22,7 +23,7 @@ same_at entries once i j d less lt same =
 pub rest_once : (x : PlacedEntry) (entries : List PlacedEntry) → AreDistinct (entry_sectors (x ∷ entries)) → AreDistinct (entry_sectors entries)
 rest_once x entries once i j d less lt = once (suc i) (suc j) d (omega (arith, less)) (omega (arith, lt))
 
--- the first of them is in none of the others' sectors
+-- if the entries' sectors are distinct, no later entry is in the sector of the first
 pub first_apart : (x : PlacedEntry) (entries : List PlacedEntry) → AreDistinct (entry_sectors (x ∷ entries)) → All (λ p. x.at ≢ p.at) entries
 first_apart x entries once i d lt same = same_at (x ∷ entries) once 0 (suc i) d (omega arith) (omega (arith, lt)) same
 
@@ -30,16 +31,16 @@ fresh : (x : PlacedEntry) (entries : List PlacedEntry) → AreDistinct (entry_se
 fresh x entries once p same = list_any_none (λ (other : PlacedEntry). nat_eq other.at p.at) entries
     (λ i d lt. ne_eqb (get_or entries i d).at p.at (λ is. first_apart x entries once i d lt (same ∙ sym is)))
 
--- What is counted of sectors: nothing of none.
+-- A function `h` that counts sectors, and is 0 for no sectors.
 module _ (h : List ℕ → ℕ) (none : h [] ≡ 0) where
   abbrev all_of : PlacedEntry → ℕ
   all_of p = h (sectors_of p)
 
-  -- of an entry, beside a list
+  -- the count of the sectors of `p` that the list `others` doesn't use
   abbrev beside : List PlacedEntry → PlacedEntry → ℕ
   beside others p = h (own_in others p)
 
-  -- of an entry in this one's sector
+  -- the count of the sectors of `p` if `p` is in the sector of `x`, and otherwise 0
   abbrev there : PlacedEntry → PlacedEntry → ℕ
   there x p = if nat_eq x.at p.at then all_of p else 0
 
@@ -49,7 +50,8 @@ module _ (h : List ℕ → ℕ) (none : h [] ≡ 0) where
   beside_unlisted : (others : List PlacedEntry) (p : PlacedEntry) → lists others p ≡ false → beside others p ≡ all_of p
   beside_unlisted others p is = ap (λ b. h (if b then [] else sectors_of p)) is
 
-  -- one entry more in the list takes what is in its sector
+  -- one more entry `x` in the list lowers the count of what the list doesn't use by the count of the entries in the
+  -- sector of `x`
   one_less : (x : PlacedEntry) (xs ys : List PlacedEntry) → AreDistinct (entry_sectors (x ∷ xs)) → sum_by (beside xs) ys ≡ sum_by (beside (x ∷ xs)) ys + sum_by (there x) ys
   one_less x xs [] once = refl
   one_less x xs (y ∷ ys) once =
@@ -72,7 +74,8 @@ module _ (h : List ℕ → ℕ) (none : h [] ≡ 0) where
       let its : there x y ≡ 0 = ap (λ b. if b then all_of y else 0) (ne_eqb x.at y.at (apart 0 y (omega arith))) in
       omega (arith, its, nothing_there x ys (λ i d lt. apart (suc i) d (omega (arith, lt))), sum_by-cons (there x) y ys)
 
-  -- an entry is in its sector, or beside the list
+  -- the count of the entries in the sector of `x`, and the count of what the list doesn't use of `x`, are together the
+  -- count of `x`
   one_there : (x : PlacedEntry) (ys : List PlacedEntry) → AreDistinct (entry_sectors ys) → All (λ p. x.at ≡ p.at → p ≡ x) ys → sum_by (there x) ys + beside ys x ≡ all_of x
   one_there x [] once same = omega arith
   one_there x (y ∷ ys) once same = ⊎_elim
@@ -89,7 +92,7 @@ module _ (h : List ℕ → ℕ) (none : h [] ≡ 0) where
       omega (arith, its, stays, one_there x ys (rest_once y ys once) (λ i d lt. same (suc i) d (omega (arith, lt))), sum_by-cons (there x) y ys))
       (cases_Bool (nat_eq x.at y.at))
 
-  -- where an entry whose sector the list has is one of it, what is in its sector is this one
+  -- an entry in the sector of `x` is `x`, if `x` is one of the list or apart from it
   one_same : (x : PlacedEntry) (ys : List PlacedEntry) → AreDistinct (entry_sectors ys) → IsOneOrApart ys x → All (λ p. x.at ≡ p.at → p ≡ x) ys
   one_same x ys once one i d lt same =
       let found = one (list_any_at (λ (other : PlacedEntry). nat_eq other.at x.at) ys i d lt (eq-eqb (get_or ys i d).at x.at (sym same))) in
@@ -103,7 +106,7 @@ module _ (h : List ℕ → ℕ) (none : h [] ≡ 0) where
           (λ from. ⊎_elim (λ more. absurd (same_at ys once j i d more lt (sym same))) (λ upto. omega (arith, from, upto)) (cases_lt j i))
           (cases_lt i j)
 
-  -- Of both lists together the same is counted, whichever is taken whole.
+  -- For both lists together, the count is the same, whichever list is counted whole.
   pub swapped : (xs ys : List PlacedEntry) → AreDistinct (entry_sectors xs) → AreDistinct (entry_sectors ys) → All (IsOneOrApart ys) xs
       → sum_by all_of xs + sum_by (beside xs) ys ≡ sum_by all_of ys + sum_by (beside ys) xs
   swapped [] ys once others each = same_sum ys

@@ -1,4 +1,4 @@
--- What an update keeps once a line changed its draft, or was refused.
+-- What an update keeps after a line changed its draft, or was refused.
 use Rattle.std.proofs.Common.{◌≡◌, ◌≢◌, ℕ, Bool, List, length, IsFalse, Ok, Err, sym, ap, subst, ◌∙◌}
 use Rattle.std.proofs.lemmas.Bool.{false_from_ne_true}
 use Rattle.states.specs.Limits.{last_generation}
@@ -14,7 +14,7 @@ use Rattle.store.specs.inside.NameIndex.{IsIndex}
 use Rattle.roots.specs.Root.{listed_preloads, version_of}
 use Rattle.store.proofs.DraftRooms.{staged_as}
 
--- another layout keeps the list
+-- a change of the layout only keeps the list
 pub layout_keeps : (old new : Kept) {layout : List Bool} → new ≡ with_layout old layout → KeepsList old new
 layout_keeps old new same = record {
   root = ap (λ k. k.root) same;
@@ -24,7 +24,7 @@ layout_keeps old new same = record {
   held = ap (λ k. k.held) same;
 }
 
--- and so do two steps of which each does
+-- if two steps each keep the list, both together keep it
 pub keeps_both : {old mid new : Kept} → KeepsList old mid → KeepsList mid new → KeepsList old new
 keeps_both first second = record {
   root = second.root ∙ first.root;
@@ -34,7 +34,7 @@ keeps_both first second = record {
   held = second.held ∙ first.held;
 }
 
--- The list that stands is kept, and the draft is another one.
+-- The current list is kept, and the draft is replaced by another one.
 module _ {sectors more : ℕ} {kept after : Kept} {old new : Draft} (is : IsDrafting sectors kept old) (same : KeepsList kept after) (size : more ≡ sectors) where
   pub redrafted : IsStagedIn after new.entries.items → IsDraftList kept.entries.items new.entries.items → IsIndex new.entries.items new.index
       → new.sectors.items ≡ entry_sectors new.entries.items → ArePreloads (length new.entries.items) new.preloads.items
@@ -56,7 +56,7 @@ module _ {sectors more : ℕ} {kept after : Kept} {old new : Draft} (is : IsDraf
     first = λ nothing. begun nothing ∙ sym (ap (λ r. listed_preloads r) same.root);
   }
 
-  -- All of the draft is as it was, but for memory.
+  -- If the draft is unchanged except for its memory, the data that the update keeps are still consistent.
   pub drafting_as : IsStagedIn after old.entries.items → new.entries.items ≡ old.entries.items → new.sectors.items ≡ old.sectors.items → new.index.positions ≡ old.index.positions
       → new.preloads.items ≡ old.preloads.items → new.touched ≡ old.touched → IsDrafting more after new
   drafting_as staged entries places positions preloads touched = redrafted
@@ -69,13 +69,13 @@ module _ {sectors more : ℕ} {kept after : Kept} {old new : Draft} (is : IsDraf
       (λ other. entries ∙ is.same (λ list. other (touched ∙ list)))
       (λ nothing. preloads ∙ is.first (sym touched ∙ nothing))
 
--- What taking room says of a store:
+-- What taking room says about a store:
 module _ {old new : Kept} {name bytes : List ℕ} {spare : ℕ} {Refuses : StoreRefusal → Type 0} where
-  -- where bytes got it, it is usable,
+  -- if bytes got room, the store is usable
   pub took_usable : {put : PlacedEntry} → TakesBeside old new name bytes spare Refuses (Ok put) → IsFalse old.failed
   took_usable takes = false_from_ne_true old.failed (λ failed. cc (takes.reopen.1 failed))
 
-  -- and where they got none, nothing changed.
+  -- if bytes got no room, nothing changed
   pub took_nothing : {e : StoreRefusal} → TakesBeside old new name bytes spare Refuses (Err e) → new ≡ old
   took_nothing takes = takes.kept ∙ ap (with_layout old) takes.same
 

@@ -1,4 +1,4 @@
--- Lines of an update that are refused, and what is known of a draft's state.
+-- Lines of an update that are refused, and facts about a draft's state.
 use Rattle.std.proofs.Common.{◌≡◌, ◌≢◌, ◌↔◌, ℕ, IsTrue, Err, refl, sym, ap, subst, ◌∙◌}
 use Rattle.sector_disk.specs.Disk.{DiskFacts, HoldsNow, LeavesOnly}
 use Rattle.sector_disk.proofs.Moments.{at_rest}
@@ -11,7 +11,7 @@ use Rattle.store.proofs.Holding.{err_is}
 use Rattle.store.proofs.KeepsHolders.{keeps_same}
 use Rattle.store.proofs.Outcomes.{still}
 
--- A line that changed neither what stands nor its disk.
+-- A line that changed neither the current state nor its disk.
 module _ {D : Type 0} (facts : D → DiskFacts) {old new : Drafted D} (same : new.store ≡ old.store) where
   stays_still : StaysBeside facts old new
   stays_still = record {
@@ -23,7 +23,7 @@ module _ {D : Type 0} (facts : D → DiskFacts) {old new : Drafted D} (same : ne
     held = keeps_same facts same;
   }
 
-  -- it is refused
+  -- if the line changed nothing and `e` isn't Device, the line may be refused with `e`
   pub line_refused : {most : ℕ} {Refuses : StoreRefusal → Type 0} (e : StoreRefusal) → ((e ≡ Reopen) ↔ IsTrue old.store.failed) → e ≢ Device → Refuses e → IsSameDraft old new
       → IsLine facts old new most Refuses (Err e)
   line_refused e reopen early may draft = record {
@@ -40,12 +40,12 @@ module _ {D : Type 0} (facts : D → DiskFacts) {old new : Drafted D} (same : ne
     refused = draft;
   }
 
--- nothing of it changed
+-- each draft is the same draft as itself
 pub same_draft : {D : Type 0} (u : Drafted D) → IsSameDraft u u
 same_draft u = record { entries = refl; preloads = refl; touched = refl }
 
--- What is known of a draft's state.
+-- Facts about a draft's state.
 module _ {D : Type 0} (facts : D → DiskFacts) (u : Drafted D) (holds : IsTrue (facts u.store.disk).honest → HoldsNow (facts u.store.disk)) {s d : State} (at : IsDraftedAt facts u s d) where
-  -- It is of the generation that stands.
+  -- The draft's state has the current generation.
   pub generation_drafted : d.generation ≡ u.store.root.generation
   generation_drafted = ap (λ t. t.generation) at.is ∙ ap (λ t. t.generation) (at.stands.stands (facts u.store.disk).now (holds at.stands.honest)).is

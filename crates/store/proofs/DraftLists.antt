@@ -24,7 +24,7 @@ use Rattle.store.proofs.Removed.{all_remove, closed_apart, closed_inside}
 use Rattle.store.proofs.Replacements.{names_with, set_cases}
 use Rattle.store.proofs.UsedAlone.{no_entry, own_used}
 
--- entries in sectors of their own, by the entries and by the sectors
+-- if the entries' sectors are distinct, any two entries have different sectors
 pub places_pairs : (entries : List PlacedEntry) → AreDistinct (entry_sectors entries) → AllPairs (λ a b. a.at ≢ b.at) entries
 places_pairs entries once i j d less lt = same_at entries once i j d less lt
 
@@ -35,17 +35,17 @@ pairs_places entries pairs i j d less lt same =
     let before : i < length entries = omega (arith, less, fits) in
     pairs i j no_entry less fits (sym (get_or-map at entries i no_entry d before) ∙ same ∙ get_or-map at entries j no_entry d fits)
 
--- An entry in a sector that isn't in use stands nowhere.
+-- The current list has no entry in a sector that isn't in use.
 pub unlisted : (root : Root) (standing : List PlacedEntry) (put : PlacedEntry) → (Contains (used root standing) put.at → ⊥) → lists standing put ≡ false
 unlisted root standing put unused = list_any_none (λ (other : PlacedEntry). nat_eq other.at put.at) standing
     (λ i d lt. ne_eqb (get_or standing i d).at put.at (λ same. unused (subst (Contains (used root standing)) same (own_used root standing i d lt))))
 
--- one that stands nowhere is no other's
+-- if no entry of the list is in the sector of an entry, the entry is apart from the list
 pub unlisted_apart : (standing : List PlacedEntry) (put : PlacedEntry) → lists standing put ≡ false → IsOneOrApart standing put
 unlisted_apart standing put isnt is = absurd (false≢true (sym isnt ∙ is))
 
 module _ {standing entries : List PlacedEntry} (is : IsDraftList standing entries) where
-  -- One more stands behind the others.
+  -- One more entry is put after the others.
   module _ (put : PlacedEntry) (fits : EntryHasSpelling put.entry) (isnt : lists standing put ≡ false) (apart : All (λ p. p.at ≢ put.at) entries) where
     pub list_more : All (λ other. name_of other.entry ≢ name_of put.entry) entries → length entries < most_libraries → IsDraftList standing (entries ++ put ∷ [])
     list_more new few = record {
@@ -56,7 +56,7 @@ module _ {standing entries : List PlacedEntry} (is : IsDraftList standing entrie
       each = All-push (IsOneOrApart standing) entries put is.each (unlisted_apart standing put isnt);
     }
 
-    -- Another one stands in the place of one of its name.
+    -- If an entry replaces the one with its name, the list can still be a draft's list.
     pub list_set : (place : ℕ) → place < length entries → ((d : PlacedEntry) → name_of (get_or entries place d).entry ≡ name_of put.entry) → IsDraftList standing (set entries place put)
     list_set place lt named = record {
       fit = All-set (λ (p : PlacedEntry). EntryHasSpelling p.entry) entries place put fits is.fit;
@@ -78,7 +78,7 @@ module _ {standing entries : List PlacedEntry} (is : IsDraftList standing entrie
             (λ _ same. apart i d before same)
             (λ _. places_pairs entries is.once i j d less inside))
 
-  -- One is gone.
+  -- If one entry is removed, the list can still be a draft's list.
   pub list_less : (gone : ℕ) → gone < length entries → IsDraftList standing (remove entries gone)
   list_less gone lt = record {
     fit = all_remove (λ (p : PlacedEntry). EntryHasSpelling p.entry) entries gone is.fit;
@@ -88,7 +88,7 @@ module _ {standing entries : List PlacedEntry} (is : IsDraftList standing entrie
     each = all_remove (IsOneOrApart standing) entries gone is.each;
   }
 
--- The positions of preloads are others' too in a longer list,
+-- The positions of preloads are valid in a longer list too.
 pub preloads_within : {libraries more : ℕ} {preloads : List ℕ} → ArePreloads libraries preloads → libraries ≤ more → ArePreloads more preloads
 preloads_within is enough = record {
   few = is.few;
@@ -96,7 +96,7 @@ preloads_within is enough = record {
   once = is.once;
 }
 
--- and they close up over one that goes.
+-- If the positions after a removed entry move up, they can still be the positions of preloads.
 pub preloads_closed : {libraries left : ℕ} {preloads : List ℕ} (gone : ℕ) → ArePreloads libraries preloads → gone < libraries → left + 1 ≡ libraries
     → All (λ position. position ≢ gone) preloads → ArePreloads left (map (closed_up gone) preloads)
 preloads_closed {libraries = libraries} {left = left} {preloads = preloads} gone is lt less others = record {
@@ -111,14 +111,14 @@ preloads_closed {libraries = libraries} {left = left} {preloads = preloads} gone
       (closed_apart gone (get_or preloads i 0) (get_or preloads j 0) (others i 0 (omega (arith, before, fewer))) (others j 0 fewer) (sym one_of ∙ same ∙ other));
 }
 
--- They are written where they stand.
+-- Writing the moved positions over the old ones replaces all of them.
 pub closed_there : (gone : ℕ) (preloads now closed : List ℕ) → now ≡ preloads → closed ≡ map (closed_up gone) now → refill (length preloads) preloads closed ≡ map (closed_up gone) preloads
 closed_there gone preloads now closed value is =
     let its : closed ≡ map (closed_up gone) preloads = is ∙ ap (map (closed_up gone)) value in
     let count : length closed ≡ length preloads = ap length its ∙ length-map preloads (closed_up gone) in
     ap (λ n. take n (closed ++ drop (length closed) preloads)) (sym count) ∙ take-append_seam closed (drop (length closed) preloads) ∙ its
 
--- A position whose name no preload has is none of theirs.
+-- If no preload has the name of the entry at a position, no preload is at this position.
 pub others_named : (entries : List PlacedEntry) (preloads name : List ℕ) (gone : ℕ) → All (λ position. (d : PlacedEntry) → name_of (get_or entries position d).entry ≢ name) preloads
     → ((d : PlacedEntry) → name_of (get_or entries gone d).entry ≡ name) → All (λ position. position ≢ gone) preloads
 others_named entries preloads name gone none named k d lt same = none k d lt no_entry (ap (λ i. name_of (get_or entries i no_entry).entry) same ∙ named no_entry)

@@ -1,4 +1,5 @@
--- Bytes that got room beside a draft, and an entry that leaves it: what is claimed, and what room is left.
+-- Bytes that got room beside a draft, and an entry that leaves the draft: which sectors are claimed, and what room is
+-- left.
 use Rattle.std.proofs.Common.{◌≡◌, ◌≢◌, ℕ, ◌+◌, ◌*◌, ◌<◌, ◌≤◌, Bool, false, List, [], ◌∷◌, ◌++◌, length, get_or, set, All, IsFalse, IsTrue, Result, Ok, Err, refl, sym, ap, subst, ◌∙◌, arith}
 use Rattle.std.specs.Prelude.{Contains}
 use Rattle.std.specs.Int.{div_ceil}
@@ -57,11 +58,11 @@ module _ {kept : Kept} {entries : List PlacedEntry} (staged : IsStagedIn kept en
     );
   }
 
-  -- what it has beside what stands is claimed,
+  -- Those sectors of the entry that the current list doesn't use are claimed.
   pub left_held : AreClaimedOnce kept.layout (own_in kept.entries.items placed)
   left_held = restaged_held leaving
 
-  -- and once that is free there is as much room as before.
+  -- Once the entry's sectors are freed, the remaining entries are staged, and there is as much room as before.
   pub left_staged : {after : Kept} → KeepsList kept after → IsReleased kept.layout after.layout (own_in kept.entries.items placed) → IsStagedIn after (remove entries gone)
   left_staged same released = restaged leaving released same refl (
       let fewer = length-remove entries gone lt in
@@ -70,7 +71,7 @@ module _ {kept : Kept} {entries : List PlacedEntry} (staged : IsStagedIn kept en
       let less : catalogues_for (length (remove entries gone)) ≤ catalogues_for (length entries) = omega (arith, fewer, now.0, now.1, before.0, before.1) in
       omega (arith, less, staged.room))
 
--- Bytes got room.
+-- Room was taken for bytes beside the draft.
 module _ {sectors : ℕ} {kept : Kept} {draft : Draft} {mid : List Bool} {name bytes : List ℕ} {spare : ℕ} {put : PlacedEntry}
     (is : IsDrafting sectors kept draft) (taken : IsPutTaken kept.layout mid name bytes 0 spare put []) where
   abbrev entries : List PlacedEntry
@@ -79,7 +80,7 @@ module _ {sectors : ℕ} {kept : Kept} {draft : Draft} {mid : List Bool} {name b
   pub put_claimed : IsClaimedBeside kept.layout mid (sectors_of put)
   put_claimed = subst (IsClaimedBeside kept.layout mid) (append-nil (sectors_of put)) taken.claimed
 
-  -- the entry stands nowhere, and no other entry of the draft is in its sector
+  -- the current list doesn't have the entry, and no other entry of the draft is in its sector
   pub put_unlisted : lists kept.entries.items put ≡ false
   put_unlisted = unlisted kept.root kept.entries.items put (λ found. beside_free is.staged.stands is.staged.claimed put_claimed put.at (0, omega arith, refl)
       (Contains-append_left (used kept.root kept.entries.items) (lone_sectors kept.held) put.at found))
@@ -100,7 +101,7 @@ module _ {sectors : ℕ} {kept : Kept} {draft : Draft} {mid : List Bool} {name b
   pub put_held : AreClaimedOnce mid (sectors_of put)
   put_held = restaged_held taking_back
 
-  -- It has its place.
+  -- The entry and its bytes have their places on the disk.
   pub put_place : HasPlace sectors put []
   put_place = record {
     spelling = taken.fits;
@@ -114,13 +115,13 @@ module _ {sectors : ℕ} {kept : Kept} {draft : Draft} {mid : List Bool} {name b
       size : length kept.layout ≡ sectors
       size = is.staged.claimed.size ∙ is.staged.stands.size ∙ sym is.size
 
-  -- Once it is written, reads give of the draft's entries what they gave,
+  -- Writing the entry doesn't change the sectors of the draft's entries.
   pub put_still : {now now' : List Sector} → SameBut (Contains (sectors_of put)) now now' → (k : ℕ) → Contains (flat_map sectors_of entries) k → sector now' k ≡ sector now k
   put_still same k found =
       let one = of_entry entries k found in
       beside_now is.staged.stands is.staged.claimed put_claimed same k (drafted_sectors kept.root kept.entries.items kept.held entries is.list.each one.0 no_entry one.1 k (one.2 no_entry))
 
-  -- and of it its bytes.
+  -- Once the entry is written, reads return its bytes.
   module _ (now : List Sector) (written : bytes_at now (places (extents_of put.entry)) ≡ padded (sector_bytes * sector_count (extents_of put.entry)) bytes) where
     pub put_library : record { name = name; bytes = bytes } ≡ library_of now put
     put_library = sym (λ i. record {
@@ -131,11 +132,11 @@ module _ {sectors : ℕ} {kept : Kept} {draft : Draft} {mid : List Bool} {name b
     pub put_bytes : bytes_at now (places (extents_of put.entry)) ≡ padded (sector_bytes * div_ceil (length bytes) sector_bytes) bytes
     put_bytes = written ∙ ap (λ n. padded (sector_bytes * n) bytes) taken.size
 
-  -- Given back, it leaves what was there.
+  -- If the entry's sectors are given back, everything is claimed as before.
   pub back_staged : {after : Kept} → KeepsList kept after → IsReleased mid after.layout (sectors_of put) → IsStagedIn after entries
   back_staged same released = restaged taking_back released same refl (omega (arith, is.staged.room))
 
-  -- behind the others
+  -- The new entry is put after the others.
   putting : IsRestaged kept entries mid (sectors_of put) [] (entries ++ put ∷ [])
   putting = record {
     staged = is.staged;
@@ -153,7 +154,7 @@ module _ {sectors : ℕ} {kept : Kept} {draft : Draft} {mid : List Bool} {name b
   more_staged same layout enough = restaged putting (released_nothing mid) same layout
       (omega (arith, enough, taken.room, its_cost, ap catalogues_for (length-append entries (put ∷ []))))
 
-  -- in the place of another
+  -- The new entry takes the place of another.
   module _ (place : ℕ) (placed : PlacedEntry) (lt : place < length entries) (its : placed ≡ get_or entries place placed) where
     replacing : IsRestaged kept entries mid (sectors_of put) (own_in kept.entries.items placed) (set entries place put)
     replacing = record {
@@ -181,7 +182,7 @@ module _ {sectors : ℕ} {kept : Kept} {draft : Draft} {mid : List Bool} {name b
     over_staged same released enough = restaged replacing released same refl
         (omega (arith, enough, taken.room, its_cost, ap catalogues_for (length-set entries place put)))
 
-  -- A line wrote it, or a write failed, and what stands is kept.
+  -- A line wrote the entry, or a write failed, and the current list is kept.
   module _ {D : Type 0} (facts : D → DiskFacts) (disk after : D) {last : Kept} (new : Draft) {u : Drafted D} (seen : drafting disk kept draft ≡ u) (same : KeepsList kept last)
       (leaves : IsTrue (facts disk).honest → LeavesOnly (facts disk) (facts after) (IsMixtureBut (Contains (sectors_of put)) (facts disk))) where
     abbrev before : Drafted D

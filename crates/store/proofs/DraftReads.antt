@@ -1,4 +1,4 @@
--- What an update keeps of its draft, by the draft's state, and what reading a byte string of it does.
+-- The data of an update's draft, compared with the draft's state, and the effect of reading one of its byte strings.
 use Rattle.std.proofs.Common.{◌≡◌, ◌⊎◌, ◌↔◌, ⊎_elim, ℕ, ◌+◌, ◌-◌, ◌<◌, ◌≤◌, List, ◌∷◌, [], ◌++◌, length, get_or, map, All, Option, Some, None, IsTrue, IsFalse, Result, Ok, Err, IfErr, IfOk, OnOk, refl, sym, ap, subst, ◌∙◌, arith}
 use Rattle.std.specs.Prelude.{Contains, IsNone, IfSome}
 use Rattle.std.specs.Global.{Vec}
@@ -32,7 +32,7 @@ use Rattle.store.proofs.DraftWrites.{drafted_sectors, drafted_usable}
 use Rattle.store.proofs.Libraries.{length-libraries, length-library}
 use Rattle.store.proofs.UsedAlone.{no_entry}
 
--- What is kept of a draft, by its state.
+-- The data that are kept of a draft, compared with the draft's state.
 module _ {D : Type 0} (facts : D → DiskFacts) {u : Drafted D} {s d : State} (at : IsDraftedAt facts u s d) where
   abbrev now : List Sector
   now = (facts u.store.disk).now
@@ -52,7 +52,7 @@ module _ {D : Type 0} (facts : D → DiskFacts) {u : Drafted D} {s d : State} (a
   pub preloads_drafted : d.preloads ≡ names_at d.libraries u.preloads
   preloads_drafted = ap (λ t. t.preloads) at.is ∙ ap (λ l. names_at l u.preloads) (sym libraries_are)
 
-  -- the answer to where a name stands
+  -- if the answer to a search for a name is right for the draft's entries, it is right for the draft's state
   pub position_drafted : (name : List ℕ) (result : Option ℕ) → HaveOwnNames u.entries → (IsNone result → IsNewToDraft u name)
       → IfSome result (λ i. (i < length u.entries) × ((p : PlacedEntry) → name_of (get_or u.entries i p).entry ≡ name))
       → (i : ℕ) → (result ≡ Some i) ↔ ((i < length d.libraries) × ((get_or d.libraries i no_library).name ≡ name))
@@ -77,7 +77,7 @@ module _ {D : Type 0} (facts : D → DiskFacts) {u : Drafted D} {s d : State} (a
         (cases_lt i j),
   )
 
--- The sectors of a draft's entry lie on the disk,
+-- The sectors of a draft's entry lie on the disk.
 drafted_inside : {sectors : ℕ} {kept : Kept} {draft : Draft} → IsDrafting sectors kept draft → (i : ℕ) (d : PlacedEntry) → i < length draft.entries.items
     → (k : ℕ) → Contains (places (extents_of (get_or draft.entries.items i d).entry)) k → k < sectors
 drafted_inside {kept = kept} {draft = draft} is i d lt k found =
@@ -87,7 +87,7 @@ drafted_inside {kept = kept} {draft = draft} is i d lt k found =
     (drafted_sectors kept.root kept.entries.items kept.held draft.entries.items is.list.each i d lt k (Contains-append_right (placed.at ∷ []) (places (extents_of placed.entry)) k found)) in
     omega (arith, usable.1, is.size)
 
--- so its byte string is as long as the entry says,
+-- The byte string of a draft's entry is as long as the entry says.
 pub length_drafted : {D : Type 0} (facts : D → DiskFacts) {u : Drafted D} {s d : State} (at : IsDraftedAt facts u s d) → (IsTrue (facts u.store.disk).honest → HoldsNow (facts u.store.disk))
     → (IsTrue (facts u.store.disk).honest → HasWholeSectors (facts u.store.disk)) → {kept : Kept} {draft : Draft} → IsDrafting (facts u.store.disk).sectors kept draft
     → u.entries ≡ draft.entries.items → (i : ℕ) (p : PlacedEntry) → i < length draft.entries.items → (get_or draft.entries.items i p).entry.file_length ≡ length (get_or d.libraries i no_library).bytes
@@ -99,7 +99,7 @@ length_drafted facts {u = u} {d = d} at holds whole {draft = draft} is same i p 
     ∙ length-library now (get_or draft.entries.items i p) (whole_mixture (whole at.stands.honest) (facts u.store.disk).time (omega arith) now current) (is.list.fit i p lt)
     (λ k found. subst (λ n. k < n) (sym current.size) (drafted_inside is i p lt k found)))
 
--- and its extents end there.
+-- The extents of a draft's entry end on the disk.
 pub drafted_on_disk : {sectors : ℕ} {kept : Kept} {draft : Draft} → IsDrafting sectors kept draft → (i : ℕ) (d : PlacedEntry) → i < length draft.entries.items
     → All (IsOnDisk sectors) (extents_of (get_or draft.entries.items i d).entry)
 drafted_on_disk {draft = draft} is i d lt j e in_extents =
@@ -112,7 +112,7 @@ drafted_on_disk {draft = draft} is i d lt j e in_extents =
     omega (arith, inside, filled)
 
 module _ {D : Type 0} (facts : D → DiskFacts) (u : Drafted D) where
-  -- What a draft whose store failed answers.
+  -- An update whose store failed answers a read of its draft with Reopen.
   pub draft_refused : (position : ℕ) → IsTrue u.store.failed → ReadsDraft facts u u position (Err Reopen)
   draft_refused position failed = record {
     read = blob_refused Two facts (listing u) position failed;

@@ -1,4 +1,4 @@
--- What is claimed of a layout beside what stands, once a line of an update took sectors and freed others.
+-- The sectors that are claimed beside the current state, after a line of an update took sectors and freed others.
 use Rattle.std.proofs.Common.{◌≡◌, ⊎_elim, ℕ, ◌+◌, ◌<◌, ◌≤◌, Bool, List, [], ◌∷◌, ◌++◌, length, get_or, set, sum_by, All, sym, ap, subst, ◌∙◌, arith}
 use Rattle.std.specs.List.{remove}
 use Rattle.std.proofs.lemmas.List.{length-append}
@@ -22,7 +22,7 @@ use Rattle.store.proofs.Anew.{all_usable, claims_as, distinct_as, same_elements}
 use Rattle.store.proofs.Claiming.{all-part}
 use Rattle.store.proofs.Counts.{occurs, occurs-append}
 
--- What is claimed beside one list that was all that was claimed is claimed beside each such list.
+-- If sectors are claimed beside one list of all claimed sectors, they are claimed beside each such list.
 pub claimed_beside : (old new : List Bool) (used more : List ℕ) → length new ≡ length old → ClaimsJust old used → ClaimsJust new (used ++ more) → AreDistinct (used ++ more)
     → All (IsUsable (length old)) more → IsClaimedBeside old new more
 claimed_beside old new used more size before after apart inside = record {
@@ -53,7 +53,7 @@ claimed_beside old new used more size before after apart inside = record {
   inside = inside;
 }
 
--- What is counted of the sectors that entries have beside a list's, by what is counted of each entry.
+-- The count of those sectors of `entries` that the list `others` doesn't use is the sum over the entries.
 module _ (h : List ℕ → ℕ) (none : h [] ≡ 0) (joined : (a b : List ℕ) → h (a ++ b) ≡ h a + h b) (others : List PlacedEntry) where
   own_sum : (entries : List PlacedEntry) → h (own_sectors_in others entries) ≡ sum_by (λ p. h (own_in others p)) entries
   own_sum [] = none
@@ -70,7 +70,7 @@ module _ (h : List ℕ → ℕ) (none : h [] ≡ 0) (joined : (a b : List ℕ) �
       → h (own_sectors_in others (remove entries gone)) + h (own_in others (get_or entries gone d)) ≡ h (own_sectors_in others entries)
   own_removed entries gone d lt = omega (arith, own_sum entries, own_sum (remove entries gone), sum_by-remove (λ p. h (own_in others p)) entries gone d lt)
 
--- the same staged beside the same list, whatever else is kept
+-- if the list and the layout stay the same, what the update wrote is still claimed beside the list
 pub staged_as : {old new : Kept} {entries : List PlacedEntry} → KeepsList old new → new.layout ≡ old.layout → IsStagedIn old entries → IsStagedIn new entries
 staged_as {old = old} {new = new} {entries = entries} same layout is = record {
   standing = is.standing;
@@ -82,8 +82,8 @@ staged_as {old = old} {new = new} {entries = entries} same layout is = record {
   room = omega (arith, is.room, ap unused_count layout, ap (λ root. length (catalogues_of root)) same.root);
 }
 
--- A line takes these sectors beside all that is staged, and of what is claimed then frees those, so
--- that what the other list has beside what stands is left.
+-- A line takes these sectors beside everything that the update wrote, and then frees others of the claimed sectors.
+-- Those sectors of the new list that the current list doesn't use are left.
 pub record IsRestaged (kept : Kept) (entries : List PlacedEntry) (mid : List Bool) (more gone : List ℕ) (others : List PlacedEntry) : Type 0 where
   pub staged : IsStagedIn kept entries
   pub claimed : IsClaimedBeside kept.layout mid more
@@ -142,7 +142,7 @@ module _ {kept : Kept} {entries : List PlacedEntry} {mid : List Bool} {more gone
   after_inside = all-part (IsUsable kept.root.sectors) ((used ++ left) ++ gone) ((used ++ own) ++ more)
       (same_elements ((used ++ left) ++ gone) ((used ++ own) ++ more) (λ k. sym (counts k))) all_inside
 
-  -- so what is freed is claimed,
+  -- The sectors that the line frees are claimed.
   pub restaged_held : AreClaimedOnce mid gone
   restaged_held = (
     used ++ left,
@@ -152,7 +152,7 @@ module _ {kept : Kept} {entries : List PlacedEntry} {mid : List Bool} {more gone
         (all-part (IsUsable kept.root.sectors) gone ((used ++ left) ++ gone) (λ s found. Contains-append_right (used ++ left) gone s found) after_inside),
   )
 
-  -- and once it is free the other list is staged,
+  -- Once they are freed, the new list is staged.
   module _ {new : List Bool} (released : IsReleased mid new gone) where
     left_claims : ClaimsJust new (used ++ left)
     left_claims = released.each (used ++ left) after_claims after_once
@@ -166,7 +166,7 @@ module _ {kept : Kept} {entries : List PlacedEntry} {mid : List Bool} {more gone
     new_size : length new ≡ kept.root.sectors
     new_size = released.size ∙ is.claimed.size ∙ size
 
-    -- with so much room.
+    -- The number of unused sectors grows by those that the line frees, less those that it takes.
     pub restaged_free : unused_count new + length more ≡ unused_count kept.layout + length gone
     restaged_free = omega (
       arith,

@@ -1,4 +1,5 @@
--- Settling a draft: what stood and isn't in its list goes, entry by entry, and holders keep some of it.
+-- Settling a draft: the sectors of the current entries that the draft doesn't have are freed, one entry after the
+-- other, unless somebody holds them.
 use Rattle.std.proofs.Common.{◌≡◌, ◌≢◌, ◌⊎◌, inl, inr, ⊎_elim, ℕ, zero, suc, ◌+◌, ◌<◌, ◌≤◌, ◌==◌, Bool, true, false, if◌then◌else◌, List, [], ◌∷◌, ◌++◌, length, get_or, All, refl, sym, ap, subst, ◌∙◌, arith}
 use Rattle.std.specs.Prelude.{Contains}
 use Rattle.std.specs.List.{flat_map}
@@ -19,7 +20,7 @@ use Rattle.store.specs.inside.Claimed.{IsUsable}
 use Rattle.store.specs.inside.Draft.{IsOneOrApart, own_in, own_sectors_in}
 use Rattle.store.specs.inside.HeldRows.{AreHeldRows, IsAtPlace, IsHeldRow, IsLeft, IsUnheld}
 use Rattle.store.specs.inside.Room.{AreClaimedOnce, IsGivenUp, IsReleased}
-use Rattle.store.specs.inside.Settled.{CanSettle, IsSettledIn, KeepsRows}
+use Rattle.store.specs.inside.Unlisted.{CanReleaseUnlisted, ReleasesUnlisted, KeepsRows}
 use Rattle.store.proofs.Anew.{claims_as, distinct_as}
 use Rattle.store.proofs.Claiming.{all-part}
 use Rattle.store.proofs.Counts.{occurs, occurs-append, occurs-flat_map, contains_occurs, occurs_contains, distinct_occurs, occurs_distinct}
@@ -29,7 +30,7 @@ use Rattle.store.proofs.HeldRows.{by_left, by_left_back, held_left, held_unheld,
 use Rattle.store.proofs.KeyedRows.{no_row}
 use Rattle.store.proofs.Releases.{released_rest, released_some}
 
--- what an entry has beside a list is some of what it has
+-- those sectors of `entries` that the list `others` doesn't use are some of the sectors of `entries`
 own_within : (k : ℕ) (others entries : List PlacedEntry) → occurs k (own_sectors_in others entries) ≤ occurs k (flat_map sectors_of entries)
 own_within k others [] = omega arith
 own_within k others (e ∷ entries) =
@@ -41,7 +42,7 @@ own_within k others (e ∷ entries) =
     (λ isnt. omega (arith, rest, all, own, ap (occurs k) (own_unlisted others e isnt)))
     (cases_Bool (lists others e))
 
--- in sectors of their own, two entries in one sector are one
+-- if the sectors of a list's entries are distinct, two entries in the same sector are the same entry
 one_place : (entries : List PlacedEntry) → AreDistinct (entry_sectors entries) → (i j : ℕ) (d : PlacedEntry) → i < length entries → j < length entries
     → (get_or entries i d).at ≡ (get_or entries j d).at → i ≡ j
 one_place entries once i j d lt lt' same = ⊎_elim
@@ -49,7 +50,7 @@ one_place entries once i j d lt lt' same = ⊎_elim
     (λ from. ⊎_elim (λ more. absurd (same_at entries once j i d more lt (sym same))) (λ upto. omega (arith, from, upto)) (cases_lt j i))
     (cases_lt i j)
 
--- A draft that has the sector of an entry that stands has this entry.
+-- If a draft has an entry in the sector of a current entry, it has this current entry.
 pub drafted_has : (standing drafted : List PlacedEntry) → AreDistinct (entry_sectors standing) → All (IsOneOrApart standing) drafted → (i : ℕ) (d : PlacedEntry)
     → i < length standing → IsOneOrApart drafted (get_or standing i d)
 drafted_has standing drafted once each i d lt listed =
@@ -65,7 +66,7 @@ drafted_has standing drafted once each i d lt listed =
     let same : p ≡ e = sym is ∙ ap (λ n. get_or standing n d) place in
     subst (Contains drafted) same (found.0, found.2, found.3)
 
--- an entry of a list is the first, or one of the others
+-- an entry of a list is the first one, or one of the others
 first_or : (e : PlacedEntry) (rest : List PlacedEntry) (p : PlacedEntry) → Contains (e ∷ rest) p → (e ≡ p) ⊎ Contains rest p
 first_or e rest p found = place found.0 found.1 found.2
   where
@@ -73,7 +74,7 @@ first_or e rest p found = place found.0 found.1 found.2
     place zero lt is = inl is
     place (suc n) lt is = inr (n, omega (arith, lt), is)
 
--- The row of a hold holds without an entry, where that isn't the held one or the draft has it.
+-- A row stays sound without the entry `e`, if `e` isn't the held entry or the draft has it.
 moves_on : (drafted : List PlacedEntry) (e : PlacedEntry) (rest : List PlacedEntry) (hold : HeldRow) → IsHeldRow (drafted ++ e ∷ rest) hold
     → (e ≡ hold.placed → Contains (drafted ++ rest) hold.placed) → IsHeldRow (drafted ++ rest) hold
 moves_on drafted e rest hold row first = record {
@@ -85,7 +86,7 @@ moves_on drafted e rest hold row first = record {
       (Contains-append_cases drafted (e ∷ rest) hold.placed (row.listed is));
 }
 
--- rows that are the same after each of two changes are the same after both
+-- if two changes each keep the rows, both together keep them
 keeps_on : {a b c : List HeldRow} → KeepsRows a b → KeepsRows b c → KeepsRows a c
 keeps_on first second = record {
   holders = λ k. second.holders k ∙ first.holders k;
@@ -103,7 +104,7 @@ rows_left left = record {
   none = λ none. absurd (omega (arith, left.at.inside, ap length none));
 }
 
--- a byte string that the state doesn't list has its sectors alone
+-- if the state doesn't list a held byte string, the sector of its entry is among those that only holders use
 lone_row : {held : List HeldRow} {at place : ℕ} {hold : HeldRow} → IsAtPlace held at place hold → hold.listed ≡ false → 1 ≤ occurs at (lone_sectors held)
 lone_row {held = held} {at = at} {place = place} {hold = hold} row isnt =
     let its : occurs at (own_sectors (get_or held place no_row)) ≡ occurs at (sectors_of hold.placed) =
@@ -116,11 +117,11 @@ lone_row {held = held} {at = at} {place = place} {hold = hold} row isnt =
       get_or-le-sum_by (λ (h : HeldRow). occurs at (own_sectors h)) held place no_row row.inside,
     )
 
--- sectors are given back, and then others
+-- giving back sectors and then others gives back all of them
 released_then : (old mid new : List Bool) (some more : List ℕ) → IsReleased old mid some → IsReleased mid new more → IsReleased old new (some ++ more)
 released_then old mid new some more first second = released_rest old mid new (some ++ more) more (released_some old some more mid first) second
 
--- Of the sectors that can be given back some are, and others of them can be given back still.
+-- After some of the sectors that can be given back are given back, others of them can still be given back.
 held_parts : (old mid : List Bool) (gone freed stay rest : List ℕ) → ((k : ℕ) → occurs k gone ≡ occurs k freed + occurs k stay + occurs k rest)
     → AreClaimedOnce old gone → IsReleased old mid freed → AreClaimedOnce mid rest
 held_parts old mid gone freed stay rest parts (kept, just, once, usable) released =
@@ -143,7 +144,7 @@ held_parts old mid gone freed stay rest parts (kept, just, once, usable) release
       occurs-append k ((kept ++ stay) ++ rest) freed,
     )
 
--- So far some are settled, and these are left to be.
+-- Some entries are settled, and the entries `rest` are still to be settled.
 pub record IsSettledTo (standing drafted : List PlacedEntry) (held mid : List HeldRow) (old now : List Bool) (rest : List PlacedEntry) : Type 0 where
   pub freed : List ℕ
   pub stay : List ℕ
@@ -156,16 +157,16 @@ pub record IsSettledTo (standing drafted : List PlacedEntry) (held mid : List He
   pub keeps : KeepsRows held mid
   pub once : AreDistinct (entry_sectors rest)
 
-module _ {root : Root} {standing drafted : List PlacedEntry} {held : List HeldRow} {old : List Bool} (can : CanSettle root standing drafted held old) where
+module _ {root : Root} {standing drafted : List PlacedEntry} {held : List HeldRow} {old : List Bool} (can : CanReleaseUnlisted root standing drafted held old) where
   pub standing_once : AreDistinct (entry_sectors standing)
   standing_once = own_places standing (occurs_distinct (flat_map sectors_of standing)
       (λ k. omega (arith, distinct_occurs k (used root standing) can.kept.apart.once, occurs-append k (catalogues_of root) (flat_map sectors_of standing))))
 
-  -- an entry that the draft has is the one that stands
+  -- a draft's entry in the sector of a current entry is this current entry
   pub settled_same : (i : ℕ) (d : PlacedEntry) → i < length standing → IsOneOrApart drafted (get_or standing i d)
   settled_same i d lt = drafted_has standing drafted standing_once can.list.each i d lt
 
-  -- what goes lies apart from what holders have
+  -- no sector is both one that the commit gives up and one that only holders use
   apart : (k : ℕ) → occurs k (own_sectors_in drafted standing) + occurs k (lone_sectors held) ≤ 1
   apart k = omega (
     arith,
@@ -175,7 +176,7 @@ module _ {root : Root} {standing drafted : List PlacedEntry} {held : List HeldRo
     occurs-append k (catalogues_of root) (flat_map sectors_of standing),
   )
 
-  -- nothing yet
+  -- at the beginning, no entry is settled
   pub settled_none : IsSettledTo standing drafted held held old old standing
   settled_none = record {
     freed = [];
@@ -204,7 +205,7 @@ module _ {root : Root} {standing drafted : List PlacedEntry} {held : List HeldRo
     own_length : length (own_sectors_in drafted (e ∷ rest)) ≡ length (own_in drafted e) + length (own_sectors_in drafted rest)
     own_length = length-append (own_in drafted e) (own_sectors_in drafted rest)
 
-    -- one that the draft has stays
+    -- an entry that the draft has is settled without freeing anything
     pub settled_listed : lists drafted e ≡ true → Contains drafted e → IsSettledTo standing drafted held mid old now rest
     settled_listed is has = record {
       freed = to.freed;
@@ -227,7 +228,7 @@ module _ {root : Root} {standing drafted : List PlacedEntry} {held : List HeldRo
       own_is : own_in drafted e ≡ sectors_of e
       own_is = own_unlisted drafted e isnt
 
-      -- what goes of it can be given back,
+      -- The sectors of an entry that the draft doesn't have can be given back.
       pub settled_held : AreClaimedOnce now (sectors_of e ++ [])
       settled_held = held_parts old now (own_sectors_in drafted standing ++ catalogues_of root) to.freed ((to.stay ++ own_sectors_in drafted rest) ++ catalogues_of root) (sectors_of e ++ [])
           (λ k. omega (
@@ -241,12 +242,12 @@ module _ {root : Root} {standing drafted : List PlacedEntry} {held : List HeldRo
             occurs-append k (sectors_of e) [],
           )) can.claimed to.released
 
-      -- rows hold without it,
+      -- The rows of other byte strings are sound without this entry.
       other_rows : (hold : HeldRow) → IsHeldRow (drafted ++ e ∷ rest) hold → hold.placed.at ≢ e.at → IsHeldRow (drafted ++ rest) hold
       other_rows hold row other = moves_on drafted e rest hold row (λ same. absurd (other (ap (λ (p : PlacedEntry). p.at) (sym same))))
 
       module _ {place : ℕ} {hold : HeldRow} (row : IsAtPlace mid e.at place hold) where
-        -- the state listed it where it is held,
+        -- If the entry is held, its row counts as listed.
         row_listed : hold.listed ≡ true
         row_listed = ⊎_elim
             (λ is. is)
@@ -262,7 +263,7 @@ module _ {root : Root} {standing drafted : List PlacedEntry} {held : List HeldRo
             )))
             (cases_Bool hold.listed)
 
-        -- and the row has it
+        -- If the entry is held, its row has this entry.
         row_is : hold.placed ≡ e
         row_is = ⊎_elim
             (λ among.
@@ -274,7 +275,7 @@ module _ {root : Root} {standing drafted : List PlacedEntry} {held : List HeldRo
             (first_or e rest hold.placed behind))
             (Contains-append_cases drafted (e ∷ rest) hold.placed ((row_of to.rows row).listed row_listed))
 
-      -- and it goes, or its holders keep it.
+      -- Once the entry's sectors are freed, or left to its holders, the entry is settled.
       pub settled_given : {left : List HeldRow} {new : List Bool} → IsGivenUp mid left now new e [] → IsSettledTo standing drafted held left old new rest
       settled_given {left = left} {new = new} given = ⊎_elim stays goes given
         where
@@ -310,13 +311,13 @@ module _ {root : Root} {standing drafted : List PlacedEntry} {held : List HeldRo
           })
 
   module _ {mid : List HeldRow} {now : List Bool} (to : IsSettledTo standing drafted held mid old now []) where
-    -- once all are settled, the catalogues can be given back,
+    -- Once all entries are settled, the catalogues can be given back.
     pub settled_catalogues : AreClaimedOnce now (catalogues_of root)
     settled_catalogues = held_parts old now (own_sectors_in drafted standing ++ catalogues_of root) to.freed to.stay (catalogues_of root)
         (λ k. omega (arith, to.parts k, occurs-append k (own_sectors_in drafted standing) (catalogues_of root))) can.claimed to.released
 
-    -- and that is all.
-    pub settled_all : {new : List Bool} → IsReleased now new (catalogues_of root) → IsSettledIn root standing drafted held mid old new
+    -- Once the catalogues are given back, everything is settled.
+    pub settled_all : {new : List Bool} → IsReleased now new (catalogues_of root) → ReleasesUnlisted root standing drafted held mid old new
     settled_all {new = new} released = record {
       freed = to.freed;
       parts = λ k. omega (arith, to.parts k, to.lone k);

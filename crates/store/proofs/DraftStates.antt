@@ -1,4 +1,4 @@
--- The state of a draft that a line changed, by what reads give.
+-- The state of a draft after a line of the update, derived from what reads return.
 use Rattle.std.proofs.Common.{◌≡◌, ◌≢◌, ⊎_elim, ℕ, suc, ◌<◌, List, [], ◌∷◌, ◌++◌, length, get_or, map, set, All, refl, sym, ap, subst, ◌∙◌, arith}
 use Rattle.std.specs.Prelude.{Contains}
 use Rattle.std.specs.List.{flat_map, remove}
@@ -20,7 +20,7 @@ use Rattle.store.proofs.Removed.{all_remove, map_remove}
 use Rattle.store.proofs.Replacements.{libraries_with_is, names_at_with}
 use Rattle.store.proofs.UsedAlone.{among_entries, libraries_same}
 
--- a sector of entries is one of an entry
+-- a sector among the sectors of `entries` is a sector of one of the entries
 pub of_entry : (entries : List PlacedEntry) (k : ℕ) → Contains (flat_map sectors_of entries) k → (i : ℕ) × (i < length entries) × ((d : PlacedEntry) → Contains (sectors_of (get_or entries i d)) k)
 of_entry [] k found = absurd (omega (arith, found.1))
 of_entry (e ∷ entries) k found = ⊎_elim
@@ -28,7 +28,7 @@ of_entry (e ∷ entries) k found = ⊎_elim
     (λ there. let found = of_entry entries k there in (suc found.0, omega (arith, found.1), found.2))
     (Contains-append_cases (sectors_of e) (flat_map sectors_of entries) k found)
 
--- What stands is the same, and reads give what they gave of the draft's entries.
+-- The current state is the same, and reads of the draft's old entries return what they returned.
 module _ {D : Type 0} (facts : D → DiskFacts) (old new : Drafted D) {s d : State} (at : IsDraftedAt facts old s d) (stands : IsAt facts new.store s)
     (still : (k : ℕ) → Contains (flat_map sectors_of old.entries) k → sector (facts new.store.disk).now k ≡ sector (facts old.store.disk).now k) where
   abbrev now : List Sector
@@ -45,7 +45,7 @@ module _ {D : Type 0} (facts : D → DiskFacts) (old new : Drafted D) {s d : Sta
   preloads_still : d.preloads ≡ names_at (map (library_of now) old.entries) old.preloads
   preloads_still = ap (λ t. t.preloads) at.is ∙ sym (ap (λ l. names_at l old.preloads) (libraries_same (facts old.store.disk).now now old.entries still))
 
-  -- So the state is that of what the list and the preloads are made.
+  -- The draft's state is the one that the new list and the new preloads make.
   state_made : (entries : List PlacedEntry) (preloads : List ℕ) (made : State) → new.entries ≡ entries → new.preloads ≡ preloads
       → All (λ placed. SpellsEntry (sector now placed.at) placed.entry) entries
       → made.libraries ≡ map (library_of now) entries → made.preloads ≡ names_at (map (library_of now) entries) preloads → IsDraftedAt facts new s (drafted d made)
@@ -60,7 +60,7 @@ module _ {D : Type 0} (facts : D → DiskFacts) (old new : Drafted D) {s d : Sta
   }
 
   module _ (name bytes : List ℕ) (put : PlacedEntry) (spelt : SpellsEntry (sector now put.at) put.entry) (its : record { name = name; bytes = bytes } ≡ library_of now put) where
-    -- one byte string more
+    -- if one entry is put after the others, the draft's state has one more byte string
     pub more_at : new.entries ≡ old.entries ++ put ∷ [] → new.preloads ≡ old.preloads → All (λ position. position < length old.entries) old.preloads
         → IsDraftedAt facts new s (drafted d (with_new name bytes d))
     more_at entries preloads inside = state_made (old.entries ++ put ∷ []) old.preloads (with_new name bytes d) entries preloads
@@ -72,7 +72,7 @@ module _ {D : Type 0} (facts : D → DiskFacts) (old new : Drafted D) {s d : Sta
         ∙ sym (names_at_more (map (library_of now) old.entries) (library_of now put) old.preloads (λ k e lt. omega (arith, inside k e lt, length-libraries now old.entries)))
         ∙ ap (λ l. names_at l old.preloads) (sym (map_push (library_of now) old.entries put)))
 
-    -- other bytes
+    -- if one entry is replaced, the draft's state has the new bytes under its name
     pub set_at : (place : ℕ) → place < length old.entries → ((e : PlacedEntry) → name_of (get_or old.entries place e).entry ≡ name) → name_of put.entry ≡ name → HaveOwnNames old.entries
         → new.entries ≡ set old.entries place put → new.preloads ≡ old.preloads → IsDraftedAt facts new s (drafted d (with_bytes name bytes d))
     set_at place lt named its_name own entries preloads = state_made (set old.entries place put) old.preloads (with_bytes name bytes d) entries preloads
@@ -81,7 +81,7 @@ module _ {D : Type 0} (facts : D → DiskFacts) (old new : Drafted D) {s d : Sta
         ∙ libraries_with_is now name bytes old.entries place put lt (λ k e before same. own k place e before lt (same ∙ sym (named e))) named its)
         (preloads_still ∙ sym (names_at_with now old.entries place put old.preloads (λ e. named e ∙ sym its_name)))
 
-  -- one byte string less
+  -- if one entry is removed, the draft's state has one byte string fewer
   pub less_at : (name : List ℕ) (gone : ℕ) → gone < length old.entries → ((e : PlacedEntry) → name_of (get_or old.entries gone e).entry ≡ name) → HaveOwnNames old.entries
       → All (λ position. position ≢ gone) old.preloads → new.entries ≡ remove old.entries gone → new.preloads ≡ map (closed_up gone) old.preloads
       → IsDraftedAt facts new s (drafted d (without name d))

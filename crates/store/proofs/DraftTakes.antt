@@ -1,4 +1,4 @@
--- Room that bytes get beside a draft, and what is answered where they get none.
+-- The room that bytes get beside a draft, and the refusal if they get none.
 use Rattle.std.proofs.Common.{◌≡◌, ◌≢◌, ◌↔◌, ⊎_elim, ℕ, ◌+◌, ◌-◌, ◌<◌, ◌≤◌, nat_eq, nat_lt, Bool, List, [], length, IsTrue, IsFalse, Result, Ok, Err, Some, None, refl, sym, ap, subst, ◌∙◌, arith}
 use Rattle.std.specs.Int.{div_ceil}
 use Rattle.std.proofs.lemmas.Bool.{eq-eqb, eqb-true, false≢true}
@@ -35,7 +35,7 @@ module _ {kept : Kept} {name bytes : List ℕ} {spare : ℕ} {Refuses : StoreRef
     early = early;
   }
 
-  -- the tests of each change come before all else
+  -- if the tests of a change refuse bytes, nothing is taken
   pub takes_tested : Refuses Reopen → Refuses GenerationEnd → (e : StoreRefusal) → IsTestedChange kept e → TakesBeside kept kept name bytes spare Refuses (Err e)
   takes_tested reopen ends e tested = ⊎_elim
       (λ failed. subst (λ e. TakesBeside kept kept name bytes spare Refuses (Err e)) (sym failed.0)
@@ -44,7 +44,7 @@ module _ {kept : Kept} {name bytes : List ℕ} {spare : ℕ} {Refuses : StoreRef
       (takes_none GenerationEnd refl (λ is. absurd (end-reopen is), λ failed. absurd (false≢true (sym last.1 ∙ failed))) end-device ends))
       tested
 
-  -- they get it
+  -- if room is taken for bytes, only the layout changes
   pub takes_put : {put : PlacedEntry} {layout : List Bool} {more : ℕ} (listed : List ℕ) → IsPutTaken kept.layout layout name bytes 0 more put listed → more ≡ spare → IsFalse kept.failed
       → TakesBeside kept (with_layout kept layout) name bytes spare Refuses (Ok put)
   takes_put {put = put} {layout = layout} {more = more} listed taken same usable = record {
@@ -57,7 +57,7 @@ module _ {kept : Kept} {name bytes : List ℕ} {spare : ℕ} {Refuses : StoreRef
     early = tt;
   }
 
--- The first refusal of bytes in a draft, by what taking room says.
+-- The first refusal of bytes in a draft, as determined by the result of taking room.
 module _ {kept : Kept} {libraries sectors : ℕ} {d : State} (counted : IsDraftCounted kept libraries sectors d) (bytes : List ℕ) (usable : kept.root.generation ≢ last_generation) where
   going_on : d.generation ≢ last_generation
   going_on last = usable (sym counted.generation ∙ last)
@@ -93,11 +93,11 @@ module _ {kept : Kept} {libraries sectors : ℕ} {d : State} (counted : IsDraftC
     draft_new_taken {x = x} takes = first_is ∙ bytes_taken sectors (longest_in kept) (catalogue_cost (length d.libraries)) d bytes going_on x
         (full_is (catalogue_cost (length d.libraries)) new_enough takes) (fragmented_is (catalogue_cost (length d.libraries)) new_enough takes)
 
--- At the last generation bytes are refused for that.
+-- At the last generation bytes are refused with GenerationEnd.
 draft_ends : (sectors longest more : ℕ) (d : State) (bytes : List ℕ) → d.generation ≡ last_generation → refusal_of_bytes sectors longest more d bytes ≡ Some GenerationEnd
 draft_ends sectors longest more d bytes last = if_yes (nat_eq d.generation last_generation) _ _ (λ isnt. false≢true (sym isnt ∙ eq-eqb d.generation last_generation last))
 
--- What one byte string more is answered before room is taken, by what is known of a draft's state.
+-- The refusals of one more byte string that come before room is taken, by the numbers of the draft's state.
 module _ {kept : Kept} {libraries sectors : ℕ} {d : State} (counted : IsDraftCounted kept libraries sectors d) (bytes : List ℕ) where
   module _ (few : libraries < most_libraries) where
     as_put : refusal_of_new sectors (longest_in kept) d bytes ≡ refusal_of_bytes sectors (longest_in kept) (catalogue_cost (length d.libraries)) d bytes

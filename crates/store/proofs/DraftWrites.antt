@@ -1,4 +1,4 @@
--- What is written beside what stands, beside what is held and beside what a draft wrote before.
+-- Writes to sectors that aren't used by the current state, by held byte strings, or by what the draft wrote before.
 use Rattle.std.proofs.Common.{◌≡◌, inr, ⊎_elim, ℕ, zero, suc, ◌<◌, Bool, List, [], ◌∷◌, ◌++◌, length, get_or, All, IsTrue, IsFalse, Result, Ok, Err, sym, subst, ◌∙◌, arith}
 use Rattle.std.specs.Prelude.{Contains}
 use Rattle.std.proofs.lemmas.Bool.{cases_Bool, false≢true}
@@ -31,7 +31,7 @@ use Rattle.store.proofs.KeepsHolders.{keeps_table, listed_used}
 use Rattle.store.proofs.UsedAlone.{same_used}
 use Rattle.passes.proofs.Parts.{distinct-parts}
 
--- The sectors of a draft's entries are in use by what stands, or staged.
+-- The sectors of a draft's entries are in use by the current state, or the update wrote them.
 pub drafted_sectors : (root : Root) (standing : List PlacedEntry) (held : List HeldRow) (entries : List PlacedEntry) → All (IsOneOrApart standing) entries
     → (i : ℕ) (d : PlacedEntry) → i < length entries → (k : ℕ) → Contains (sectors_of (get_or entries i d)) k
     → Contains (in_use root standing held ++ own_sectors_in standing entries) k
@@ -47,14 +47,14 @@ drafted_sectors root standing held entries each i d lt k found = ⊎_elim
     among (e ∷ l) zero d lt found = Contains-append_left (own_in standing e) (own_sectors_in standing l) k found
     among (e ∷ l) (suc i) d lt found = Contains-append_right (own_in standing e) (own_sectors_in standing l) k (among l i d (omega (arith, lt)) found)
 
--- What stands, and what a draft staged beside it.
+-- The current state, and what a draft wrote beside it.
 module _ {root : Root} {standing : List PlacedEntry} {held : List HeldRow} {before layout : List Bool} {own : List ℕ}
     (stands : IsKept root standing held before) (claimed : IsClaimedBeside before layout own) where
-  -- all of it lies behind the roots and on the disk
+  -- all these sectors lie on the disk, after the roots
   pub drafted_usable : All (IsUsable root.sectors) (in_use root standing held ++ own)
   drafted_usable = All-append (IsUsable root.sectors) (in_use root standing held) own (all_usable stands) (more_inside stands claimed)
 
-  -- More is claimed.
+  -- More sectors are claimed.
   module _ {new : List Bool} {more : List ℕ} (taken : IsClaimedBeside layout new more) where
     pub joined : IsClaimedBeside before new (own ++ more)
     joined = claims_more before layout new own more claimed taken
@@ -65,7 +65,7 @@ module _ {root : Root} {standing : List PlacedEntry} {held : List HeldRow} {befo
     pub beside_free : (k : ℕ) → Contains more k → Contains (in_use root standing held) k → ⊥
     beside_free k found there = more_free stands joined k (in_joined k found) there
 
-    -- it lies apart from what stands, from what is held and from what was staged
+    -- the sectors `more` aren't used by the current state, by held byte strings, or by what was written before
     pub beside_apart : (k : ℕ) → Contains (in_use root standing held ++ own) k → Contains more k → ⊥
     beside_apart k found here = distinct-parts (in_use root standing held ++ own) more k
         (taken.once (in_use root standing held ++ own) (claimed.each (in_use root standing held) stands.claimed.claims) (claimed.once (in_use root standing held) stands.claimed.claims stands.claimed.once))
@@ -74,7 +74,7 @@ module _ {root : Root} {standing : List PlacedEntry} {held : List HeldRow} {befo
     beside_low : (k : ℕ) → k < 2 → Contains more k → ⊥
     beside_low k low found = omega (arith, low, (All-contains (IsUsable root.sectors) (own ++ more) k (more_inside stands joined) (in_joined k found)).0)
 
-    -- so what stands is found in each mixture in which it alone was changed,
+    -- Each mixture in which only the sectors `more` were changed holds the current state.
     pub beside_stands : {m m' : List Sector} {s : State} → StandsBy Two m root standing s → SameBut (Contains more) m m' → StandsBy Two m' root standing s
     beside_stands {m = m} {m' = m'} {s = s} by same = same_used Two m m' root standing s (Contains more) by same beside_low
         (λ k used here. beside_free k here (Contains-append_left _ (lone_sectors held) k used))
@@ -89,18 +89,18 @@ module _ {root : Root} {standing : List PlacedEntry} {held : List HeldRow} {befo
           let but = left_now (IsMixtureBut (Contains more) before_it) leaves m mixture in
           beside_stands (is but.0 but.1) but.2
 
-    -- and what is held stays what it was.
+    -- Held byte strings keep their holders and their bytes.
     pub beside_held : {before_it after : DiskFacts} → (IsTrue before_it.honest → LeavesOnly before_it after (IsMixtureBut (Contains more) before_it)) → KeepsHolders before_it after held held
     beside_held {before_it = before_it} leaves = keeps_table stands more beside_free
         (λ honest m mixture.
         let but = left_now (IsMixtureBut (Contains more) before_it) (leaves honest) m mixture in
         (but.0, but.1, wider {more = IsRootOr more} (λ k found. inr found) but.2))
 
-    -- Reads give of it what they gave.
+    -- Reads of the sectors that were in use return what they returned before.
     pub beside_now : {now now' : List Sector} → SameBut (Contains more) now now' → (k : ℕ) → Contains (in_use root standing held ++ own) k → sector now' k ≡ sector now k
     beside_now same k found = same.others k (λ here. beside_apart k found here)
 
--- A line wrote in sectors that were claimed for it.
+-- A line wrote to sectors that were claimed for it.
 module _ {D : Type 0} (facts : D → DiskFacts) (old new : Drafted D) {before layout mid : List Bool} {own more : List ℕ}
     (stands : IsKept old.store.root old.store.entries old.store.held before) (claimed : IsClaimedBeside before layout own) (taken : IsClaimedBeside layout mid more)
     (root : new.store.root ≡ old.store.root) (entries : new.store.entries ≡ old.store.entries) (table : new.store.held ≡ old.store.held)
@@ -115,7 +115,7 @@ module _ {D : Type 0} (facts : D → DiskFacts) (old new : Drafted D) {before la
   }
 
   module _ {T E : Type 0} {n : ℕ} {result : Result T E} (calls : AreCallsInRow n (facts old.store.disk) (facts new.store.disk) result) where
-    -- so the store stands where it stood.
+    -- If no call failed, the store is at the state that it was at before the line.
     pub stands_beside : IsFalse new.store.failed → {s : State} → IsAt facts old.store s → IsAt facts new.store s
     stands_beside usable {s = s} at = record {
       honest = subst IsTrue (sym calls.honest) at.honest;
@@ -125,7 +125,7 @@ module _ {D : Type 0} (facts : D → DiskFacts) (old new : Drafted D) {before la
     }
 
   module _ {T E : Type 0} {n most : ℕ} {Refuses : StoreRefusal → Type 0} (usable : IsFalse old.store.failed) (all : n ≡ most) where
-    -- The line is done,
+    -- If all writes succeed, the line is done.
     pub line_wrote : {x : T} → AreCallsInRow {E = E} n (facts old.store.disk) (facts new.store.disk) (Ok x) → IsFalse new.store.failed → IsLine facts old new most Refuses (Ok tt)
     line_wrote calls still_usable = record {
       beside = stays_beside;
@@ -141,7 +141,7 @@ module _ {D : Type 0} (facts : D → DiskFacts) (old new : Drafted D) {before la
       refused = tt;
     }
 
-    -- or a write failed.
+    -- If a write fails, the line is refused with Device.
     pub line_failed : {x : E} (e : StoreRefusal) → e ≡ Device → AreCallsInRow {T = T} n (facts old.store.disk) (facts new.store.disk) (Err x) → IsTrue new.store.failed → Refuses Device
         → IsSameDraft old new → IsLine facts old new most Refuses (Err e)
     line_failed e device calls failed may same = record {

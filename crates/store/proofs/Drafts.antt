@@ -1,4 +1,4 @@
--- Drafts: which entries are one of a list, and which sectors are beside it.
+-- Drafts: which entries a list has, and which sectors it doesn't use.
 use Rattle.std.proofs.Common.{◌≡◌, ⊎_elim, ℕ, suc, ◌<◌, nat_eq, true, false, not, if◌then◌else◌, cond, List, [], ◌∷◌, ◌++◌, length, get_or, All, refl, sym, ap, ◌∙◌, arith}
 use Rattle.std.specs.List.{flat_map}
 use Rattle.std.proofs.Math.ListN.{get_or-map}
@@ -12,7 +12,7 @@ use Rattle.store.specs.Stands.{HaveOwnNames, entry_sectors, name_of, sectors_of}
 use Rattle.store.specs.inside.Draft.{IsOneOrApart, own_in, own_sectors_in}
 use Rattle.store.proofs.GivenUp.{same_place}
 
--- entries with names of their own are told by these
+-- if the entries have different names, two entries with the same name are the same entry
 pub same_name : (entries : List PlacedEntry) → HaveOwnNames entries → (i j : ℕ) (d : PlacedEntry) → i < length entries → j < length entries
     → name_of (get_or entries i d).entry ≡ name_of (get_or entries j d).entry → i ≡ j
 same_name entries own i j d lt lt' same = ⊎_elim
@@ -23,7 +23,7 @@ same_name entries own i j d lt lt' same = ⊎_elim
     (cases_lt j i))
     (cases_lt i j)
 
--- an entry is one of a list where the one with its name has its sector
+-- a list has an entry exactly if its entry with the same name is in the same sector
 pub found_is : (entries : List PlacedEntry) (placed : PlacedEntry) (i : ℕ) (d : PlacedEntry) → i < length entries → name_of (get_or entries i d).entry ≡ name_of placed.entry
     → HaveOwnNames entries → IsOneOrApart entries placed → nat_eq (get_or entries i d).at placed.at ≡ lists entries placed
 found_is entries placed i d lt named own one = ⊎_elim
@@ -39,19 +39,19 @@ found_is entries placed i d lt named own one = ⊎_elim
     (cases_Bool (lists entries placed)))
     (cases_Bool (nat_eq (get_or entries i d).at placed.at))
 
--- an entry of a list is one that it has,
+-- a list has each of its entries
 pub listed_at : (entries : List PlacedEntry) (i : ℕ) (d : PlacedEntry) → i < length entries → lists entries (get_or entries i d) ≡ true
 listed_at entries i d lt =
     list_any_at (λ (other : PlacedEntry). nat_eq other.at (get_or entries i d).at) entries i d lt (eq-eqb (get_or entries i d).at (get_or entries i d).at refl)
 
--- and so it has no sectors of its own beside the list,
+-- if the list `others` has an entry, it uses all of the entry's sectors
 pub own_listed : (others : List PlacedEntry) (placed : PlacedEntry) → lists others placed ≡ true → own_in others placed ≡ []
 own_listed others placed is = ap (λ b. if b then [] else sectors_of placed) is
 
 pub own_unlisted : (others : List PlacedEntry) (placed : PlacedEntry) → lists others placed ≡ false → own_in others placed ≡ sectors_of placed
 own_unlisted others placed is = ap (λ b. if b then [] else sectors_of placed) is
 
--- nor do all entries of a list.
+-- if the list `others` has all entries, it uses all of their sectors
 pub own_none : (others entries : List PlacedEntry) → All (λ placed. lists others placed ≡ true) entries → own_sectors_in others entries ≡ []
 own_none others [] each = refl
 own_none others (e ∷ entries) each =
@@ -61,7 +61,7 @@ own_none others (e ∷ entries) each =
 pub own_same : (entries : List PlacedEntry) → own_sectors_in entries entries ≡ []
 own_same entries = own_none entries entries (λ i d lt. listed_at entries i d lt)
 
--- the sectors beside a list are those of the entries that it doesn't have
+-- the sectors that the list `others` doesn't use are those of the entries that it doesn't have
 pub own_apart : (others entries : List PlacedEntry) → own_sectors_in others entries ≡ flat_map sectors_of (apart_from others entries)
 own_apart others [] = refl
 own_apart others (e ∷ entries) = ⊎_elim
@@ -70,7 +70,7 @@ own_apart others (e ∷ entries) = ⊎_elim
     ∙ sym (ap (λ b. flat_map sectors_of (cond (not b) (e ∷ apart_from others entries) (apart_from others entries))) isnt))
     (cases_Bool (lists others e))
 
--- entries whose sectors lie apart have each a sector of its own
+-- if the sectors of entries are distinct, each entry has a sector of its own
 pub own_places : (entries : List PlacedEntry) → AreDistinct (flat_map sectors_of entries) → AreDistinct (entry_sectors entries)
 own_places entries once i j d less fits same =
     let count : length (entry_sectors entries) ≡ length entries = simp length-map in

@@ -1,4 +1,4 @@
--- An empty store's root stands for the empty state.
+-- The root of an empty store: sectors that have it as their current root hold the empty state.
 use Rattle.std.proofs.Common.{◌≡◌, inl, inr, ⊎_elim, ◌⊎◌, ℕ, List, [], length, set, replicate, false, refl, sym, ap, subst, ◌∙◌, arith}
 use Rattle.std.proofs.lemmas.List.{length-replicate, length-set, get_or-set_same, get_or-set_other}
 use Rattle.sector_disk.specs.Disk.{Sector, sector, DiskFacts, Mixture, HoldsNow, IsSynced, LeavesOnly, IsMixtureOrSet}
@@ -52,7 +52,7 @@ first_stands m sectors geometry size lacks = record {
   is = refl;
 }
 
--- what is kept of an empty store
+-- the data that an empty store keeps are consistent
 pub first_kept : (sectors : ℕ) → IsGeometry sectors → IsKept (first_root sectors) [] [] (replicate sectors false)
 first_kept sectors geometry = record {
   root_fits = first_fits sectors geometry;
@@ -66,7 +66,7 @@ first_kept sectors geometry = record {
   claimed = none_beside [] (λ i j d lt fits. absurd (omega (arith, fits))) (claims-new sectors);
 }
 
--- the first root goes into a synced disk: each mixture is an old one, or stands for the empty state
+-- The first root is written to a synced disk. Each mixture is then a mixture from before, or holds the empty state.
 module _ {old mid : DiskFacts} (sectors : ℕ) (geometry : IsGeometry sectors) (before : LeavesOnly old mid (Mixture old)) (holds : HoldsNow mid)
     (synced : IsSynced mid) (size : length mid.now ≡ sectors) (lacks : LacksMagic (sector mid.now 1)) (content : Sector)
     (is : content ≡ root_bytes (first_root sectors)) where
@@ -91,14 +91,15 @@ module _ {old mid : DiskFacts} (sectors : ℕ) (geometry : IsGeometry sectors) (
   pub first_done : {new : DiskFacts} → IsSynced new → new.now ≡ set mid.now 0 content → (m : List Sector) → Mixture new m → IsEmpty m
   first_done is_synced is_set m mixture = subst IsEmpty (sym (is_synced.each m mixture ∙ is_set)) written_stands
 
--- a root that is there, good or bad, begins with the magic
+-- if a slot has a root, good or bad, its sector begins with the magic
 pub slot_magic : (slot : Slot) (content : Sector) → IsSlotOf content slot → ((root : Root) × (slot ≡ Good root)) ⊎ (slot ≡ Bad) → HasMagic content
 slot_magic slot content is either = ⊎_elim
     (λ good. spelt_has_magic content good.0 (subst (IsSlotOf content) good.1 is))
     (λ bad. let both : IsSlotOf content Bad = subst (IsSlotOf content) bad is in both.0)
     either
 
--- what stands by the first root stands
+-- if a mixture is one from before or holds the empty state with the first root, it is one from before or holds the
+-- empty state
 pub either_stands : {old new : DiskFacts} (sectors : ℕ)
     → LeavesOnly old new (λ m. Mixture old m ⊎ StandsBy Two m (first_root sectors) [] empty_state)
     → LeavesOnly old new (λ m. Mixture old m ⊎ Stands m empty_state)

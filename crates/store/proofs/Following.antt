@@ -1,4 +1,5 @@
--- The root that follows another: it fits, what is kept with it, and what it makes of sectors.
+-- The root that follows another: its encoding, what is kept with it, and the state that the sectors hold once it is
+-- written.
 use Rattle.std.proofs.Common.{◌≡◌, ℕ, ◌+◌, ◌-◌, Bool, List, length, get_or, set, map, All, sym, ap, subst, ◌∙◌, arith}
 use Rattle.std.specs.List.{flat_map}
 use Rattle.std.proofs.lemmas.List.{length-map}
@@ -25,11 +26,11 @@ use Rattle.passes.proofs.Parts.{distinct-first}
 use Rattle.store.proofs.Puts.{next_stands}
 
 module _ {root : Root} {others : List PlacedEntry} {catalogues preloads : List ℕ} {next : Root} (is : IsNext root others catalogues preloads next) (fits : RootHasSpelling root) where
-  -- the root lists just these catalogues,
+  -- the root lists exactly these catalogues
   pub next_catalogues : catalogues_of next ≡ catalogues
   next_catalogues = ap catalogues_of is.is_next ∙ listed_sectors-root_over_catalogues (root.generation + 1) root.sectors (length others) catalogues preloads
 
-  -- and these preloads
+  -- the root lists exactly these preloads
   pub next_preloads : listed_preloads next ≡ preloads
   next_preloads = ap listed_preloads is.is_next ∙ listed_preloads-root_over_catalogues (root.generation + 1) root.sectors (length others) catalogues preloads
 
@@ -49,7 +50,7 @@ module _ {root : Root} {others : List PlacedEntry} {catalogues preloads : List �
     distinct-first (catalogues_of next) (flat_map sectors_of others) is.apart.once,
   )
 
-  -- It has a spelling,
+  -- The root can be encoded.
   pub following_fits : RootHasSpelling next
   following_fits = subst (λ r. RootHasSpelling r) (sym is.is_next) (root_over_catalogues-has_spelling (root.generation + 1) root.sectors (length others) catalogues preloads (record {
     generation_fits = is.later;
@@ -63,7 +64,7 @@ module _ {root : Root} {others : List PlacedEntry} {catalogues preloads : List �
     preloads_distinct = is.preloads_once;
   }))
 
-  -- with a layout that claims just what is in use then all is kept,
+  -- With a layout that claims exactly the sectors in use, everything is kept.
   pub following_kept : (held : List HeldRow) (new : List Bool) → length new ≡ root.sectors
       → HasRoom (root.sectors - length (lone_sectors held)) next.list others → AreHeldRows others held
       → AreClaimed root.sectors new (used next others) (lone_sectors held) → IsKept next others held new
@@ -79,14 +80,14 @@ module _ {root : Root} {others : List PlacedEntry} {catalogues preloads : List �
     claimed = subst (λ n. AreClaimed n new (used next others) (lone_sectors held)) (sym sectors_are) claimed;
   }
 
-  -- what the catalogues list in these sectors is what the root lists,
+  -- if the catalogues list the entry sectors, the next root lists them too
   listed_is : (m : List Sector) → AreCatalogued m catalogues (entry_sectors others) → AreListed m next.library_count next.list (entry_sectors others)
   listed_is m listed = subst (λ r. AreListed m r.library_count r.list (entry_sectors others)) (sym is.is_next) (
     length-map others (λ (p : PlacedEntry). p.at),
     subst (λ l. AreCatalogued m l (entry_sectors others)) (sym (listed_sectors-root_over_catalogues (root.generation + 1) root.sectors (length others) catalogues preloads)) listed,
   )
 
-  -- and sectors that spell the catalogues and the entries stand for them once it is written.
+  -- Sectors that encode the catalogues and the entries hold the state, once the root is written.
   pub following_stands : (version : Version) → (m : List Sector) (entries : List PlacedEntry) (s s' : State) → StandsBy version m root entries s
       → AreCatalogued m catalogues (entry_sectors others)
       → All (λ placed. SpellsEntry (sector m placed.at) placed.entry) others

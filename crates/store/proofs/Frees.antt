@@ -1,4 +1,4 @@
--- How many sectors a state leaves free, and what follows for the refusals of a put and of an upgrade.
+-- The number of sectors that a state leaves free, and the resulting refusals of a put and of an upgrade.
 use Rattle.std.proofs.Common.{◌≡◌, ◌≢◌, inl, ⊎_elim, ℕ, suc, ◌+◌, ◌-◌, ◌*◌, ◌<◌, ◌≤◌, Bool, true, false, nat_lt, nat_eq, List, [], ◌∷◌, length, map}
 use Rattle.std.proofs.Common.{sum_by, All, IsTrue, Option, Some, None, Result, Ok, Err, OnErr, ◌↔◌, refl, sym, ap, subst, ◌∙◌, arith}
 use Rattle.std.specs.Prelude.{Contains, nat_le, if◌then◌else◌}
@@ -43,7 +43,7 @@ use Rattle.store.proofs.Relistings.{none_in}
 use Rattle.store.proofs.Rooms.{kept_sectors}
 use Rattle.store.proofs.Anew.{all_usable}
 
--- byte strings cost what their entries say
+-- the byte strings cost as many sectors as their entries say
 pub costs_are : (m : List Sector) (entries : List PlacedEntry) → All IsWhole m → HaveSpellings entries → ((k : ℕ) → Contains (flat_map sectors_of entries) k → k < length m)
     → sum_by (λ library. cost (length library.bytes)) (map (library_of m) entries) ≡ entries_cost entries
 costs_are m [] whole fit inside = refl
@@ -59,7 +59,7 @@ costs_are m (e ∷ entries) whole fit inside =
       costs_are m entries whole (λ k d lt. fit (suc k) d (omega (arith, lt))) (λ k found. inside k (Contains-append_right (sectors_of e) (flat_map sectors_of entries) k found)),
     )
 
--- what a state takes by version 2, whatever version lists it
+-- the number of sectors that a state takes in version 2, whichever version its root has
 taken_is : (version : Version) (m : List Sector) (root : Root) (entries : List PlacedEntry) (s : State) → HaveSpellings entries → All IsWhole m → StandsBy version m root entries s
     → taken_by s ≡ entries_cost entries + 2 * catalogues_for (length entries)
 taken_is version m root entries s fit whole by =
@@ -70,22 +70,23 @@ taken_is version m root entries s fit whole by =
     ap taken_by by.is ∙ omega (arith, costs, length-libraries m entries)
 
 module _ (root : Root) (entries : List PlacedEntry) (held : List HeldRow) (layout : List Bool) (kept : IsKept root entries held layout) where
-  -- a root of version 2 lists as many catalogues as its byte strings take
+  -- a root of version 2 lists as many catalogues as its byte strings need
   pub catalogues_enough : version_of root ≡ Two → length (catalogues_of root) ≡ catalogues_for (length entries)
   catalogues_enough two = enough_in root.library_count root.sectors root.list two kept.root_fits.list ∙ ap catalogues_for (sym kept.counted)
 
-  -- The same sectors are free beside the sectors in use as in the layout,
+  -- The sectors that aren't in use are those that are unused in the layout.
   pub same_layout : ClaimsSame (layout_of root.sectors (in_use root entries held)) layout
   same_layout =
       let sectors = in_use root entries held in
       let claims = layout_of-claims root.sectors sectors (λ k d lt. (all_usable kept k d lt).1) in
       same-from_used (layout_of root.sectors sectors) layout sectors (length-map-range_with_len _ 0 root.sectors ∙ sym kept.size) claims kept.claimed.claims
 
-  -- so the longest free runs are the layout's.
+  -- The longest unused runs of the kept layout are those of the layout in which exactly the sectors in use are claimed.
   pub longest_is : sector_count (longest_runs (layout_of root.sectors (in_use root entries held))) ≡ sector_count (longest_runs layout)
   longest_is = ap sector_count (longest_runs-same (layout_of root.sectors (in_use root entries held)) layout same_layout)
 
-  -- What a state of version 2 leaves free beside what is held, and its catalogues once more, are what the layout has free.
+  -- The sectors that a state of version 2 leaves free beside what is held, plus one set of catalogues, are the unused
+  -- sectors of the layout.
   pub free_is : (m : List Sector) (s : State) → All IsWhole m → StandsBy Two m root entries s
       → free (root.sectors - length (lone_sectors held)) s + catalogues_for (length entries) ≡ unused_count layout
   free_is m s whole by = omega (
@@ -96,7 +97,8 @@ module _ (root : Root) (entries : List PlacedEntry) (held : List HeldRow) (layou
     room_in (root.sectors - length (lone_sectors held)) root.list entries by.of_version kept.room,
   )
 
-  -- Where nothing is held, a state of version 1 has no room for its catalogues twice exactly where it takes too much by version 2.
+  -- If nothing is held, there is no room for the catalogues of a state of version 1 twice exactly if the state takes
+  -- too many sectors in version 2.
   pub old_free_is : held ≡ [] → (m : List Sector) (s : State) → All IsWhole m → StandsBy One m root entries s
       → (unused_count layout < 2 * catalogues_for (length entries)) ↔ (root.sectors < root_sectors + taken_by s)
   old_free_is unheld m s whole by =
@@ -114,11 +116,11 @@ pub if_yes : {A : Type 0} (b : Bool) (x y : A) → (b ≡ false → ⊥) → (if
 if_yes true x y isnt = refl
 if_yes false x y isnt = absurd (isnt refl)
 
--- the first refusal of bytes beside which so many sectors more are taken
+-- the first refusal of a put of bytes for which `more` additional sectors are taken
 abbrev pub refusal_of_bytes : (sectors longest more : ℕ) → State → List ℕ → Option StoreRefusal
 refusal_of_bytes sectors longest more s bytes = first_refusal (put_tests (room_at sectors longest s) more (length bytes))
 
--- The first refusal, by the numbers that decide it.
+-- The first refusal, as determined by the numbers of the state.
 module _ (sectors longest more : ℕ) (s : State) (bytes : List ℕ) (usable : s.generation ≢ last_generation) where
   abbrev needed : ℕ
   needed = cost (length bytes) + more
@@ -146,11 +148,11 @@ module _ (sectors longest more : ℕ) (s : State) (bytes : List ℕ) (usable : s
       ∙ if_no (nat_lt (free sectors s) needed) _ _ (λ is. omega (arith, ltb-true (free sectors s) needed is, room))
       ∙ if_no (nat_lt longest sector_need) _ _ (λ is. omega (arith, ltb-true longest sector_need is, runs))
 
--- an answer isn't a refusal
+-- no Ok is equal to an Err
 pub ok_or_err : {T E : Type 0} {x : T} {e : E} → ◌≡◌ {A = Result T E} (Ok x) (Err e) → ⊥
 ok_or_err is = subst (λ r. OnErr r ⊥) is tt
 
--- what taking refuses is the first refusal of these bytes
+-- A refusal to take sectors is the first refusal of these bytes.
 module _ {T : Type 0} (sectors longest more : ℕ) (s : State) (bytes : List ℕ) (usable : s.generation ≢ last_generation) where
   pub bytes_refused : (e : TakeRefusal) → (◌≡◌ {A = Result T TakeRefusal} (Err e) (Err take.Full) ↔ (free sectors s < cost (length bytes) + more))
       → (◌≡◌ {A = Result T TakeRefusal} (Err e) (Err take.Fragmented) ↔ ((cost (length bytes) + more ≤ free sectors s) × (longest < cost (length bytes) - 1)))
@@ -184,7 +186,7 @@ answers_take_exactly take.Fragmented = refl
 pub change_refused : (s : State) → s.generation ≡ last_generation → refusal_of_change s ≡ Some GenerationEnd
 change_refused s last = if_yes (nat_eq s.generation last_generation) _ _ (λ isnt. false≢true (sym isnt ∙ eq-eqb s.generation last_generation last))
 
--- An upgrade is refused at the last generation, and where there is no room for the catalogues twice.
+-- An upgrade is refused at the last generation, and if there is no room for the catalogues twice.
 module _ (sectors : ℕ) (s : State) where
   pub upgrade_full : s.generation ≢ last_generation → sectors < root_sectors + taken_by s → refusal_of_upgrade sectors s ≡ Some Full
   upgrade_full usable many =
@@ -211,7 +213,7 @@ module _ {D : Type 0} (facts : D → DiskFacts) (holds : (disk : D) → IsTrue (
     pub count_of : length s.libraries ≡ length store.entries
     count_of = ap (λ t. length t.libraries) by.is ∙ length-libraries (facts store.disk).now store.entries
 
-  -- the view of a store is the store
+  -- A store, and what contracts see of it.
   module _ {store view : Opened D} {layout : List Bool} {s : State} (is : view ≡ store) (kept : IsKept view.root view.entries view.held layout) where
     pub facts_of : IsAtBy Two facts store s → IsCounted view.root view.entries view.held layout s
     facts_of at_store =
@@ -223,12 +225,14 @@ module _ {D : Type 0} (facts : D → DiskFacts) (holds : (disk : D) → IsTrue (
           longest = longest_is view.root view.entries view.held layout kept;
         }
 
--- What taking room says of a layout by its result, where it needs so many sectors for bytes and so many in all.
+-- The result of taking room is right for a layout, if bytes need `sectors` sectors and `all` sectors are needed
+-- together.
 pub record Takes {T : Type 0} (layout : List Bool) (sectors all : ℕ) (result : Result T TakeRefusal) : Type 0 where
   pub full : (result ≡ Err take.Full) ↔ (unused_count layout < all)
   pub fragmented : (result ≡ Err take.Fragmented) ↔ ((all ≤ unused_count layout) × (sector_count (longest_runs layout) < sectors))
 
--- The first refusal of bytes that replace others, or are put behind them, by what taking room says.
+-- The first refusal of bytes that replace others or are put after the others, as determined by the result of taking
+-- room.
 module _ {root : Root} {entries : List PlacedEntry} {held : List HeldRow} {layout : List Bool} {s : State}
     (counted : IsCounted root entries held layout s) (bytes : List ℕ) (usable : root.generation ≢ last_generation) where
   abbrev all_sectors : ℕ
@@ -284,7 +288,7 @@ module _ {root : Root} {entries : List PlacedEntry} {held : List HeldRow} {layou
       new_taken {x = x} takes = first_is ∙ bytes_taken all_sectors longest_in (catalogue_cost (length s.libraries)) s bytes usable_state x
           (full_is (catalogue_cost (length s.libraries)) new_enough takes) (fragmented_is (catalogue_cost (length s.libraries)) new_enough takes)
 
--- The answers that follow where nothing is refused.
+-- The answers if nothing is refused.
 pub exactly_done : {first : Option StoreRefusal} → first ≡ None → IsExactAnswer first (Ok tt)
 exactly_done is = subst (λ first. IsExactAnswer first (Ok tt)) (sym is) tt
 

@@ -1,4 +1,4 @@
--- The sectors that are given for bytes, as claims.
+-- Taking sectors for bytes is a claim of these sectors.
 use Rattle.std.proofs.Common.{◌≡◌, ⊎_elim, ℕ, Bool, true, List, ◌++◌, length, get_or, sym, ap, subst, ◌∙◌, arith}
 use Rattle.std.specs.Prelude.{Contains}
 use Rattle.std.proofs.lemmas.List.Elements.{Contains-get_or, Contains-append_left, Contains-append_right, Contains-append_cases}
@@ -20,7 +20,7 @@ module _ {need : ℕ} {old mid : List Bool} {extents : List Extent} (given : IsG
   swap : (xs ys : List ℕ) (s : ℕ) → Contains (xs ++ ys) s → Contains (ys ++ xs) s
   swap xs ys s found = ⊎_elim (Contains-append_right ys xs s) (Contains-append_left ys xs s) (Contains-append_cases xs ys s found)
 
-  -- they are claimed beside what was
+  -- the sectors of the taken extents are claimed beside those that were claimed before
   pub given_claimed : mid ≡ with_flags true extents old → IsClaimedBeside old mid (places extents)
   given_claimed is = record {
     size = ap length is ∙ length-with_flags true extents old given.inside;

@@ -1,4 +1,4 @@
--- What is kept once the state uses an entry no longer: its sectors are free, unless somebody holds it.
+-- What is kept once the state no longer uses an entry: its sectors are free, unless somebody holds it.
 use Rattle.std.proofs.Common.{◌≡◌, ◌≢◌, ⊎_elim, ◌↔◌, ℕ, zero, suc, ◌+◌, ◌<◌, ◌≤◌, Bool, true, List, [], ◌∷◌, ◌++◌, length, get_or, set, All, IsTrue, refl, sym, ap, subst, ◌∙◌, arith}
 use Rattle.std.specs.Prelude.{Contains, if◌then◌else◌}
 use Rattle.std.specs.List.{flat_map, remove}
@@ -28,14 +28,14 @@ use Rattle.store.proofs.HeldRows.{held_left, held_unheld, left_length, left_occu
 use Rattle.store.proofs.Removed.{at_closed, closed_inside}
 use Rattle.store.proofs.UsedAlone.{among_entries, no_entry, own_used}
 
--- an entry behind others has another sector
+-- if the sectors of `e` and of the entries are distinct, no entry is in the sector of `e`
 twice : (e : PlacedEntry) (entries : List PlacedEntry) → AreDistinct (sectors_of e ++ flat_map sectors_of entries) → (j : ℕ) (d : PlacedEntry) → j < length entries → e.at ≡ (get_or entries j d).at → ⊥
 twice e entries once j d lt same =
     let first = contains_occurs e.at (sectors_of e) (0, omega arith, refl) in
     let there = contains_occurs e.at (flat_map sectors_of entries) (among_entries entries j d lt e.at (0, omega arith, sym same)) in
     omega (arith, first, there, occurs-append e.at (sectors_of e) (flat_map sectors_of entries), distinct_occurs e.at (sectors_of e ++ flat_map sectors_of entries) once)
 
--- entries whose sectors lie apart are told by the sector of each
+-- if the sectors of entries are distinct, two entries in the same sector are the same entry
 pub same_place : (entries : List PlacedEntry) → AreDistinct (flat_map sectors_of entries) → (i j : ℕ) (d : PlacedEntry) → i < length entries
     → j < length entries → (get_or entries i d).at ≡ (get_or entries j d).at → i ≡ j
 same_place [] once i j d lt lt' same = absurd (omega (arith, lt))
@@ -54,12 +54,12 @@ same_place (e ∷ entries) once (suc i) (suc j) d lt lt' same =
     ap suc (same_place entries rest i j d (omega (arith, lt)) (omega (arith, lt')) same)
 
 module _ {root : Root} {entries : List PlacedEntry} {held : List HeldRow} {layout : List Bool} (kept : IsKept root entries held layout) where
-  -- the entries' sectors lie apart
+  -- the sectors of the entries are distinct
   entries_once : AreDistinct (flat_map sectors_of entries)
   entries_once = occurs_distinct (flat_map sectors_of entries)
       (λ k. omega (arith, distinct_occurs k (used root entries) kept.apart.once, occurs-append k (catalogues_of root) (flat_map sectors_of entries)))
 
-  -- A held byte string whose sector the state uses is one that it lists,
+  -- A held byte string whose sector the state uses counts as listed.
   pub row_listed : {at place : ℕ} {hold : HeldRow} → IsAtPlace held at place hold → Contains (used root entries) at → hold.listed ≡ true
   row_listed {at = at} {place = place} {hold = hold} row found = ⊎_elim
       (λ is. is)
@@ -76,7 +76,7 @@ module _ {root : Root} {entries : List PlacedEntry} {held : List HeldRow} {layou
       absurd (distinct-parts (used root entries) (lone_sectors held) at kept.claimed.once found lone))
       (cases_Bool hold.listed)
 
-  -- so each counts as listed exactly where it is one of the state's,
+  -- Each held byte string counts as listed exactly if it is one of the state's.
   pub flags : All (λ hold. (hold.listed ≡ true) ↔ Contains entries hold.placed) held
   flags i d lt =
       let row = get_or held i d in (
@@ -88,7 +88,7 @@ module _ {root : Root} {entries : List PlacedEntry} {held : List HeldRow} {layou
     abbrev old : PlacedEntry
     old = get_or entries gone no_entry
 
-    -- and has its entry.
+    -- The row of the entry's sector is the entry's row.
     pub row_is : {place : ℕ} {hold : HeldRow} → IsAtPlace held old.at place hold → hold.placed ≡ old
     row_is {place = place} {hold = hold} row =
         let listed = row_listed row (own_used root entries gone no_entry lt) in
@@ -98,7 +98,7 @@ module _ {root : Root} {entries : List PlacedEntry} {held : List HeldRow} {layou
         let here : among.0 ≡ gone = same_place entries entries_once among.0 gone no_entry among.1 lt (ap (λ (p : PlacedEntry). p.at) there ∙ row.its) in
         sym there ∙ ap (λ i. get_or entries i no_entry) here
 
-    -- Where it is held, its sectors are in use by its holders alone from then on.
+    -- If the entry is held, only its holders use its sectors from then on.
     module _ {left : List HeldRow} (is : IsLeft held left old.at) where
       lone_parts : (k : ℕ) → occurs k (lone_sectors left) + occurs k [] ≡ occurs k (lone_sectors held) + occurs k (sectors_of old)
       lone_parts k = omega (
@@ -141,7 +141,7 @@ module _ {root : Root} {entries : List PlacedEntry} {held : List HeldRow} {layou
             (λ all. subst (KeepsHolders before after held) (sym all.1) (keeps_table kept more (more_free kept claimed) others))
             given
 
--- What a row says of the entries holds of those of the next state, where it is of another one.
+-- A row that isn't the replaced or removed entry's is sound for the entries of the next state too.
 module _ (entries : List PlacedEntry) (place : ℕ) (lt : place < length entries) where
   elsewhere : (placed : PlacedEntry) (found : Contains entries placed) → placed.at ≢ (get_or entries place no_entry).at → found.0 ≢ place
   elsewhere placed found other same = other (ap (λ (p : PlacedEntry). p.at) (sym found.2 ∙ ap (λ i. get_or entries i placed) same ∙ get_or_default entries place placed no_entry lt))
@@ -172,7 +172,7 @@ module _ (entries : List PlacedEntry) (place : ℕ) (lt : place < length entries
         );
   }
 
--- and behind all others stands one more.
+-- If the rows are sound, they are still sound after one more entry is put after the others.
 pub rows_more : {entries : List PlacedEntry} {held : List HeldRow} (put : PlacedEntry) → AreHeldRows entries held → AreHeldRows (entries ++ put ∷ []) held
 rows_more {entries = entries} put rows = record {
   each = λ k d lt. let row = rows.each k d lt in record {

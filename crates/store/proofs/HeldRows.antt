@@ -1,4 +1,4 @@
--- The rows of held byte strings: what each change of them keeps.
+-- The rows of held byte strings, and the facts that each change of the rows keeps.
 use Rattle.std.proofs.Common.{◌≡◌, ◌≢◌, ⊎_elim, ℕ, zero, suc, ◌+◌, ◌<◌, ◌==◌, nat_eq, Bool, true, false, if◌then◌else◌, sum_by, List, []}
 use Rattle.std.proofs.Common.{◌∷◌, ◌++◌, length, get_or, set, take, drop, refl, sym, ap, subst, ◌∙◌, arith}
 use Rattle.std.specs.Prelude.{Contains}
@@ -25,7 +25,7 @@ use Rattle.store.proofs.Inserted.{all_insert, all_pairs_insert}
 use Rattle.store.proofs.KeyedRows.{no_row}
 use Rattle.store.proofs.Removed.{all_remove, at_closed, closed_inside, stood_at}
 
--- two places with one sector are one place
+-- if each held byte string has one row, two places with the same sector are the same place
 pub same_place : (held : List HeldRow) (i j : ℕ) (d : HeldRow) → HaveOwnRows held → i < length held → j < length held → (get_or held i d).placed.at ≡ (get_or held j d).placed.at → i ≡ j
 same_place held i j d own first second same = ⊎_elim
     (λ less. absurd (own i j d less second same))
@@ -35,7 +35,7 @@ same_place held i j d own first second same = ⊎_elim
     (cases_lt j i))
     (cases_lt i j)
 
--- rows say the same of something once one stands in a place that does
+-- if a row is replaced by one with the same field `f`, the field `f` stays the same in all rows
 pub field_set : {A : Type 0} (f : HeldRow → A) (held : List HeldRow) (place : ℕ) (row : HeldRow) → ((d : HeldRow) → f row ≡ f (get_or held place d))
     → (k : ℕ) (d : HeldRow) → f (get_or (set held place row) k d) ≡ f (get_or held k d)
 field_set f held place row same k d =
@@ -48,11 +48,11 @@ own_set held place row same own i j d less fits = λ equal.
 
 -- The rows of a store.
 module _ {entries : List PlacedEntry} {old : List HeldRow} (are : AreHeldRows entries old) where
-  -- the row of a sector
+  -- the row at a place of the table is sound
   pub row_of : {sector place : ℕ} {hold : HeldRow} → IsAtPlace old sector place hold → IsHeldRow entries hold
   row_of {place = place} at = subst (IsHeldRow entries) (at.is no_row) (are.each place no_row at.inside)
 
-  -- a listed byte string is held for the first time
+  -- if a listed byte string is held for the first time, the rows stay sound
   pub held_once : {new : List HeldRow} → {placed : PlacedEntry} → IsHeldOnce old new placed → EntryHasSpelling placed.entry → Contains entries placed → AreHeldRows entries new
   held_once {placed = placed} once fits listed =
       let row = first_row placed in
@@ -63,7 +63,7 @@ module _ {entries : List PlacedEntry} {old : List HeldRow} (are : AreHeldRows en
             (λ k d behind lt same. once.absent k d lt (sym same));
       })
 
-  -- the same row with another count
+  -- if a row gets another number of holders, which isn't 0, the rows stay sound
   counted : {sector place : ℕ} {hold : HeldRow} (holders : ℕ) → 0 < holders → IsAtPlace old sector place hold → AreHeldRows entries (set old place (with_holders holders hold))
   counted {place = place} {hold = hold} holders some at =
       let was = row_of at in
@@ -78,16 +78,16 @@ module _ {entries : List PlacedEntry} {old : List HeldRow} (are : AreHeldRows en
   pub held_less : {new : List HeldRow} → {sector : ℕ} → IsHeldLess old new sector → AreHeldRows entries new
   held_less less = subst (AreHeldRows entries) (sym less.is) (counted less.holders less.some less.at)
 
-  -- the last holder lets a byte string go
+  -- if the last holder releases a byte string, the rows stay sound
   pub held_gone : {new : List HeldRow} → {sector : ℕ} {hold : HeldRow} → IsLetGo old new sector hold → AreHeldRows entries new
   held_gone gone = subst (AreHeldRows entries) (sym gone.is) (record {
     each = all_remove (IsHeldRow entries) old gone.place are.each;
     own = all_pairs_remove (λ (a b : HeldRow). a.placed.at ≢ b.placed.at) old gone.place gone.at.inside are.own;
   })
 
-  -- The state lists other entries, where the rows of all sectors but one hold for these,
+  -- The state lists other entries, and the rows of all sectors except one are sound for these.
   module _ {others : List PlacedEntry} where
-    -- which is left,
+    -- The rows are sound if the byte string of this sector is no longer listed.
     pub held_left : {new : List HeldRow} → {at : ℕ} → IsLeft old new at → ((h : HeldRow) → IsHeldRow entries h → h.placed.at ≢ at → IsHeldRow others h) → AreHeldRows others new
     held_left left moves =
         let was = row_of left.at in
@@ -107,27 +107,27 @@ module _ {entries : List PlacedEntry} {old : List HeldRow} (are : AreHeldRows en
           own = own_set old left.place row (λ d. ap sector (sym (left.at.is d))) are.own;
         })
 
-    -- or not held.
+    -- The rows are sound if no byte string of this sector is held.
     pub held_unheld : {at : ℕ} → IsUnheld old at → ((h : HeldRow) → IsHeldRow entries h → h.placed.at ≢ at → IsHeldRow others h) → AreHeldRows others old
     held_unheld absent moves = record {
       each = λ k d lt. moves (get_or old k d) (are.each k d lt) (absent k d lt);
       own = are.own;
     }
 
--- A sum over the rows: one more row,
+-- One more row raises a sum over the rows by the new row's value.
 sum_once : (f : HeldRow → ℕ) {old new : List HeldRow} {placed : PlacedEntry} → IsHeldOnce old new placed → sum_by f new ≡ sum_by f old + f (first_row placed)
 sum_once f {old = old} {placed = placed} once = omega (arith, ap (sum_by f) once.is, sum_by-insert f old once.place (first_row placed))
 
--- another row in a place,
+-- Replacing a row changes a sum over the rows by the difference of the two values.
 sum_set : (f : HeldRow → ℕ) {old : List HeldRow} {sector place : ℕ} {hold : HeldRow} → IsAtPlace old sector place hold → (row : HeldRow)
     → sum_by f (set old place row) + f hold ≡ sum_by f old + f row
 sum_set f {old = old} {place = place} at row = omega (arith, ap f (at.is no_row), sum_by-set f old place row no_row at.inside)
 
--- and one row less.
+-- Removing a row lowers a sum over the rows by the removed row's value.
 sum_gone : (f : HeldRow → ℕ) {old new : List HeldRow} {sector : ℕ} {hold : HeldRow} → IsLetGo old new sector hold → sum_by f new + f hold ≡ sum_by f old
 sum_gone f {old = old} gone = omega (arith, ap (sum_by f) gone.is, sum_by-remove f old gone.place no_row gone.at.inside, ap f (gone.at.is no_row))
 
--- a row keeps all sectors of its byte string where the state doesn't list it, and else none
+-- a row keeps all sectors of its byte string if the state doesn't list it, and otherwise none
 own_all : (hold : HeldRow) → hold.listed ≡ false → own_sectors hold ≡ sectors_of hold.placed
 own_all hold is = ap (λ b. if b then [] else sectors_of hold.placed) is
 
@@ -139,14 +139,14 @@ flat_map-set_same f [] i x d same = refl
 flat_map-set_same f (y ∷ xs) zero x d same = ap (λ l. l ++ flat_map f xs) same
 flat_map-set_same f (y ∷ xs) (suc i) x d same = ap (λ l. f y ++ l) (flat_map-set_same f xs i x d same)
 
--- The first holder of a byte string keeps no sectors, since the state lists it,
+-- The first holder of a byte string keeps no sectors, because the state lists it.
 pub lone_once : {old new : List HeldRow} {placed : PlacedEntry} → IsHeldOnce old new placed → lone_sectors new ≡ lone_sectors old
 lone_once {old = old} {placed = placed} once =
     let before = take once.place old in
     let behind = drop once.place old in
     ap lone_sectors once.is ∙ flat_map-append own_sectors before (first_row placed ∷ behind) ∙ sym (flat_map-append own_sectors before behind) ∙ ap lone_sectors (take-append-drop once.place old)
 
--- and how many hold it changes none.
+-- A change of the number of holders doesn't change the sectors that they keep.
 lone_counted : {old : List HeldRow} {sector place : ℕ} {hold : HeldRow} (holders : ℕ) → IsAtPlace old sector place hold
     → lone_sectors (set old place (with_holders holders hold)) ≡ lone_sectors old
 lone_counted {old = old} {place = place} {hold = hold} holders at = flat_map-set_same own_sectors old place (with_holders holders hold) no_row (ap own_sectors (sym (at.is no_row)))
@@ -157,7 +157,7 @@ lone_more more = ap lone_sectors more.is ∙ lone_counted (more.hold.holders + 1
 pub lone_less : {old new : List HeldRow} {sector : ℕ} → IsHeldLess old new sector → lone_sectors new ≡ lone_sectors old
 lone_less less = ap lone_sectors less.is ∙ lone_counted less.holders less.at
 
--- What counts sectors, one by one:
+-- A function `f` that counts sectors, and is 0 for no sectors.
 module _ (f : List ℕ → ℕ) (none : f [] ≡ 0) (adds : (held : List HeldRow) → f (lone_sectors held) ≡ sum_by (λ hold. f (own_sectors hold)) held) where
   left_adds : {old new : List HeldRow} {sector : ℕ} (left : IsLeft old new sector) → left.hold.listed ≡ true → f (lone_sectors new) ≡ f (lone_sectors old) + f (sectors_of left.hold.placed)
   left_adds {old = old} {new = new} left listed =
@@ -173,7 +173,7 @@ module _ (f : List ℕ → ℕ) (none : f [] ≡ 0) (adds : (held : List HeldRow
   gone_leaves {old = old} {new = new} {hold = hold} gone listed =
       omega (arith, none, adds old, adds new, sum_gone (λ (row : HeldRow). f (own_sectors row)) gone, ap f (own_none hold listed))
 
--- once the state lists a byte string no longer, its holders keep its sectors,
+-- Once the state no longer lists a byte string, its holders keep its sectors.
 pub left_occurs : {old new : List HeldRow} {sector : ℕ} (left : IsLeft old new sector) → left.hold.listed ≡ true → (k : ℕ)
     → occurs k (lone_sectors new) ≡ occurs k (lone_sectors old) + occurs k (sectors_of left.hold.placed)
 left_occurs left listed k = left_adds (occurs k) refl (occurs-flat_map k own_sectors) left listed
@@ -182,7 +182,7 @@ pub left_length : {old new : List HeldRow} {sector : ℕ} (left : IsLeft old new
     → length (lone_sectors new) ≡ length (lone_sectors old) + length (sectors_of left.hold.placed)
 left_length left listed = left_adds length refl (length-flat_map own_sectors) left listed
 
--- until the last of them lets it go.
+-- When the last holder releases an unlisted byte string, its sectors are no longer kept.
 pub gone_occurs : {old new : List HeldRow} {sector : ℕ} {hold : HeldRow} → IsLetGo old new sector hold → hold.listed ≡ false → (k : ℕ)
     → occurs k (lone_sectors new) + occurs k (sectors_of hold.placed) ≡ occurs k (lone_sectors old)
 gone_occurs gone listed k = gone_takes (occurs k) refl (occurs-flat_map k own_sectors) gone listed
@@ -191,7 +191,7 @@ pub gone_length : {old new : List HeldRow} {sector : ℕ} {hold : HeldRow} → I
     → length (lone_sectors new) + length (sectors_of hold.placed) ≡ length (lone_sectors old)
 gone_length gone listed = gone_takes length refl (length-flat_map own_sectors) gone listed
 
--- One that the state lists goes with no sector.
+-- When the last holder releases a listed byte string, the kept sectors stay the same.
 pub gone_listed_occurs : {old new : List HeldRow} {sector : ℕ} {hold : HeldRow} → IsLetGo old new sector hold → hold.listed ≡ true → (k : ℕ)
     → occurs k (lone_sectors new) ≡ occurs k (lone_sectors old)
 gone_listed_occurs gone listed k = gone_leaves (occurs k) refl (occurs-flat_map k own_sectors) gone listed
@@ -199,7 +199,7 @@ gone_listed_occurs gone listed k = gone_leaves (occurs k) refl (occurs-flat_map 
 pub gone_listed_length : {old new : List HeldRow} {sector : ℕ} {hold : HeldRow} → IsLetGo old new sector hold → hold.listed ≡ true → length (lone_sectors new) ≡ length (lone_sectors old)
 gone_listed_length gone listed = gone_leaves length refl (length-flat_map own_sectors) gone listed
 
--- by a row alone, how many hold the byte string with this entry sector
+-- the number of holders that a row counts for the byte string with this entry sector
 abbrev holders_at : ℕ → HeldRow → ℕ
 holders_at sector hold = if hold.placed.at == sector then hold.holders else 0
 
@@ -207,7 +207,7 @@ one_more : (b : Bool) (n : ℕ) → (if b then n + 1 else 0) ≡ (if b then n el
 one_more true n = refl
 one_more false n = refl
 
--- How many hold a byte string: one more where it is held once more,
+-- If a byte string is held for the first time, its number of holders grows by one.
 pub holders_once : {old new : List HeldRow} {placed : PlacedEntry} → IsHeldOnce old new placed → (sector : ℕ) → holders_of new sector ≡ holders_of old sector + (if placed.at == sector then 1 else 0)
 holders_once once sector = sum_once (holders_at sector) once
 
@@ -222,12 +222,12 @@ holders_more {old = old} {at = at} more sector =
       ap {B = ℕ} (λ k. if k == sector then 1 else 0) more.at.its,
     )
 
--- as many once the state lists it no longer,
+-- The number of holders stays the same once the state no longer lists a byte string.
 pub holders_left : {old new : List HeldRow} {at : ℕ} → IsLeft old new at → (sector : ℕ) → holders_of new sector ≡ holders_of old sector
 holders_left left sector =
     omega (arith, ap (λ l. holders_of l sector) left.is, sum_set (holders_at sector) left.at (unlisted left.hold))
 
--- one less where one lets it go,
+-- The number of holders is one less after a holder releases a byte string.
 pub holders_less : {old new : List HeldRow} {at : ℕ} → IsHeldLess old new at → (sector : ℕ) → holders_of old sector ≡ holders_of new sector + (if at == sector then 1 else 0)
 holders_less less sector =
     let row = less.hold in
@@ -240,7 +240,7 @@ holders_less less sector =
       ap {B = ℕ} (λ k. if k == sector then 1 else 0) less.at.its,
     )
 
--- also where it is the last,
+-- The number of holders is one less after the last holder releases the byte string.
 pub holders_gone : {entries : List PlacedEntry} {old new : List HeldRow} {at : ℕ} {hold : HeldRow} → AreHeldRows entries old
     → IsLetGo old new at hold → (sector : ℕ) → holders_of old sector ≡ holders_of new sector + (if at == sector then 1 else 0)
 holders_gone {hold = hold} are gone sector =
@@ -252,7 +252,7 @@ holders_gone {hold = hold} are gone sector =
       ap {B = ℕ} (λ k. if k == sector then 1 else 0) gone.at.its,
     )
 
--- and none where it isn't held.
+-- If a byte string isn't held, it has no holders.
 pub holders_unheld : (held : List HeldRow) (sector : ℕ) → IsUnheld held sector → holders_of held sector ≡ 0
 holders_unheld [] sector absent = refl
 holders_unheld (row ∷ held) sector absent =
@@ -264,7 +264,7 @@ holders_unheld (row ∷ held) sector absent =
       holders_unheld held sector (λ k d lt. absent (suc k) d (omega (arith, lt))),
     )
 
--- The entry of a held byte string stands in its row,
+-- The entry of a held byte string is in its row.
 pub by_place : {held : List HeldRow} {sector place : ℕ} {hold : HeldRow} → IsAtPlace held sector place hold → IsHeldBy held sector hold.placed
 by_place {place = place} at = record { place = place; inside = at.inside; is = λ d. ap (λ (h : HeldRow). h.placed) (at.is d); its = at.its }
 
@@ -278,7 +278,7 @@ by_first {old = old} {placed = placed} once =
       its = refl;
     })
 
--- and it has one row.
+-- A held byte string has one row.
 pub by_one : {held : List HeldRow} {sector : ℕ} {p q : PlacedEntry} → HaveOwnRows held → IsHeldBy held sector p → IsHeldBy held sector q → p ≡ q
 by_one {held = held} own first second =
     let sector = λ (placed : PlacedEntry). placed.at in
@@ -286,7 +286,7 @@ by_one {held = held} own first second =
     let is : first.place ≡ second.place = same_place held first.place second.place no_row own first.inside second.inside same in
     sym (first.is no_row) ∙ ap (λ k. (get_or held k no_row).placed) is ∙ second.is no_row
 
--- It stands there once another one is held,
+-- The entry of a held byte string stays in a row when another byte string is held for the first time.
 pub by_once : {old new : List HeldRow} {sector : ℕ} {p placed : PlacedEntry} → IsHeldOnce old new placed → IsHeldBy old sector p → IsHeldBy new sector p
 by_once {old = old} {sector = sector} {p = p} {placed = placed} once by =
     let row = first_row placed in
@@ -306,7 +306,7 @@ by_once {old = old} {sector = sector} {p = p} {placed = placed} once by =
     })
     (cases_lt by.place once.place))
 
--- or the row of one is written,
+-- The entry of a held byte string stays in a row when a row is replaced.
 by_set : {old : List HeldRow} {sector at place : ℕ} {p : PlacedEntry} {hold : HeldRow} → IsAtPlace old at place hold → (row : HeldRow)
     → row.placed ≡ hold.placed → IsHeldBy old sector p → IsHeldBy (set old place row) sector p
 by_set {old = old} {place = place} at row same by =
@@ -326,7 +326,7 @@ by_left {sector = sector} {p = p} left by = subst (λ l. IsHeldBy l sector p) (s
 pub by_less : {old new : List HeldRow} {sector at : ℕ} {p : PlacedEntry} → IsHeldLess old new at → IsHeldBy old sector p → IsHeldBy new sector p
 by_less {sector = sector} {p = p} less by = subst (λ l. IsHeldBy l sector p) (sym less.is) (by_set less.at (with_holders less.holders less.hold) refl by)
 
--- or that of another one goes.
+-- The entry of a held byte string stays in a row when the row of another one is removed.
 pub by_gone_other : {old new : List HeldRow} {sector at : ℕ} {p : PlacedEntry} {hold : HeldRow} → IsLetGo old new at hold → sector ≢ at → IsHeldBy old sector p → IsHeldBy new sector p
 by_gone_other {old = old} {sector = sector} {at = at} {p = p} {hold = hold} gone apart by =
     let entry = λ (h : HeldRow). h.placed in
@@ -341,7 +341,7 @@ by_gone_other {old = old} {sector = sector} {at = at} {p = p} {hold = hold} gone
       its = by.its;
     })
 
--- Where a row goes there is none of its sector,
+-- After the row of a sector is removed, no row has this sector.
 pub gone_unheld : {old new : List HeldRow} {at : ℕ} {hold : HeldRow} → HaveOwnRows old → IsLetGo old new at hold → IsUnheld new at
 gone_unheld {old = old} {at = at} own gone =
     let sector = λ (h : HeldRow). h.placed.at in
@@ -349,13 +349,13 @@ gone_unheld {old = old} {at = at} own gone =
     let stood = stood_at old gone.place k gone.at.inside lt in
     stood.2 (same_place old stood.0 gone.place d own stood.1 gone.at.inside (ap sector (sym (stood.3 d)) ∙ same ∙ sym (ap sector (gone.at.is d) ∙ gone.at.its))))
 
--- so a byte string that somebody holds still has its row.
+-- A byte string that somebody holds still has its row after a row is removed.
 pub by_gone : {old new : List HeldRow} {sector at : ℕ} {p : PlacedEntry} {hold : HeldRow} → HaveOwnRows old → IsLetGo old new at hold
     → 0 < holders_of new sector → IsHeldBy old sector p → IsHeldBy new sector p
 by_gone {new = new} {sector = sector} {at = at} own gone some by =
     by_gone_other gone (λ same. absurd (omega (arith, some, ap (holders_of new) same, holders_unheld new at (gone_unheld own gone)))) by
 
--- What stands in a row afterwards stood in one before.
+-- An entry that is in a row after a row is replaced was in a row before.
 by_set_back : {old : List HeldRow} {sector at place : ℕ} {p : PlacedEntry} {hold : HeldRow} → IsAtPlace old at place hold → (row : HeldRow)
     → row.placed ≡ hold.placed → IsHeldBy (set old place row) sector p → IsHeldBy old sector p
 by_set_back {old = old} {place = place} at row same by =
@@ -382,7 +382,7 @@ by_gone_back {old = old} {sector = sector} {p = p} gone by_new =
       its = by.its;
     }
 
--- Somebody holds what has a row.
+-- A byte string that has a row has a holder.
 pub by_some : {entries : List PlacedEntry} {held : List HeldRow} {sector : ℕ} {p : PlacedEntry} → AreHeldRows entries held → IsHeldBy held sector p → 0 < holders_of held sector
 by_some {held = held} {sector = sector} are by =
     let row = get_or held by.place no_row in

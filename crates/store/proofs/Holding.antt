@@ -1,4 +1,4 @@
--- A byte string is held, read and let go: what a store keeps of it, and what its holders may rely on.
+-- Holding, reading and releasing a byte string: what a store keeps of it, and what its holders may rely on.
 use Rattle.std.proofs.Common.{◌≡◌, ◌⊎◌, inl, inr, ⊎_elim, ◌↔◌, ℕ, ◌+◌, ◌-◌, ◌<◌, ◌≤◌, ◌==◌, Bool, true, false, if◌then◌else◌, List, [], ◌∷◌, ◌++◌}
 use Rattle.std.proofs.Common.{length, get_or, All, IsTrue, IsFalse, Result, Ok, Err, IfErr, IfOk, OnOk, refl, sym, ap, subst, ◌∙◌, arith}
 use Rattle.std.specs.Global.{Vec}
@@ -39,7 +39,7 @@ use Rattle.store.proofs.HeldRows.{gone_listed_length, gone_listed_occurs, gone_o
 use Rattle.store.proofs.HeldRows.{holders_less, holders_more, holders_once, holders_unheld, lone_less, lone_more, lone_once}
 use Rattle.store.proofs.UsedAlone.{no_entry}
 
--- a refusal of another kind
+-- two equal Err results have the same refusal
 pub err_is : {T E : Type 0} {e other : E} → ◌≡◌ {A = Result T E} (Err e) (Err other) → e ≡ other
 err_is {e = e} is = subst (λ r. IfErr r (λ y. e ≡ y)) is refl
 
@@ -48,7 +48,7 @@ abbrev pub with_held : {D : Type 0} → Opened D → List HeldRow → Opened D
 with_held store held = record { disk = store.disk; root = store.root; entries = store.entries; held = held; failed = store.failed }
 
 module _ {root : Root} {entries : List PlacedEntry} {held : List HeldRow} {layout : List Bool} (kept : IsKept root entries held layout) where
-  -- The entry of a held byte string has a spelling, and its extents end on the disk.
+  -- The entry of a held byte string can be encoded, and its extents end on the disk.
   pub held_fits : {at : ℕ} {placed : PlacedEntry} → IsHeldBy held at placed → EntryHasSpelling placed.entry
   held_fits by = subst (λ (p : PlacedEntry). EntryHasSpelling p.entry) (by.is no_row) (kept.rows.each by.place no_row by.inside).fits
 
@@ -62,7 +62,7 @@ module _ {root : Root} {entries : List PlacedEntry} {held : List HeldRow} {layou
       let usable = All-contains (IsUsable root.sectors) (in_use root entries held) (extent.start + extent.count - 1) (all_usable kept) (held_in_use kept by (extent.start + extent.count - 1) found) in
       omega (arith, usable.1, filled)
 
-  -- A byte string that the state lists is held once more: no sector more is in use.
+  -- A byte string that the state lists gets one more holder: no more sectors are in use.
   pub kept_held : {new : List HeldRow} → AreHeldRows entries new → lone_sectors new ≡ lone_sectors held → IsKept root entries new layout
   kept_held rows lone = record {
     root_fits = kept.root_fits;
@@ -76,7 +76,8 @@ module _ {root : Root} {entries : List PlacedEntry} {held : List HeldRow} {layou
     claimed = subst (λ l. AreClaimed root.sectors layout (used root entries) l) (sym lone) kept.claimed;
   }
 
-  -- Of the sectors that holders alone use some are in use no longer: these can be given back, and then all is kept.
+  -- Some of the sectors that only holders use are no longer in use. They can be given back, and then everything is
+  -- kept.
   module _ (new : List HeldRow) (freed : List ℕ) (parts : (k : ℕ) → occurs k (lone_sectors new) + occurs k freed ≡ occurs k (lone_sectors held)) where
     abbrev all : List ℕ
     all = in_use root entries held
@@ -128,7 +129,7 @@ module _ {root : Root} {entries : List PlacedEntry} {held : List HeldRow} {layou
     }
 
 module _ {D : Type 0} (facts : D → DiskFacts) (store : Opened D) {layout : List Bool} (kept : IsKept store.root store.entries store.held layout) where
-  -- What a refusal to hold leaves.
+  -- If a hold is refused, nothing changes.
   pub hold_refused : (position : ℕ) (e : StoreRefusal) → ((e ≡ Reopen) ↔ IsTrue store.failed) → (e ≡ Reopen) ⊎ (e ≡ OutOfMemory) → TakesHold facts store store position (Err e)
   hold_refused position e reopen which = record {
     ok = λ s at. tt;
@@ -191,7 +192,7 @@ module _ {D : Type 0} (facts : D → DiskFacts) (store : Opened D) {layout : Lis
       refusals = tt;
     }
 
-  -- What a read that makes no call leaves.
+  -- A read that is refused without a call changes nothing.
   pub read_refused : (held : ℕ) (e : StoreRefusal) → ((e ≡ Reopen) ↔ IsTrue store.failed)
       → ((e ≡ Damaged) ↔ (IsFalse store.failed × (holders_of store.held held ≡ 0))) → (e ≡ Reopen) ⊎ (e ≡ Damaged) ⊎ (e ≡ OutOfMemory)
       → ReadsHeld facts store store held (Err e)
@@ -214,7 +215,7 @@ module _ {D : Type 0} (facts : D → DiskFacts) (store : Opened D) {layout : Lis
     called = no_calls (facts store.disk);
   }
 
-  -- What a read of what is held leaves.
+  -- The effect of reading a held byte string.
   module _ (after : D) (held : ℕ) {placed : PlacedEntry} (by : IsHeldBy store.held held placed) (usable : IsFalse store.failed)
       (holds : IsTrue (facts store.disk).honest → HoldsNow (facts store.disk))
       (calls : AreCallsAtMost (div_ceil placed.entry.file_length sector_bytes) (facts store.disk) (facts after))
@@ -284,7 +285,7 @@ module _ {D : Type 0} (facts : D → DiskFacts) (store : Opened D) {layout : Lis
         other_than : (y : StoreRefusal) → (y ≡ Device → ⊥) → (y ≡ OutOfMemory → ⊥) → e ≡ y → ⊥
         other_than y device memory is = ⊎_elim (λ both. device (sym is ∙ both.0)) (λ both. memory (sym is ∙ both.0)) refused
 
-  -- What letting go of a byte string that nobody holds leaves.
+  -- Releasing a byte string that nobody holds changes nothing.
   pub none_done : {at : ℕ} → IsUnheld store.held at → LetsHoldGo facts store store at
   none_done {at = at} absent = record {
     holders = λ sector. none_less sector;
@@ -301,7 +302,7 @@ module _ {D : Type 0} (facts : D → DiskFacts) (store : Opened D) {layout : Lis
           (λ other. omega (arith, ap {B = ℕ} (λ b. if b then 1 else 0) other))
           (cases_Bool (at == sector))
 
-  -- A byte string that others hold still is let go, or its last holder lets it go.
+  -- A holder releases a byte string: others still hold it, or this was its last holder.
   module _ {at : ℕ} {new : List HeldRow} where
     pub less_done : IsHeldLess store.held new at → LetsHoldGo facts store (with_held store new) at
     less_done less =
@@ -324,7 +325,7 @@ module _ {D : Type 0} (facts : D → DiskFacts) (store : Opened D) {layout : Lis
       same = λ s is_at. record { honest = is_at.honest; usable = is_at.usable; stands = is_at.stands };
     }
 
--- What is kept once the last holder of a byte string lets it go, whether the state lists it or not.
+-- What is kept once the last holder of a byte string releases it, whether or not the state lists it.
 module _ {root : Root} {entries : List PlacedEntry} {held new : List HeldRow} {layout : List Bool} {at : ℕ} {hold : HeldRow}
     (kept : IsKept root entries held layout) (gone : IsLetGo held new at hold) where
   pub gone_listed : hold.listed ≡ true → IsKept root entries new layout

@@ -1,4 +1,4 @@
--- Lists with one element more.
+-- Lists with one more element.
 use Rattle.std.proofs.Common.{◌≡◌, ⊎_elim, ℕ, zero, suc, ◌+◌, ◌-◌, ◌<◌, ◌≤◌, All, AllPairs, List, [], ◌∷◌, length, map, take, drop, get_or, arith, refl, sym, ap, subst, ◌∙◌}
 use Rattle.std.specs.List.{insert}
 use Rattle.std.proofs.lemmas.Bool.{cases_lt}
@@ -15,7 +15,7 @@ pub all_insert : {A : Type 0} (P : A → Type 0) (xs : List A) (place : ℕ) (y 
 all_insert P xs place y its all = All-append P (take place xs) (y ∷ drop place xs) (All-take P place xs all) (All-cons P y (drop place xs) its (All-drop P place xs all))
 
 module _ {X : Type 0} (R : X → X → Type 0) (xs : List X) (i : ℕ) (y : X) where
-  -- two elements after an insertion, by what they are
+  -- if `R` holds of two values, it holds of the two elements with these values
   pair : (j k : ℕ) (d a b : X) → get_or (insert xs i y) j d ≡ a → get_or (insert xs i y) k d ≡ b → R a b → R (get_or (insert xs i y) j d) (get_or (insert xs i y) k d)
   pair j k d a b first second holds = subst (λ v. R v (get_or (insert xs i y) k d)) (sym first) (subst (λ v. R a v) (sym second) holds)
 
@@ -24,7 +24,8 @@ module _ {X : Type 0} (R : X → X → Type 0) (xs : List X) (i : ℕ) (y : X) w
       let is : k - 1 + 1 ≡ k = omega (arith, lt) in
       ap (λ n. get_or (insert xs i y) n d) (sym is) ∙ get_or-insert_above xs i y d (k - 1) (omega (arith, lt)) le
 
-  -- an element between those that it follows and those that follow it
+  -- if an element is inserted between those that come before it and those that come after it, all pairs are still in
+  -- order
   pub all_pairs_insert : i ≤ length xs → AllPairs R xs → ((k : ℕ) (d : X) → k < i → R (get_or xs k d) y) → ((k : ℕ) (d : X) → i ≤ k → k < length xs → R y (get_or xs k d))
       → AllPairs R (insert xs i y)
   all_pairs_insert le pairs before behind j k d less lt =

@@ -1,4 +1,4 @@
--- For callers: readings of a store one after the other.
+-- Lemmas for callers: the contract of several reads of a store, made one after the other.
 use Rattle.std.proofs.Common.{ℕ, IsTrue, Result, refl, sym, subst, ◌∙◌}
 use Rattle.std.specs.Global.{Vec}
 use Rattle.sector_disk.specs.Disk.{DiskFacts, Mixture, IsUnchanged}
@@ -23,7 +23,7 @@ module _ {version : Version} {D : Type 0} {facts : D → DiskFacts} where
     calls = no_calls (facts start.disk);
   }
 
-  -- one byte string
+  -- if one byte string was read, the store was only read
   pub read_one : {old new : Opened D} {position : ℕ} {result : Result (Vec ℕ) StoreRefusal} → ReadsBlob version facts old new position result → IsReadBy version facts old new
   read_one reads = record {
     leaves = reads.any_moment;
@@ -36,7 +36,7 @@ module _ {version : Version} {D : Type 0} {facts : D → DiskFacts} where
     calls = (reads.calls no_entry).some;
   }
 
-  -- and then more
+  -- reads of a store, followed by other reads, only read the store
   pub read_more : {start mid new : Opened D} → IsReadBy version facts start mid → IsReadBy version facts mid new → IsReadBy version facts start new
   read_more {start = start} {mid = mid} first second = record {
     leaves = λ is.

@@ -1,4 +1,4 @@
--- What calls keep of held byte strings.
+-- The facts about held byte strings that calls keep.
 use Rattle.std.proofs.Common.{◌≡◌, ⊎_elim, ℕ, Bool, List, [], ◌∷◌, length, get_or, take, IsTrue, refl, sym, ap, subst, ◌∙◌, arith}
 use Rattle.std.specs.Prelude.{Contains, if◌then◌else◌}
 use Rattle.std.proofs.lemmas.Bool.{cases_Bool}
@@ -18,18 +18,18 @@ use Rattle.store.specs.inside.Claimed.{IsUsable}
 use Rattle.store.specs.inside.HeldRows.{IsLeft}
 use Rattle.store.specs.inside.Kept.{IsKept}
 use Rattle.store.specs.inside.Room.{IsRootOr}
-use Rattle.store.specs.inside.Settled.{KeepsRows}
+use Rattle.store.specs.inside.Unlisted.{KeepsRows}
 use Rattle.store.proofs.Anew.{all_usable}
 use Rattle.store.proofs.Counts.{occurs, occurs-flat_map, occurs_contains, contains_occurs}
 use Rattle.store.proofs.KeyedRows.{no_row}
 use Rattle.store.proofs.HeldRows.{by_left, by_left_back, holders_left}
 use Rattle.store.proofs.UsedAlone.{among_used}
 
--- the sectors of an entry that the state lists are in use by it
+-- the sectors of an entry that the state lists are in use by the state
 pub listed_used : (root : Root) (entries : List PlacedEntry) (placed : PlacedEntry) → Contains entries placed → (k : ℕ) → Contains (sectors_of placed) k → Contains (used root entries) k
 listed_used root entries placed found k its = among_used root entries found.0 placed found.1 k (subst (λ p. Contains (sectors_of p) k) (sym found.2) its)
 
--- a change of root sectors and of sectors that aren't in use leaves out all that is in use
+-- changing only root sectors and sectors that aren't in use changes no sector in use
 pub apart_from : {root : Root} {entries : List PlacedEntry} {held : List HeldRow} {layout : List Bool} → (kept : IsKept root entries held layout)
     → (changed : List ℕ) → ((k : ℕ) → Contains changed k → Contains (in_use root entries held) k → ⊥) → (k : ℕ)
     → Contains (in_use root entries held) k → IsRootOr changed k → ⊥
@@ -59,7 +59,7 @@ module _ {root : Root} {entries : List PlacedEntry} {held : List HeldRow} {layou
 
   module _ {before after : DiskFacts} (changed : List ℕ) (apart : (k : ℕ) → Contains changed k → Contains (in_use root entries held) k → ⊥)
       (others : IsTrue before.honest → (m : List Sector) → Mixture after m → IsMixtureBut (IsRootOr changed) before m) where
-    -- So its bytes are what they were on a disk of which other sectors were changed.
+    -- A held byte string keeps its bytes on a disk of which only other sectors were changed.
     held_bytes : IsTrue before.honest → {at : ℕ} {placed : PlacedEntry} → IsHeldBy held at placed → (library : Library)
         → ((m : List Sector) → Mixture before m → library_of m placed ≡ library) → (m : List Sector) → Mixture after m → library_of m placed ≡ library
     held_bytes honest {placed = placed} by library stands m mixture =
@@ -68,7 +68,7 @@ module _ {root : Root} {entries : List PlacedEntry} {held : List HeldRow} {layou
         let same = bytes_at_same but.0 m sectors (λ k found. but.2.others k (apart_from kept changed apart k (held_in_use by k (Contains-append_right (placed.at ∷ []) sectors k found)))) in
         (λ i. record { name = name_of placed.entry; bytes = take placed.entry.file_length (same i) }) ∙ stands but.0 but.1
 
-    -- A change of other sectors keeps all that is held,
+    -- A change of other sectors keeps everything that is held.
     pub keeps_table : KeepsHolders before after held held
     keeps_table = record {
       holders = λ sector. refl;
@@ -77,7 +77,8 @@ module _ {root : Root} {entries : List PlacedEntry} {held : List HeldRow} {layou
       none = λ none. none;
     }
 
-    -- also where the state lists some of it no longer,
+    -- A change of other sectors keeps everything that is held, also if the state no longer lists some held byte
+    -- strings.
     pub keeps_rows : {new : List HeldRow} → KeepsRows held new → KeepsHolders before after held new
     keeps_rows rows = record {
       holders = rows.holders;
@@ -86,7 +87,7 @@ module _ {root : Root} {entries : List PlacedEntry} {held : List HeldRow} {layou
       none = rows.none;
     }
 
-    -- and so does one after which the state lists a byte string no longer.
+    -- A change of other sectors keeps everything that is held, also if the state no longer lists one held byte string.
     pub keeps_left : {new : List HeldRow} → {at : ℕ} → IsLeft held new at → KeepsHolders before after held new
     keeps_left {new = new} left = record {
       holders = holders_left left;
@@ -95,7 +96,7 @@ module _ {root : Root} {entries : List PlacedEntry} {held : List HeldRow} {layou
       none = λ none. absurd (omega (arith, left.at.inside, ap length none));
     }
 
--- Reads keep all that is held.
+-- Reads keep everything that is held.
 pub keeps_reads : {before after : DiskFacts} (held : List HeldRow) → (IsTrue before.honest → (m : List Sector) → Mixture after m → Mixture before m) → KeepsHolders before after held held
 keeps_reads held still = record {
   holders = λ sector. refl;
@@ -104,6 +105,6 @@ keeps_reads held still = record {
   none = λ none. none;
 }
 
--- and so does what changes neither the disk nor the table
+-- what changes neither the disk nor the table keeps everything that is held
 pub keeps_same : {D : Type 0} (facts : D → DiskFacts) {old view : Opened D} → view ≡ old → KeepsHolders (facts old.disk) (facts view.disk) old.held view.held
 keeps_same facts {view = view} is = subst (λ store. KeepsHolders (facts store.disk) (facts view.disk) store.held view.held) is (keeps_reads view.held (λ honest m mixture. mixture))

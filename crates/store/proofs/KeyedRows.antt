@@ -20,7 +20,7 @@ use Rattle.store.proofs.Inserted.{map_insert}
 use Rattle.store.proofs.Removed.{drop_none, map_remove}
 use Rattle.store.proofs.UsedAlone.{no_entry}
 
--- no row, where a list needs some element
+-- a row for positions where there is none
 abbrev pub no_row : HeldRow
 no_row = record { placed = no_entry; holders = 0; listed = false }
 
@@ -28,11 +28,11 @@ no_row = record { placed = no_entry; holders = 0; listed = false }
 abbrev pub row_sectors : List HeldRow → List ℕ
 row_sectors rows = map (λ h. h.placed.at) rows
 
--- a key is the sector that is looked for
+-- whether a key is the sector that is looked for
 abbrev pub is_sector : ℕ → ℕ → Bool
 is_sector sector key = is_at (nat_cmp sector) key
 
--- The entry that a look-up finds: its place, and what the map's calls make of the entries there.
+-- The row that a look-up finds: its place, and the map's entries after the map's calls change this row.
 pub record IsFound (es : List (ℕ × HeldRow)) (sector : ℕ) (row : HeldRow) : Type 0 where
   pub place : ℕ
   pub key : ℕ
@@ -68,7 +68,7 @@ found_in (e ∷ es) sector row is =
     })
     (cases_Bool here)
 
--- where a new entry goes
+-- the place of a new entry of the map
 pub record IsPut (es new : List (ℕ × HeldRow)) (e : ℕ × HeldRow) : Type 0 where
   pub place : ℕ
   pub inside : place ≤ length es
@@ -86,19 +86,19 @@ put_in (e ∷ es) sector row absent = by_order (nat_cmp sector e.0) refl (put_in
     by_order Equal is put = absurd (false≢true (sym absent.0 ∙ ap is_eq is))
     by_order Greater is put = record { place = suc put.place; inside = omega (arith, put.inside); is = ap made is ∙ ap (λ l. e ∷ l) put.is }
 
--- Of entries that stand under the sectors of their rows:
+-- Entries of the map that are under the sectors of their rows.
 module _ (es : List (ℕ × HeldRow)) (own : keys_of es ≡ row_sectors (values_of es)) (sector : ℕ) where
   key_is : (place : ℕ) (d : HeldRow) → place < length (values_of es) → get_or (keys_of es) place sector ≡ (get_or (values_of es) place d).placed.at
   key_is place d lt = ap (λ l. get_or l place sector) own ∙ get_or-map (λ (h : HeldRow). h.placed.at) (values_of es) place d sector lt
 
-  -- where a look-up finds none there is none,
+  -- If a look-up finds nothing, the sector has no row.
   pub none_found : lookup (is_sector sector) es ≡ None → IsUnheld (values_of es) sector
   none_found none place d lt same =
       All-keys_from_lookup (eq_by_cmp_equiv nat_cmp_total) (λ key. key ≢ sector) es
       (λ key some is. absurd (false≢true (sym (ap is_some none) ∙ subst (λ k. IsSome (lookup (is_sector k) es)) is some)))
       place sector (omega (arith, lt, length-map es (λ (e : ℕ × HeldRow). e.0), length-map es (λ (e : ℕ × HeldRow). e.1))) (key_is place d lt ∙ same)
 
-  -- and what it finds has its place, where the map's calls write it and take it out.
+  -- A row that a look-up finds has a place, at which the map's calls write and remove it.
   module _ (row : HeldRow) (is : lookup (is_sector sector) es ≡ Some row) where
     abbrev pub found : IsFound es sector row
     found = found_in es sector row is
@@ -142,7 +142,7 @@ module _ (es : List (ℕ × HeldRow)) (own : keys_of es ≡ row_sectors (values_
       let at = row_found row is in
       absurd (absent (found row is).place row at.inside (ap (λ (h : HeldRow). h.placed.at) (at.is row) ∙ at.its))
 
-  -- A new row has its place too.
+  -- A new row has its place in the map too.
   module _ (row : HeldRow) (absent : IsUnheld (values_of es) sector) (new : List (ℕ × HeldRow)) (new_is : new ≡ insert_entry nat_cmp es sector row) where
     abbrev pub put : IsPut es (insert_entry nat_cmp es sector row) (sector, row)
     put = put_in es sector row (none_passes_from_lookup (is_sector sector) es (none_there (lookup (is_sector sector) es) refl absent))

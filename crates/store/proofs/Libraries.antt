@@ -1,4 +1,4 @@
--- The names and the bytes of entries that have a spelling.
+-- The names and the bytes of entries that can be encoded.
 use Rattle.std.proofs.Common.{◌≡◌, refl, ℕ, suc, ◌*◌, ◌<◌, List, [], ◌∷◌, length, map, All, ◌∙◌, arith}
 use Rattle.std.specs.Prelude.{Contains}
 use Rattle.std.specs.Int.{div_ceil}
@@ -14,7 +14,7 @@ use Rattle.store.specs.declared.placed_entry.PlacedEntry.{PlacedEntry}
 use Rattle.store.specs.Names.{IsName}
 use Rattle.store.specs.Stands.{extents_of, library_of, name_of}
 
--- such an entry's name is one
+-- the name of an entry that can be encoded can be a name
 pub name_fits : (entry : Entry) → EntryHasSpelling entry → IsName (name_of entry)
 name_fits entry fits =
     let size : length (name_of entry) ≡ entry.name_length = length-take-le entry.name_length entry.name (omega (arith, fits.name.listed.size, fits.name.listed.room)) in
@@ -23,7 +23,7 @@ name_fits entry fits =
       bytes = fits.name.listed.used;
     }
 
--- whole sectors have so many bytes
+-- whole sectors have 512 bytes each
 length-bytes_at : (m : List Sector) (ks : List ℕ) → All IsWhole m → ((k : ℕ) → Contains ks k → k < length m) → length (bytes_at m ks) ≡ 512 * length ks
 length-bytes_at m [] whole inside = refl
 length-bytes_at m (k ∷ ks) whole inside = omega (
@@ -42,6 +42,6 @@ length-library m placed whole fits inside =
     let sectors : length (places (extents_of entry)) ≡ div_ceil entry.file_length 512 = length-places (extents_of entry) ∙ fits.extents.sum in
     length-take-le entry.file_length (bytes_at m (places (extents_of entry))) (omega (arith, have, sectors, (div_ceil_times entry.file_length 512 (omega arith)).0))
 
--- there are as many as there are entries
+-- the number of byte strings is the number of entries
 pub length-libraries : (m : List Sector) (entries : List PlacedEntry) → length (map (library_of m) entries) ≡ length entries
 length-libraries m entries = length-map entries (library_of m)

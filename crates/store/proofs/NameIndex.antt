@@ -1,4 +1,4 @@
--- The order of entries' names.
+-- The order of the names of entries.
 use Rattle.std.proofs.Common.{◌≡◌, ◌≢◌, ℕ, ◌<◌, ◌≤◌, true, false, All, List, ◌∷◌, [], length, set, get_or, arith, refl, sym, ap, subst, ◌∙◌, ⊎_elim}
 use Rattle.std.specs.Cmp.Lexicographic.{slice_cmp}
 use Rattle.std.specs.Ordering.{nat_cmp, is_lt}
@@ -13,14 +13,14 @@ use Rattle.store.specs.Stands.{HaveOwnNames, name_of}
 use Rattle.store.specs.NameOrder.{entry_names, name_at, IsOrderOf}
 use Rattle.store.specs.inside.NameIndex.{order_to, Index, IsIndex, IsPlace}
 
--- the same name doesn't come before itself
+-- a name doesn't come before itself
 not-less : (a b : List ℕ) → a ≡ b → slice_cmp nat_cmp a b ≡ Less → ⊥
 not-less a b same less =
     let tied : slice_cmp nat_cmp a a ≡ Equal = tied_itself nat_list_cmp_total a in
     let wrong : Less ≡ Equal = sym less ∙ ap (λ x. slice_cmp nat_cmp a x) (sym same) ∙ tied in
     absurd (cc)
 
--- two places with one name are one place
+-- if two places of the order have the same name, they are the same place
 pub same_place : (names : List (List ℕ)) (positions : List ℕ) (j k : ℕ) → IsOrderOf names positions → j < length positions → k < length positions
     → name_at names (get_or positions j 0) ≡ name_at names (get_or positions k 0) → j ≡ k
 same_place names positions j k order first second same = ⊎_elim
@@ -31,7 +31,7 @@ same_place names positions j k order first second same = ⊎_elim
     (cases_lt k j))
     (cases_lt j k)
 
--- two positions with one name are one position
+-- if two positions have the same name, they are the same position
 pub same_position : (names : List (List ℕ)) (positions : List ℕ) (i j : ℕ) → IsOrderOf names positions → i < length names → j < length names
     → name_at names i ≡ name_at names j → i ≡ j
 same_position names positions i j order first second same =
@@ -48,7 +48,7 @@ entry_name entries i d lt = get_or-map (λ (placed : PlacedEntry). name_of place
 pub entry_count : (entries : List PlacedEntry) → length (entry_names entries) ≡ length entries
 entry_count entries = length-map entries (λ (placed : PlacedEntry). name_of placed.entry)
 
--- entries whose names have an order have names of their own
+-- if the entries' names have an order, the entries have different names
 pub own_from_order : (entries : List PlacedEntry) (positions : List ℕ) → IsOrderOf (entry_names entries) positions → HaveOwnNames entries
 own_from_order entries positions order i j d less lt same =
     let n = entry_count entries in
@@ -56,7 +56,7 @@ own_from_order entries positions order i j d less lt same =
     (entry_name entries i d (omega (arith, less, lt)) ∙ same ∙ sym (entry_name entries j d lt)) in
     omega (arith, is, less)
 
--- and so have those with an index
+-- entries that have an index have different names
 pub own_names : (entries : List PlacedEntry) (index : Index) → IsIndex entries index → HaveOwnNames entries
 own_names entries index h = own_from_order entries index.positions h
 
@@ -66,7 +66,7 @@ names_from_own (d ∷ entries) own i j less lt same =
     let here : j < length (d ∷ entries) = omega (arith, lt, entry_count (d ∷ entries)) in
     own i j d less here (sym (entry_name (d ∷ entries) i d (omega (arith, less, here))) ∙ same ∙ entry_name (d ∷ entries) j d here)
 
--- an entry in the place of another of the same name leaves the index as it is
+-- replacing an entry by one with the same name doesn't change the index
 pub replaced : (entries : List PlacedEntry) (index : Index) (i : ℕ) (put d : PlacedEntry) → IsIndex entries index → i < length entries → name_of (get_or entries i d).entry ≡ name_of put.entry
     → IsIndex (set entries i put) index
 replaced entries index i put d h lt same =
@@ -80,7 +80,7 @@ is-less Less e = refl
 is-less Equal e = absurd (false≢true e)
 is-less Greater e = absurd (false≢true e)
 
--- no name that comes before this one stands behind one that doesn't
+-- in the order, the names less than `name` come before all others
 pub partitioned : (names : List (List ℕ)) (positions name : List ℕ) → IsOrderOf names positions → IsPartitionedBy (λ position. is_lt (order_to names name position)) positions
 partitioned names positions name order i j d le lt before = ⊎_elim
     (λ less. ap is_lt (nat_list_cmp_total.trans (name_at names (get_or positions i d)) (name_at names (get_or positions j d)) name
@@ -90,7 +90,7 @@ partitioned names positions name order i j d le lt before = ⊎_elim
     ap (λ k. is_lt (order_to names name (get_or positions k d))) is ∙ before)
     (cases_lt i j)
 
--- where halving ends is the place of the name
+-- the binary search ends at the place of the name
 pub place_from : (names : List (List ℕ)) (positions name : List ℕ) (place : ℕ) → place ≤ length positions
     → IsPartitionPoint (λ position. is_lt (order_to names name position) ≡ true) (λ position. is_lt (order_to names name position) ≡ false) positions place
     → IsPlace names positions name place
@@ -100,7 +100,7 @@ place_from names positions name place le point = record {
   behind = λ k from lt. point.1 k 0 from lt;
 }
 
--- a name stands at its place, or nowhere
+-- the order has a name at the name's place, or nowhere
 only-place : (names : List (List ℕ)) (positions name : List ℕ) (place k : ℕ) → IsOrderOf names positions → IsPlace names positions name place
     → k < length positions → name_at names (get_or positions k 0) ≡ name → k ≡ place
 only-place names positions name place k order at lt here = ⊎_elim
@@ -114,7 +114,7 @@ only-place names positions name place k order at lt here = ⊎_elim
     (cases_lt place k))
     (cases_lt k place)
 
--- the place of a name that stands at a position has that position
+-- the order has the position `position` at the place `place`
 pub record IsThere (positions : List ℕ) (place position : ℕ) : Type 0 where
   pub within : place < length positions
   pub here : get_or positions place 0 ≡ position
@@ -127,7 +127,7 @@ there names positions name place i order at lt same =
     let is_place : a.0 ≡ place = only-place names positions name place a.0 order at a.1 (ap (name_at names) is ∙ same) in
     record { within = omega (arith, is_place, a.1); here = ap (λ k. get_or positions k 0) (sym is_place) ∙ is }
 
--- where another name stands at the place of a name, or none, the name isn't there
+-- if the place of a name has another name, or there is none, no entry has the name
 pub absent : (entries : List PlacedEntry) (positions name : List ℕ) (place : ℕ) → IsOrderOf (entry_names entries) positions → IsPlace (entry_names entries) positions name place
     → (place < length positions → name_at (entry_names entries) (get_or positions place 0) ≢ name) → All (λ (placed : PlacedEntry). name_of placed.entry ≢ name) entries
 absent entries positions name place order at other k d lt same =

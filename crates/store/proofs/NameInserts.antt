@@ -1,4 +1,4 @@
--- The order of names with one more.
+-- The order of names with one more name.
 use Rattle.std.proofs.Common.{◌≡◌, ◌≢◌, ℕ, ◌+◌, ◌<◌, All, false, List, ◌∷◌, ◌++◌, [], length, get_or, arith, refl, sym, ap, subst, ◌∙◌, ⊎_elim}
 use Rattle.std.specs.List.{insert}
 use Rattle.std.specs.Cmp.Lexicographic.{slice_cmp}
@@ -26,13 +26,13 @@ module _ (names : List (List ℕ)) (name : List ℕ) where
   named-last : name_at (names ++ name ∷ []) (length names) ≡ name
   named-last = get_or_push names name [] (length names) refl
 
-  -- two positions are in the same order where there is one name more
+  -- one more name at the end doesn't change the order of two earlier positions
   still-less : (a b : ℕ) → a < length names → b < length names → name_order names a b ≡ Less → name_order (names ++ name ∷ []) a b ≡ Less
   still-less a b first second less =
       ap (λ n. slice_cmp nat_cmp n (name_at (names ++ name ∷ []) b)) (named-before a first)
       ∙ ap (slice_cmp nat_cmp (name_at names a)) (named-before b second) ∙ less
 
-  -- a position whose name comes before the new one, and one whose name comes behind it
+  -- if the name at a position comes before the new name, the position comes before the new one in the order
   before-new : (p : ℕ) → p < length names → order_to names name p ≡ Less → name_order (names ++ name ∷ []) p (length names) ≡ Less
   before-new p lt less =
       ap (λ n. slice_cmp nat_cmp n (name_at (names ++ name ∷ []) (length names))) (named-before p lt)
@@ -48,12 +48,12 @@ turned o Less is other differ = absurd (false≢true (sym other))
 turned o Equal is other differ = absurd (differ refl)
 turned o Greater is other differ = is
 
--- a name that isn't there comes before those that don't come before it
+-- if `a` doesn't come before `b` and isn't `b`, `b` comes before `a`
 comes-before : (a b : List ℕ) → is_lt (slice_cmp nat_cmp a b) ≡ false → a ≢ b → slice_cmp nat_cmp b a ≡ Less
 comes-before a b behind other =
     turned (slice_cmp nat_cmp b a) (slice_cmp nat_cmp a b) (nat_list_cmp_total.antisymm b a) behind (λ equal. other (exact_bytes a b equal))
 
--- the new position at the place of its name
+-- inserting the new position at the place of its name makes an order of all names
 inserted-names : (names : List (List ℕ)) (positions name : List ℕ) (place : ℕ) → IsOrderOf names positions → IsPlace names positions name place
     → ((i : ℕ) → i < length names → name_at names i ≢ name) → IsOrderOf (names ++ name ∷ []) (insert positions place (length names))
 inserted-names names positions name place order at absent =
@@ -80,7 +80,7 @@ inserted-names names positions name place order at absent =
           (ap (slice_cmp nat_cmp name) here ∙ comes-before (name_at names (get_or positions k 0)) name (at.behind k late lt) (absent (get_or positions k 0) (order.within k 0 lt))));
     }
 
--- the entries with one put behind them
+-- inserting the position of an entry that is put after the others makes an order of all entries
 pub inserted : (entries : List PlacedEntry) (positions name : List ℕ) (place : ℕ) → IsOrderOf (entry_names entries) positions → IsPlace (entry_names entries) positions name place
     → All (λ (placed : PlacedEntry). name_of placed.entry ≢ name) entries → (put : PlacedEntry) → name_of put.entry ≡ name
     → IsOrderOf (entry_names (entries ++ put ∷ [])) (insert positions place (length entries))

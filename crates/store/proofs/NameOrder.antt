@@ -1,4 +1,4 @@
--- Sorted names, and whether one stands twice.
+-- Sorted names, and whether a name occurs twice.
 use Rattle.std.proofs.Common.{◌≡◌, ◌≢◌, ℕ, ◌+◌, ◌<◌, All, true, false, eqb, List, length, get_or, arith, refl, sym, ◌∙◌, ⊎_elim}
 use Rattle.std.specs.List.{range_with_len, IsDistinct}
 use Rattle.std.specs.Cmp.Lexicographic.{on_texts}
@@ -22,7 +22,7 @@ within names positions sorted =
     let n = length-range_with_len 0 (length names) in
     omega (arith, lt, n, get_or-range_with_len 0 (length names) k d (omega (arith, lt, n))))
 
--- sorted names that rise are in order, and none stands twice
+-- if positions are sorted and each name comes before the next one, they are an order, and no name occurs twice
 pub order_from_rises : (names : List (List ℕ)) (positions : List ℕ) → IsSortedOrder names positions → Rises names positions → IsOrderOf names positions
 order_from_rises names positions sorted rises = record {
   size = length_permutation (range_with_len 0 (length names)) positions sorted.moved ∙ length-range_with_len 0 (length names);
@@ -35,7 +35,7 @@ order_from_rises names positions sorted rises = record {
 eqb-flips : (a b : ℕ) → eqb a b ≡ eqb b a
 eqb-flips a b = grind (arith, nat_tests)
 
--- no position stands twice
+-- no position occurs twice
 distinct : (names : List (List ℕ)) (positions : List ℕ) → IsSortedOrder names positions → IsDistinct eqb positions
 distinct names positions sorted =
     IsDistinct-IsPermutation eqb eqb-flips (range_with_len 0 (length names)) positions sorted.moved
@@ -52,7 +52,7 @@ less-from Greater Less e up other = let wrong : true ≡ false = up in absurd (c
 less-from Greater Equal e up other = absurd (cc)
 less-from Greater Greater e up other = absurd (cc)
 
--- where no name stands twice, sorted names rise
+-- if no name occurs twice, each sorted name comes before the next
 pub rises_from_own : (names : List (List ℕ)) (positions : List ℕ) → IsSortedOrder names positions
     → ((i j : ℕ) → i < j → j < length names → name_at names i ≢ name_at names j) → Rises names positions
 rises_from_own names positions sorted own = record {

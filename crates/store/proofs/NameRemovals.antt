@@ -22,7 +22,7 @@ only-one a q found =
     let first : found.0 ≡ 0 = omega (arith, found.1) in
     ap (λ k. get_or (a ∷ []) k q) (sym first) ∙ found.2
 
--- what stands elsewhere in a list without one element stood at another place
+-- each element of a list without element `i` was at another place than `i`
 elsewhere : {X : Type 0} (xs : List X) (i k : ℕ) (d : X) → i < length xs → k < length (remove xs i) → (j : ℕ) × (j < length xs) × (j ≢ i) × (get_or (remove xs i) k d ≡ get_or xs j d)
 elsewhere xs i k d lt within = ⊎_elim
     (λ low. (k, omega (arith, low, lt), (λ is. omega (arith, is, low)), get_or-remove_below xs i d k low lt))
@@ -33,7 +33,7 @@ module _ (names : List (List ℕ)) (positions : List ℕ) (place gone : ℕ) (or
   inside : gone < length names
   inside = subst (λ p. p < length names) at.here (order.within place 0 at.within)
 
-  -- the other positions: of these names, and none is the one that is gone
+  -- the other positions are positions of names, and none of them is the removed one
   others : All (λ p. (p < length names) × (p ≢ gone)) (remove positions place)
   others k d lt =
       let from = elsewhere positions place k d at.within lt in
@@ -42,7 +42,7 @@ module _ (names : List (List ℕ)) (positions : List ℕ) (place gone : ℕ) (or
         λ is. from.2 (same_place names positions from.0 place order from.1 at.within (ap (name_at names) (sym here ∙ is ∙ sym at.here))),
       )
 
-  -- a name is where it was, over which it closed up
+  -- a name is at the position to which its old position moved
   named-closed : (p : ℕ) → p ≢ gone → name_at (remove names gone) (closed_up gone p) ≡ name_at names p
   named-closed p other = at_closed names gone p [] other inside
 
@@ -101,7 +101,7 @@ module _ (names : List (List ℕ)) (positions : List ℕ) (place gone : ℕ) (or
     rise = still-rising;
   }
 
--- the entries without the one at a position
+-- removing an entry and its position makes an order of the other entries
 pub removed : (entries : List PlacedEntry) (positions : List ℕ) (place gone : ℕ) → IsOrderOf (entry_names entries) positions → IsThere positions place gone
     → IsOrderOf (entry_names (remove entries gone)) (map (closed_up gone) (remove positions place))
 removed entries positions place gone order at =

@@ -30,7 +30,7 @@ use Rattle.store.specs.declared.holds.HeldRow.{HeldRow}
 use Rattle.store.specs.Holds.{lone_sectors}
 use Rattle.store.specs.inside.Kept.{IsKept}
 use Rattle.store.specs.declared.change.Staged.TheVariants.{Put}
-use Rattle.store.specs.declared.edit.Edit.TheVariants.{Behind}
+use Rattle.store.specs.declared.edit.Edit.TheVariants.{Append}
 use Rattle.store.specs.inside.Change.{IsFollowed}
 use Rattle.store.specs.inside.Next.{IsNext, next_root}
 use Rattle.store.specs.inside.Prepared.{IsPrepared}
@@ -44,7 +44,8 @@ use Rattle.store.proofs.Libraries.{length-libraries}
 use Rattle.store.proofs.Rooms.{kept_sectors}
 use Rattle.store.proofs.Written.{written_bytes}
 
--- One more entry, in room that was claimed for it and for the catalogues of the list with it, and the root that follows.
+-- One more entry, in room that was claimed for it and for the catalogues of the list that has it, and the root that
+-- follows.
 pub record IsNew (root : Root) (entries : List PlacedEntry) (held : List HeldRow) (old new : List Bool) (catalogues : List ℕ) (put : PlacedEntry) (next : Root) : Type 0 where
   pub kept : IsKept root entries held old
   pub claimed : IsClaimedBeside old new (sectors_of put ++ catalogues)
@@ -56,7 +57,7 @@ pub record IsNew (root : Root) (entries : List PlacedEntry) (held : List HeldRow
   pub room : cost put.entry.file_length + length catalogues + (length catalogues - length (catalogues_of root)) ≤ unused_count old
   pub is_next : next ≡ next_root root (length entries + 1) catalogues (listed_preloads root)
 
--- where room was given there was as much of it free
+-- if room was taken, at least `needed` sectors were free
 pub free_room : {T : Type 0} {x : T} {free needed : ℕ} → (◌≡◌ {A = Result T TakeRefusal} (Ok x) (Err take.Full) ↔ (free < needed)) → needed ≤ free
 free_room {free = free} {needed = needed} full = ⊎_elim (λ few. absurd (ok_or_err (full.1 few))) (λ enough. enough) (cases_lt free needed)
 
@@ -73,7 +74,7 @@ room_place {layout = layout} {catalogues = catalogues} {put = put} {extents = ex
   once = more_once kept claimed;
 }
 
--- elements of a list with one more behind it
+-- an element of a list with `x` after the others is one of the others, or `x`
 last_cases : {A : Type 0} (P : A → Type 0) (xs : List A) (x : A) (i : ℕ) (d : A) → i < length (xs ++ x ∷ []) → (i < length xs → P (get_or xs i d))
     → (i ≡ length xs → P x) → P (get_or (xs ++ x ∷ []) i d)
 last_cases P xs x i d lt before at = ⊎_elim
@@ -84,14 +85,14 @@ last_cases P xs x i d lt before at = ⊎_elim
     subst P (sym (get_or-append_right xs (x ∷ []) (length xs) i d refl (omega (arith, is)) ∙ ap (λ n. get_or (x ∷ []) n d) first)) (at is))
     (cases_lt i (length xs))
 
--- names stay apart with a new one behind them
+-- if a new name is put after others, the names are still different
 pub names_more : (entries : List PlacedEntry) (entry : PlacedEntry) → HaveOwnNames entries → All (λ other. name_of other.entry ≢ name_of entry.entry) entries → HaveOwnNames (entries ++ entry ∷ [])
 names_more entries entry names new i j d lt fits =
     last_cases (λ b. name_of (get_or (entries ++ entry ∷ []) i d).entry ≢ name_of b.entry) entries entry j d fits
     (λ before. subst (λ a. name_of a.entry ≢ name_of (get_or entries j d).entry) (sym (get_or_append_left entries (entry ∷ []) d i (omega (arith, lt, before)))) (names i j d lt before))
     (λ last. subst (λ a. name_of a.entry ≢ name_of entry.entry) (sym (get_or_append_left entries (entry ∷ []) d i (omega (arith, lt, last)))) (new i d (omega (arith, lt, last))))
 
--- positions among the first byte strings name the same with one more
+-- the positions of earlier byte strings keep their names when one more byte string is put
 pub names_at_more : (libraries : List Library) (library : Library) (positions : List ℕ) → All (λ position. position < length libraries) positions
     → names_at (libraries ++ library ∷ []) positions ≡ names_at libraries positions
 names_at_more libraries library [] inside = refl
@@ -118,7 +119,7 @@ module _ {root : Root} {entries : List PlacedEntry} {held : List HeldRow} {layou
   used_is = (λ i. catalogues_are i ++ flat_map-append sectors_of entries (put ∷ []) i)
       ∙ ap (λ l. catalogues ++ (flat_map sectors_of entries ++ l)) (append-nil (sectors_of put))
 
-  -- the old catalogues aren't used any more
+  -- the old catalogues are no longer used
   pub new_moved : IsMoved (used root entries) (sectors_of put ++ catalogues) (used next others) (catalogues_of root)
   new_moved = record {
     parts = λ k. omega (
@@ -165,8 +166,8 @@ module _ {root : Root} {entries : List PlacedEntry} {held : List HeldRow} {layou
     preloads_once = kept.root_fits.preloads.distinct;
   }
 
-  -- it is prepared, where it has its place
-  pub new_prepared : HasPlace root.sectors put catalogues → IsPrepared root entries held new (record { change = record { staged = Put put catalogues; root = next }; edit = Behind put })
+  -- the put is prepared, if the entry has its place
+  pub new_prepared : HasPlace root.sectors put catalogues → IsPrepared root entries held new (record { change = record { staged = Put put catalogues; root = next }; edit = Append put })
   new_prepared place = record {
     before = layout;
     kept = kept;
@@ -182,7 +183,7 @@ module _ {root : Root} {entries : List PlacedEntry} {held : List HeldRow} {layou
     room = λ sectors enough. new_room sectors (omega (arith, enough));
   }
 
-  -- what the put makes of sectors
+  -- the put turns the state into the state with one more byte string
   pub new_put : (now : List Sector) (name bytes : List ℕ) (s : State) → name_of put.entry ≡ name → put.entry.file_length ≡ length bytes
       → length bytes ≤ 512 * sector_count (extents_of put.entry)
       → IsFollowed Two root entries s now [] (record { staged = Put put catalogues; root = next }) bytes (entry_sectors others) others (with_new name bytes s)

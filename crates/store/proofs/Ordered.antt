@@ -1,4 +1,4 @@
--- Extents in another order: the same sectors, claimed or not to be claimed.
+-- Whether the sectors of extents can be claimed doesn't depend on the order of the extents.
 use Rattle.std.proofs.Common.{◌≡◌, ℕ, ◌+◌, ◌<◌, Bool, List, [], ◌∷◌, ◌++◌, length, get_or, take, append_assoc, sym, ap, ◌∙◌, ⊎_elim, arith}
 use Rattle.std.specs.Prelude.{Contains}
 use Rattle.std.specs.List.{flat_map, range_with_len}
@@ -16,7 +16,7 @@ use Rattle.store.specs.inside.Claimed.{AreExtentsOf, IsUsable, IsClaimedBeside, 
 use Rattle.store.proofs.Claiming.{all-part}
 use Rattle.store.proofs.Counts.{occurs, occurs-append, occurs-flat_map, occurs_contains, contains_occurs, distinct_occurs, occurs_distinct}
 
--- extents with one sector more
+-- appending an extent of one sector appends this sector to the places
 pub singles_more : (start : List ℕ) (extents : List Extent) (sectors : List ℕ) (i d : ℕ) → i < length sectors → places extents ≡ start ++ take i sectors
     → places (extents ++ one_sector (get_or sectors i d) ∷ []) ≡ start ++ take (i + 1) sectors
 singles_more start extents sectors i d lt so_far =
@@ -26,7 +26,7 @@ singles_more start extents sectors i d lt so_far =
     ∙ append_assoc start (take i sectors) (at ∷ [])
     ∙ ap (λ l. start ++ l) (sym (take_more sectors i d lt))
 
--- extents with those of one entry more
+-- appending the extents of one more entry appends this entry's sectors to the places
 pub extents_more : (start : List ℕ) (extents : List Extent) (entries : List PlacedEntry) (i : ℕ) (d : PlacedEntry) → i < length entries → places extents ≡ start ++ flat_map sectors_of (take i entries)
     → places ((extents ++ one_sector (get_or entries i d).at ∷ []) ++ extents_of (get_or entries i d).entry) ≡ start ++ flat_map sectors_of (take (i + 1) entries)
 extents_more start extents entries i d lt so_far =
@@ -38,7 +38,7 @@ extents_more start extents entries i d lt so_far =
     ∙ ap (λ l. start ++ l) (sym (ap (flat_map sectors_of) (take_more entries i d lt) ∙ flat_map-append sectors_of (take i entries) (placed ∷ [])
     ∙ ap (λ l. flat_map sectors_of (take i entries) ++ l) (append-nil (sectors_of placed))))
 
--- each number stands in both lists equally often
+-- each number occurs equally often in both lists
 abbrev pub OccurAlike : List ℕ → List ℕ → Type 0
 OccurAlike xs ys = (k : ℕ) → occurs k xs ≡ occurs k ys
 
@@ -63,7 +63,7 @@ module _ (xs ys : List ℕ) (alike : OccurAlike xs ys) where
   distinct_more front apart = occurs_distinct (front ++ ys)
       (λ k. omega (arith, distinct_occurs k (front ++ xs) apart, occurs-append k front xs, occurs-append k front ys, alike k))
 
-  -- and so the one is claimed where the other is
+  -- if one of the lists is claimed, the other is
   pub claimed-alike : (old new : List Bool) → IsClaimedBeside old new xs → IsClaimedBeside old new ys
   claimed-alike old new claimed = record {
     size = claimed.size;
@@ -83,7 +83,7 @@ module _ (xs ys : List ℕ) (alike : OccurAlike xs ys) where
           (λ behind. Contains-append_right front xs s (back s behind))
           (Contains-append_cases front ys s found)
 
--- Claims of extents, by the sectors that they have.
+-- Claims of extents, stated for their sectors.
 module _ (old : List Bool) (extents : List Extent) (sectors : List ℕ) (of : AreExtentsOf extents sectors) where
   there : OccurAlike (places extents) sectors
   there k = sym (alike-moved of.0 extents of.2 k) ∙ ap (occurs k) of.1

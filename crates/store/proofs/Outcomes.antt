@@ -1,4 +1,4 @@
--- What a change answers, and what it does on any disk, by how it ends.
+-- The answers of a change, and its effect on any disk, for each way in which it can end.
 use Rattle.std.proofs.Common.{◌≡◌, ◌≢◌, ◌<◌, ◌≤◌, ◌+◌, ◌-◌, ℕ, nat_eq, nat_lt, false, List, length, Bool, true}
 use Rattle.std.proofs.Common.{IsTrue, IsFalse, Some, None, inr, Ok, Err, refl, sym, ap, subst, ◌∙◌, arith}
 use Rattle.std.specs.Prelude.{nat_le, if◌then◌else◌}
@@ -26,7 +26,7 @@ use Rattle.store.proofs.Holding.{err_is}
 use Rattle.store.specs.inside.Stored.{IsCounted}
 use Rattle.store.proofs.Frees.{if_no, if_yes, new_as_put, change_refused, generation_of}
 
--- what no room is refused with
+-- a put that replaces bytes may be refused for lack of room
 pub take_put_over : (e : TakeRefusal) → IsRefusalOfPutOver (refusal_of_take e)
 take_put_over take.Full = tt
 take_put_over take.Fragmented = tt
@@ -43,12 +43,12 @@ pub take_no_reopen : (e : TakeRefusal) → refusal_of_take e ≢ Reopen
 take_no_reopen take.Full is = cc is
 take_no_reopen take.Fragmented is = cc is
 
--- what is left as it was takes no call
+-- if a store is unchanged, no call was made
 pub still : {D : Type 0} (facts : D → DiskFacts) {old new : Opened D} {most : ℕ} → new ≡ old → AreCallsAtMost most (facts old.disk) (facts new.disk)
 still facts {old = old} {most = most} same = subst (λ store. AreCallsAtMost most (facts old.disk) (facts store.disk)) (sym same)
     (record { some = no_calls (facts old.disk); time = omega arith })
 
--- What a prepared change does on any disk: a write or a sync failed,
+-- The effect of a prepared change on any disk if a write or a sync failed.
 module _ {D : Type 0} (facts : D → DiskFacts) {old new : Opened D} {n : ℕ} (usable : IsFalse old.failed) where
   pub answers_device : {T E : Type 0} {x : E} (e : StoreRefusal) → e ≡ Device → AreCallsInRow {T = T} n (facts old.disk) (facts new.disk) (Err x)
       → IsTrue new.failed → Changed facts Device Reopen old new n (λ e. e ≡ Device) (Err e)
@@ -62,7 +62,7 @@ module _ {D : Type 0} (facts : D → DiskFacts) {old new : Opened D} {n : ℕ} (
     calls = in_row_at_most calls (omega arith);
   }
 
-  -- or it is done.
+  -- The effect of a prepared change on any disk if it is done.
   pub answers_carried_out : {T E : Type 0} {x : T} → AreCallsInRow {E = E} n (facts old.disk) (facts new.disk) (Ok x) → IsFalse new.failed
       → Changed facts Device Reopen old new n (λ e. e ≡ Device) (Ok tt)
   answers_carried_out calls still_usable = record {
@@ -75,13 +75,13 @@ module _ {D : Type 0} (facts : D → DiskFacts) {old new : Opened D} {n : ℕ} (
     calls = in_row_at_most calls (omega arith);
   }
 
--- memory may be wanting whether or not there is room
+-- OutOfMemory is an allowed answer, whether or not there is room
 pub memory_wants : (a b : Bool) → IsAnswer (if a then Some Full else if b then Some Fragmented else None) (Err OutOfMemory)
 memory_wants true b = inr refl
 memory_wants false true = inr refl
 memory_wants false false = inr refl
 
--- What a store that stands at a state answers to an upgrade at the last generation.
+-- The answer of a store that is at a state to an upgrade at the last generation.
 module _ {D : Type 0} (facts : D → DiskFacts) (holds : (disk : D) → IsTrue (facts disk).honest → HoldsNow (facts disk))
     (whole : (disk : D) → IsTrue (facts disk).honest → HasWholeSectors (facts disk)) {store view : Opened D} (is : view ≡ store) {version : Version} {s : State}
     (at : IsAtBy version facts store s) where
@@ -92,7 +92,7 @@ module _ {D : Type 0} (facts : D → DiskFacts) (holds : (disk : D) → IsTrue (
   upgrade_ends sectors last = subst (λ first. IsExactAnswer first (Err GenerationEnd))
       (sym (if_yes (nat_eq s.generation last_generation) _ _ (λ isnt. false≢true (sym isnt ∙ eq-eqb s.generation last_generation (generation ∙ last))))) refl
 
--- What is refused before room is taken, by what is kept.
+-- The refusals that come before room is taken, computed from what is kept.
 module _ {root : Root} {entries : List PlacedEntry} {held : List HeldRow} {layout : List Bool} {s : State} (counted : IsCounted root entries held layout s) where
   is_last : root.generation ≡ last_generation → nat_eq s.generation last_generation ≡ false → ⊥
   is_last last isnt = false≢true (sym isnt ∙ eq-eqb s.generation last_generation (counted.generation ∙ last))

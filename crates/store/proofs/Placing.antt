@@ -1,4 +1,4 @@
--- Where a change puts things, by the sectors in use.
+-- The sectors that a change takes, compared with the sectors in use.
 use Rattle.std.proofs.Common.{◌≡◌, ⊎_elim, inl, inr, ℕ, ◌<◌, Bool, true, List, [], ◌∷◌, ◌++◌, length, All, sym, subst, ◌∙◌, arith}
 use Rattle.std.proofs.lemmas.List.FromFn.{length-map-range_with_len}
 use Rattle.extents.specs.declared.extent.Extent.{Extent}
@@ -20,11 +20,11 @@ use Rattle.store.proofs.Anew.{all_usable}
 back : {a b : List Bool} → ClaimsSame a b → ClaimsSame b a
 back same = record { size = sym same.size; each = λ s. ((same.each s).1, (same.each s).0) }
 
--- Layouts with the same claimed sectors have the same lowest free one,
+-- Layouts with the same claimed sectors have the same lowest unused sector.
 lowest_same : (a b : List Bool) (at : ℕ) → ClaimsSame a b → IsLowestUnused a at → IsLowestUnused b at
 lowest_same a b at same lowest = (unused-same a b at same lowest.0, λ lower lt free. lowest.1 lower lt (unused-same b a lower (back same) free))
 
--- are still the same once it is claimed in both,
+-- Two layouts with the same claimed sectors still have the same ones once a sector is claimed in both.
 same_more : (a b : List Bool) (at : ℕ) → ClaimsSame a b → IsUnused a at → ClaimsSame (with_flag true (one_sector at) a) (with_flag true (one_sector at) b)
 same_more a b at same free =
     let lt : at < length a = (unused-inside a at free).1 in
@@ -40,7 +40,7 @@ same_more a b at same free =
           );
     }
 
--- and so give the same single sectors.
+-- The same single sectors are taken from layouts with the same claimed sectors.
 pub singles_same : (ks : List ℕ) (a b : List Bool) → ClaimsSame a b → AreTaken a ks → AreTaken b ks
 singles_same [] a b same taken = tt
 singles_same (k ∷ ks) a b same taken = (
@@ -48,12 +48,12 @@ singles_same (k ∷ ks) a b same taken = (
   singles_same ks (with_flag true (one_sector k) a) (with_flag true (one_sector k) b) (same_more a b k same taken.0.0) taken.1,
 )
 
--- Two layouts of one size in which the same sectors are claimed.
+-- Two layouts of one size, in which the same sectors are claimed.
 module _ (layout in_layout : List Bool) (used : List ℕ) (size : length layout ≡ length in_layout) (kept : ClaimsJust layout used) (claims : ClaimsJust in_layout used) where
   pub same_claims : ClaimsSame layout in_layout
   same_claims = same-from_used layout in_layout used size kept claims
 
-  -- the same once these extents are taken
+  -- both layouts have the same claimed sectors once these extents are taken
   same_taken : (extents : List Extent) → All (IsInside layout) extents → ClaimsSame (with_flags true extents layout) (with_flags true extents in_layout)
   same_taken extents inside =
       let there : All (IsInside in_layout) extents = λ k d lt. let i = inside k d lt in (i.0, i.1, omega (arith, i.2, size)) in
@@ -62,7 +62,7 @@ module _ (layout in_layout : List Bool) (used : List ℕ) (size : length layout 
       (claims-take layout used extents inside kept)
       (claims-take in_layout used extents there claims)
 
-  -- What is taken of the one is taken of the other.
+  -- What is taken from one layout is taken from the other.
   pub taken_also : (need : ℕ) (extents : List Extent) (at : ℕ) (catalogues : List ℕ) → All (IsInside layout) extents
       → IsTaken layout need extents at catalogues → IsTaken in_layout need extents at catalogues
   taken_also need extents at catalogues inside taken =
@@ -74,7 +74,7 @@ module _ (layout in_layout : List Bool) (used : List ℕ) (size : length layout 
             (same_more (with_flags true extents layout) (with_flags true extents in_layout) at then taken.entry.0) taken.listed;
       }
 
--- extents of data on the disk lie inside
+-- extents of data on the disk lie inside the layout
 pub data_inside : (layout : List Bool) (extents : List Extent) → All IsDataExtent extents → All (IsOnDisk (length layout)) extents → All (IsInside layout) extents
 data_inside layout extents filled on_disk k d lt = let extent = filled k d lt in (omega (arith, extent.filled), extent.low, on_disk k d lt)
 
@@ -91,7 +91,7 @@ module _ (root : Root) (entries : List PlacedEntry) (held : List HeldRow) (layou
   claims : ClaimsJust in_layout sectors_in_use
   claims = layout_of-claims root.sectors sectors_in_use (λ k d lt. (all_usable kept k d lt).1)
 
-  -- What is taken of the layout that is kept is taken of the sectors in use.
+  -- What is taken from the kept layout is taken from the sectors that aren't in use.
   pub singles_in_use : (ks : List ℕ) → AreTaken layout ks → AreTaken in_layout ks
   singles_in_use ks taken = singles_same ks layout in_layout (same_claims layout in_layout sectors_in_use size kept.claimed.claims claims) taken
 
@@ -99,7 +99,8 @@ module _ (root : Root) (entries : List PlacedEntry) (held : List HeldRow) (layou
       → IsTaken layout need extents at catalogues → IsTaken in_layout need extents at catalogues
   taken_in_use need extents at catalogues inside taken = taken_also layout in_layout sectors_in_use size kept.claimed.claims claims need extents at catalogues inside taken
 
-  -- The same by other words for what was needed and given.
+  -- What is taken from the kept layout is taken from the sectors that aren't in use, also if the need and the taken
+  -- sectors are given by equations.
   pub taken_so : {need n at here : ℕ} {extents its : List Extent} {catalogues listed : List ℕ} → need ≡ n → its ≡ extents → here ≡ at
       → listed ≡ catalogues → All IsDataExtent extents → All (IsOnDisk (length layout)) extents
       → IsTaken layout need extents at catalogues → IsTaken in_layout n its here listed

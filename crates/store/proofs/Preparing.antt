@@ -1,4 +1,4 @@
--- A change that is prepared: its list, what is kept once it is made, and what a store answers.
+-- A prepared change: its list, what is kept once it is made, and the answers of a store.
 use Rattle.std.proofs.Common.{◌≡◌, ◌≢◌, ◌⊎◌, inl, ⊎_elim, ℕ, ◌-◌, Bool, List, [], ◌∷◌, ◌++◌, length, map, IsTrue, IsFalse, Option, Some, None, Result, Ok, Err, refl, sym, ap, subst, ◌∙◌, arith}
 use Rattle.std.specs.Prelude.{IfErr, IsErrAnd}
 use Rattle.std.proofs.lemmas.Bool.{false≢true}
@@ -29,7 +29,7 @@ use Rattle.store.specs.Stands.{Stands, catalogues_of, entry_sectors, extents_of}
 use Rattle.store.specs.Taken.{HaveBytes, IsTaken}
 use Rattle.store.specs.Step.{IsAnswer, IsExactAnswer, longest_unused}
 use Rattle.store.specs.inside.Change.{CanBeStaged, HasBytes, HasSpelling, IsFollowed, staged_sectors}
-use Rattle.store.specs.inside.Edit.{IsSettled, IsWithin, edited, edited_by}
+use Rattle.store.specs.inside.Edit.{ReleasesReplaced, IsWithin, edited, edited_by}
 use Rattle.store.specs.inside.Kept.{IsKept}
 use Rattle.store.specs.inside.Prepared.{IsMade, IsPrepared, IsReady, IsTestedChange, IsTestedNew, Makes, Prepares, Puts}
 use Rattle.store.specs.inside.Room.{IsRootOr}
@@ -45,66 +45,68 @@ use Rattle.store.proofs.Removed.{map_remove}
 use Rattle.store.proofs.Untouched.{untouched}
 use Rattle.store.proofs.Written.{have_bytes}
 
--- what belongs to each entry of the edited list is the edited list of what belongs to each
+-- an edit of the values of all entries results in the values of the edited entries
 pub edited_map : {A : Type 0} (of : PlacedEntry → A) (its : Edit) (entries : List PlacedEntry) → edited_by of its (map of entries) ≡ map of (edited its entries)
 edited_map of edit.Nothing entries = refl
-edited_map of (edit.Behind put) entries = sym (map_push of entries put)
-edited_map of (edit.Over position put) entries = sym (map-set of entries position put)
-edited_map of (edit.Out position) entries = sym (map_remove of entries position)
+edited_map of (edit.Append put) entries = sym (map_push of entries put)
+edited_map of (edit.Replace position put) entries = sym (map-set of entries position put)
+edited_map of (edit.Remove position) entries = sym (map_remove of entries position)
 
--- what can be staged has a spelling
+-- an entry that can be staged can be encoded
 pub staged_spelt : (sectors : ℕ) (staged : Staged) (listed : List ℕ) → CanBeStaged sectors staged listed → HasSpelling staged
 staged_spelt sectors Nothing listed room = tt
 staged_spelt sectors (Catalogues catalogues) listed room = tt
 staged_spelt sectors (Put put catalogues) listed room = room.0.spelling
 
--- What is kept once a change is made and what it gave up is free, but for what somebody holds.
+-- What is kept once a change is made and the sectors that it gave up are free, except those that somebody
+-- holds.
 module _ {root : Root} {entries : List PlacedEntry} {held left : List HeldRow} {layout : List Bool} (change : Change) (new : List Bool) where
-  pub settled_kept : (its : Edit) → IsPrepared root entries held layout (record { change = change; edit = its }) → IsWithin its (length entries) → IsSettled its root entries held left layout new → IsKept change.root (edited its entries) left new
+  pub settled_kept : (its : Edit) → IsPrepared root entries held layout (record { change = change; edit = its }) → IsWithin its (length entries) → ReleasesReplaced its root entries held left layout new → IsKept change.root (edited its entries) left new
   settled_kept edit.Nothing is within settled = subst (λ l. IsKept change.root entries l new) (sym settled.0)
       (following_kept is.next is.kept.root_fits held new
       (moved_size is.kept is.claimed new settled.1)
       (is.room (root.sectors - length (lone_sectors held)) (omega arith))
       is.kept.rows
       (moved_claimed is.kept is.claimed change.root entries is.moved new settled.1))
-  settled_kept (edit.Behind put) is within settled = subst (λ l. IsKept change.root (entries ++ put ∷ []) l new) (sym settled.0)
+  settled_kept (edit.Append put) is within settled = subst (λ l. IsKept change.root (entries ++ put ∷ []) l new) (sym settled.0)
       (following_kept is.next is.kept.root_fits held new
       (moved_size is.kept is.claimed new settled.1)
       (is.room (root.sectors - length (lone_sectors held)) (omega arith))
       (rows_more put is.kept.rows)
       (moved_claimed is.kept is.claimed change.root (entries ++ put ∷ []) is.moved new settled.1))
-  settled_kept (edit.Over position put) is within up =
+  settled_kept (edit.Replace position put) is within up =
       following_kept is.next is.kept.root_fits left new
       (given_size is.kept position within up is.claimed)
       (is.room (root.sectors - length (lone_sectors left)) (omega (arith, given_few is.kept position within up)))
-      (given_rows is.kept position within up (edited (edit.Over position put) entries) (still_set entries position within put))
-      (given_claimed is.kept position within up is.claimed change.root (edited (edit.Over position put) entries) is.moved)
-  settled_kept (edit.Out position) is within up =
+      (given_rows is.kept position within up (edited (edit.Replace position put) entries) (still_set entries position within put))
+      (given_claimed is.kept position within up is.claimed change.root (edited (edit.Replace position put) entries) is.moved)
+  settled_kept (edit.Remove position) is within up =
       following_kept is.next is.kept.root_fits left new
       (given_size is.kept position within up is.claimed)
       (is.room (root.sectors - length (lone_sectors left)) (omega (arith, given_few is.kept position within up)))
-      (given_rows is.kept position within up (edited (edit.Out position) entries) (still_removed entries position within))
-      (given_claimed is.kept position within up is.claimed change.root (edited (edit.Out position) entries) is.moved)
+      (given_rows is.kept position within up (edited (edit.Remove position) entries) (still_removed entries position within))
+      (given_claimed is.kept position within up is.claimed change.root (edited (edit.Remove position) entries) is.moved)
 
-  -- What is held stays held, on a disk of which nothing but what was staged was changed, and the roots.
-  pub settled_keeps : (its : Edit) → IsPrepared root entries held layout (record { change = change; edit = its }) → IsWithin its (length entries) → IsSettled its root entries held left layout new → {before after : DiskFacts}
+  -- Held byte strings keep their holders and their bytes on a disk of which only the staged sectors and the roots were
+  -- changed.
+  pub settled_keeps : (its : Edit) → IsPrepared root entries held layout (record { change = change; edit = its }) → IsWithin its (length entries) → ReleasesReplaced its root entries held left layout new → {before after : DiskFacts}
       → (IsTrue before.honest → (m : List Sector) → Mixture after m → IsMixtureBut (IsRootOr (staged_sectors change.staged)) before m) → KeepsHolders before after held left
   settled_keeps edit.Nothing is within settled {before = before} {after = after} others =
       subst (KeepsHolders before after held) (sym settled.0) (keeps_table is.kept (staged_sectors change.staged) (more_free is.kept is.claimed) others)
-  settled_keeps (edit.Behind put) is within settled {before = before} {after = after} others =
+  settled_keeps (edit.Append put) is within settled {before = before} {after = after} others =
       subst (KeepsHolders before after held) (sym settled.0) (keeps_table is.kept (staged_sectors change.staged) (more_free is.kept is.claimed) others)
-  settled_keeps (edit.Over position put) is within up others = given_keeps is.kept position within up is.claimed others
-  settled_keeps (edit.Out position) is within up others = given_keeps is.kept position within up is.claimed others
+  settled_keeps (edit.Replace position put) is within up others = given_keeps is.kept position within up is.claimed others
+  settled_keeps (edit.Remove position) is within up others = given_keeps is.kept position within up is.claimed others
 
--- what is stored beside a disk is stored whatever its size is called
+-- data that are consistent beside a disk are consistent beside a disk of the same size
 pub stored_as : {sectors size : ℕ} (kept : Kept) → size ≡ sectors → IsStored sectors kept → IsStored size kept
 stored_as kept same stored = (stored.0, stored.1, same ∙ stored.2, stored.3, stored.4)
 
--- contracts see what is kept as they see it
+-- contracts see no difference between a store and itself
 pub same_shown : (kept : Kept) → ShowsSame kept kept
 same_shown kept = record { root = refl; entries = refl; held = refl; failed = refl }
 
--- What preparing does where it refuses: a store that failed is opened again,
+-- The result of preparing if the store has failed before.
 module _ {old new : Kept} {Refuses : StoreRefusal → Type 0} (same : ShowsSame old new) (stored : IsStored old.root.sectors new) where
   pub prepares_reopen : IsTrue old.failed → Refuses Reopen → Prepares old new Refuses (Err Reopen)
   prepares_reopen failed refuses = record {
@@ -116,7 +118,7 @@ module _ {old new : Kept} {Refuses : StoreRefusal → Type 0} (same : ShowsSame 
     early = λ is. cc is;
   }
 
-  -- and another one isn't told so.
+  -- The result of preparing if it is refused for another reason.
   pub prepares_none : (e : StoreRefusal) → IsFalse old.failed → e ≢ Reopen → e ≢ Device → Refuses e → Prepares old new Refuses (Err e)
   prepares_none e usable other early refuses = record {
     same = same;
@@ -127,7 +129,7 @@ module _ {old new : Kept} {Refuses : StoreRefusal → Type 0} (same : ShowsSame 
     early = early;
   }
 
--- The tests of a change, and of one byte string more, come before all else.
+-- The tests of a change, and of one more byte string, come before everything else.
 module _ {kept : Kept} {Refuses : StoreRefusal → Type 0} (stored : IsStored kept.root.sectors kept) where
   pub tested_change : (e : StoreRefusal) → Refuses Reopen → Refuses GenerationEnd
       → IsTestedChange kept e → Prepares kept kept Refuses (Err e)
@@ -145,7 +147,7 @@ module _ {kept : Kept} {Refuses : StoreRefusal → Type 0} (stored : IsStored ke
       others)
       refused
 
--- where a change is prepared
+-- the result of preparing if it succeeds
 pub prepares_ready : {old new : Kept} {Refuses : StoreRefusal → Type 0} {prepared : Prepared} → ShowsSame old new → IsReady old.root.sectors new prepared
     → IsFalse old.failed → Prepares old new Refuses (Ok prepared)
 prepares_ready same ready usable = record {
@@ -157,7 +159,7 @@ prepares_ready same ready usable = record {
   early = tt;
 }
 
--- an answer by the first refusal, where the change went on and only the device could fail
+-- if Ok is an allowed answer, and Device is the only possible error, the result is an allowed answer
 pub answered : (first : Option StoreRefusal) (result : Result (Unit {0}) StoreRefusal) → IsAnswer first (Ok tt) → IfErr result (λ e. e ≡ Device) → IsAnswer first result
 answered first (Ok done) accepted device = accepted
 answered None (Err e) accepted device = inl device
@@ -168,9 +170,9 @@ answered_exactly first (Ok done) accepted device = accepted
 answered_exactly None (Err e) accepted device = device
 answered_exactly (Some refusal) (Err e) accepted device = absurd accepted
 
--- What a store does whose change is prepared, or refused before the first write.
+-- A store whose change is prepared, or is refused before the first write.
 module _ {D : Type 0} (facts : D → DiskFacts) {store : Opened D} {disk : D} {kept mid : Kept} (is : opened disk kept ≡ store) (same : ShowsSame kept mid) where
-  -- contracts see what they saw
+  -- contracts see the same store as before preparing
   pub seen : opened disk mid ≡ store
   seen = (λ i. record { disk = disk; root = same.root i; entries = same.entries i; held = same.held i; failed = same.failed i }) ∙ is
 
@@ -180,7 +182,7 @@ module _ {D : Type 0} (facts : D → DiskFacts) {store : Opened D} {disk : D} {k
   pub at_mid : {s : State} → IsAt facts store s → IsAt facts (opened disk mid) s
   at_mid {s = s} at = subst (λ o. IsAt facts o s) (sym seen) at
 
-  -- a change makes what it made of what was kept before it was prepared
+  -- if a change makes `s'` from `s` with the data before preparing, it does so with the data after preparing
   pub makes_mid : (prepared : Prepared) {bytes : List ℕ} {s s' : State} → Makes (facts disk).now [] kept prepared bytes s s' → Makes (facts disk).now [] mid prepared bytes s s'
   makes_mid prepared {bytes = bytes} {s = s} {s' = s'} makes =
       subst (λ r. IsFollowed Two r mid.entries.items s (facts disk).now [] prepared.change bytes (entry_sectors (edited prepared.edit mid.entries.items)) (edited prepared.edit mid.entries.items) s')
@@ -193,7 +195,7 @@ module _ {D : Type 0} (facts : D → DiskFacts) {store : Opened D} {disk : D} {k
   pub made_held : {after : D} {left : List HeldRow} → KeepsHolders (facts disk) (facts after) mid.held left → KeepsHolders (facts store.disk) (facts after) store.held left
   made_held {after = after} {left = left} keeps = subst (λ o. KeepsHolders (facts o.disk) (facts after) o.held left) seen keeps
 
-  -- where bytes were put
+  -- Bytes were put.
   module _ {prepared : Prepared} {how : PlacedEntry → Edit} {libraries : ℕ} {bytes : List ℕ} (puts : Puts kept prepared how libraries bytes) {new : Kept} (made : IsMade mid new prepared) where
     pub put_taken : IsTaken (layout_in_use store) (div_ceil (length bytes) sector_bytes) (extents_of puts.put.entry) puts.put.at (catalogues_of new.root)
     put_taken = subst (λ o. IsTaken (layout_in_use o) (div_ceil (length bytes) sector_bytes) (extents_of puts.put.entry) puts.put.at (catalogues_of new.root)) is
@@ -231,7 +233,7 @@ module _ {D : Type 0} (facts : D → DiskFacts) {store : Opened D} {disk : D} {k
           calls = still facts seen;
         }
 
-    -- the change is made, or a write or a sync failed
+    -- a change that is made, or that fails with a write or a sync, is a change of what contracts see
     pub made_changed : {new : Opened D} {n most : ℕ} (result : Result (Unit {0}) StoreRefusal) → Changed facts Device Reopen (opened disk mid) new n (λ e. e ≡ Device) result
         → n ≡ most → Refuses Device → Changed facts Device Reopen store new most Refuses result
     made_changed {new = new} {n = n} {most = most} result changed all may =
@@ -246,7 +248,7 @@ module _ {D : Type 0} (facts : D → DiskFacts) {store : Opened D} {disk : D} {k
           calls = changed.calls;
         }))
 
-  -- A first refusal by the room that the store tells is one by what is kept.
+  -- A first refusal computed from what is kept is the one computed from what contracts see.
   pub first_as : (First : (sectors longest : ℕ) → Option StoreRefusal) → sector_count (longest_runs (layout_in_use (opened disk kept))) ≡ sector_count (longest_runs kept.layout)
       → First (sectors_for kept) (longest_in kept) ≡ First (room_of store) (longest_unused store)
   first_as First longest =

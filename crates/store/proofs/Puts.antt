@@ -1,4 +1,4 @@
--- The two passes of a change: the first keeps what the mixtures stand for, the second changes it.
+-- The two passes of a change: the first keeps the state that the mixtures hold, and the second changes it.
 use Rattle.std.proofs.Common.{Result, Ok, Err, OnOk, ◌≡◌, ◌≢◌, inl, inr, ⊎_elim, ◌⊎◌, ℕ, ◌+◌, ◌<◌, ◌≤◌, List, [], length, get_or, set, map, refl, sym, ap, subst, ◌∙◌, arith}
 use Rattle.std.specs.Prelude.{Contains}
 use Rattle.std.proofs.lemmas.List.{length-set, get_or-set_same, get_or-set_other}
@@ -61,7 +61,7 @@ module _ (m : List Sector) (root next : Root) (others : List PlacedEntry) (fits 
       parity : (slot_of root.generation ≡ 0) ⊎ (slot_of root.generation ≡ 1)
       parity = grind arith
 
-  -- Sectors in which all that a root lists stands, stand for it once the root is written.
+  -- Sectors that have everything that a root lists hold its state once the root is written.
   pub next_stands : (s' : State) → version_of next ≡ Two → IsCurrent (sector m 0) (sector m 1) root → IsListed m next others
       → UsesApart (length m) next others → HasRoom (length m) next.list others → HaveOwnNames others → s' ≡ state_of m next others
       → StandsBy Two after next others s'
@@ -95,7 +95,7 @@ module _ (version : Version) {old mid : DiskFacts} (root : Root) (entries : List
   abbrev IsOld : List Sector → Type 0
   IsOld m = StandsBy version m root entries s
 
-  -- what is staged in unused sectors changes nothing that stands
+  -- staging in unused sectors keeps the state
   pub staged_stands : LeavesOnly old mid IsOld
   staged_stands = weaken (IsMixtureBut changed old) IsOld
       (λ m but. same_used version but.0 m root entries s changed (stands but.0 but.1) but.2
@@ -106,7 +106,8 @@ module _ (version : Version) {old mid : DiskFacts} (root : Root) (entries : List
   pub staged_only : (s' : State) → LeavesOnly old mid (λ m. StandsAs version m s ⊎ Stands m s')
   staged_only s' = weaken IsOld (λ m. StandsAs version m s ⊎ Stands m s') (λ m by. inl (root, entries, by)) staged_stands
 
--- A root is written where each mixture stands for a state and has what is staged: each stands for that state or the next.
+-- A root is written, and each mixture holds a state and has what is staged. Then each mixture holds that state or the
+-- next one.
 module _ (version : Version) {old : DiskFacts} (root : Root) (entries : List PlacedEntry) (s : State) (now : List Sector) (written : List PlacedEntry) (change : Change)
     (bytes listed : List ℕ) (others : List PlacedEntry) (s' : State) (stands : (m : List Sector) → Mixture old m → StandsBy version m root entries s)
     (staged : (m : List Sector) → Mixture old m → IsStaged m change.staged bytes listed) (still : (m : List Sector) → Mixture old m → AreWritten now written m)
@@ -127,19 +128,19 @@ module _ (version : Version) {old : DiskFacts} (root : Root) (entries : List Pla
   pub followed_done : HoldsNow old → {new : DiskFacts} → IsSynced new → new.now ≡ set old.now at content → (m : List Sector) → Mixture new m → StandsBy Two m change.root others s'
   followed_done holds is_synced is_set m mixture = subst (λ l. StandsBy Two l change.root others s') (sym (is_synced.each m mixture ∙ is_set)) (after_stands old.now holds)
 
--- what follows from two facts of an answer that is Ok
+-- if two facts hold of an Ok result, what follows from both holds of it
 pub ok_both : {T E P Q R : Type 0} (result : Result T E) → (P → Q → R) → OnOk result P → OnOk result Q → OnOk result R
 ok_both (Ok x) to p q = to p q
 ok_both (Err e) to p q = tt
 
--- a root's sector is set in what differs elsewhere in these alone
+-- setting a root's sector changes only this sector and those that were changed before
 set_others : (changed : List ℕ) {first m' m : List Sector} (at : ℕ) (content : Sector) → at < 2 → SameBut (IsRootOr changed) first m' → m ≡ set m' at content → SameBut (IsRootOr changed) first m
 set_others changed {m' = m'} at content low same is = record {
   size = ap length is ∙ length-set m' at content ∙ same.size;
   others = λ k other. ap (λ l. sector l k) is ∙ get_or-set_other m' at k content [] (λ here. other (inl (omega (arith, here, low)))) ∙ same.others k other;
 }
 
--- What is staged, and then committed, changes no sector but the staged ones and the roots'.
+-- Staging and then committing changes only the staged sectors and the root sectors.
 module _ {old mid : DiskFacts} (changed : List ℕ) (staged : LeavesOnly old mid (IsMixtureBut (Contains changed) old)) where
   pub staged_others : (m : List Sector) → Mixture mid m → IsMixtureBut (IsRootOr changed) old m
   staged_others m mixture =

@@ -1,4 +1,4 @@
--- Refusals that are not one another.
+-- The refusals are different from one another.
 use Rattle.std.proofs.Common.{◌≢◌}
 use Rattle.store.specs.declared.refusal.StoreRefusal.TheVariants.{Device, Reopen, AlreadyFormatted, Damaged, OutOfMemory, GenerationEnd, TooMany, Full, BadGeometry, OldFormat}
 

@@ -31,17 +31,18 @@ use Rattle.store.proofs.Following.{following_stands}
 use Rattle.store.proofs.Placing.{singles_in_use}
 use Rattle.store.proofs.Rooms.{kept_sectors}
 
--- a root of version 1 has no catalogues,
+-- a root of version 1 has no catalogues
 pub none_in : (list : EntryList) → version_of_list list ≡ One → catalogues_in list ≡ []
 none_in (InRoot sectors) is = λ i. []
 none_in (InCatalogues count listed) is = absurd (cc is)
 
--- and counts few libraries
+-- a root of version 1 counts at most `most_root_entries` libraries
 pub few_old : (libraries disk : ℕ) (list : EntryList) → version_of_list list ≡ One → ListFits libraries disk list → libraries ≤ most_root_entries
 few_old libraries disk (InRoot sectors) is fits = fits.listed.room
 few_old libraries disk (InCatalogues count listed) is fits = absurd (cc is)
 
--- Catalogues were claimed for the entries that a root of version 1 lists, and the next root lists these.
+-- Catalogues were claimed for the entries that a root of version 1 lists, and the next root lists these
+-- catalogues.
 pub record IsRelist (root : Root) (entries : List PlacedEntry) (held : List HeldRow) (layout mid : List Bool) (catalogues : List ℕ) (next : Root) : Type 0 where
   pub kept : IsKept root entries held layout
   pub one : version_of root ≡ One
@@ -59,7 +60,7 @@ module _ {root : Root} {entries : List PlacedEntry} {held : List HeldRow} {layou
   listed : catalogues_of next ≡ catalogues
   listed = ap catalogues_of is.is_next ∙ listed_sectors-root_over_catalogues (root.generation + 1) root.sectors (length entries) catalogues (listed_preloads root)
 
-  -- what is used then is what was used and the catalogues
+  -- the sectors in use then are those in use before, and the catalogues
   pub relist_moved : IsMoved (used root entries) catalogues (used next entries) []
   relist_moved = record {
     parts = λ k. omega (
@@ -94,7 +95,7 @@ module _ {root : Root} {entries : List PlacedEntry} {held : List HeldRow} {layou
     preloads_once = is.kept.root_fits.preloads.distinct;
   }
 
-  -- What it makes of sectors.
+  -- The next root turns the state into the upgraded state.
   pub relist_followed : (now : List Sector) (s : State) (bytes : List ℕ) → IsFollowed One root entries s now [] (record { staged = Catalogues catalogues; root = next }) bytes (entry_sectors entries) entries (upgraded s)
   relist_followed now s bytes = record {
     unused = more_unused is.kept is.claimed;

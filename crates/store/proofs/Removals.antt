@@ -1,4 +1,4 @@
--- A store with one byte string less.
+-- A store with one byte string fewer.
 use Rattle.std.proofs.Common.{◌≡◌, ◌≢◌, ℕ, zero, suc, ◌+◌, ◌-◌, ◌^◌, ◌<◌, ◌≤◌, Bool, List, [], ◌∷◌, ◌++◌, length, get_or, map, All, refl, sym, ap, subst, ◌∙◌, arith}
 use Rattle.std.specs.Prelude.{bytes_eq}
 use Rattle.std.specs.List.{flat_map, remove}
@@ -28,7 +28,7 @@ use Rattle.store.specs.Holds.{lone_sectors}
 use Rattle.store.specs.inside.Kept.{IsKept}
 use Rattle.store.specs.inside.NameIndex.{closed_up}
 use Rattle.store.specs.declared.change.Staged.TheVariants.{Catalogues}
-use Rattle.store.specs.declared.edit.Edit.TheVariants.{Out}
+use Rattle.store.specs.declared.edit.Edit.TheVariants.{Remove}
 use Rattle.store.specs.inside.Change.{IsFollowed}
 use Rattle.store.specs.inside.Next.{IsNext, next_root}
 use Rattle.store.specs.inside.Prepared.{IsPrepared}
@@ -43,7 +43,7 @@ use Rattle.store.proofs.Removed.{drop_none, map_remove, all_remove, closed_insid
 use Rattle.store.proofs.Rooms.{cost_is, kept_sectors}
 use Rattle.store.proofs.UsedAlone.{no_entry}
 
--- the byte strings without the first of a name are those without its position
+-- the byte strings without the first one with a name are those without the one at its position
 pub without_is : (m : List Sector) (name : List ℕ) (entries : List PlacedEntry) (gone : ℕ) → gone < length entries
     → ((k : ℕ) (d : PlacedEntry) → k < gone → name_of (get_or entries k d).entry ≢ name)
     → ((d : PlacedEntry) → name_of (get_or entries gone d).entry ≡ name)
@@ -56,7 +56,7 @@ without_is m name (e ∷ entries) (suc gone) fits before at =
     if_no (bytes_eq name (name_of e.entry)) _ _ (λ is. before 0 e (omega arith) (sym ((bytes_eq-Decides name (name_of e.entry)).0 is)))
     ∙ ap (λ l. library_of m e ∷ l) (without_is m name entries gone (omega (arith, fits)) (λ k d lt. before (suc k) d (omega (arith, lt))) at)
 
--- positions that close up name the same
+-- positions that move up keep their names
 pub names_closed : (libraries : List Library) (gone : ℕ) (positions : List ℕ) → gone < length libraries → All (λ position. position ≢ gone) positions
     → names_at (remove libraries gone) (map (closed_up gone) positions) ≡ names_at libraries positions
 names_closed libraries gone [] fits others = refl
@@ -76,7 +76,8 @@ catalogues_fit root entries held layout kept two = omega (
   room_in (root.sectors - length (lone_sectors held)) root.list entries two kept.room,
 )
 
--- The entry of a name goes, which is no preload's, and the next root lists the others by catalogues that were claimed.
+-- The entry of a name that no preload has is removed, and the next root lists the others by catalogues that were
+-- claimed.
 pub record IsRemoval (root : Root) (entries : List PlacedEntry) (held : List HeldRow) (layout mid : List Bool) (name : List ℕ) (gone : ℕ) (catalogues : List ℕ) (next : Root) : Type 0 where
   pub kept : IsKept root entries held layout
   pub two : version_of root ≡ Two
@@ -105,14 +106,14 @@ module _ {root : Root} {entries : List PlacedEntry} {held : List HeldRow} {layou
   abbrev left : List PlacedEntry
   left = remove entries gone
 
-  -- one less is left
+  -- one entry fewer is left
   pub count_left : length entries - 1 ≡ length left
   count_left = omega (arith, length-remove entries gone fits)
 
   listed : catalogues_of next ≡ catalogues
   listed = ap catalogues_of removal.is_next ∙ listed_sectors-root_over_catalogues (root.generation + 1) root.sectors (length entries - 1) catalogues (map (closed_up gone) (listed_preloads root))
 
-  -- What is used and the new catalogues are used still, or go.
+  -- The sectors used before, and those of the new catalogues, are still used, or are given up.
   pub removal_moved : IsMoved (used root entries) catalogues (used next left) (sectors_of old ++ catalogues_of root)
   removal_moved = record {
     parts = λ k. omega (
@@ -128,7 +129,7 @@ module _ {root : Root} {entries : List PlacedEntry} {held : List HeldRow} {layou
     );
   }
 
-  -- there is room for what is left, and beside it for what holders keep of the state from before
+  -- there is room for the remaining entries, even if holders keep the sectors of the removed entry
   pub removal_room : (sectors : ℕ) → root.sectors ≤ sectors + (length (lone_sectors held) + length (sectors_of old)) → HasRoom sectors next.list left
   removal_room sectors enough = subst (λ r. HasRoom sectors r.list left) (sym removal.is_next) (
       let room = room_in (root.sectors - length (lone_sectors held)) root.list entries removal.two kept.room in
@@ -164,8 +165,8 @@ module _ {root : Root} {entries : List PlacedEntry} {held : List HeldRow} {layou
         (closed_apart gone (get_or (listed_preloads root) i 0) (get_or (listed_preloads root) j 0) (others i 0 (omega (arith, lt, fewer))) (others j 0 fewer) (sym one_of ∙ same ∙ other));
   }
 
-  -- So it is prepared.
-  pub removal_prepared : IsPrepared root entries held mid (record { change = record { staged = Catalogues catalogues; root = next }; edit = Out gone })
+  -- If the catalogues are claimed, the removal is prepared.
+  pub removal_prepared : IsPrepared root entries held mid (record { change = record { staged = Catalogues catalogues; root = next }; edit = Remove gone })
   removal_prepared = record {
     before = layout;
     kept = kept;
@@ -181,7 +182,7 @@ module _ {root : Root} {entries : List PlacedEntry} {held : List HeldRow} {layou
     room = removal_room;
   }
 
-  -- What the removal makes of sectors.
+  -- The removal turns the state into the state without the byte string.
   pub removal_followed : (now : List Sector) (s : State) (bytes : List ℕ) → IsFollowed Two root entries s now [] (record { staged = Catalogues catalogues; root = next }) bytes (entry_sectors left) left (without name s)
   removal_followed now s bytes = record {
     unused = more_unused kept removal.claimed;

@@ -1,4 +1,4 @@
--- A store with other bytes in the place of a byte string's.
+-- A store in which other bytes replace those of a byte string.
 use Rattle.std.proofs.Common.{◌≡◌, ◌≢◌, ◌⊎◌, inl, inr, ⊎_elim, nat_eq, ℕ, zero, suc, ◌+◌, ◌*◌, ◌^◌, ◌<◌, ◌≤◌, Bool, if◌then◌else◌, List, [], ◌∷◌}
 use Rattle.std.proofs.Common.{◌++◌, length, get_or, set, map, refl, sym, ap, subst, ◌∙◌, arith}
 use Rattle.std.specs.Prelude.{bytes_eq}
@@ -27,7 +27,7 @@ use Rattle.store.specs.declared.holds.HeldRow.{HeldRow}
 use Rattle.store.specs.Holds.{lone_sectors}
 use Rattle.store.specs.inside.Kept.{IsKept}
 use Rattle.store.specs.declared.change.Staged.TheVariants.{Put}
-use Rattle.store.specs.declared.edit.Edit.TheVariants.{Over}
+use Rattle.store.specs.declared.edit.Edit.TheVariants.{Replace}
 use Rattle.store.specs.inside.Change.{IsFollowed}
 use Rattle.store.specs.inside.Next.{IsNext, next_root}
 use Rattle.store.specs.inside.Prepared.{IsPrepared}
@@ -42,7 +42,7 @@ use Rattle.store.proofs.Rooms.{cost_is, kept_sectors}
 use Rattle.store.proofs.UsedAlone.{no_entry}
 use Rattle.store.proofs.Written.{written_bytes}
 
--- with one entry in the place of another of its name: no name stands twice,
+-- `P` holds of an element of a list with one element replaced, if it holds of the new element and of the others
 pub set_cases : {A : Type 0} (P : A → Type 0) (xs : List A) (i k : ℕ) (x d : A) → i < length xs → (k ≡ i → P x) → (k ≢ i → P (get_or xs k d)) → P (get_or (set xs i x) k d)
 set_cases P xs i k x d fits at elsewhere = ⊎_elim
     (λ same. subst P (sym (ap (λ n. get_or (set xs i x) n d) same ∙ get_or-set_same xs i x d fits)) (at same))
@@ -67,7 +67,7 @@ names_with entries place entry fits same names i j d lt inside = λ equal.
     names i j d lt (omega (arith, inside, length-set entries place entry))
     (sym (name_kept entries place i entry d fits same) ∙ equal ∙ name_kept entries place j entry d fits same)
 
--- positions name the same,
+-- replacing an entry by one with the same name changes no name
 name_with : (m : List Sector) (entries : List PlacedEntry) (place : ℕ) (entry : PlacedEntry) (p : ℕ)
     → ((e : PlacedEntry) → name_of (get_or entries place e).entry ≡ name_of entry.entry)
     → (get_or (map (library_of m) (set entries place entry)) p no_library).name ≡ (get_or (map (library_of m) entries) p no_library).name
@@ -83,7 +83,7 @@ pub names_at_with : (m : List Sector) (entries : List PlacedEntry) (place : ℕ)
 names_at_with m entries place entry [] same = refl
 names_at_with m entries place entry (p ∷ positions) same = λ i. name_with m entries place entry p same i ∷ names_at_with m entries place entry positions same i
 
--- and the byte strings are those with its bytes under the name
+-- the byte strings of `e` and `entries` with the new bytes under the name, if `found` is whether `e` has the name
 abbrev replaces : List Sector → (name bytes : List ℕ) → PlacedEntry → List PlacedEntry → Bool → List Library
 replaces m name bytes e entries found = if found then record { name = name; bytes = bytes } ∷ map (library_of m) entries else library_of m e ∷ libraries_with name bytes (map (library_of m) entries)
 
@@ -99,7 +99,8 @@ libraries_with_is m name bytes (e ∷ entries) (suc place) entry fits before at 
     ap (replaces m name bytes e entries) (false_from_ne_true (bytes_eq name (name_of e.entry)) (λ found. before 0 e (omega arith) (sym ((bytes_eq-Decides name (name_of e.entry)).0 found))))
     ∙ ap (λ l. library_of m e ∷ l) (libraries_with_is m name bytes entries place entry (omega (arith, fits)) (λ k d lt. before (suc k) d (omega (arith, lt))) at is)
 
--- The entry of a name gives its place to another of the name, in room that was claimed for it and for the catalogues of the list.
+-- An entry takes the place of the entry with the same name, in room that was claimed for it and for the catalogues of
+-- the list.
 pub record IsReplacement (root : Root) (entries : List PlacedEntry) (held : List HeldRow) (layout mid : List Bool) (name : List ℕ) (place : ℕ)
     (catalogues : List ℕ) (put : PlacedEntry) (next : Root) : Type 0 where
   pub kept : IsKept root entries held layout
@@ -151,7 +152,7 @@ module _ {root : Root} {entries : List PlacedEntry} {held : List HeldRow} {layou
     );
   }
 
-  -- there is room for the bytes, and beside them for what holders keep of the state from before
+  -- there is room for the new bytes, even if holders keep the sectors of the old entry
   pub replacement_room : (sectors : ℕ) → root.sectors ≤ sectors + (length (lone_sectors held) + length (sectors_of old)) → HasRoom sectors next.list others
   replacement_room sectors enough = subst (λ r. HasRoom sectors r.list others) (sym is.is_next)
       (omega (
@@ -183,8 +184,8 @@ module _ {root : Root} {entries : List PlacedEntry} {held : List HeldRow} {layou
     preloads_once = kept.root_fits.preloads.distinct;
   }
 
-  -- So it is prepared, where it has its place,
-  pub replacement_prepared : HasPlace root.sectors put catalogues → IsPrepared root entries held mid (record { change = record { staged = Put put catalogues; root = next }; edit = Over place put })
+  -- If the entry has its place, the replacement is prepared.
+  pub replacement_prepared : HasPlace root.sectors put catalogues → IsPrepared root entries held mid (record { change = record { staged = Put put catalogues; root = next }; edit = Replace place put })
   replacement_prepared has = record {
     before = layout;
     kept = kept;
@@ -200,7 +201,7 @@ module _ {root : Root} {entries : List PlacedEntry} {held : List HeldRow} {layou
     room = replacement_room;
   }
 
-  -- and this is what the put makes of sectors.
+  -- The put turns the state into the state with the new bytes.
   pub replacement_put : (now : List Sector) (bytes : List ℕ) (s : State) → put.entry.file_length ≡ length bytes
       → length bytes ≤ 512 * sector_count (extents_of put.entry)
       → IsFollowed Two root entries s now [] (record { staged = Put put catalogues; root = next }) bytes (entry_sectors others) others (with_bytes name bytes s)

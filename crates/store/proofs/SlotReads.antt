@@ -1,4 +1,4 @@
--- How the root sectors are read: a sync, and reads behind it.
+-- How the root sectors are read: a sync, and then reads.
 use Rattle.std.proofs.Common.{ℕ, Result, IsTrue, sym, subst, ◌∙◌}
 use Rattle.sector_disk.specs.Disk.{Sector, DiskFacts, Mixture, MayAddSync, IsCall, IsRead, IsSync}
 use Rattle.sector_disk.proofs.Moments.{at_rest}

@@ -24,10 +24,10 @@ use Rattle.store.proofs.CataloguedEntries.{all_singles}
 use Rattle.store.proofs.Counts.{one, occurs, occurs-append, contains_occurs, occurs_contains, distinct_occurs, occurs_distinct}
 use Rattle.store.proofs.Written.{written_stays}
 
--- Of bytes, their entry and catalogues.
+-- Staging bytes, their entry and catalogues.
 module _ {sectors : ℕ} {put : PlacedEntry} {catalogues : List ℕ} (singles : List SingleSector) (extents : List Extent)
     (place : HasPlace sectors put catalogues) (is : single_places singles ≡ put.at ∷ catalogues) (its : extents ≡ extents_of put.entry) where
-  -- all that is staged
+  -- all staged sectors
   abbrev all : List ℕ
   all = sectors_of put ++ catalogues
 
@@ -68,12 +68,12 @@ module _ {sectors : ℕ} {put : PlacedEntry} {catalogues : List ℕ} (singles : 
   pub put_now : {old now : List Sector} → SameBut (Contains (single_places singles ++ places extents)) old now → SameBut (Contains (sectors_of put ++ catalogues)) old now
   put_now = wider staged_among
 
-  -- so a stop while they are staged changes the entry's sectors and the catalogues alone
+  -- a stop during the staging changes only the sectors of the bytes, of the entry and of the catalogues
   pub put_moment : {old new : DiskFacts} → LeavesOnly old new (IsMixtureBut (Contains (single_places singles ++ places extents)) old)
       → LeavesOnly old new (IsMixtureBut (Contains (sectors_of put ++ catalogues)) old)
   put_moment = wider_leaves (Contains (single_places singles ++ places extents)) (Contains (sectors_of put ++ catalogues)) staged_among
 
--- Of catalogues alone.
+-- Staging only catalogues.
 module _ {sectors : ℕ} {catalogues : List ℕ} (singles : List SingleSector) (have : HavePlaces sectors catalogues) (is : single_places singles ≡ catalogues) where
   pub list_inside : All (λ single. single.at < sectors) singles
   list_inside = all_singles (λ k. k < sectors) singles (subst (All (λ k. k < sectors)) (sym is) (λ i d lt. (have.inside i d lt).1))
@@ -87,18 +87,18 @@ module _ {sectors : ℕ} {catalogues : List ℕ} (singles : List SingleSector) (
   pub list_moment : {old new : DiskFacts} → LeavesOnly old new (IsMixtureBut (Contains (single_places singles ++ [])) old) → LeavesOnly old new (IsMixtureBut (Contains catalogues) old)
   list_moment = wider_leaves (Contains (single_places singles ++ [])) (Contains catalogues) alone
 
--- What was written elsewhere stays where a sync follows.
+-- Earlier writes to other sectors stay if a sync follows.
 pub still_written : (old new : DiskFacts) (staged : List ℕ) (written : List PlacedEntry) → SameBut (Contains staged) old.now new.now → IsSynced new
     → ((k : ℕ) → Contains staged k → Contains (flat_map sectors_of written) k → ⊥) → (m : List Sector) → Mixture new m → AreWritten old.now written m
 still_written old new staged written same is_synced apart m mixture = record { each = λ k found. ap (λ l. sector l k) (is_synced.each m mixture) ∙ same.others k (λ here. apart k here found) }
 
--- What is staged lies behind the roots,
+-- What is staged lies after the roots.
 pub staged_behind : (sectors : ℕ) (staged : Staged) (listed : List ℕ) → CanBeStaged sectors staged listed → (k : ℕ) → Contains (staged_sectors staged) k → root_sectors ≤ k
 staged_behind sectors Nothing listed room k found = omega (arith, found.1)
 staged_behind sectors (Catalogues catalogues) listed room k found = (All-contains (IsUsable sectors) catalogues k room.0.inside found).0
 staged_behind sectors (Put put catalogues) listed room k found = (All-contains (IsUsable sectors) (sectors_of put ++ catalogues) k room.0.inside found).0
 
--- so the bytes stay once the root is written and synced.
+-- The staged bytes stay once the root is written and synced.
 pub bytes_stay : (sectors : ℕ) (staged : Staged) (listed : List ℕ) → CanBeStaged sectors staged listed → (mid new : DiskFacts) (contents : List ℕ) (at : ℕ) (content : Sector)
     → at < root_sectors → IsStaged mid.now staged contents listed → IsSynced new → new.now ≡ set mid.now at content → (m : List Sector) → Mixture new m → HasBytes m staged contents
 bytes_stay sectors Nothing listed room mid new contents at content low is synced now m mixture = tt

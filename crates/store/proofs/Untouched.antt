@@ -6,7 +6,7 @@ use Rattle.store.specs.Opened.{Opened, IsAt}
 use Rattle.store.specs.Stands.{Stands}
 use Rattle.states.specs.State.{State}
 
--- A stop then leaves what stood.
+-- If a change is refused before it writes, a stop leaves the state before it.
 pub untouched : {D : Type 0} (facts : D → DiskFacts) (before after : Opened D) (s s' : State) → after ≡ before → IsAt facts before s
     → LeavesOnly (facts before.disk) (facts after.disk) (λ m. Stands m s ⊎ Stands m s')
 untouched facts before after s s' same at =

@@ -1,4 +1,4 @@
--- The greatest length of bytes that a put under a new name takes.
+-- The greatest length of bytes that a put under a new name accepts.
 use Rattle.std.proofs.Common.{◌≡◌, ◌≢◌, ◌↔◌, ⊎_elim, ℕ, ◌+◌, ◌-◌, ◌*◌, ◌<◌, ◌≤◌, min, Bool, List, length, None, sym, ap, subst, ◌∙◌, arith}
 use Rattle.std.specs.Int.{div_ceil}
 use Rattle.std.proofs.lemmas.Bool.{cases_lt}
@@ -15,7 +15,8 @@ use Rattle.store.specs.Holds.{room_of}
 use Rattle.store.specs.Step.{longest_unused, refusal_of_new}
 use Rattle.store.proofs.Frees.{IsCounted, bytes_full, bytes_fragmented, bytes_accepted, new_as_put, refusal_of_bytes}
 
--- bytes are accepted exactly where they and their entry have room, and their sectors are in few runs
+-- bytes are accepted exactly if there is room for them and their entry, and the longest runs have enough
+-- sectors for them
 accepted_iff : (sectors longest more : ℕ) (s : State) (bytes : List ℕ) → s.generation ≢ last_generation
     → (refusal_of_bytes sectors longest more s bytes ≡ None) ↔ ((cost (length bytes) + more ≤ free sectors s) × (cost (length bytes) - 1 ≤ longest))
 accepted_iff sectors longest more s bytes usable = (
@@ -29,7 +30,7 @@ accepted_iff sectors longest more s bytes usable = (
   λ both. bytes_accepted sectors longest more s bytes usable both.0 both.1,
 )
 
--- so many bytes fit in so many sectors exactly where the sectors that they take are no more
+-- `size` bytes are accepted in `sectors` sectors exactly if they need at most `sectors` sectors
 fit_iff : (size sectors : ℕ) → size ≤ 16777216 → (size ≤ min (512 * sectors) 16777216) ↔ (div_ceil size 512 ≤ sectors)
 fit_iff size sectors few =
     let bounds = div_ceil_times size 512 (omega arith) in
@@ -38,7 +39,7 @@ fit_iff size sectors few =
 some_sectors : (size : ℕ) → 64 ≤ size → 1 ≤ div_ceil size 512
 some_sectors size some = omega (arith, some, (div_ceil_times size 512 (omega arith)).0)
 
--- how many sectors bytes may take at most, by what is free and the longest runs
+-- a need of sectors is at most the maximum exactly if there is room for it and the longest runs have enough sectors
 room_iff : (need all longest count spare more listed left : ℕ) → 1 ≤ need → left + listed ≡ all → count + spare ≡ more + listed
     → (need ≤ min (all - (1 + count + spare)) longest) ↔ ((need + 1 + more ≤ left) × (need ≤ longest))
 room_iff need all longest count spare more listed left some counted same = (

@@ -1,4 +1,4 @@
--- An entry's sectors, by what is said of the used ones.
+-- The sectors of an entry, derived from the facts about all used sectors.
 use Rattle.std.proofs.Common.{ℕ, ◌+◌, ◌-◌, ◌<◌, ◌≤◌, List, [], ◌∷◌, length, get_or, All, arith}
 use Rattle.std.specs.Prelude.{Contains}
 use Rattle.std.proofs.lemmas.List.Elements.{All-contains, Contains-append_right}
@@ -12,14 +12,14 @@ use Rattle.store.specs.Stands.{UsesApart, extents_of, used}
 use Rattle.store.specs.inside.Kept.{HaveSpellings}
 use Rattle.store.proofs.UsedAlone.{among_used}
 
--- each of its bytes' lies behind the roots and on the disk
+-- each sector of an entry's bytes lies on the disk, after the roots
 pub entry_inside : (sectors : ℕ) (root : Root) (entries : List PlacedEntry) → UsesApart sectors root entries → (i : ℕ) (d : PlacedEntry)
     → i < length entries → (k : ℕ) → Contains (places (extents_of (get_or entries i d).entry)) k → (root_sectors ≤ k) × (k < sectors)
 entry_inside sectors root entries apart i d lt k found =
     All-contains (λ n. (root_sectors ≤ n) × (n < sectors)) (used root entries) k apart.inside
     (among_used root entries i d lt k (Contains-append_right ((get_or entries i d).at ∷ []) (places (extents_of (get_or entries i d).entry)) k found))
 
--- so its extents end on the disk
+-- the extents of an entry end on the disk
 pub entry_on_disk : (sectors : ℕ) (root : Root) (entries : List PlacedEntry) → UsesApart sectors root entries → HaveSpellings entries
     → (i : ℕ) (d : PlacedEntry) → i < length entries → All (IsOnDisk sectors) (extents_of (get_or entries i d).entry)
 entry_on_disk sectors root entries apart fit i d lt j e in_extents =

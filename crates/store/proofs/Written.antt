@@ -1,4 +1,4 @@
--- Bytes that were written into the sectors of an entry.
+-- Bytes that were written to the sectors of an entry.
 use Rattle.std.proofs.Common.{◌≡◌, ℕ, ◌*◌, ◌<◌, ◌≤◌, List, [], length, set, take, ap, ◌∙◌, arith}
 use Rattle.std.specs.Prelude.{Contains}
 use Rattle.std.specs.Int.{div_ceil}
@@ -14,7 +14,7 @@ use Rattle.roots.specs.declared.entry.Entry.{Entry}
 use Rattle.store.specs.Stands.{extents_of}
 use Rattle.store.specs.Taken.{HaveBytes}
 
--- where the entry is of their length, they are its byte string's
+-- if the entry has the length of the bytes, its byte string has these bytes
 pub written_bytes : (m : List Sector) (entry : Entry) (bytes : List ℕ)
     → bytes_at m (places (extents_of entry)) ≡ padded (sector_bytes * sector_count (extents_of entry)) bytes → entry.file_length ≡ length bytes
     → length bytes ≤ 512 * sector_count (extents_of entry) → take entry.file_length (bytes_at m (places (extents_of entry))) ≡ bytes
@@ -23,7 +23,7 @@ written_bytes m entry bytes written its_length enough =
     ∙ ap (λ n. take n (padded (sector_bytes * sector_count (extents_of entry)) bytes)) its_length
     ∙ take-padded (512 * sector_count (extents_of entry)) bytes enough
 
--- What was written behind the roots is in every mixture once a root is written and synced after it.
+-- Bytes in sectors after the roots are in every mixture once a root is written and synced.
 pub written_stays : (before : List Sector) (new : DiskFacts) (ks bytes : List ℕ) (at : ℕ) (content : Sector) → at < root_sectors → ((k : ℕ) → Contains ks k → root_sectors ≤ k)
     → bytes_at before ks ≡ bytes → IsSynced new → new.now ≡ set before at content → (m : List Sector) → Mixture new m → bytes_at m ks ≡ bytes
 written_stays before new ks bytes at content low behind written synced is m mixture =
@@ -31,7 +31,7 @@ written_stays before new ks bytes at content low behind written synced is m mixt
     ∙ bytes_at_same before (set before at content) ks (λ k found. get_or-set_other before at k content [] (λ here. omega (arith, here, low, behind k found)))
     ∙ written
 
--- as many sectors as the bytes need have them
+-- if the extents have as many sectors as the bytes need, they have the bytes
 pub have_bytes : (disk : DiskFacts) (extents : List Extent) (bytes : List ℕ) → sector_count extents ≡ div_ceil (length bytes) sector_bytes
     → ((m : List Sector) → Mixture disk m → bytes_at m (places extents) ≡ padded (sector_bytes * sector_count extents) bytes) → HaveBytes disk extents bytes
 have_bytes disk extents bytes enough written = λ m mixture. written m mixture ∙ ap (λ n. padded (sector_bytes * n) bytes) enough

@@ -1,4 +1,4 @@
--- What opening, making or upgrading a disk ends with on any disk, also on one that lies (own).
+-- The results of opening, making or upgrading a store on any disk, honest or not (own).
 use Rattle.std.specs.Prelude.{◌≡◌, ◌<◌, [], Result, IsFalse, IfOk, IfErr}
 use Rattle.sector_disk.specs.Disk.{DiskFacts, AreCalls, AreCallsExactly, AreCallsAtMost}
 use Rattle.states.specs.Geometry.{IsGeometry}
@@ -7,8 +7,8 @@ use Rattle.store.specs.Opening.{IsRefusalOfOpen, IsRefusalOfFormat}
 use Rattle.store.specs.declared.refusal.StoreRefusal.{StoreRefusal}
 use Rattle.store.specs.declared.refusal.StoreRefusal.TheVariants.{BadGeometry, Device, OutOfMemory, OldFormat}
 
--- a usable store of which nothing is held; or the disk was refused so and handed back, as it was where
--- its size is no geometry
+-- The call returned a usable store in which nothing is held, or it refused with a refusal that `MayRefuse`
+-- allows and handed the disk back. A disk that is refused with BadGeometry is untouched.
 pub record EndsOnAnyDisk (MayRefuse : StoreRefusal → Type 0) {D : Type 0} (facts : D → DiskFacts) (disk : D) (ends : Result (Opened D) (StoreRefusal × D)) : Type 0 where
   pub geometry : IfOk ends (λ _. IsGeometry (facts disk).sectors)
   pub usable : IfOk ends (λ opened. IsFalse opened.failed)
@@ -18,12 +18,14 @@ pub record EndsOnAnyDisk (MayRefuse : StoreRefusal → Type 0) {D : Type 0} (fac
   pub untouched : IfErr ends (λ e. e.0 ≡ BadGeometry → e.1 ≡ disk)
   pub calls : AreCalls (facts disk) (facts (disk_after ends))
 
--- an opening ends so; and a root of version 1 is all that is read of its disk
+-- An opening ended as `EndsOnAnyDisk` says. If it refused with OldFormat, it made three calls: a sync, and the
+-- reads of the two root sectors.
 pub record OpensOnAnyDisk {D : Type 0} (facts : D → DiskFacts) (disk : D) (opening : Result (Opened D) (StoreRefusal × D)) : Type 0 where
   pub ends : EndsOnAnyDisk (IsRefusalOfOpen (facts disk).sectors) facts disk opening
   pub old_calls : IfErr opening (λ e. e.0 ≡ OldFormat → AreCallsExactly 3 (facts disk) (facts e.1))
 
--- a making ends so; and want of memory comes before any call, of which there are five
+-- Making a store ended as `EndsOnAnyDisk` says. It made at most five calls, and lack of memory is found before
+-- the first of them.
 pub record MakesOnAnyDisk {D : Type 0} (facts : D → DiskFacts) (disk : D) (making : Result (Opened D) (StoreRefusal × D)) : Type 0 where
   pub ends : EndsOnAnyDisk (IsRefusalOfFormat (facts disk).sectors) facts disk making
   pub early : IfErr making (λ e. e.0 ≡ OutOfMemory → e.1 ≡ disk)

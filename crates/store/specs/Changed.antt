@@ -1,10 +1,10 @@
--- What a change does on any disk, honest or not, by its result.
+-- The effect of a change on any disk, honest or not, for each of its results.
 use Rattle.std.specs.Prelude.{◌≡◌, ◌≢◌, ◌<◌, ◌↔◌, ℕ, IsTrue, IsFalse, Result, Err, IfErr, OnOk}
 use Rattle.sector_disk.specs.Disk.{DiskFacts, AreCallsExactly, AreCallsAtMost}
 use Rattle.store.specs.Opened.{Opened}
 
--- A change of at most so many calls, with these refusals: `s1` is that of a failing device (S1),
--- and `s2` that of a store that has to be opened again (S2).
+-- A change made at most `most` calls, and refused only with refusals that `Refuses` allows. `s1` is
+-- the refusal of a failing device (S1), and `s2` that of a store that has to be opened again (S2).
 pub record Changed {D R : Type 0} (facts : D → DiskFacts) (s1 s2 : R) (old new : Opened D) (most : ℕ) (Refuses : R → Type 0)
     (result : Result (Unit {0}) R) : Type 0 where
   -- after a failed write or sync the disk has to be opened again

@@ -1,4 +1,4 @@
--- The draft of an update: the list that it has so far, which nothing lists before the commit.
+-- The draft of an update: the list that the update has so far, which no root lists before the commit.
 use Rattle.std.specs.Prelude.{◌≡◌, ◌≢◌, ◌==◌, ℕ, ◌+◌, ◌-◌, ◌*◌, ◌<◌, Bool, not, List, [], ◌∷◌, ◌++◌, length, map, filter, set, slice_index_or}
 use Rattle.std.specs.Prelude.{All, IsTrue, Result, IfOk, OnErr}
 use Rattle.std.specs.Global.{Vec}
@@ -29,49 +29,51 @@ use Rattle.store.specs.Taken.{IsTaken}
 
 -- what an update keeps
 pub record Drafted (D : Type 0) : Type 0 where
-  -- the store that stands: no line of the update changes it, but for its disk, and whether a call failed
+  -- the current store: the lines of the update change only its disk, and whether a call failed
   pub store : Opened D
-  -- the draft's list: entries of the store, and others, which the update wrote
+  -- the draft's list: entries of the store, and others that the update wrote
   pub entries : List PlacedEntry
-  -- the positions of its preloads in this list
+  -- the positions of the draft's preloads in the draft's list
   pub preloads : List ℕ
-  -- what of it was changed
+  -- what was changed in the draft
   pub touched : Touched
 
--- one of these entries stands in this one's sector
+-- whether one of the entries is in the sector of `placed`
 abbrev pub lists : List PlacedEntry → PlacedEntry → Bool
 lists entries placed = list_any (λ other. other.at == placed.at) entries
 
--- the entries that the others don't have
+-- the entries that aren't in the sector of any of the others
 abbrev pub apart_from : (others : List PlacedEntry) → List PlacedEntry → List PlacedEntry
 apart_from others entries = filter (λ placed. not (lists others placed)) entries
 
--- what the update wrote and has in its list
+-- the entries that the update wrote and still has in its list
 abbrev pub staged : {D : Type 0} → Drafted D → List PlacedEntry
 staged u = apart_from u.store.entries u.entries
 
--- what stands, and isn't in the draft's list
+-- the entries of the current list that aren't in the draft's list
 abbrev pub left_out : {D : Type 0} → Drafted D → List PlacedEntry
 left_out u = apart_from u.entries u.store.entries
 
--- the layout of its disk, in which just this is claimed: what stands, what is held, and what is staged
+-- the layout of the disk, in which exactly these sectors are claimed: those of the current state, of held byte
+-- strings, and of the entries that the update wrote
 abbrev pub layout_drafted : {D : Type 0} → Drafted D → List Bool
 layout_drafted u = layout_of u.store.root.sectors (in_use u.store.root u.store.entries u.store.held ++ flat_map sectors_of (staged u))
 
--- how many sectors the 32 longest unused runs have
+-- the number of sectors of the 32 longest unused runs
 abbrev pub longest_drafted : {D : Type 0} → Drafted D → ℕ
 longest_drafted u = sector_count (longest_runs (layout_drafted u))
 
--- sectors in use beside the draft, and twice the catalogues that the standing list has more
+-- the number of sectors that the draft's state can't use: sectors in use that aren't the draft's, and two for each
+-- catalogue by which the current list exceeds the draft's
 abbrev pub beside : {D : Type 0} → Drafted D → ℕ
 beside u = entries_cost (left_out u) + length (lone_sectors u.store.held)
     + 2 * (length (catalogues_of u.store.root) - catalogues_for (length u.entries))
 
--- how many sectors there are for the draft's state
+-- the number of sectors that the draft's state can use
 abbrev pub room_drafted : {D : Type 0} → Drafted D → ℕ
 room_drafted u = u.store.root.sectors - beside u
 
--- what is read by a draft, of the generation that stands
+-- the state that the entries and preloads of a draft describe in the sectors `m`, with the generation `generation`
 abbrev pub draft_state : List Sector → (generation : ℕ) → List PlacedEntry → (preloads : List ℕ) → State
 draft_state m generation entries preloads = record {
   generation = generation;
@@ -79,29 +81,31 @@ draft_state m generation entries preloads = record {
   preloads = names_at (map (library_of m) entries) preloads;
 }
 
--- Every mixture holds the state s that stands; reads give the draft's state d.
+-- Every mixture holds the current state `s`, and reads return the draft's state `d`.
 pub record IsDraftedAt {D : Type 0} (facts : D → DiskFacts) (u : Drafted D) (s d : State) : Type 0 where
   pub stands : IsAt facts u.store s
   pub spelt : All (λ placed. SpellsEntry (sector (facts u.store.disk).now placed.at) placed.entry) u.entries
   pub is : d ≡ draft_state (facts u.store.disk).now s.generation u.entries u.preloads
 
--- a draft's state after a change: what the change makes, but of the same generation
+-- a draft's state after a change that makes the state `changed`: the libraries and preloads of `changed`, with the
+-- draft's generation
 abbrev pub drafted : (d changed : State) → State
 drafted d changed = record { generation = d.generation; libraries = changed.libraries; preloads = changed.preloads }
 
--- what the commit of a draft makes of the state that stands: the draft's, of the next generation;
--- without a change the same
+-- the state after the commit of a draft: the draft's state with the next generation, or the current state if
+-- nothing was changed
 abbrev pub committed : Touched → (s d : State) → State
 committed Nothing s d = s
 committed touched s d = next s d.libraries d.preloads
 
--- how many calls the commit of a list of so many takes: its catalogues and a sync, the root and a sync
+-- the number of calls of a commit: 0 if nothing was changed; 2 if only preloads were set (the root and a sync);
+-- otherwise one for each catalogue, and 3 (a sync, the root and a sync)
 abbrev pub commit_calls : Touched → ℕ → ℕ
 commit_calls Nothing libraries = 0
 commit_calls Preloads libraries = 2
 commit_calls Listed libraries = catalogues_for libraries + 3
 
--- the draft that nothing was changed of
+-- the draft of an update that has just begun
 abbrev pub begun : {D : Type 0} → Opened D → Drafted D
 begun store = record { store = store; entries = store.entries; preloads = listed_preloads store.root; touched = Nothing }
 
@@ -109,7 +113,7 @@ begun store = record { store = store; entries = store.entries; preloads = listed
 abbrev pub IsNewToDraft : {D : Type 0} → Drafted D → List ℕ → Type 0
 IsNewToDraft u name = All (λ placed. name_of placed.entry ≢ name) u.entries
 
--- the entry of this name in the draft's list is at this position
+-- the entry with this name is at this position of the draft's list
 pub record IsDraftedNamed {D : Type 0} (u : Drafted D) (name : List ℕ) (position : ℕ) : Type 0 where
   pub inside : position < length u.entries
   pub named : (d : PlacedEntry) → name_of (slice_index_or u.entries position d).entry ≡ name
@@ -118,8 +122,7 @@ pub record IsDraftedNamed {D : Type 0} (u : Drafted D) (name : List ℕ) (positi
 abbrev pub IsNoPreloadOfDraft : {D : Type 0} → Drafted D → List ℕ → Type 0
 IsNoPreloadOfDraft u name = All (λ position. (d : PlacedEntry) → name_of (slice_index_or u.entries position d).entry ≢ name) u.preloads
 
--- What stands is untouched: it isn't on the disk alone, at whatever moment, but in memory too, but
--- for whether a call failed.
+-- The current state is untouched: on the disk at any moment, and in memory, except for whether a call failed.
 pub record StaysBeside {D : Type 0} (facts : D → DiskFacts) (old new : Drafted D) : Type 0 where
   pub any_moment : (s : State) → IsAt facts old.store s → LeavesOnly (facts old.store.disk) (facts new.store.disk) (λ m. Stands m s)
   pub root : new.store.root ≡ old.store.root
@@ -127,25 +130,26 @@ pub record StaysBeside {D : Type 0} (facts : D → DiskFacts) (old new : Drafted
   pub table : new.store.held ≡ old.store.held
   pub held : KeepsHeld facts old.store new.store
 
--- the draft is as it was
+-- the draft's entries and preloads, and what was changed in the draft, are the same
 pub record IsSameDraft {D : Type 0} (old new : Drafted D) : Type 0 where
   pub entries : new.entries ≡ old.entries
   pub preloads : new.preloads ≡ old.preloads
   pub touched : new.touched ≡ old.touched
 
--- A line of at most so many calls, with these refusals, on any disk. A refusal leaves the draft as it was.
+-- A line of an update made at most `most` calls on any disk, and refused only with refusals that `Refuses` allows. A
+-- refusal leaves the draft unchanged.
 pub record IsLine {D : Type 0} (facts : D → DiskFacts) (old new : Drafted D) (most : ℕ) (Refuses : StoreRefusal → Type 0)
     (result : Result (Unit {0}) StoreRefusal) : Type 0 where
   pub beside : StaysBeside facts old new
   pub changed : Changed facts Device Reopen old.store new.store most Refuses result
   pub refused : OnErr result (IsSameDraft old new)
 
--- In an honest disk's sectors reads give these bytes, and zeros behind them.
+-- On an honest disk, reads of the entry's sectors return these bytes, followed by zeros.
 abbrev pub ReadBytes : DiskFacts → PlacedEntry → List ℕ → Type 0
 ReadBytes disk put bytes = IsTrue disk.honest
     → bytes_at disk.now (places (extents_of put.entry)) ≡ padded (sector_bytes * div_ceil (length bytes) sector_bytes) bytes
 
--- there is one more entry in the draft, the last, in sectors that weren't in use
+-- the draft has one more entry, the last, in sectors that weren't in use
 pub record IsDraftedBehind {D : Type 0} (facts : D → DiskFacts) (old new : Drafted D) (bytes : List ℕ) : Type 0 where
   pub put : PlacedEntry
   pub taken : IsTaken (layout_drafted old) (div_ceil (length bytes) sector_bytes) (extents_of put.entry) put.at []
@@ -154,7 +158,7 @@ pub record IsDraftedBehind {D : Type 0} (facts : D → DiskFacts) (old new : Dra
   pub touched : new.touched ≡ Listed
   pub written : ReadBytes (facts new.store.disk) put bytes
 
--- another entry replaces the one of this name in the draft
+-- another entry, in sectors that weren't in use, replaces the draft's entry with this name
 pub record IsDraftedOver {D : Type 0} (facts : D → DiskFacts) (old new : Drafted D) (name bytes : List ℕ) : Type 0 where
   pub position : ℕ
   pub at : IsDraftedNamed old name position
@@ -165,14 +169,14 @@ pub record IsDraftedOver {D : Type 0} (facts : D → DiskFacts) (old new : Draft
   pub touched : new.touched ≡ Listed
   pub written : ReadBytes (facts new.store.disk) put bytes
 
--- the entry of this name is gone from the draft
+-- the draft's entry with this name was removed
 pub record IsDraftedOut {D : Type 0} (old new : Drafted D) (name : List ℕ) : Type 0 where
   pub position : ℕ
   pub at : IsDraftedNamed old name position
   pub entries : new.entries ≡ remove old.entries position
   pub touched : new.touched ≡ Listed
 
--- where only preloads are chosen, the draft's list counts as changed if it did before
+-- what counts as changed after preloads were set: the list if it was changed before, and otherwise the preloads
 abbrev pub touched_preloads : Touched → Touched
 touched_preloads Nothing = Preloads
 touched_preloads touched = touched
@@ -181,8 +185,8 @@ touched_preloads touched = touched
 abbrev pub listing : {D : Type 0} → Drafted D → Opened D
 listing u = record { disk = u.store.disk; root = u.store.root; entries = u.entries; held = u.store.held; failed = u.store.failed }
 
--- The byte string at a position of the draft is read, as one of a store that lists it would be: each
--- of its sectors once, and nothing is written.
+-- The byte string at a position of the draft was read, as in a store that lists it. Each of its sectors was
+-- read once, and nothing was written.
 pub record ReadsDraft {D : Type 0} (facts : D → DiskFacts) (old new : Drafted D) (position : ℕ) (result : Result (Vec ℕ) StoreRefusal) : Type 0 where
   pub read : ReadsBlob Two facts (listing old) (listing new) position result
   pub ok : (s d : State) → IsDraftedAt facts old s d → IfOk result (λ bytes. bytes.items ≡ (slice_index_or d.libraries position no_library).bytes)

@@ -1,5 +1,5 @@
--- Byte strings that somebody holds: the sectors that they keep beside the state, what a
--- holder may rely on, and what holding one, reading it and letting it go does.
+-- Byte strings that somebody holds: the sectors that they keep beside the state, what a holder may rely on, and
+-- what holding, reading and releasing one does.
 use Rattle.std.specs.Prelude.{◌≡◌, ◌≢◌, ◌↔◌, ◌⊎◌, ℕ, ◌+◌, ◌-◌, ◌<◌, ◌==◌, true, Bool, List, [], ◌++◌, length}
 use Rattle.std.specs.Prelude.{slice_index_or, sum_by, All, AllPairs, Contains, IsTrue, IsFalse, Result, Err, IfOk, IfErr, OnOk, OnErr, if◌then◌else◌}
 use Rattle.std.specs.Global.{Vec}
@@ -16,11 +16,12 @@ use Rattle.store.specs.declared.refusal.StoreRefusal.TheVariants.{Device, Reopen
 use Rattle.store.specs.Stands.{sectors_of, used, library_of, no_library}
 use Rattle.store.specs.Opened.{Opened, IsAt}
 
--- Each held byte string has one row: no two rows are of one entry sector.
+-- Each held byte string has one row: no two rows have the same entry sector.
 abbrev pub HaveOwnRows : List HeldRow → Type 0
 HaveOwnRows held = AllPairs (λ a b. a.placed.at ≢ b.placed.at) held
 
--- the sectors that a held byte string keeps beside the state: all, where the state lists it no longer
+-- the sectors that a held byte string keeps beside the state: all of them if the state no longer lists it, and
+-- otherwise none
 abbrev pub own_sectors : HeldRow → List ℕ
 own_sectors hold = if hold.listed then [] else sectors_of hold.placed
 
@@ -28,63 +29,65 @@ own_sectors hold = if hold.listed then [] else sectors_of hold.placed
 abbrev pub lone_sectors : List HeldRow → List ℕ
 lone_sectors held = flat_map own_sectors held
 
--- all sectors in use behind the roots, one by one: by the state, or by holders alone
+-- all sectors in use after the roots, one by one: those that the state uses, and those that only holders use
 abbrev pub in_use : Root → List PlacedEntry → List HeldRow → List ℕ
 in_use root entries held = used root entries ++ lone_sectors held
 
--- the layout of its disk, in which exactly the sectors in use are claimed
+-- the layout of the store's disk, in which exactly the sectors in use are claimed
 abbrev pub layout_in_use : {D : Type 0} → Opened D → List Bool
 layout_in_use store = layout_of store.root.sectors (in_use store.root store.entries store.held)
 
--- how many sectors there are for the state: all but those that holders alone use
+-- the number of sectors that the state can use: all except those that only holders use
 abbrev pub room_of : {D : Type 0} → Opened D → ℕ
 room_of store = store.root.sectors - length (lone_sectors store.held)
 
--- How many hold the byte string with this entry sector, which no other has for as long as it is held.
+-- The number of holders of the byte string whose entry is in `sector`. As long as that byte string is held, no other
+-- byte string has this entry sector.
 abbrev pub holders_of : List HeldRow → ℕ → ℕ
 holders_of held sector = sum_by (λ hold. if hold.placed.at == sector then hold.holders else 0) held
 
--- this is the entry of the held byte string with this entry sector
+-- `placed` is the entry of the held byte string whose entry is in `sector`
 pub record IsHeldBy (held : List HeldRow) (sector : ℕ) (placed : PlacedEntry) : Type 0 where
   pub place : ℕ
   pub inside : place < length held
   pub is : (d : HeldRow) → (slice_index_or held place d).placed ≡ placed
   pub its : placed.at ≡ sector
 
--- The byte string with this entry sector is held, and is this byte string in every mixture of the disk.
+-- The byte string whose entry is in `sector` is held, and it is `library` in every mixture of the disk.
 pub record IsHeldAs (disk : DiskFacts) (held : List HeldRow) (sector : ℕ) (library : Library) : Type 0 where
   pub placed : PlacedEntry
   pub by : IsHeldBy held sector placed
   pub stands : (m : List Sector) → Mixture disk m → library_of m placed ≡ library
 
--- the same of a store
+-- the byte string whose entry is in `sector` is held in this store, and it is `library` in every mixture
 abbrev pub HeldIs : {D : Type 0} → (D → DiskFacts) → Opened D → ℕ → Library → Type 0
 HeldIs facts store sector library = IsHeldAs (facts store.disk) store.held sector library
 
--- What is held stays held by as many, on any disk; on an honest one its bytes stay what they were.
+-- Held byte strings keep their holders, on any disk. On an honest disk they also keep their bytes.
 pub record KeepsHolders (before after : DiskFacts) (old new : List HeldRow) : Type 0 where
   pub holders : (sector : ℕ) → holders_of new sector ≡ holders_of old sector
   pub bytes : IsTrue before.honest → (sector : ℕ) (library : Library) → IsHeldAs before old sector library → IsHeldAs after new sector library
   pub holds : (sector : ℕ) (placed : PlacedEntry) → IsHeldBy old sector placed ↔ IsHeldBy new sector placed
   pub none : old ≡ [] → new ≡ []
 
--- the same of two stores, one after the other
+-- from `old` to `new`, held byte strings keep their holders, and on an honest disk their bytes
 abbrev pub KeepsHeld : {D : Type 0} → (D → DiskFacts) → Opened D → Opened D → Type 0
 KeepsHeld facts old new = KeepsHolders (facts old.disk) (facts new.disk) old.held new.held
 
--- A held byte string counts as listed exactly where it is one of the state's.
+-- A held byte string counts as listed exactly if it is one of the state's.
 abbrev pub AreFlagged : {D : Type 0} → Opened D → Type 0
 AreFlagged store = All (λ hold. (hold.listed ≡ true) ↔ Contains store.entries hold.placed) store.held
 
--- What is held has one row and some holder, and it counts as listed exactly
--- where the state lists it. So the sectors that are counted for holders alone are those of each
--- byte string that the state lists no longer, once.
+-- Each held byte string has one row and at least one holder, and it counts as listed exactly if the state lists
+-- it. So the sectors that only holders use are those of each byte string that the state no longer lists,
+-- counted once.
 pub record AreHolds {D : Type 0} (store : Opened D) : Type 0 where
   pub rows : HaveOwnRows store.held
   pub holders : (sector : ℕ) (placed : PlacedEntry) → IsHeldBy store.held sector placed → 0 < holders_of store.held sector
   pub flags : AreFlagged store
 
--- The byte string at a position is held as it is. No call is made, and no sector is taken.
+-- The byte string at a position has one more holder, who holds its present bytes. No call of the disk is made, and no
+-- sector is claimed.
 pub record TakesHold {D : Type 0} (facts : D → DiskFacts) (old new : Opened D) (position : ℕ) (result : Result ℕ StoreRefusal) : Type 0 where
   pub ok : (s : State) → IsAt facts old s → IfOk result (λ held. HeldIs facts new held (slice_index_or s.libraries position no_library))
   pub same : (s : State) → IsAt facts old s → IsAt facts new s
@@ -100,13 +103,13 @@ pub record TakesHold {D : Type 0} (facts : D → DiskFacts) (old new : Opened D)
   pub err : OnErr result (new ≡ old)
   pub refusals : IfErr result (λ e. (e ≡ Reopen) ⊎ (e ≡ OutOfMemory))
 
--- The byte string that is held is read: each of its sectors once, and nothing is written.
--- Damaged where nobody holds it here.
+-- The held byte string was read. Each of its sectors was read once, and nothing was written. The call refuses
+-- with Damaged if nobody holds the byte string in this store.
 pub record ReadsHeld {D : Type 0} (facts : D → DiskFacts) (old new : Opened D) (held : ℕ) (result : Result (Vec ℕ) StoreRefusal) : Type 0 where
   -- a stop at any moment leaves what it could leave before
   pub any_moment : IsTrue (facts old.disk).honest → LeavesOnly (facts old.disk) (facts new.disk) (Mixture (facts old.disk))
   pub ok : IsTrue (facts old.disk).honest → (library : Library) → HeldIs facts old held library → IfOk result (λ bytes. bytes.items ≡ library.bytes)
-  -- reads give the same, and a stop may leave the same
+  -- reads return what they returned before, and a stop may leave what it could leave before
   pub unchanged : IsTrue (facts old.disk).honest → IsUnchanged (facts old.disk) (facts new.disk)
   pub others : KeepsHeld facts old new
   pub same : (s : State) → IsAt facts old s → IsAt facts new s
@@ -114,7 +117,7 @@ pub record ReadsHeld {D : Type 0} (facts : D → DiskFacts) (old new : Opened D)
   pub kept : (new.root ≡ old.root) × (new.entries ≡ old.entries) × (new.held ≡ old.held) × (new.failed ≡ old.failed)
   pub reopen : (result ≡ Err Reopen) ↔ IsTrue old.failed
   pub unknown : (result ≡ Err Damaged) ↔ (IsFalse old.failed × (holders_of old.held held ≡ 0))
-  -- who holds it is never told Damaged
+  -- a byte string that somebody holds is never refused with Damaged
   pub known : (placed : PlacedEntry) → IsHeldBy old.held held placed → IfErr result (λ e. e ≢ Damaged)
   pub refusals : IfErr result (λ e. (e ≡ Device) ⊎ (e ≡ Reopen) ⊎ (e ≡ Damaged) ⊎ (e ≡ OutOfMemory))
   pub device : IfErr result (λ e. e ≡ Device → (facts old.disk).failures < (facts new.disk).failures)
@@ -124,10 +127,10 @@ pub record ReadsHeld {D : Type 0} (facts : D → DiskFacts) (old new : Opened D)
       → OnOk result (AreCallsExactly (div_ceil placed.entry.file_length sector_bytes) (facts old.disk) (facts new.disk))
   pub calls : (placed : PlacedEntry) → IsHeldBy old.held held placed
       → AreCallsAtMost (div_ceil placed.entry.file_length sector_bytes) (facts old.disk) (facts new.disk)
-  -- also where nobody holds it
+  -- also if nobody holds it
   pub called : AreCalls (facts old.disk) (facts new.disk)
 
--- A holder lets a byte string go, and nothing else changes; where nobody holds it here, nothing does.
+-- A holder released a byte string, and nothing else changed. If nobody holds it in this store, nothing changed.
 pub record LetsHoldGo {D : Type 0} (facts : D → DiskFacts) (old new : Opened D) (held : ℕ) : Type 0 where
   pub holders : (sector : ℕ) → holders_of new.held sector ≡ holders_of old.held sector - (if held == sector then 1 else 0)
   pub others : (sector : ℕ) (library : Library) → 0 < holders_of new.held sector → HeldIs facts old sector library → HeldIs facts new sector library

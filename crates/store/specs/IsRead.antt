@@ -1,4 +1,4 @@
--- What reading byte strings does to a store, whatever comes of it: it only reads.
+-- Reading byte strings of a store: whatever the results are, nothing is changed.
 use Rattle.std.specs.Prelude.{◌≡◌, ℕ, IsTrue}
 use Rattle.std.specs.Int.{div_ceil}
 use Rattle.sector_disk.specs.Disk.{sector_bytes, DiskFacts, Mixture, IsUnchanged, LeavesOnly, AreCalls}
@@ -8,11 +8,12 @@ use Rattle.states.specs.State.{State}
 use Rattle.store.specs.declared.placed_entry.PlacedEntry.{PlacedEntry}
 use Rattle.store.specs.Opened.{Opened, IsAtBy}
 
--- how many sectors the file of an entry takes
+-- the number of sectors that the byte string of an entry takes
 abbrev pub file_sectors : PlacedEntry → ℕ
 file_sectors placed = div_ceil placed.entry.file_length sector_bytes
 
--- it keeps what a stop may leave, and the state that a store of this version is at
+-- The store was only read. The state that a store of this version is at, the mixtures that a stop
+-- may leave, and the store's data in memory are as before.
 pub record IsReadBy (version : Version) {D : Type 0} (facts : D → DiskFacts) (old new : Opened D) : Type 0 where
   pub leaves : IsTrue (facts old.disk).honest → LeavesOnly (facts old.disk) (facts new.disk) (Mixture (facts old.disk))
   pub same : (s : State) → IsAtBy version facts old s → IsAtBy version facts new s
@@ -23,6 +24,6 @@ pub record IsReadBy (version : Version) {D : Type 0} (facts : D → DiskFacts) (
   pub failed : new.failed ≡ old.failed
   pub calls : AreCalls (facts old.disk) (facts new.disk)
 
--- of a store of version 2
+-- a store of version 2 was only read
 abbrev pub IsRead : {D : Type 0} → (D → DiskFacts) → Opened D → Opened D → Type 0
 IsRead facts old new = IsReadBy Two facts old new

@@ -1,4 +1,4 @@
--- What `look` sees.
+-- The result of `look` on a disk.
 use Rattle.std.specs.Prelude.{◌≡◌, ◌+◌, ◌<◌, ◌⊎◌, [], IsTrue, IsFalse, IfOk, IfErr, MatchResult, Result, Ok, Err}
 use Rattle.sector_disk.specs.Disk.{DiskFacts, Mixture, LeavesOnly, MayAddSync, AreCallsExactly, AreCallsAtMost}
 use Rattle.roots.specs.Limits.{most_catalogues}
@@ -13,34 +13,35 @@ use Rattle.store.specs.Opening.{RefusesLook, IsRefusalOfLook}
 use Rattle.store.specs.Stands.{Stands, StandsOld, StandsEither}
 use Rattle.states.specs.State.{State}
 
--- the store that is seen, of whatever version
+-- the store that was found, of either version
 abbrev pub seen : {D : Type 0} → Look D → Opened D
 seen (Current store) = store
 seen (Old store) = store
 
--- the disk of what is seen, or the one that is handed back
+-- the disk of the store that was found, or the disk that was handed back
 abbrev pub looked_after : {D : Type 0} → Result (Look D) (StoreRefusal × D) → D
 looked_after (Ok look) = (seen look).disk
 looked_after (Err refused) = refused.1
 
--- a store of version 2 is seen, and it is at the state
+-- a store of version 2 was found, and it is at this state
 abbrev pub IsSeenAt : {D : Type 0} → (D → DiskFacts) → Look D → State → Type 0
 IsSeenAt facts (Current store) s = IsAt facts store s
 IsSeenAt facts (Old store) s = ⊥
 
--- a store of version 1 is seen, and it is at the state
+-- a store of version 1 was found, and it is at this state
 abbrev pub IsSeenOldAt : {D : Type 0} → (D → DiskFacts) → Look D → State → Type 0
 IsSeenOldAt facts (Current store) s = ⊥
 IsSeenOldAt facts (Old store) s = IsOldAt facts store s
 
--- What the disk holds was seen, or the disk was refused and handed back: nothing is written.
+-- The contents of the disk were found out, or the disk was refused and handed back. Nothing was
+-- written.
 pub record Looks {D : Type 0} (facts : D → DiskFacts) (disk : D) (looking : Result (Look D) (StoreRefusal × D)) : Type 0 where
   -- a stop at any moment leaves what it could leave before
   pub any_moment : IsTrue (facts disk).honest → LeavesOnly (facts disk) (facts (looked_after looking)) (Mixture (facts disk))
-  -- what reads give stays, also where a call fails
+  -- reads return what they returned before, also if a call fails
   pub now : IsTrue (facts disk).honest → (facts (looked_after looking)).now ≡ (facts disk).now
   pub log : IsTrue (facts disk).honest → MayAddSync (facts disk).log (facts (looked_after looking)).log
-  -- the store is of the version of its root, and at the state that what reads give holds
+  -- the store is of the version of its root, and at the state that the disk's sectors hold
   pub stands : IsTrue (facts disk).honest → (s : State) → Stands (facts disk).now s
       → MatchResult looking (λ look. IsSeenAt facts look s) (λ e. (e.0 ≡ Device) ⊎ (e.0 ≡ OutOfMemory))
   pub stands_old : IsTrue (facts disk).honest → (s : State) → StandsOld (facts disk).now s
@@ -48,7 +49,7 @@ pub record Looks {D : Type 0} (facts : D → DiskFacts) (disk : D) (looking : Re
   pub ok : IsTrue (facts disk).honest → IfOk looking (λ look.
       (s : State) × ((Stands (facts disk).now s × IsSeenAt facts look s) ⊎ (StandsOld (facts disk).now s × IsSeenOldAt facts look s)))
   pub refused : IsTrue (facts disk).honest → IfErr looking (λ e. RefusesLook StandsEither (facts disk).now e.0)
-  -- the rest holds on any disk, also on one that lies
+  -- the rest holds on any disk, also on one that isn't honest
   pub unheld : IfOk looking (λ look. (seen look).held ≡ [])
   pub usable : IfOk looking (λ look. IsFalse (seen look).failed)
   pub geometry : IfOk looking (λ _. IsGeometry (facts disk).sectors)

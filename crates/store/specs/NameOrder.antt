@@ -12,15 +12,16 @@ use Rattle.store.specs.Stands.{name_of}
 abbrev pub entry_names : List PlacedEntry → List (List ℕ)
 entry_names entries = map (λ placed. name_of placed.entry) entries
 
--- the name at a position; the empty one where there is none
+-- the name at a position, or the empty name if there is none
 abbrev pub name_at : List (List ℕ) → ℕ → List ℕ
 name_at names position = slice_index_or names position []
 
--- names byte by byte, a shorter one before those that it begins
+-- the order of the names at two positions: byte by byte, and a name before the longer names that
+-- begin with it
 abbrev pub name_order : List (List ℕ) → ℕ → ℕ → Ordering
 name_order names a b = slice_cmp nat_cmp (name_at names a) (name_at names b)
 
--- Each position of these names once, in the order of the names, of which none stands twice.
+-- The positions are all positions of the names, each once, in the order of the names. No name occurs twice.
 pub record IsOrderOf (names : List (List ℕ)) (positions : List ℕ) : Type 0 where
   pub size : length positions ≡ length names
   pub within : All (λ position. position < length names) positions

@@ -1,4 +1,4 @@
--- What names and byte strings a store takes, and which names it has.
+-- Which names and byte strings a store accepts, and which names it has.
 use Rattle.std.specs.Prelude.{◌≡◌, ◌≢◌, ℕ, ◌<◌, List, length, slice_index_or, All}
 use Rattle.std.specs.Int.{IsInRange}
 use Rattle.roots.specs.Limits.{least_file_bytes, most_file_bytes, most_name_bytes}
@@ -8,12 +8,12 @@ use Rattle.store.specs.declared.placed_entry.PlacedEntry.{PlacedEntry}
 use Rattle.store.specs.Opened.{Opened}
 use Rattle.store.specs.Stands.{name_of}
 
--- what can be a name: 1 to 240 visible characters without `/`
+-- these bytes can be a name: 1 to 240 visible characters, none of them `/`
 pub record IsName (name : List ℕ) : Type 0 where
   pub size : IsInRange 1 most_name_bytes (length name)
   pub bytes : All IsNameByte name
 
--- what can be put: 64 bytes to 16 MiB
+-- a byte string of this length can be put: 64 bytes to 16 MiB
 abbrev pub IsFileSize : ℕ → Type 0
 IsFileSize size = IsInRange least_file_bytes most_file_bytes size
 

@@ -1,4 +1,4 @@
--- A store in memory, and when it is at a state.
+-- A store in memory, and what it means that the store is at a state.
 use Rattle.std.specs.Prelude.{ℕ, ◌+◌, Bool, List, length, IsTrue, IsFalse, Result, Ok, Err}
 use Rattle.sector_disk.specs.Disk.{Sector, DiskFacts, Mixture}
 use Rattle.roots.specs.declared.root.Root.{Root}
@@ -10,8 +10,8 @@ use Rattle.states.specs.State.{State}
 use Rattle.store.specs.declared.holds.HeldRow.{HeldRow}
 use Rattle.store.specs.Stands.{StandsBy, catalogues_of}
 
--- what a store keeps: its disk, the current root, its entries with their sectors, what is held,
--- and whether a write or a sync failed
+-- what a store keeps: its disk, the current root, its entries with their sectors, the held byte strings, and whether a
+-- write or a sync failed
 pub record Opened (D : Type 0) : Type 0 where
   pub disk : D
   pub root : Root
@@ -19,13 +19,13 @@ pub record Opened (D : Type 0) : Type 0 where
   pub held : List HeldRow
   pub failed : Bool
 
--- The store is at a state by a root of this version: every mixture of its disk holds it.
+-- The store is at a state by a root of this version: every mixture of its disk holds that state.
 pub record IsAtBy (version : Version) {D : Type 0} (facts : D → DiskFacts) (store : Opened D) (s : State) : Type 0 where
   pub honest : IsTrue (facts store.disk).honest
   pub usable : IsFalse store.failed
   pub stands : (m : List Sector) → Mixture (facts store.disk) m → StandsBy version m store.root store.entries s
 
--- a store is at a state
+-- a store of version 2 is at a state
 abbrev pub IsAt : {D : Type 0} → (D → DiskFacts) → Opened D → State → Type 0
 IsAt facts store s = IsAtBy Two facts store s
 
@@ -33,11 +33,12 @@ IsAt facts store s = IsAtBy Two facts store s
 abbrev pub IsOldAt : {D : Type 0} → (D → DiskFacts) → Opened D → State → Type 0
 IsOldAt facts store s = IsAtBy One facts store s
 
--- how many calls open it: a sync, and a read of each of the two root sectors, of each catalogue and of each entry
+-- the number of calls that open the store: a sync, and a read of each of the two root sectors, of each catalogue and of
+-- each entry
 abbrev pub calls_to_open : {D : Type 0} → Opened D → ℕ
 calls_to_open store = 3 + length (catalogues_of store.root) + length store.entries
 
--- the disk of the store, or the one that is handed back
+-- the disk of the store, or the disk that was handed back
 abbrev pub disk_after : {D : Type 0} → Result (Opened D) (StoreRefusal × D) → D
 disk_after (Ok store) = store.disk
 disk_after (Err refused) = refused.1

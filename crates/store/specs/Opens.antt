@@ -1,4 +1,4 @@
--- What opening an honest disk of version 2 does, whatever the opener wants of the state that it holds (own).
+-- Opening an honest disk of version 2, for any definition of the state that a disk holds (own).
 use Rattle.std.specs.Prelude.{◌≡◌, ◌+◌, ◌⊎◌, List, Result, IsTrue, IfOk, IfErr, MatchResult}
 use Rattle.sector_disk.specs.Disk.{Sector, DiskFacts, Mixture, LeavesOnly, MayAddSync, AreCallsExactly, AreCallsAtMost}
 use Rattle.roots.specs.Limits.{most_catalogues}
@@ -11,26 +11,26 @@ use Rattle.store.specs.Stands.{Stands}
 use Rattle.store.specs.declared.refusal.StoreRefusal.{StoreRefusal}
 use Rattle.store.specs.declared.refusal.StoreRefusal.TheVariants.{Device, OutOfMemory}
 
--- The disk was opened, or refused and handed back. StandsFor says which states its sectors may
--- hold, and AtFor when the store is at one.
+-- The disk was opened, or refused and handed back. `StandsFor` defines which state sectors hold, and `AtFor` defines
+-- when a store is at a state.
 pub record Opens (StandsFor : List Sector → State → Type 0) {D : Type 0} (facts : D → DiskFacts) (AtFor : Opened D → State → Type 0)
     (disk : D) (opening : Result (Opened D) (StoreRefusal × D)) : Type 0 where
   -- a stop at any moment leaves what it could leave before
   pub any_moment : IsTrue (facts disk).honest → LeavesOnly (facts disk) (facts (disk_after opening)) (Mixture (facts disk))
-  -- what reads give stays, also where a call fails
+  -- reads return what they returned before, also if a call fails
   pub now : IsTrue (facts disk).honest → (facts (disk_after opening)).now ≡ (facts disk).now
-  -- it is told to sync once at most, and nothing else is kept of it in a log
+  -- the log gets at most one sync, and nothing else
   pub log : IsTrue (facts disk).honest → MayAddSync (facts disk).log (facts (disk_after opening)).log
-  -- what reads give holds one state and no other, and the store is at it: every mixture holds it too
+  -- the sectors that reads return hold exactly one state, and the store is at this state: every mixture holds it too
   pub ok : IsTrue (facts disk).honest → IfOk opening (λ opened.
       (s : State) × StandsFor (facts disk).now s × AtFor opened s × ((other : State) → StandsFor (facts disk).now other → other ≡ s))
-  -- where it holds one, only a failed call or want of memory is a reason to refuse
+  -- if these sectors hold a state, only a failed call or lack of memory is a reason to refuse
   pub stands : IsTrue (facts disk).honest → (s : State) → StandsFor (facts disk).now s
       → MatchResult opening (λ opened. AtFor opened s) (λ e. (e.0 ≡ Device) ⊎ (e.0 ≡ OutOfMemory))
   pub refused : IsTrue (facts disk).honest → IfErr opening (λ e. RefusesOpen StandsFor (facts disk).now e.0)
 
--- The disk was opened by its entries alone, or refused and handed back: no byte string is read,
--- whatever it is.
+-- The disk was opened from its entries only, or refused and handed back. No byte string was read, so the bytes of the
+-- byte strings don't matter.
 pub record OpensByEntries {D : Type 0} (facts : D → DiskFacts) (disk : D) (opening : Result (Opened D) (StoreRefusal × D)) : Type 0 where
   pub opened : Opens Stands facts (IsAt facts) disk opening
   pub on_any_disk : OpensOnAnyDisk facts disk opening

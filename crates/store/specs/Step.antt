@@ -15,11 +15,11 @@ use Rattle.states.specs.Room.{RoomRefusal, Room, change_tests, put_tests, new_te
 use Rattle.store.specs.Opened.{Opened}
 use Rattle.store.specs.Holds.{layout_in_use}
 
--- how many sectors the 32 longest unused runs have: as many runs as a byte string may have extents
+-- the number of sectors of the 32 longest unused runs: a byte string may have as many extents
 abbrev pub longest_unused : {D : Type 0} → Opened D → ℕ
 longest_unused store = sector_count (longest_runs (layout_in_use store))
 
--- the store's word for what there is no room for
+-- the store's refusal for a refusal of the tests of room
 abbrev pub refusal_of_room : RoomRefusal → StoreRefusal
 refusal_of_room room.TooMany = TooMany
 refusal_of_room room.GenerationEnd = GenerationEnd
@@ -31,27 +31,28 @@ abbrev pub first_refusal : List (Bool × RoomRefusal) → Option StoreRefusal
 first_refusal [] = None
 first_refusal (test ∷ others) = if test.0 then Some (refusal_of_room test.1) else first_refusal others
 
--- what the tests read of a state, by the size of its disk and its longest unused runs
+-- the numbers of a state that the tests need, on a disk with this number of sectors and these
+-- longest unused runs
 abbrev pub room_at : (sectors longest : ℕ) → State → Room
 room_at sectors longest s = record { generation = s.generation; libraries = length s.libraries; free = free sectors s; longest = longest }
 
--- the first reason to refuse bytes in place of others, which take as many catalogues as before
+-- the first reason to refuse a put that replaces bytes, which needs no more catalogues than before
 abbrev pub refusal_of_put : (sectors longest : ℕ) → State → List ℕ → Option StoreRefusal
 refusal_of_put sectors longest s bytes = first_refusal (put_tests (room_at sectors longest s) 0 (length bytes))
 
--- the first reason to refuse bytes with a new name, which may take more catalogues
+-- the first reason to refuse a put under a new name, which may need more catalogues
 abbrev pub refusal_of_new : (sectors longest : ℕ) → State → List ℕ → Option StoreRefusal
 refusal_of_new sectors longest s bytes = first_refusal (new_tests (room_at sectors longest s) (length bytes))
 
--- the first reason to refuse a change that takes no more sectors than there is room for, or none
+-- the first reason to refuse a change that can't lack sectors
 abbrev pub refusal_of_change : State → Option StoreRefusal
 refusal_of_change s = first_refusal (change_tests s.generation)
 
--- the first reason not to list a state of version 1 by catalogues
+-- the first reason to refuse an upgrade of a state of version 1
 abbrev pub refusal_of_upgrade : (sectors : ℕ) → State → Option StoreRefusal
 refusal_of_upgrade sectors s = first_refusal (change_tests s.generation ++ (nat_lt sectors (root_sectors + taken_by s), room.Full) ∷ [])
 
--- the answers to a put with this first refusal; S11 may replace Full, Fragmented and Ok, S1 Ok
+-- a put with this first refusal may have this answer: S11 may replace Full, Fragmented and Ok, and S1 may replace Ok
 abbrev pub IsAnswer : Option StoreRefusal → Result (Unit {0}) StoreRefusal → Type 0
 IsAnswer None (Ok done) = Unit
 IsAnswer None (Err refusal) = (refusal ≡ Device) ⊎ (refusal ≡ OutOfMemory)
@@ -60,53 +61,54 @@ IsAnswer (Some Full) (Err refusal) = (refusal ≡ Full) ⊎ (refusal ≡ OutOfMe
 IsAnswer (Some Fragmented) (Err refusal) = (refusal ≡ Fragmented) ⊎ (refusal ≡ OutOfMemory)
 IsAnswer (Some first) (Err refusal) = refusal ≡ first
 
--- the answers to an upgrade with this first refusal; S1 and S11 may replace each, since it reads
--- the disk before it comes to that
+-- an upgrade with this first refusal may have this answer: S1 and S11 may replace each answer, because the upgrade
+-- reads the disk before it makes these tests
 abbrev pub IsUpgradeAnswer : Option StoreRefusal → Result (Unit {0}) StoreRefusal → Type 0
 IsUpgradeAnswer None (Ok done) = Unit
 IsUpgradeAnswer None (Err refusal) = (refusal ≡ Device) ⊎ (refusal ≡ OutOfMemory)
 IsUpgradeAnswer (Some first) (Ok done) = ⊥
 IsUpgradeAnswer (Some first) (Err refusal) = (refusal ≡ first) ⊎ (refusal ≡ Device) ⊎ (refusal ≡ OutOfMemory)
 
--- the answers to a change that takes no memory and has this first refusal; S1 may replace Ok
+-- a change that allocates nothing and has this first refusal may have this answer: S1 may replace Ok
 abbrev pub IsExactAnswer : Option StoreRefusal → Result (Unit {0}) StoreRefusal → Type 0
 IsExactAnswer None (Ok done) = Unit
 IsExactAnswer None (Err refusal) = refusal ≡ Device
 IsExactAnswer (Some first) (Ok done) = ⊥
 IsExactAnswer (Some first) (Err refusal) = refusal ≡ first
 
--- The refusals of such a change on any disk, honest or not.
+-- The refusals of a change that allocates nothing and can't lack sectors, on any disk, honest or
+-- not.
 abbrev pub IsRefusalOfChange : StoreRefusal → Type 0
 IsRefusalOfChange Device = Unit
 IsRefusalOfChange Reopen = Unit
 IsRefusalOfChange GenerationEnd = Unit
 IsRefusalOfChange other = ⊥
 
--- The refusals of a put in place of other bytes, on any disk: two more than those above.
+-- The refusals of a put that replaces bytes, on any disk: those of `IsRefusalOfChange`, Full and Fragmented.
 abbrev pub IsRefusalOfPutOver : StoreRefusal → Type 0
 IsRefusalOfPutOver Full = Unit
 IsRefusalOfPutOver Fragmented = Unit
 IsRefusalOfPutOver other = IsRefusalOfChange other
 
--- The refusals of a put with a new name, on any disk.
+-- The refusals of a put under a new name, on any disk: those of `IsRefusalOfPutOver`, TooMany and OutOfMemory.
 abbrev pub IsRefusalOfPutNew : StoreRefusal → Type 0
 IsRefusalOfPutNew TooMany = Unit
 IsRefusalOfPutNew OutOfMemory = Unit
 IsRefusalOfPutNew other = IsRefusalOfPutOver other
 
--- The refusals of a commit of what was found on a disk of version 1, on any disk.
+-- The refusals of the commit that turns a disk of version 1 into one of version 2, on any disk.
 abbrev pub IsRefusalOfCommit : StoreRefusal → Type 0
 IsRefusalOfCommit Device = Unit
 IsRefusalOfCommit GenerationEnd = Unit
 IsRefusalOfCommit Full = Unit
 IsRefusalOfCommit other = ⊥
 
--- an answer without what it hands over
+-- an answer without the store or the disk that it hands over
 abbrev pub answer_of : {D : Type 0} → Result (Opened D) (StoreRefusal × D) → Result (Unit {0}) StoreRefusal
 answer_of (Ok store) = Ok tt
 answer_of (Err refused) = Err refused.0
 
--- the store's word for what taking sectors refuses
+-- the store's refusal for a refusal of taking sectors
 abbrev pub refusal_of_take : TakeRefusal → StoreRefusal
 refusal_of_take take.Full = Full
 refusal_of_take take.Fragmented = Fragmented

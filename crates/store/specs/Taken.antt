@@ -1,4 +1,4 @@
--- What a change takes for bytes, their entry and the catalogues: which of the unused sectors.
+-- Which of the unused sectors a change takes for bytes, their entry and the catalogues.
 use Rattle.std.specs.Prelude.{◌≡◌, ℕ, ◌*◌, ◌<◌, Bool, true, List, [], ◌∷◌, ◌++◌, length, set}
 use Rattle.std.specs.Prelude.{slice_index_or, IsTrue}
 use Rattle.std.specs.Int.{div_ceil}
@@ -15,26 +15,26 @@ use Rattle.store.specs.Opened.{Opened}
 use Rattle.store.specs.Holds.{layout_in_use}
 use Rattle.store.specs.Stands.{name_of, extents_of, catalogues_of, used}
 
--- single sectors of this layout are taken: each in its turn is the lowest unused one
+-- single sectors of this layout are taken in this order: each in its turn is the lowest unused one
 abbrev pub AreTaken : List Bool → List ℕ → Type 0
 AreTaken layout [] = Unit
 AreTaken layout (k ∷ ks) = IsLowestUnused layout k × AreTaken (with_flag true (one_sector k) layout) ks
 
--- sectors of this layout are taken: the extents by `take`, then the entry's, the lowest unused one,
--- then those of the catalogues
+-- sectors of this layout are taken: the extents by `take`, then the lowest unused sector for the
+-- entry, and then the sectors of the catalogues
 pub record IsTaken (layout : List Bool) (need : ℕ) (extents : List Extent) (at : ℕ) (catalogues : List ℕ) : Type 0 where
   pub bytes : extents ≡ taken need layout
   pub entry : IsLowestUnused (with_flags true extents layout) at
   pub listed : AreTaken (with_flag true (one_sector at) (with_flags true extents layout)) catalogues
 
--- in every mixture of the disk the extents have the bytes, then zeros up to whole sectors
+-- in every mixture of the disk the extents have the bytes, followed by zeros up to whole sectors
 abbrev pub HaveBytes : DiskFacts → List Extent → List ℕ → Type 0
 HaveBytes disk extents bytes = (m : List Sector) → Mixture disk m
     → bytes_at m (places extents)
     ≡ padded (sector_bytes * div_ceil (length bytes) sector_bytes) bytes
 
--- there is one more entry, the last; it, its bytes and the catalogues are in sectors that weren't
--- in use
+-- The list has one more entry, which comes last. The entry, its bytes and the catalogues are in sectors that weren't in
+-- use.
 pub record IsPutBehind {D : Type 0} (facts : D → DiskFacts) (old new : Opened D)
     (bytes : List ℕ) : Type 0 where
   pub put : PlacedEntry
@@ -45,12 +45,13 @@ pub record IsPutBehind {D : Type 0} (facts : D → DiskFacts) (old new : Opened 
   pub written : IsTrue (facts old.disk).honest
       → HaveBytes (facts new.disk) (extents_of put.entry) bytes
 
--- the entry of this name, at this position
+-- the entry with this name is at this position
 pub record IsNamedAt {D : Type 0} (store : Opened D) (name : List ℕ) (position : ℕ) : Type 0 where
   pub inside : position < length store.entries
   pub named : (d : PlacedEntry) → name_of (slice_index_or store.entries position d).entry ≡ name
 
--- another entry replaces the one of this name; its sectors and the catalogues' weren't in use
+-- another entry replaces the one with this name; its sectors and those of the catalogues weren't in
+-- use
 pub record IsPutOver {D : Type 0} (facts : D → DiskFacts) (old new : Opened D)
     (name bytes : List ℕ) : Type 0 where
   pub position : ℕ
@@ -63,8 +64,8 @@ pub record IsPutOver {D : Type 0} (facts : D → DiskFacts) (old new : Opened D)
   pub written : IsTrue (facts old.disk).honest
       → HaveBytes (facts new.disk) (extents_of put.entry) bytes
 
--- the entry of this name is gone; the catalogues are in sectors that weren't in use, so none of
--- them in one of the entry's
+-- The entry with this name was removed. The catalogues are in sectors that weren't in use, so none
+-- of them is in a sector of that entry.
 pub record IsTakenOut {D : Type 0} (old new : Opened D) (name : List ℕ) : Type 0 where
   pub position : ℕ
   pub at : IsNamedAt old name position

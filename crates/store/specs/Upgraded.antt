@@ -1,4 +1,4 @@
--- What an upgrade makes of a disk of either version.
+-- The result of upgrading a disk of either version.
 use Rattle.std.specs.Prelude.{◌⊎◌, List}
 use Rattle.sector_disk.specs.Disk.{Sector, DiskFacts}
 use Rattle.states.specs.State.{State}
@@ -10,21 +10,21 @@ use Rattle.roots.specs.declared.version.Version.TheVariants.{One}
 use Rattle.store.specs.Stands.{Stands, StandsOld, StandsBy, catalogues_of, used}
 use Rattle.store.specs.Taken.{AreTaken}
 
--- the same libraries and preloads, of the next generation
+-- the state after an upgrade: the same libraries and preloads, with the next generation
 abbrev pub upgraded : State → State
 upgraded s = next s s.libraries s.preloads
 
--- these sectors hold no state by the old rules
+-- these sectors hold no state by the rules of version 1
 abbrev pub IsNotOld : List Sector → Type 0
 IsNotOld m = (s : State) → StandsOld m s → ⊥
 
--- The store is at the state that these sectors held, or, where they held it by the old rules, at
--- the one after it.
+-- The store is at the state that these sectors held. If they held it by the rules of version 1, the store is at the
+-- upgraded state.
 abbrev pub IsUpgradeOf : {D : Type 0} → (D → DiskFacts) → Opened D → List Sector → State → Type 0
 IsUpgradeOf facts store m s = (Stands m s × IsAt facts store s) ⊎ (StandsOld m s × IsAt facts store (upgraded s))
 
--- The store has the entries by which these sectors held the state by the old rules, and its
--- catalogues are in sectors that weren't in use then: each in its turn in the lowest unused one.
+-- The store has the entries by which these sectors held the state by the rules of version 1. Its
+-- catalogues are in sectors that weren't in use then: each in its turn is in the lowest unused one.
 pub record IsRelistedFrom {D : Type 0} (m : List Sector) (s : State) (store : Opened D) : Type 0 where
   pub root : Root
   pub stood : StandsBy One m root store.entries s

@@ -1,4 +1,5 @@
--- What the code keeps as it goes. No public clause cites it, and nobody has to believe it.
+-- Definitions of the data that the code keeps while it runs. No public clause cites these
+-- definitions, so no reader has to believe them.
 pub mod Catalogues
 pub mod Change
 pub mod Claimed
@@ -6,7 +7,7 @@ pub mod Committed
 pub mod Draft
 pub mod Edit
 pub mod First
-pub mod Found
+pub mod FoundState
 pub mod HeldRows
 pub mod Kept
 pub mod Moved
@@ -15,5 +16,5 @@ pub mod Next
 pub mod Prepared
 pub mod Reading
 pub mod Room
-pub mod Settled
 pub mod Stored
+pub mod Unlisted

@@ -1,5 +1,5 @@
-// The sectors that a change writes one by one: an entry's, and those of the catalogues of the new
-// list.
+// The sectors that a change writes one by one: its entry's sector, and the sectors of the new
+// list's catalogues.
 ghost use Rattle.std.specs.Prelude.{◌≡◌, ◌+◌, ◌≤◌, List, [], ◌∷◌, ◌++◌, length, vec_capacity};
 ghost use Rattle.sector_disk.specs.Disk.{Sector, sector};
 ghost use Rattle.passes.specs.declared.single.SingleSector.{SingleSector};
@@ -17,11 +17,11 @@ use roots::{Catalogue, MOST_CATALOGUE_ENTRIES, MOST_CATALOGUES, encode_catalogue
 use std::alloc::{AllocError, Global};
 use std::marker::Model;
 
-/// How many sectors a change writes one by one at most: all catalogues, and an entry's.
+/// The maximum number of sectors that a change writes one by one: all catalogues and one entry.
 const MOST_SINGLES: usize = MOST_CATALOGUES + 1;
 
-/// The sectors that a change writes one by one, in their order. Their room is kept from one change
-/// to the next, so that no change takes memory for them.
+/// The sectors that a change writes one by one, in their order. Their memory is kept from one
+/// change to the next, so that no change allocates memory for them.
 #[derive(Drop)]
 pub(crate) struct Singles {
     list: Vec<SingleSector>,
@@ -36,14 +36,14 @@ impl Model for Singles {
 }
 
 impl Singles {
-    /// Room for all of them.
+    /// Makes an empty list, with room for all sectors that a change may write one by one.
     pub(crate) fn new(alloc: Global) -> Result<Singles, AllocError> {
         Ok(Singles {
             list: Vec::with_capacity(alloc, MOST_SINGLES)?,
         })
     }
 
-    /// The sectors, in their order.
+    /// Returns the sectors, in their order.
     pub(crate) fn as_slice(&self) -> &[SingleSector]
         ensures { result.now ≡ self.now }
     {
@@ -57,7 +57,8 @@ impl Singles {
         self.list.push_reserved(single);
     }
 
-    /// Appends the catalogues that list these sectors, each with its part of them.
+    /// Appends the catalogues at the sectors `catalogues`. They list the entry sectors `sectors`,
+    /// each its part of them.
     fn push_catalogues(&mut self, catalogues: &[u32], sectors: &[u32])
         requires parts { CanBeCatalogued (length catalogues.now) sectors.now }
         requires room { length self.old ≤ 1 }
@@ -71,7 +72,8 @@ impl Singles {
         }
     }
 
-    /// Makes them the sectors of the catalogues that list these sectors of entries.
+    /// Replaces the list with the catalogues at `catalogues`, which list the entry sectors
+    /// `sectors`.
     pub(crate) fn set_catalogues(&mut self, catalogues: &[u32], sectors: &[u32])
         requires { CanBeCatalogued (length catalogues.now) sectors.now }
         ensures places { single_places self.new ≡ catalogues.now }
@@ -83,8 +85,8 @@ impl Singles {
         self.push_catalogues(catalogues, sectors);
     }
 
-    /// Makes them the sector of the entry that is put, and then those of the catalogues of the list
-    /// with it.
+    /// Replaces the list with the sector of the entry `put`, followed by the catalogues at
+    /// `catalogues`, which list the entry sectors `sectors`.
     pub(crate) fn set_put(&mut self, put: &PlacedEntry, catalogues: &[u32], sectors: &[u32])
         requires entry { EntryHasSpelling put.now.entry }
         requires sectors { CanBeCatalogued (length catalogues.now) sectors.now }
@@ -104,7 +106,7 @@ impl Singles {
     }
 }
 
-/// The sector of a catalogue that lists these sectors of entries.
+/// Returns the sector at `at` as a catalogue that lists the entry sectors `sectors`.
 fn catalogue_single(at: u32, sectors: &[u32]) -> SingleSector
     requires { SectorsFit sectors.now }
     ensures { result ≡ catalogue_single at sectors.now }

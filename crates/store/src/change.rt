@@ -1,4 +1,4 @@
-// What a change writes: what is staged in sectors that nothing uses, and the root that follows.
+// The writes of a change: first the staged sectors, which were unused before, and then the root.
 ghost use Rattle.std.specs.Prelude.{◌+◌, ◌<◌, ◌≤◌, ◌^◌, List, Contains, IsTrue, OnOk};
 ghost use Rattle.extents.specs.Limits.{root_sectors};
 ghost use Rattle.sector_disk.specs.Disk.{Sector, Mixture, IsMixtureBut, LeavesOnly};
@@ -18,25 +18,25 @@ use passes::{stage, switch_root};
 use roots::{Root, encode_root, slot_of};
 use sector_disk::{Disk, DiskFault};
 
-/// What a change stages in sectors that nothing uses.
+/// The part of a change that is staged in unused sectors.
 #[derive(Drop)]
 pub(crate) enum Staged {
-    /// Nothing: what its root lists stands already.
+    /// Nothing: everything that the change's root lists is already on the disk.
     Nothing,
-    /// The catalogues of its list.
+    /// The catalogues of the change's list.
     Catalogues(CatalogueSectors),
-    /// A byte string with its entry, and the catalogues of the list with it.
+    /// A byte string with its entry, and the catalogues of the list that has this entry.
     Put(PlacedEntry, CatalogueSectors),
 }
 
-/// A change that is planned: what it stages, and the root that follows.
+/// A planned change: the part that is staged, and the root that is written after it.
 #[derive(Drop)]
 pub(crate) struct Change {
     pub staged: Staged,
     pub root: Root,
 }
 
-/// Writes what a change stages, and syncs if that is anything.
+/// Writes what a change stages, and syncs if the change stages anything.
 fn write_staged<D: Disk>(
     disk: &mut D,
     singles: &mut Singles,
@@ -49,7 +49,7 @@ fn write_staged<D: Disk>(
     ensures calls { AreCallsInRow (staged_calls staged.now)
         (D.facts disk.old) (D.facts disk.new) result }
 
-    // A stop at any moment changes the staged sectors alone.
+    // A stop at any moment changes only the staged sectors.
     ensures any_moment { IsTrue (D.facts disk.old).honest
         → LeavesOnly (D.facts disk.old) (D.facts disk.new)
         (IsMixtureBut (Contains (staged_sectors staged.now)) (D.facts disk.old)) }
@@ -57,7 +57,7 @@ fn write_staged<D: Disk>(
         → OnOk result ((m : List Sector) → Mixture (D.facts disk.new) m
         → IsStaged m staged.now bytes.now listed.now) }
 
-    // Where it syncs, what was written elsewhere before stands then in every mixture.
+    // If anything is staged, the sync also covers earlier writes to other sectors.
     ensures written { IsTrue (D.facts disk.old).honest
         → OnOk result ((written : List PlacedEntry) → IsApartFrom staged.now written
         → HasSync staged.now written → (m : List Sector) → Mixture (D.facts disk.new) m
@@ -77,8 +77,9 @@ fn write_staged<D: Disk>(
 }
 
 impl Change {
-    /// Writes what it stages, with these bytes and the sectors of the entries that its catalogues
-    /// list, and then its root, and syncs. The root may follow one of either version.
+    /// Writes what the change stages, with the bytes `bytes` and with catalogues that list the
+    /// entry sectors `listed`. Then writes the change's root, and syncs. The current root may be of
+    /// either version.
     pub(crate) fn carry_out<D: Disk>(
         &self,
         disk: &mut D,
@@ -99,7 +100,8 @@ impl Change {
             → OnOk result ((m : List Sector) → Mixture (D.facts disk.new) m
             → HasBytes m self.now.staged bytes.now) }
 
-        // A stop finds each other sector as it might have been found before.
+        // Outside the root sectors and the staged sectors, a stop leaves what a stop before the
+        // call could leave.
         ensures others { IsTrue (D.facts disk.old).honest
             → (m : List Sector) → Mixture (D.facts disk.new) m
             → IsMixtureBut (IsRootOr (staged_sectors self.now.staged)) (D.facts disk.old) m }
@@ -112,7 +114,7 @@ impl Change {
         )
     }
 
-    /// Frees the sectors that it took.
+    /// Frees the sectors that the change took.
     pub(crate) fn give_back(&self, layout: &mut Layout)
         requires fits { HasSpelling self.now.staged }
         requires held { AreClaimedOnce layout.old (staged_sectors self.now.staged) }

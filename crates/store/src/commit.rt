@@ -1,4 +1,4 @@
-// Committing what was found on a disk of version 1 as one of version 2.
+// Turning the store that was found on a disk of version 1 into a store of version 2.
 use crate::change::{Change, Staged};
 use crate::next::next_root;
 use crate::old_store::OldStore;
@@ -22,11 +22,12 @@ impl<D: Disk> OldStore<D> {
     ghost use Rattle.store.specs.Step.{IsRefusalOfCommit};
     ghost use Rattle.store.specs.Upgraded.{upgraded};
 
-    /// Makes it a store of version 2, of the same byte strings and preloads. It writes their
-    /// catalogues and the next root: it refuses with S10 or S7 before the first write, or with S1,
-    /// and takes no memory. Where it refuses it hands the disk back.
+    /// Makes this store one of version 2, with the same byte strings and preloads: writes their
+    /// catalogues and the next root. Refuses with S10 or S7 before the first write, or with S1. A
+    /// refusal hands the disk back. Allocates nothing.
     pub fn commit(self) -> Result<Store<D>, (StoreRefusal, D)>
-        // A stop at any moment leaves the old state, by the old rules, or the one after it.
+        // A stop at any moment leaves the old state, by the rules of version 1, or the state after
+        // the commit.
         ensures any_moment { (s : State) → IsOldAt D.facts self s
             → LeavesOnly (D.facts self.disk) (D.facts (disk_after result))
             (λ m. StandsOld m s ⊎ Stands m (upgraded s)) }
@@ -35,10 +36,10 @@ impl<D: Disk> OldStore<D> {
         ensures refused { (s : State) → IsOldAt D.facts self s
             → IsExactAnswer (refusal_of_upgrade self.root.sectors s) (answer_of result) }
 
-        // It takes the sectors of the catalogues.
+        // The sectors of the new catalogues were unused before.
         ensures placed { IfOk result (λ store. IsRelisted self store) }
 
-        // On any disk
+        // These clauses hold on any disk, honest or not.
         ensures unheld { IfOk result (λ store. store.held ≡ []) }
         ensures usable { IfOk result (λ store. IsFalse store.failed) }
         ensures refusals { IfErr result (λ e. IsRefusalOfCommit e.0) }
@@ -72,7 +73,7 @@ impl<D: Disk> OldStore<D> {
         match change.carry_out(&mut disk, &mut found.singles, &[], &found.sectors) {
             Ok(()) => {
                 found.root = change.root;
-                Ok(found.beside(alloc, disk))
+                Ok(found.into_store(alloc, disk))
             }
             Err(fault) => Err((StoreRefusal::from(fault), disk)),
         }

@@ -1,4 +1,4 @@
-// Taking out a byte string.
+// Removing a byte string.
 use crate::change::{Change, Staged};
 use crate::edit::Edit;
 use crate::kept::Kept;
@@ -22,8 +22,8 @@ impl Kept {
     ghost use Rattle.store.specs.inside.Prepared.{StandsAt, Makes, Prepares, TakesOut, done_of};
     ghost use Rattle.store.specs.inside.Stored.{IsCounted, IsStored};
 
-    /// Prepares that a byte string is taken out, which is no preload: S2, S10.
-    pub(crate) fn prepare_out(&mut self, name: &[u8]) -> Result<Prepared, StoreRefusal>
+    /// Prepares the removal of a byte string that isn't a preload. Refuses with S2 or S10.
+    pub(crate) fn prepare_delete(&mut self, name: &[u8]) -> Result<Prepared, StoreRefusal>
         requires stored { IsStored self.old.root.sectors self.old }
         requires present { (position : ℕ) × StandsAt self.old.entries.items name.now position }
         requires no_preload { All (λ position. (d : PlacedEntry)
@@ -50,7 +50,7 @@ impl Kept {
         };
         Ok(Prepared {
             change,
-            edit: Edit::Out(position),
+            edit: Edit::Remove(position),
         })
     }
 }
@@ -69,14 +69,14 @@ impl<D: Disk> Store<D> {
     ghost use Rattle.states.specs.Changes.{without};
     ghost use Rattle.store.specs.Step.{refusal_of_change, IsExactAnswer, IsRefusalOfChange};
 
-    /// Takes out the byte string with this name, which is no preload. Those behind it close up, and
-    /// the preloads keep their names. It takes no memory, and never more sectors than there are. It
-    /// refuses with S2, S10 or S1, of which S1 alone may come after the first write.
+    /// Removes the byte string with the name `name`, which isn't a preload. Those after it move up,
+    /// and the preloads keep their names. Allocates nothing, and never lacks sectors. Refuses with
+    /// S2, S10 or S1; only S1 may come after the first write.
     pub fn delete(&mut self, name: &[u8]) -> Result<(), StoreRefusal>
         requires present { HasName self.old name.now }
         requires no_preload { IsNoPreload self.old name.now }
 
-        // A stop at any moment leaves the state from before it or the one after.
+        // A stop at any moment leaves the state before the removal or the state after it.
         ensures any_moment { (s : State) → IsAt D.facts self.old s
             → LeavesOnly (D.facts self.old.disk) (D.facts self.new.disk)
             (λ m. Stands m s ⊎ Stands m (without name.now s)) }
@@ -85,18 +85,19 @@ impl<D: Disk> Store<D> {
         ensures refused { (s : State) → IsAt D.facts self.old s
             → IsExactAnswer (refusal_of_change s) result }
 
-        // It takes the sectors of the catalogues of what is left.
+        // The catalogues of the remaining list are in sectors that were unused before.
         ensures placed { OnOk result (IsTakenOut self.old self.new name.now) }
 
-        // What somebody holds stays as it was.
+        // Byte strings that somebody holds keep their holders and their bytes.
         ensures held { KeepsHeld D.facts self.old self.new }
 
-        // On any disk. After a failed call the store has to be opened again.
+        // This holds on any disk. After a failed call of the disk, the store has to be opened
+        // again.
         ensures on_any_disk { Changed D.facts StoreRefusal.Device StoreRefusal.Reopen
             self.old self.new (catalogues_for (length self.old.entries - 1) + 3)
             IsRefusalOfChange result }
     {
-        let prepared = self.kept.prepare_out(name)?;
+        let prepared = self.kept.prepare_delete(name)?;
         self.kept.make(&mut self.disk, &prepared, &[])
     }
 }

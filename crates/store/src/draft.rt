@@ -1,4 +1,4 @@
-// The draft of an update: the list that it has so far.
+// The draft of an update: the list that the update has so far.
 ghost use Rattle.std.specs.Prelude.{◌≡◌, ◌<◌, ◌≤◌, ◌^◌, All, IfOk, length};
 ghost use Rattle.roots.specs.Entry.{EntryHasSpelling};
 ghost use Rattle.roots.specs.Root.{RootHasSpelling, listed_preloads};
@@ -19,21 +19,21 @@ use roots::Root;
 use states::MOST_PRELOADS;
 use std::alloc::{AllocError, Global};
 
-/// What an update changed so far.
+/// How much of the draft an update has changed so far.
 #[derive(Clone, Copy, PartialEq, Eq)]
 pub enum Touched {
-    /// Nothing: its commit writes nothing.
+    /// Nothing: the commit writes nothing.
     Nothing,
-    /// The preloads alone: its commit writes a root over the same catalogues.
+    /// Only the preloads: the commit writes a root with the same catalogues.
     Preloads,
-    /// The list.
+    /// The list of entries: the commit writes new catalogues and a root.
     List,
 }
 
 /// The positions of preloads.
 pub(crate) type Preloads = ArrayVec<u16, MOST_PRELOADS>;
 
-/// The list that an update has so far, which nothing on the disk lists.
+/// The list that an update has so far. No root lists it before the commit.
 #[derive(Drop)]
 pub(crate) struct Draft {
     pub entries: Vec<PlacedEntry>,
@@ -44,7 +44,8 @@ pub(crate) struct Draft {
     pub touched: Touched,
 }
 
-/// Whether a list, found by its index, has this very entry.
+/// Returns whether the list `entries`, whose index is `index`, has the entry `placed` in the same
+/// sector.
 pub(crate) fn has_entry(entries: &[PlacedEntry], index: &NameIndex, placed: &PlacedEntry) -> bool
     requires index { IsIndex entries.now index.now }
     requires spellings { HaveSpellings entries.now }
@@ -59,7 +60,7 @@ pub(crate) fn has_entry(entries: &[PlacedEntry], index: &NameIndex, placed: &Pla
     }
 }
 
-/// The positions of a root's preloads.
+/// Returns the positions of a root's preloads.
 fn preloads_of(root: &Root) -> Preloads
     requires { RootHasSpelling root.now }
     ensures { result.items ≡ listed_preloads root.now }
@@ -71,7 +72,7 @@ fn preloads_of(root: &Root) -> Preloads
     preloads
 }
 
-/// These positions.
+/// Returns `positions` as positions of preloads.
 fn preloads_at(positions: &[usize]) -> Preloads
     requires few { length positions.now ≤ most_preloads }
     requires inside { All (λ position. position < 2 ^ 16) positions.now }
@@ -85,7 +86,7 @@ fn preloads_at(positions: &[usize]) -> Preloads
 }
 
 impl Draft {
-    /// The list that stands.
+    /// Makes a draft whose list is the current list.
     pub(crate) fn over(alloc: Global, kept: &Kept) -> Result<Draft, AllocError>
         requires { RootHasSpelling kept.now.root }
         ensures entries { IfOk result (λ draft. draft.entries.items ≡ kept.now.entries.items) }
@@ -109,7 +110,7 @@ impl Draft {
         })
     }
 
-    /// Makes a change in the list. It takes no memory.
+    /// Makes the change `edit` in the list. Allocates nothing.
     pub(crate) fn edit(&mut self, edit: &Edit)
         requires sectors { CanEditSectors edit.now self.old.sectors }
         requires edit { CanEdit edit.now self.old.entries self.old.index.room }
@@ -128,7 +129,7 @@ impl Draft {
         self.touched = Touched::List;
     }
 
-    /// Makes the byte strings at these positions the preloads.
+    /// Makes the byte strings at `positions` the preloads.
     pub(crate) fn choose(&mut self, positions: &[usize])
         requires few { length positions.now ≤ most_preloads }
         requires inside { All (λ position. position < 2 ^ 16) positions.now }

@@ -1,4 +1,4 @@
-// What a draft takes of the sectors beside what stands, what it writes there and what it frees.
+// The sectors that a draft takes beside the current state, what it writes there, and what it frees.
 ghost use Rattle.std.specs.Prelude.{◌≡◌, ◌+◌, ◌*◌, ◌<◌, ◌≤◌, ◌^◌, [], All, Contains, IfErr};
 ghost use Rattle.std.specs.Prelude.{◌≢◌, ℕ, IsFalse, IsTrue, OnErr, OnOk, length, vec_capacity, vec_len};
 ghost use Rattle.extents.specs.Extent.{places, sector_count};
@@ -20,7 +20,7 @@ ghost use Rattle.store.specs.inside.Stored.{longest_in};
 ghost use Rattle.store.specs.inside.Kept.{HaveSpellings};
 ghost use Rattle.store.specs.inside.NameIndex.{IsIndex};
 ghost use Rattle.store.specs.inside.Room.{AreClaimedOnce, HasPlace, IsReleased};
-ghost use Rattle.store.specs.inside.Settled.{CanSettle, IsSettledIn};
+ghost use Rattle.store.specs.inside.Unlisted.{CanReleaseUnlisted, ReleasesUnlisted};
 
 use crate::draft::{Draft, has_entry};
 use crate::holds::Holds;
@@ -35,8 +35,8 @@ use passes::write_unsynced;
 use roots::{MOST_LIBRARIES, Root, catalogues_for};
 use sector_disk::Disk;
 
-/// How many sectors have to stay unused beside a draft of so many byte strings: for the commit's
-/// catalogues, and for those of the change that follows it.
+/// Returns the number of sectors that have to stay unused beside a draft of `libraries` byte
+/// strings: for the commit's catalogues, and for those of the change after it.
 fn spare_for(root: &Root, libraries: usize) -> usize
     requires root { RootHasSpelling root.now }
     requires few { libraries ≤ most_libraries }
@@ -46,9 +46,10 @@ fn spare_for(root: &Root, libraries: usize) -> usize
     standing + 2 * catalogues_for(libraries).saturating_sub(standing)
 }
 
-/// Frees what the store uses no longer once a draft's list is committed, unless somebody holds it:
-/// the entries that the draft doesn't have, and the catalogues.
-fn settle(
+/// Frees the sectors that the store no longer uses once a draft's list is committed. These are the
+/// sectors of the catalogues, and those of the entries that the draft doesn't have, unless somebody
+/// holds them.
+fn release_unlisted(
     root: &Root,
     entries: &[PlacedEntry],
     draft: &Draft,
@@ -56,8 +57,9 @@ fn settle(
     layout: &mut Layout,
 )
     requires index { IsIndex draft.now.entries.items draft.now.index }
-    requires can { CanSettle root.now entries.now draft.now.entries.items held.old layout.old }
-    ensures { IsSettledIn root.now entries.now draft.now.entries.items
+    requires can { CanReleaseUnlisted root.now entries.now draft.now.entries.items held.old
+        layout.old }
+    ensures { ReleasesUnlisted root.now entries.now draft.now.entries.items
         held.old held.new layout.old layout.new }
 {
     for placed in entries {
@@ -69,7 +71,8 @@ fn settle(
 }
 
 impl Kept {
-    /// Room for a byte string behind the draft's others: S2, S9, S10, S11, S7, S8.
+    /// Takes room for a byte string that is put after the draft's others. Refuses with S2, S9, S10,
+    /// S11, S7 or S8.
     pub(crate) fn take_new(
         &mut self,
         draft: &mut Draft,
@@ -116,7 +119,8 @@ impl Kept {
         Ok(room.put)
     }
 
-    /// Room for other bytes in a draft of so many byte strings: S2, S10, S7, S8.
+    /// Takes room for the new bytes of a byte string, in a draft of `libraries` byte strings.
+    /// Refuses with S2, S10, S7 or S8.
     pub(crate) fn take_over(
         &mut self,
         libraries: usize,
@@ -143,8 +147,8 @@ impl Kept {
         Ok(room.put)
     }
 
-    /// Writes a byte string and its entry where they got room, and doesn't sync. Where a write
-    /// fails it gives the room back.
+    /// Writes a byte string and its entry to the sectors that were taken for them, without a sync.
+    /// If a write fails, gives these sectors back.
     pub(crate) fn write_draft<D: Disk>(
         &mut self,
         disk: &mut D,
@@ -187,7 +191,8 @@ impl Kept {
         Ok(())
     }
 
-    /// Frees what an entry has that leaves a draft, unless it stands.
+    /// Frees the sectors of an entry that leaves a draft, unless the entry is also in the store's
+    /// current list.
     pub(crate) fn leave(&mut self, placed: &PlacedEntry)
         requires indexed { IsIndex self.old.entries.items self.old.index }
         requires spellings { HaveSpellings self.old.entries.items }
@@ -205,7 +210,7 @@ impl Kept {
         }
     }
 
-    /// Frees what a draft wrote.
+    /// Frees the sectors of all entries of a draft that aren't in the store's current list.
     pub(crate) fn leave_all(&mut self, entries: &[PlacedEntry])
         requires indexed { IsIndex self.old.entries.items self.old.index }
         requires spellings { HaveSpellings self.old.entries.items }
@@ -223,20 +228,21 @@ impl Kept {
         }
     }
 
-    /// The store's list is that of a draft now, and what it uses no longer is unused.
+    /// Makes the draft's list the store's list, with the root `root`, and frees the sectors that
+    /// the store no longer uses.
     pub(crate) fn enter(&mut self, root: Root, draft: Draft)
         requires index { IsIndex draft.entries.items draft.index }
-        requires can { CanSettle self.old.root self.old.entries.items draft.entries.items
+        requires can { CanReleaseUnlisted self.old.root self.old.entries.items draft.entries.items
             self.old.held self.old.layout }
         ensures root { self.new.root ≡ root }
         ensures entries { self.new.entries ≡ draft.entries }
         ensures sectors { self.new.sectors ≡ draft.sectors }
         ensures index { self.new.index ≡ draft.index }
         ensures usable { IsFalse self.new.failed }
-        ensures settled { IsSettledIn self.old.root self.old.entries.items draft.entries.items
+        ensures settled { ReleasesUnlisted self.old.root self.old.entries.items draft.entries.items
             self.old.held self.new.held self.old.layout self.new.layout }
     {
-        settle(
+        release_unlisted(
             &self.root,
             &self.entries,
             &draft,

@@ -1,7 +1,7 @@
-// What a change does to the list of entries, and to all that is kept of it.
+// A change of the list of entries, and of everything that is kept about the list.
 ghost use Rattle.std.specs.Prelude.{◌≡◌, ◌^◌, ◌<◌, length};
 ghost use Rattle.roots.specs.Root.{RootHasSpelling};
-ghost use Rattle.store.specs.inside.Edit.{CanEdit, CanEditSectors, IsSettled, IsWithin};
+ghost use Rattle.store.specs.inside.Edit.{CanEdit, CanEditSectors, ReleasesReplaced, IsWithin};
 ghost use Rattle.store.specs.inside.Edit.{edited, edited_by, gone_sectors};
 ghost use Rattle.store.specs.inside.Kept.{HaveSpellings};
 ghost use Rattle.store.specs.inside.NameIndex.{IsIndex};
@@ -15,36 +15,36 @@ use crate::room::{give_up, release_sectors};
 use extents::Layout;
 use roots::Root;
 
-/// What a change does to the list of entries.
+/// A change of the list of entries.
 #[derive(Clone, Copy)]
 pub(crate) enum Edit {
-    /// Nothing: the same catalogues list it.
+    /// Nothing: the same catalogues list the same entries.
     Nothing,
-    /// This one stands behind the others.
-    Behind(PlacedEntry),
-    /// This one stands in the place of the one at this position, which has its name.
-    Over(usize, PlacedEntry),
-    /// The one at this position goes, and those behind it close up.
-    Out(usize),
+    /// The entry is put after the others.
+    Append(PlacedEntry),
+    /// The entry takes the place of the entry at the position, which has the same name.
+    Replace(usize, PlacedEntry),
+    /// The entry at the position is removed, and those after it move up.
+    Remove(usize),
 }
 
 impl Edit {
-    /// Makes it in the list of the entries' sectors. It takes no memory.
+    /// Makes the change in the list of the entries' sectors. Allocates nothing.
     pub(crate) fn list(&self, sectors: &mut Vec<u32>)
         requires { CanEditSectors self.now sectors.old }
         ensures { sectors.new.items ≡ edited_by (λ placed. placed.at) self.now sectors.old.items }
     {
         match self {
             Edit::Nothing => {}
-            Edit::Behind(put) => sectors.push_reserved(put.at),
-            Edit::Over(position, put) => sectors[*position] = put.at,
-            Edit::Out(position) => {
+            Edit::Append(put) => sectors.push_reserved(put.at),
+            Edit::Replace(position, put) => sectors[*position] = put.at,
+            Edit::Remove(position) => {
                 sectors.remove(*position);
             }
         }
     }
 
-    /// Makes it in the list of entries, and in the order of their names. It takes no memory.
+    /// Makes the change in the list of entries and in the order of their names. Allocates nothing.
     pub(crate) fn enter(&self, entries: &mut Vec<PlacedEntry>, index: &mut NameIndex)
         requires edit { CanEdit self.now entries.old index.old.room }
         requires index { IsIndex entries.old.items index.old }
@@ -55,21 +55,22 @@ impl Edit {
     {
         match self {
             Edit::Nothing => {}
-            Edit::Behind(put) => {
+            Edit::Append(put) => {
                 index.insert(entries, put.entry.name_bytes());
                 entries.push_reserved(*put);
             }
-            Edit::Over(position, put) => entries[*position] = *put,
-            Edit::Out(position) => {
+            Edit::Replace(position, put) => entries[*position] = *put,
+            Edit::Remove(position) => {
                 index.remove(entries, *position);
                 entries.remove(*position);
             }
         }
     }
 
-    /// Frees what the state uses no longer once it is made: the catalogues, and what the entry that
-    /// goes had, unless somebody holds it.
-    pub(crate) fn settle(
+    /// Frees the sectors that the state no longer uses once the change is made. These are the
+    /// sectors of the old catalogues, and those of the replaced or removed entry, unless somebody
+    /// holds its byte string.
+    pub(crate) fn release_replaced(
         &self,
         root: &Root,
         entries: &[PlacedEntry],
@@ -80,15 +81,16 @@ impl Edit {
         requires spellings { HaveSpellings entries.now }
         requires within { IsWithin self.now (length entries.now) }
         requires held { AreClaimedOnce layout.old (gone_sectors self.now root.now entries.now) }
-        ensures { IsSettled self.now root.now entries.now held.old held.new layout.old layout.new }
+        ensures { ReleasesReplaced self.now root.now entries.now held.old held.new layout.old
+            layout.new }
     {
         match self {
             Edit::Nothing => {}
-            Edit::Behind(_) => release_sectors(layout, catalogues(root)),
-            Edit::Over(position, _) => {
+            Edit::Append(_) => release_sectors(layout, catalogues(root)),
+            Edit::Replace(position, _) => {
                 give_up(layout, held, &entries[*position], catalogues(root));
             }
-            Edit::Out(position) => {
+            Edit::Remove(position) => {
                 give_up(layout, held, &entries[*position], catalogues(root));
             }
         }

@@ -13,13 +13,13 @@ ghost use Rattle.store.specs.Opening.{RefusesLook, RefusesOpen};
 ghost use Rattle.states.specs.Geometry.{IsGeometry};
 ghost use Rattle.store.specs.declared.placed_entry.PlacedEntry.{PlacedEntry};
 ghost use Rattle.store.specs.Stands.{IsIntact, IsListed, Stands, StandsEither, catalogues_of};
-ghost use Rattle.store.specs.inside.Found.{Finds, IsFoundAfter};
+ghost use Rattle.store.specs.inside.FoundState.{Finds, IsFoundAfter};
 ghost use Rattle.store.specs.inside.Kept.{HaveSpellings};
 ghost use Rattle.store.specs.inside.Reading.{AreReadsBehindSync, IsRefusalOfList};
 ghost use Rattle.store.specs.inside.Reading.{RefusesEntries, RefusesRoot};
 
 use crate::entries::read_entries;
-use crate::found::Found;
+use crate::found_state::FoundState;
 use crate::listed::read_listed;
 use crate::placed_entry::PlacedEntry;
 use crate::refusal::StoreRefusal;
@@ -28,7 +28,7 @@ use roots::{Root, Version, choose};
 use sector_disk::Disk;
 use std::alloc::Global;
 
-/// The current root of a disk that a stop may have left, of either version: it is synced first.
+/// Syncs a disk, which a stop may have left, and returns its current root, of either version.
 fn read_root<D: Disk>(disk: &mut D) -> Result<Root, StoreRefusal>
     requires { IsGeometry (D.facts disk.old).sectors }
     ensures calls { AreCallsAtMost 3 (D.facts disk.old) (D.facts disk.new) }
@@ -51,7 +51,7 @@ fn read_root<D: Disk>(disk: &mut D) -> Result<Root, StoreRefusal>
     Ok(root)
 }
 
-/// The entries that a root lists. It reads each catalogue and each entry once.
+/// Returns the entries that a root lists. Reads each catalogue and each entry once.
 fn read_listed_entries<D: Disk>(
     alloc: Global,
     disk: &mut D,
@@ -81,9 +81,13 @@ fn read_listed_entries<D: Disk>(
     read_entries(alloc, disk, &listed)
 }
 
-/// The entries of a current root, and what is kept with them. It reads each catalogue and each
-/// entry once, and writes nothing.
-fn find_entries<D: Disk>(alloc: Global, disk: &mut D, root: Root) -> Result<Found, StoreRefusal>
+/// Returns the entries of a current root, with everything that is kept with them. Reads each
+/// catalogue and each entry once, and writes nothing.
+fn find_entries<D: Disk>(
+    alloc: Global,
+    disk: &mut D,
+    root: Root,
+) -> Result<FoundState, StoreRefusal>
     requires root { RootHasSpelling root }
     ensures found { IsFoundAfter 0 (D.facts disk.old) (D.facts disk.new) result }
     ensures root { IfOk result (λ found. found.root ≡ root) }
@@ -101,11 +105,11 @@ fn find_entries<D: Disk>(alloc: Global, disk: &mut D, root: Root) -> Result<Foun
         return Err(StoreRefusal::Damaged);
     }
     let entries = read_listed_entries(alloc, disk, &root)?;
-    Found::over(alloc, root, entries)
+    FoundState::over(alloc, root, entries)
 }
 
-/// What a disk of either version holds. It writes nothing.
-pub(crate) fn find_store<D: Disk>(alloc: Global, disk: &mut D) -> Result<Found, StoreRefusal>
+/// Returns what a disk of either version holds. Writes nothing.
+pub(crate) fn find_store<D: Disk>(alloc: Global, disk: &mut D) -> Result<FoundState, StoreRefusal>
     requires { IsGeometry (D.facts disk.old).sectors }
     ensures finds { Finds (RefusesLook StandsEither) (D.facts disk.old) (D.facts disk.new) result }
     ensures refusals { IfErr result (λ e. (e ≡ StoreRefusal.Device)
@@ -116,8 +120,9 @@ pub(crate) fn find_store<D: Disk>(alloc: Global, disk: &mut D) -> Result<Found, 
     find_entries(alloc, disk, root)
 }
 
-/// What a disk of version 2 holds; OldFormat where its root is of version 1. It writes nothing.
-pub(crate) fn find_current<D: Disk>(alloc: Global, disk: &mut D) -> Result<Found, StoreRefusal>
+/// Returns what a disk of version 2 holds. Refuses with OldFormat if the current root is of version
+/// 1. Writes nothing.
+pub(crate) fn find_current<D: Disk>(alloc: Global, disk: &mut D) -> Result<FoundState, StoreRefusal>
     requires { IsGeometry (D.facts disk.old).sectors }
     ensures finds { Finds (RefusesOpen Stands) (D.facts disk.old) (D.facts disk.new) result }
     ensures version { IfOk result (λ found. version_of found.root ≡ Two) }

@@ -1,4 +1,4 @@
-// Holding byte strings: what is held is read as it was, whatever is put over it.
+// Holding byte strings: a held byte string can be read as it was, whatever replaces it.
 use crate::read::read_file;
 use crate::refusal::StoreRefusal;
 use crate::room::give_back;
@@ -7,12 +7,12 @@ use sector_disk::Disk;
 use std::alloc::Global;
 use std::marker::Model;
 
-/// A holder's right to read a byte string as it was, until it gives the handle to
-/// `Store::let_go`. It can't be made or copied. The sectors of one whose handle is
-/// dropped stay in use until the store is opened again.
+/// A holder's right to read a byte string as it was, until the holder passes the handle to
+/// `Store::let_go`. A handle can't be made or copied. If a handle is dropped, the sectors of its
+/// byte string stay in use until the store is opened again.
 #[derive(Drop)]
 pub struct Held {
-    // The sector of its entry.
+    // The sector of the byte string's entry.
     pub(crate) at: u32,
 }
 
@@ -31,9 +31,9 @@ impl<D: Disk> Store<D> {
     ghost use Rattle.store.specs.Holds.{TakesHold, ReadsHeld, LetsHoldGo};
     ghost use Rattle.store.specs.Stands.{name_of};
 
-    /// Holds the byte string at this position as it is now. It makes no call of the disk, and
-    /// copies none of its bytes. The first holder of a byte string takes memory, for all that
-    /// follow. It refuses with S2 or S11.
+    /// Makes the caller a holder of the byte string at `position`, with its present bytes. Makes no
+    /// call of the disk, and copies no bytes. The first holder of a byte string allocates memory,
+    /// and later holders don't. Refuses with S2 or S11.
     pub fn hold(&mut self, position: usize) -> Result<Held, StoreRefusal>
         requires { position < length self.old.entries }
         ensures { TakesHold D.facts self.old self.new position result }
@@ -46,7 +46,7 @@ impl<D: Disk> Store<D> {
         Ok(Held { at: placed.at })
     }
 
-    /// The name of what is held, found by hashing; None where nobody holds it here. It makes no
+    /// Returns the name of the held byte string, or None if nobody holds it in this store. Makes no
     /// call of the disk.
     pub fn held_name(&self, held: &Held) -> Option<&[u8]>
         ensures none { IsNone result ↔ (holders_of self.now.held held.now ≡ 0) }
@@ -57,11 +57,11 @@ impl<D: Disk> Store<D> {
         Some(placed.entry.name_bytes())
     }
 
-    /// The byte string that is held. It reads each of its sectors once, and writes nothing.
-    /// Damaged, without a call of the disk, where nobody holds it here: the handle is another
-    /// store's, or from before the same disk was opened again. A handle is the sector of its entry:
-    /// where somebody holds a byte string here whose entry has the same sector, that one is read.
-    /// Else it refuses with S2, S11 or S1.
+    /// Returns the held byte string. Reads each of its sectors once, and writes nothing. Refuses
+    /// with S2, S11 or S1. Refuses with Damaged, without a call of the disk, if nobody holds the
+    /// byte string in this store. Then the handle is another store's, or from before the same disk
+    /// was opened again. A handle is only the sector of an entry: if somebody holds, in this store,
+    /// another byte string whose entry is in that sector, that one is read.
     pub fn read_held(&mut self, alloc: Global, held: &Held) -> Result<Vec<u8>, StoreRefusal>
         ensures { ReadsHeld D.facts self.old self.new held.now result }
     {
@@ -74,10 +74,10 @@ impl<D: Disk> Store<D> {
         read_file(&mut self.disk, placed, Vec::new(alloc))
     }
 
-    /// Lets a byte string go. Where this was its last holder and the state lists it no longer, its
-    /// sectors are unused. It makes no call of the disk and takes no memory, also after S2; and it
-    /// does nothing where nobody holds it here. A handle of another store, or from before
-    /// the disk was opened again, is taken as `read_held` takes it.
+    /// Releases a held byte string. If this was its last holder and the state no longer lists it,
+    /// its sectors become unused. Makes no call of the disk and allocates nothing, also after S2.
+    /// Does nothing if nobody holds the byte string in this store. Treats a handle of another
+    /// store, or from before the disk was opened again, as `read_held` does.
     pub fn let_go(&mut self, held: Held)
         ensures { LetsHoldGo D.facts self.old self.new held }
     {

@@ -1,4 +1,4 @@
-// The table of the byte strings that somebody holds.
+// The table of the held byte strings.
 ghost use Rattle.std.specs.Prelude.{◌≡◌, ◌⊎◌, [], IsTrue, IsFalse, IsNone};
 ghost use Rattle.std.specs.Prelude.{IfSome, IfErr, OnOk, OnErr};
 ghost use Rattle.store.specs.declared.holds.HeldRow.{HeldRow};
@@ -12,8 +12,7 @@ use std::alloc::Global;
 use std::collections::BTreeMap;
 use std::marker::Model;
 
-/// A byte string that somebody holds: its entry, how many hold it, and whether the
-/// state lists it.
+/// A held byte string: its entry, the number of its holders, and whether the state lists it.
 #[derive(Clone, Copy)]
 pub struct HeldRow {
     pub placed: PlacedEntry,
@@ -21,8 +20,8 @@ pub struct HeldRow {
     pub listed: bool,
 }
 
-/// The byte strings that somebody holds, one row each, found by the sector of their entry and in
-/// the order of these sectors.
+/// The held byte strings, one row for each. A row is found by the sector of its entry, and the rows
+/// are in the order of these sectors.
 #[derive(Drop)]
 pub(crate) struct Holds {
     rows: BTreeMap<u32, HeldRow>,
@@ -41,7 +40,7 @@ impl Model for Holds {
 }
 
 impl Holds {
-    /// Nothing is held. It takes no memory.
+    /// Makes an empty table. Allocates nothing.
     pub(crate) fn new(alloc: Global) -> Holds
         ensures { result ≡ [] }
     {
@@ -50,7 +49,7 @@ impl Holds {
         }
     }
 
-    /// The entry of the held byte string with this entry sector.
+    /// Returns the entry of the held byte string whose entry is in `sector`, if there is one.
     pub(crate) fn placed(&self, sector: u32) -> Option<&PlacedEntry>
         ensures none { IsNone result → IsUnheld self.now sector }
         ensures some { IfSome result (λ placed. IsHeldBy self.now sector placed.now) }
@@ -59,7 +58,7 @@ impl Holds {
         Some(&hold.placed)
     }
 
-    /// A byte string that nobody held gets a row.
+    /// Adds a row with one holder, for a byte string that nobody held.
     fn add(&mut self, placed: &PlacedEntry) -> Result<(), StoreRefusal>
         requires { IsUnheld self.old placed.now.at }
         ensures ok { OnOk result (IsHeldOnce self.old self.new placed.now) }
@@ -77,7 +76,7 @@ impl Holds {
         Ok(())
     }
 
-    /// One more holds the byte string of this entry. Only the first takes memory.
+    /// Adds a holder to the byte string of the entry `placed`. Only the first holder allocates.
     pub(crate) fn hold(&mut self, placed: &PlacedEntry) -> Result<(), StoreRefusal>
         ensures ok { OnOk result (IsHeldOnce self.old self.new placed.now
             ⊎ IsHeldMore self.old self.new placed.now.at) }
@@ -94,7 +93,8 @@ impl Holds {
         Ok(())
     }
 
-    /// The state lists the byte string with this entry sector no longer. Whether it is held.
+    /// Notes that the state no longer lists the byte string whose entry is in `sector`. Returns
+    /// whether the byte string is held.
     pub(crate) fn leave(&mut self, sector: u32) -> bool
         ensures no { IsFalse result → (IsUnheld self.old sector) × (self.new ≡ self.old) }
         ensures yes { IsTrue result → IsLeft self.old self.new sector }
@@ -106,8 +106,8 @@ impl Holds {
         true
     }
 
-    /// One less holds the byte string with this entry sector. Its row, where nobody does now. It
-    /// takes no memory.
+    /// Takes one holder from the byte string whose entry is in `sector`. Removes its row and
+    /// returns it, if this was the last holder. Allocates nothing.
     pub(crate) fn let_go(&mut self, sector: u32) -> Option<HeldRow>
         ensures none { IsNone result → (IsHeldLess self.old self.new sector)
             ⊎ ((IsUnheld self.old sector) × (self.new ≡ self.old)) }

@@ -1,4 +1,4 @@
-// What a store keeps beside its disk.
+// The part of a store that is kept in memory.
 use crate::catalogues::Singles;
 use crate::holds::Holds;
 use crate::name_index::NameIndex;
@@ -6,18 +6,19 @@ use crate::placed_entry::PlacedEntry;
 use extents::Layout;
 use roots::Root;
 
-/// What a store keeps beside its disk: the entries are in memory, and no byte of a byte string is.
+/// The part of a store that is kept in memory: the entries, but no bytes of byte strings.
 #[derive(Drop)]
 pub(crate) struct Kept {
     pub root: Root,
     pub entries: Vec<PlacedEntry>,
     /// The sectors of the entries, in their order, until a change fails.
     pub sectors: Vec<u32>,
-    /// Room for what a change writes one by one.
+    /// Room for the sectors that a change writes one by one.
     pub singles: Singles,
     pub index: NameIndex,
     pub held: Holds,
     pub layout: Layout,
-    /// A write or a sync failed: what the disk holds is known again once it is opened.
+    /// Whether a write or a sync has failed. Then only another opening finds out what the disk
+    /// holds.
     pub failed: bool,
 }

@@ -1,11 +1,11 @@
-//! The store of version 2 of the disk: named byte strings that survive a power cut, 2,048 at most.
+//! The store of version 2 of the disk: up to 2,048 named byte strings that survive a power cut.
 //!
-//! A disk is made a store by `Store::format`, and opened again by `Store::open` after a stop at any
-//! moment. Byte strings are put behind the others by `put_new`, in the place of those under a name
-//! by `put_over`, and taken out by `delete`; `set_preloads` chooses the preloads. `Store::look`
-//! looks at a disk of either version, and `OldStore::commit` makes one of version 1 one of version
-//! 2. `Store::update` begins an update: several changes of a draft, and one commit.
-//! Which state sectors hold is defined in specs/Stands.antt.
+//! `Store::format` makes a store on a disk, and `Store::open` opens it again after a stop at any
+//! moment. `put_new` puts a byte string after the others, `put_over` replaces the bytes under a
+//! name, `delete` removes a byte string, and `set_preloads` chooses the preloads. `Store::look`
+//! finds out what a disk of either version holds, and `OldStore::commit` turns a disk of version 1
+//! into one of version 2. `Store::update` begins an update: several changes of a draft, and one
+//! commit. specs/Stands.antt defines which state a list of sectors holds.
 #![tactic(auto)]
 
 mod catalogues;
@@ -18,7 +18,7 @@ mod edit;
 mod entries;
 mod find;
 mod format;
-mod found;
+mod found_state;
 mod held;
 mod holds;
 mod kept;

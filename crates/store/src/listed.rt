@@ -1,4 +1,5 @@
-// Reading which entries a root lists: it does so itself in version 1, by catalogues in version 2.
+// Reading the list of entries. A root of version 1 lists the entries itself; a root of version 2
+// lists catalogues, which list the entries.
 ghost use Rattle.std.specs.Prelude.{◌≡◌, ◌<◌, ◌↔◌, ℕ, All, List, Some, IsTrue, IfOk, IfErr};
 ghost use Rattle.std.specs.Prelude.{OnOk, length};
 ghost use Rattle.sector_disk.specs.Disk.{Sector, IsCall, IsRead, AreCallsExactly, AreCallsAtMost};
@@ -15,7 +16,7 @@ use roots::{Catalogue, MOST_CATALOGUE_ENTRIES, Root, Version, decode_catalogue};
 use sector_disk::{Disk, DiskFault, SECTOR_BYTES};
 use std::alloc::Global;
 
-/// The sectors of the catalogues that a root lists: none in version 1.
+/// Returns the sectors of the catalogues that a root lists. A root of version 1 lists none.
 pub(crate) fn catalogues(root: &Root) -> &[u32]
     requires { RootHasSpelling root.now }
     ensures { result.now ≡ catalogues_of root.now }
@@ -26,12 +27,13 @@ pub(crate) fn catalogues(root: &Root) -> &[u32]
     }
 }
 
-/// The catalogue that a sector spells, if it spells one.
+/// Reads sector `at`, and returns the catalogue that it encodes, if it encodes one.
 fn read_catalogue<D: Disk>(disk: &mut D, at: u32) -> Result<Option<Catalogue>, DiskFault>
     requires { at < (D.facts disk.old).sectors }
     ensures calls { IsCall (D.facts disk.old) (D.facts disk.new) result }
 
-    // On any disk it is that of some sector, on an honest one of its own.
+    // On any disk, the catalogue is the one that some content encodes. On an honest disk, this
+    // content is that of sector `at`.
     ensures catalogue { (content : Sector) × IfOk result (λ found. (catalogue : Catalogue)
         → (found ≡ Some catalogue) ↔ SpellsCatalogue content catalogue)
         × (IsTrue (D.facts disk.old).honest
@@ -42,8 +44,9 @@ fn read_catalogue<D: Disk>(disk: &mut D, at: u32) -> Result<Option<Catalogue>, D
     Ok(decode_catalogue(&content))
 }
 
-/// The sectors of the entries that a root's catalogues list, in their order. It reads each
-/// catalogue once. Damaged where one doesn't decode, or has another count than it must have.
+/// Returns the sectors of the entries that a root's catalogues list, in their order. Reads each
+/// catalogue once. Refuses with Damaged if a catalogue doesn't decode, or doesn't have the count
+/// that it must have.
 fn read_catalogues<D: Disk>(
     alloc: Global,
     disk: &mut D,
@@ -82,15 +85,15 @@ fn read_catalogues<D: Disk>(
     Ok(listed)
 }
 
-/// Whether all of these sectors lie on a disk of so many.
+/// Returns whether all of the sectors `listed` lie on a disk of `sectors` sectors.
 fn are_inside(listed: &[u32], sectors: u32) -> bool
     ensures { IsTrue result ↔ All (λ at. at < sectors) listed.now }
 {
     listed.iter().all(|at| *at < sectors)
 }
 
-/// The sectors of the entries that a root lists, in its order, all of them on the disk. It reads
-/// each catalogue once.
+/// Returns the sectors of the entries that a root lists, in its order. Reads each catalogue once.
+/// Refuses with Damaged if one of these sectors doesn't lie on the disk.
 pub(crate) fn read_listed<D: Disk>(
     alloc: Global,
     disk: &mut D,

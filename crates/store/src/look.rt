@@ -1,4 +1,4 @@
-// What a disk of either version holds.
+// Finding out what a disk of either version holds.
 use crate::find::find_store;
 use crate::old_store::OldStore;
 use crate::refusal::StoreRefusal;
@@ -8,20 +8,20 @@ use sector_disk::Disk;
 use states::is_geometry;
 use std::alloc::Global;
 
-/// The store of a disk, by the version of its current root.
+/// The store on a disk, by the version of the disk's current root.
 pub enum Look<D: Disk> {
-    /// One of version 2.
+    /// A store of version 2.
     Current(Store<D>),
-    /// One of version 1.
+    /// A store of version 1.
     Old(OldStore<D>),
 }
 
 impl<D: Disk> Store<D> {
     ghost use Rattle.store.specs.Looked.{Looks};
 
-    /// Looks what a disk holds, after a stop too: a store of version 2, or one of version 1. It
-    /// writes nothing: it syncs, and reads the two root sectors, each catalogue and one sector an
-    /// entry. Where it refuses, with S6, S3, S5, S11 or S1, it hands the disk back.
+    /// Finds out what a disk holds, also after a stop: a store of version 2 or one of version 1.
+    /// Syncs, reads the two root sectors, each catalogue, and one sector for each entry, and writes
+    /// nothing. If it refuses, with S6, S3, S5, S11 or S1, hands the disk back.
     pub fn look(alloc: Global, disk: D) -> Result<Look<D>, (StoreRefusal, D)>
         ensures { Looks D.facts disk result }
     {
@@ -32,7 +32,7 @@ impl<D: Disk> Store<D> {
         match find_store(alloc, &mut disk) {
             Ok(found) => match found.root.version() {
                 Version::One => Ok(Look::Old(OldStore { disk, found, alloc })),
-                Version::Two => Ok(Look::Current(found.beside(alloc, disk))),
+                Version::Two => Ok(Look::Current(found.into_store(alloc, disk))),
             },
             Err(refusal) => Err((refusal, disk)),
         }

@@ -1,5 +1,5 @@
-// The names of entries in their order, so that one is found by halving, and guesses where each
-// stands, so that most are found at once.
+// The order of the entries' names, for binary searches. A guess of each name's position finds most
+// names without a search.
 ghost use Rattle.std.specs.Prelude.{◌≡◌, ◌≢◌, ◌<◌, ◌≤◌, ◌^◌, ◌↔◌, [], ◌∷◌, ◌++◌, All, IsNone};
 ghost use Rattle.std.specs.Prelude.{IsTrue, IfOk, IfSome, OnOk, OnErr, length, map, slice_index_or};
 ghost use Rattle.std.specs.List.{range_with_len, remove};
@@ -16,15 +16,16 @@ use std::alloc::{AllocError, Global};
 use std::cmp::Ordering;
 use std::marker::Model;
 
-/// How many guesses are kept: twice as many as there are entries at most.
+/// The number of guesses that are kept: twice the maximum number of entries.
 const GUESSES: usize = 4096;
 
 /// The positions of entries in the order of their names.
 #[derive(Drop)]
 pub(crate) struct NameIndex {
     positions: Vec<u16>,
-    // For the sum of a name the position where it was put last. Nothing is claimed of them: each
-    // is compared before it is an answer, and none is mended once an entry before it is gone.
+    // For the sum of a name, the position at which a name with this sum was put last. Nothing is
+    // claimed about the guesses: each is compared with the name before it is returned, and none is
+    // corrected when an entry before it is removed.
     guesses: Vec<u16>,
 }
 
@@ -40,7 +41,7 @@ impl Model for NameIndex {
     } };
 }
 
-/// The name of the entry at a position; the empty one where there is none.
+/// Returns the name of the entry at `position`, or the empty name if there is none.
 fn name_at(entries: &[PlacedEntry], position: u16) -> &[u8]
     requires { HaveSpellings entries.now }
     ensures { result.now ≡ name_at (entry_names entries.now) position }
@@ -51,7 +52,7 @@ fn name_at(entries: &[PlacedEntry], position: u16) -> &[u8]
     }
 }
 
-/// The order of the names at two positions, byte by byte.
+/// Compares the names at the positions `a` and `b`, byte by byte.
 fn compare(entries: &[PlacedEntry], a: u16, b: u16) -> Ordering
     requires { HaveSpellings entries.now }
     ensures { result ≡ name_order (entry_names entries.now) a b }
@@ -59,7 +60,7 @@ fn compare(entries: &[PlacedEntry], a: u16, b: u16) -> Ordering
     name_at(entries, a).cmp(name_at(entries, b))
 }
 
-/// Whether the name at a position comes before this one.
+/// Returns whether the name at `position` comes before `name`.
 fn precedes(entries: &[PlacedEntry], position: u16, name: &[u8]) -> bool
     requires { HaveSpellings entries.now }
     ensures { result ≡ is_lt (order_to (entry_names entries.now) name.now position) }
@@ -67,8 +68,8 @@ fn precedes(entries: &[PlacedEntry], position: u16, name: &[u8]) -> bool
     name_at(entries, position).cmp(name).is_lt()
 }
 
-/// A sum over the bytes of a name: where its guess is. Eight bytes at a time, since names that
-/// are needed are as many and as long as a file says.
+/// Returns a sum over the bytes of a name: the place of the name's guess. Takes eight bytes at a
+/// time, because a file decides how many names it needs and how long they are.
 fn guess_place(name: &[u8]) -> usize {
     let (words, rest) = name.as_chunks::<8>();
     let mut sum = 0u64;
@@ -81,14 +82,14 @@ fn guess_place(name: &[u8]) -> usize {
     (sum >> 52) as usize
 }
 
-/// Guesses that a name stands at a position.
+/// Notes the guess that `name` is at `position`.
 fn note_guess(guesses: &mut Vec<u16>, name: &[u8], position: u16) {
     if let Some(guess) = guesses.get_mut(guess_place(name)) {
         *guess = position;
     }
 }
 
-/// A guess for each of these entries.
+/// Makes a guess for each of the entries.
 fn guesses_for(alloc: Global, entries: &[PlacedEntry]) -> Result<Vec<u16>, AllocError>
     requires spellings { HaveSpellings entries.now }
     requires few { length entries.now < 2 ^ 16 }
@@ -101,7 +102,7 @@ fn guesses_for(alloc: Global, entries: &[PlacedEntry]) -> Result<Vec<u16>, Alloc
     Ok(guesses)
 }
 
-/// All positions of so many entries.
+/// Returns all positions of `count` entries.
 fn all_positions(alloc: Global, count: usize) -> Result<Vec<u16>, AllocError>
     requires { count < 2 ^ 16 }
     ensures { IfOk result (λ positions. positions.items ≡ range_with_len 0 count) }
@@ -109,7 +110,7 @@ fn all_positions(alloc: Global, count: usize) -> Result<Vec<u16>, AllocError>
     (0..count as u16).collect(alloc)
 }
 
-/// All positions in the order of the names, where one may stand twice.
+/// Returns all positions in the order of their names. A name may occur twice.
 fn sorted_positions(alloc: Global, entries: &[PlacedEntry]) -> Result<Vec<u16>, AllocError>
     requires spellings { HaveSpellings entries.now }
     requires few { length entries.now < 2 ^ 16 }
@@ -121,8 +122,8 @@ fn sorted_positions(alloc: Global, entries: &[PlacedEntry]) -> Result<Vec<u16>, 
     Ok(positions)
 }
 
-/// Whether each name comes before the next one.
-fn rise(entries: &[PlacedEntry], positions: &[u16]) -> bool
+/// Returns whether each name comes before the next one.
+fn is_sorted(entries: &[PlacedEntry], positions: &[u16]) -> bool
     requires { HaveSpellings entries.now }
     ensures { IsTrue result ↔ Rises (entry_names entries.now) positions.now }
 {
@@ -134,7 +135,8 @@ fn rise(entries: &[PlacedEntry], positions: &[u16]) -> bool
     true
 }
 
-/// A position once one is gone, over which those behind it closed up.
+/// Returns what `position` becomes when the entry at `gone` is removed: the entries after it move
+/// up.
 fn closed_up(gone: u16, position: u16) -> u16
     ensures { result ≡ closed_up gone position }
 {
@@ -145,7 +147,7 @@ fn closed_up(gone: u16, position: u16) -> u16
     }
 }
 
-/// Closes up positions of entries over one that is gone.
+/// Adapts positions of entries to the removal of the entry at `gone`: the entries after it move up.
 pub(crate) fn close_up(positions: &mut [u16], gone: u16)
     ensures { positions.new ≡ map (closed_up gone) positions.old }
 {
@@ -155,7 +157,7 @@ pub(crate) fn close_up(positions: &mut [u16], gone: u16)
 }
 
 impl NameIndex {
-    /// The order of no names. It takes no memory.
+    /// Makes the order of an empty list. Allocates nothing.
     pub(crate) fn empty(alloc: Global) -> NameIndex
         ensures { IsIndex [] result }
     {
@@ -165,7 +167,7 @@ impl NameIndex {
         }
     }
 
-    /// The order of these entries' names; None where a name stands twice.
+    /// Makes the order of the entries' names. Returns None if a name occurs twice.
     pub(crate) fn over(
         alloc: Global,
         entries: &[PlacedEntry],
@@ -177,7 +179,7 @@ impl NameIndex {
         ensures twice { IfOk result (λ found. IsNone found → HaveOwnNames entries.now → ⊥) }
     {
         let positions = sorted_positions(alloc, entries)?;
-        if rise(entries, &positions) {
+        if is_sorted(entries, &positions) {
             let guesses = guesses_for(alloc, entries)?;
             Ok(Some(NameIndex { positions, guesses }))
         } else {
@@ -185,7 +187,7 @@ impl NameIndex {
         }
     }
 
-    /// The same order, in memory of its own.
+    /// Copies the order into memory of its own.
     pub(crate) fn copy(&self, alloc: Global) -> Result<NameIndex, AllocError>
         ensures { IfOk result (λ index. index.positions ≡ self.now.positions) }
     {
@@ -203,7 +205,7 @@ impl NameIndex {
         &self.positions
     }
 
-    /// The place of a name in the order: as many names come before it.
+    /// Returns the place of a name in the order: the number of names that come before it.
     fn place_of(&self, entries: &[PlacedEntry], name: &[u8]) -> usize
         requires index { IsIndex entries.now self.now }
         requires spellings { HaveSpellings entries.now }
@@ -213,7 +215,7 @@ impl NameIndex {
             .partition_point(|position| precedes(entries, *position, name))
     }
 
-    /// The position that is guessed for a name, where it is right.
+    /// Returns the position that is guessed for `name`, if the guess is right.
     fn guessed(&self, entries: &[PlacedEntry], name: &[u8]) -> Option<usize>
         requires spellings { HaveSpellings entries.now }
         ensures some { IfSome result (λ i. (i < length entries.now)
@@ -227,8 +229,8 @@ impl NameIndex {
         }
     }
 
-    /// The position of the entry with this name. Where the guess is wrong it halves: 12
-    /// comparisons at most, and one with the name that it ends at.
+    /// Returns the position of the entry with the name `name`. If the guess is wrong, makes a
+    /// binary search: at most 12 comparisons, and one with the name at which the search ends.
     pub(crate) fn position_of(&self, entries: &[PlacedEntry], name: &[u8]) -> Option<usize>
         requires index { IsIndex entries.now self.now }
         requires spellings { HaveSpellings entries.now }
@@ -251,7 +253,7 @@ impl NameIndex {
         }
     }
 
-    /// Makes room for one more position, unless there is some.
+    /// Makes room for one more position, unless there is room already.
     pub(crate) fn reserve(&mut self) -> Result<(), AllocError>
         ensures positions { self.new.positions ≡ self.old.positions }
         ensures ok { OnOk result (1 ≤ self.new.room) }
@@ -260,7 +262,7 @@ impl NameIndex {
         self.positions.reserve(1)
     }
 
-    /// Takes in the name of an entry that is put behind these. It takes no memory.
+    /// Inserts the name of an entry that is put after the others. Allocates nothing.
     pub(crate) fn insert(&mut self, entries: &[PlacedEntry], name: &[u8])
         requires index { IsIndex entries.now self.old }
         requires spellings { HaveSpellings entries.now }
@@ -278,7 +280,7 @@ impl NameIndex {
         }
     }
 
-    /// Takes out the entry at a position, over which those behind it close up.
+    /// Removes the entry at `position`. The entries after it move up.
     pub(crate) fn remove(&mut self, entries: &[PlacedEntry], position: usize)
         requires index { IsIndex entries.now self.old }
         requires spellings { HaveSpellings entries.now }

@@ -1,4 +1,4 @@
-// The roots that follow one.
+// The roots that may follow a root.
 ghost use Rattle.std.specs.Prelude.{◌≡◌, ◌+◌, ◌<◌, ◌≤◌, ◌^◌, length, map, All};
 ghost use Rattle.roots.specs.Limits.{most_catalogues};
 ghost use Rattle.states.specs.Limits.{most_libraries, most_preloads};
@@ -12,7 +12,7 @@ use crate::name_index::close_up;
 use roots::Root;
 use states::MOST_PRELOADS;
 
-/// The next root, which counts so many libraries and lists these catalogues and these preloads.
+/// Returns the next root, which counts `libraries` libraries and lists `catalogues` and `preloads`.
 pub(crate) fn root_over(root: &Root, libraries: usize, catalogues: &[u32], preloads: &[u16]) -> Root
     requires generation { root.now.generation + 1 < 2 ^ 64 }
     requires few { libraries ≤ most_libraries }
@@ -29,7 +29,8 @@ pub(crate) fn root_over(root: &Root, libraries: usize, catalogues: &[u32], prelo
     )
 }
 
-/// The next root, which counts so many libraries and lists these catalogues and the same preloads.
+/// Returns the next root, which counts `libraries` libraries, lists `catalogues`, and keeps the
+/// preloads.
 pub(crate) fn next_root(root: &Root, libraries: usize, catalogues: &[u32]) -> Root
     requires fits { RootHasSpelling root.now }
     requires generation { root.now.generation + 1 < 2 ^ 64 }
@@ -46,7 +47,8 @@ pub(crate) fn next_root(root: &Root, libraries: usize, catalogues: &[u32]) -> Ro
     )
 }
 
-/// The next root, which counts one library fewer: the preloads close up over the one at `gone`.
+/// Returns the next root after the library at `gone` was removed. It counts `libraries` libraries
+/// and lists `catalogues`, and the preloads after `gone` move up.
 pub(crate) fn root_without(root: &Root, libraries: usize, catalogues: &[u32], gone: usize) -> Root
     requires fits { RootHasSpelling root.now }
     requires generation { root.now.generation + 1 < 2 ^ 64 }
@@ -67,7 +69,7 @@ pub(crate) fn root_without(root: &Root, libraries: usize, catalogues: &[u32], go
     )
 }
 
-/// The next root, which lists the same catalogues and the preloads at these positions.
+/// Returns the next root, which lists the same catalogues, and the preloads at `positions`.
 pub(crate) fn with_preloads(root: &Root, positions: &[usize]) -> Root
     requires fits { RootHasSpelling root.now }
     requires generation { root.now.generation + 1 < 2 ^ 64 }

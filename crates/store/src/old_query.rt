@@ -1,5 +1,4 @@
-// What a store of version 1 tells of its state. It reads what is kept in memory, and makes no call
-// of the disk.
+// Queries of a store of version 1. They read what is kept in memory, and make no call of the disk.
 use crate::old_store::OldStore;
 use sector_disk::Disk;
 
@@ -15,7 +14,7 @@ impl<D: Disk> OldStore<D> {
     ghost use Rattle.store.specs.Names.{LacksName, IsName, IsFileSize};
     ghost use Rattle.states.specs.State.{State};
 
-    /// How many byte strings there are.
+    /// The number of byte strings.
     pub fn count(&self) -> usize
         ensures value { result ≡ length self.now.entries }
         ensures few { result ≤ most_libraries }
@@ -27,7 +26,7 @@ impl<D: Disk> OldStore<D> {
         self.found.entries.len()
     }
 
-    /// The name of the byte string at this position.
+    /// Returns the name of the byte string at `position`.
     pub fn name(&self, position: usize) -> &[u8]
         requires { position < length self.now.entries }
         ensures value { (d : PlacedEntry) →
@@ -39,7 +38,7 @@ impl<D: Disk> OldStore<D> {
         self.found.entries[position].entry.name_bytes()
     }
 
-    /// The length in bytes of the byte string at this position.
+    /// Returns the length in bytes of the byte string at `position`.
     pub fn length(&self, position: usize) -> u32
         requires { position < length self.now.entries }
         ensures value { (d : PlacedEntry) →
@@ -51,15 +50,16 @@ impl<D: Disk> OldStore<D> {
         self.found.entries[position].entry.file_length
     }
 
-    /// The position of the byte string with this name. It guesses, and else halves an order of the
-    /// names: 9 comparisons at most.
+    /// Returns the position of the byte string with the name `name`. Tries a guess first, and then
+    /// a binary search by name: at most 9 comparisons in all.
     pub fn position(&self, name: &[u8]) -> Option<usize>
         ensures none { IsNone result → LacksName self.now name.now }
         ensures some { IfSome result (λ i. (i < length self.now.entries)
             × ((d : PlacedEntry)
             → name_of (slice_index_or self.now.entries i d).entry ≡ name.now)) }
 
-        // No two byte strings have one name, so a position at which the name stands is the answer.
+        // No two byte strings have the same name, so the answer is the position of the only one
+        // with this name.
         ensures own_names { HaveOwnNames self.now.entries }
         ensures state { (s : State) → IsOldAt D.facts self.now s
             → (i : ℕ) → (result ≡ Some i)

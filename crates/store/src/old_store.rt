@@ -1,19 +1,19 @@
-use crate::found::Found;
+use crate::found_state::FoundState;
 use sector_disk::Disk;
 use std::alloc::Global;
 use std::marker::Model;
 
-/// A store that was found on a disk of version 1. It is read, and not changed but by
-/// `commit`, which makes it one of version 2.
+/// A store that was found on a disk of version 1. It can only be read, and turned into a store of
+/// version 2 by `commit`.
 pub struct OldStore<D: Disk> {
     pub(crate) disk: D,
-    pub(crate) found: Found,
+    pub(crate) found: FoundState,
     pub(crate) alloc: Global,
 }
 
 impl<D: Disk> Model for OldStore<D> {
     ghost use Rattle.store.specs.Opened.{Opened};
-    ghost use Rattle.store.specs.inside.Found.{IsFound};
+    ghost use Rattle.store.specs.inside.FoundState.{IsFound};
     ghost use Rattle.roots.specs.Root.{version_of};
     ghost use Rattle.roots.specs.declared.version.Version.TheVariants.{One};
     ghost use Rattle.std.specs.Prelude.{◌≡◌, [], false};
@@ -37,7 +37,7 @@ impl<D: Disk> Model for OldStore<D> {
 impl<D: Disk> OldStore<D> {
     ghost use Rattle.std.specs.Prelude.{◌≡◌};
 
-    /// The disk.
+    /// Returns the disk.
     pub fn into_disk(self) -> D
         ensures { result ≡ self.disk }
     {

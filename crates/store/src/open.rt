@@ -9,10 +9,10 @@ use std::alloc::Global;
 impl<D: Disk> Store<D> {
     ghost use Rattle.store.specs.Opens.{OpensByEntries};
 
-    /// Opens the store that a disk of version 2 holds, after a stop too; OldFormat where its
-    /// current root is of version 1. It writes nothing: it syncs, and reads the two root sectors,
-    /// each catalogue and one sector an entry. Where it refuses, with S6, S3, S12, S5, S11 or S1,
-    /// it hands the disk back.
+    /// Opens the store that a disk of version 2 holds, also after a stop. Refuses with S12
+    /// (OldFormat) if the current root is of version 1. Syncs, reads the two root sectors, each
+    /// catalogue, and one sector for each entry, and writes nothing. If it refuses, with S6, S3,
+    /// S12, S5, S11 or S1, hands the disk back.
     pub fn open(alloc: Global, disk: D) -> Result<Store<D>, (StoreRefusal, D)>
         ensures { OpensByEntries D.facts disk result }
     {
@@ -21,7 +21,7 @@ impl<D: Disk> Store<D> {
         }
         let mut disk = disk;
         match find_current(alloc, &mut disk) {
-            Ok(found) => Ok(found.beside(alloc, disk)),
+            Ok(found) => Ok(found.into_store(alloc, disk)),
             Err(refusal) => Err((refusal, disk)),
         }
     }

@@ -1,6 +1,6 @@
 use roots::Entry;
 
-/// An entry, and the sector that spells it.
+/// An entry, and the sector that encodes it.
 #[derive(Clone, Copy)]
 pub struct PlacedEntry {
     pub at: u32,

@@ -21,7 +21,7 @@ impl Kept {
     ghost use Rattle.store.specs.inside.Prepared.{Makes, Prepares, done_of};
     ghost use Rattle.store.specs.inside.Stored.{IsCounted, IsStored};
 
-    /// Prepares other preloads, of these positions: S2, S10.
+    /// Prepares to make the byte strings at `positions` the preloads. Refuses with S2 or S10.
     pub(crate) fn prepare_preloads(&mut self, positions: &[usize]) -> Result<Prepared, StoreRefusal>
         requires stored { IsStored self.old.root.sectors self.old }
         requires few { length positions.now ≤ most_preloads }
@@ -64,15 +64,15 @@ impl<D: Disk> Store<D> {
     ghost use Rattle.states.specs.Changes.{with_preloads};
     ghost use Rattle.store.specs.Step.{refusal_of_change, IsExactAnswer, IsRefusalOfChange};
 
-    /// Makes the byte strings at these positions the preloads, in this order: 16 at most, none of
-    /// them twice. It takes no memory and no sector. It refuses with S2, S10 or S1, of which S1
-    /// alone may come after the first write.
+    /// Makes the byte strings at `positions` the preloads, in this order: at most 16, none of them
+    /// twice. Allocates nothing and takes no sectors. Refuses with S2, S10 or S1; only S1 may come
+    /// after the first write.
     pub fn set_preloads(&mut self, positions: &[usize]) -> Result<(), StoreRefusal>
         requires few { length positions.now ≤ most_preloads }
         requires inside { All (λ position. position < length self.old.entries) positions.now }
         requires distinct { AreDistinct positions.now }
 
-        // A stop at any moment leaves the state from before it or the one after.
+        // A stop at any moment leaves the state before the change or the state after it.
         ensures any_moment { (s : State) → IsAt D.facts self.old s
             → LeavesOnly (D.facts self.old.disk) (D.facts self.new.disk)
             (λ m. Stands m s ⊎ Stands m (with_preloads (names_at s.libraries positions.now) s)) }
@@ -81,14 +81,15 @@ impl<D: Disk> Store<D> {
         ensures refused { (s : State) → IsAt D.facts self.old s
             → IsExactAnswer (refusal_of_change s) result }
 
-        // It keeps the catalogues.
+        // The catalogues stay the same.
         ensures catalogues { OnOk result
             (catalogues_of self.new.root ≡ catalogues_of self.old.root) }
 
-        // What somebody holds stays as it was.
+        // Byte strings that somebody holds keep their holders and their bytes.
         ensures held { KeepsHeld D.facts self.old self.new }
 
-        // On any disk. After a failed call the store has to be opened again.
+        // This holds on any disk. After a failed call of the disk, the store has to be opened
+        // again.
         ensures on_any_disk { Changed D.facts StoreRefusal.Device StoreRefusal.Reopen
             self.old self.new 2 IsRefusalOfChange result }
     {

@@ -1,11 +1,12 @@
-// A change in two steps: it is prepared, with all that may refuse it, and then made.
+// A change in two steps: it is prepared, with everything that may refuse it, and then made.
 use crate::change::Change;
 use crate::edit::Edit;
 use crate::kept::Kept;
 use crate::refusal::StoreRefusal;
 use sector_disk::Disk;
 
-/// A change that is prepared: what it writes has its room, and what it does to the list.
+/// A prepared change: what it writes, in sectors that are taken already, and what it does to the
+/// list.
 #[derive(Drop)]
 pub(crate) struct Prepared {
     pub change: Change,
@@ -25,8 +26,8 @@ impl Kept {
     ghost use Rattle.store.specs.inside.Prepared.{IsMade, IsReady, Makes};
     ghost use Rattle.store.specs.inside.Stored.{IsStored, opened};
 
-    /// Makes a prepared change, with these bytes where it puts some. It answers S1 alone, and gives
-    /// back then what the change took.
+    /// Makes a prepared change, with the bytes `bytes` if it puts a byte string. Refuses only with
+    /// S1, and then gives back the sectors that the change took.
     pub(crate) fn make<D: Disk>(
         &mut self,
         disk: &mut D,
@@ -36,7 +37,7 @@ impl Kept {
         requires { IsReady (D.facts disk.old).sectors self.old prepared.now }
         ensures stored { IsStored (D.facts disk.new).sectors self.new }
 
-        // A stop at any moment leaves the state from before it or the one that it makes.
+        // A stop at any moment leaves the state before the change or the state after it.
         ensures any_moment { (written : List PlacedEntry) → (s s' : State)
             → IsAt D.facts (opened disk.old self.old) s
             → Makes (D.facts disk.old).now written self.old prepared.now bytes.now s s'
@@ -65,7 +66,7 @@ impl Kept {
             change.give_back(&mut self.layout);
             return Err(StoreRefusal::from(fault));
         }
-        edit.settle(&self.root, &self.entries, &mut self.held, &mut self.layout);
+        edit.release_replaced(&self.root, &self.entries, &mut self.held, &mut self.layout);
         edit.enter(&mut self.entries, &mut self.index);
         self.root = change.root;
         self.failed = false;

@@ -1,4 +1,4 @@
-// What a put takes: sectors for its bytes, and their entry.
+// The room of a put: sectors for its bytes, and an entry for them.
 ghost use Rattle.std.specs.Prelude.{◌≡◌, ◌+◌, ◌*◌, ◌<◌, ◌≤◌, ◌↔◌, All, Err, IfOk, OnOk, OnErr, length};
 ghost use Rattle.std.specs.Prelude.{vec_len, vec_capacity};
 ghost use Rattle.std.specs.Int.{div_ceil};
@@ -21,14 +21,14 @@ use roots::Entry;
 use sector_disk::SECTOR_BYTES;
 use std::alloc::AllocError;
 
-/// An entry in its room, and sectors for all catalogues of the list that it is in.
+/// An entry whose sectors are taken, and the sectors for all catalogues of the list that has it.
 #[derive(Drop)]
 pub(crate) struct PutRoom {
     pub put: PlacedEntry,
     pub catalogues: CatalogueSectors,
 }
 
-/// Makes room in memory for one entry more.
+/// Makes room in memory for one more entry.
 pub(crate) fn reserve_one(
     index: &mut NameIndex,
     entries: &mut Vec<PlacedEntry>,
@@ -46,7 +46,7 @@ pub(crate) fn reserve_one(
     sectors.reserve(1)
 }
 
-/// How many sectors the bytes take.
+/// Returns the number of sectors that the bytes take.
 fn sector_need(bytes: &[u8]) -> u32
     requires { IsFileSize (length bytes.now) }
     ensures { result ≡ div_ceil (length bytes.now) sector_bytes }
@@ -54,7 +54,8 @@ fn sector_need(bytes: &[u8]) -> u32
     (bytes.len() as u32).div_ceil(SECTOR_BYTES as u32)
 }
 
-/// The entry of a byte string of this name and length, in this room.
+/// Returns the entry of a byte string with the name `name` and the bytes `bytes`, in the sectors
+/// `room`.
 fn new_entry(name: &[u8], bytes: &[u8], room: &Room) -> PlacedEntry
     requires name { IsName name.now }
     requires size { IsFileSize (length bytes.now) }
@@ -73,8 +74,9 @@ fn new_entry(name: &[u8], bytes: &[u8], room: &Room) -> PlacedEntry
     }
 }
 
-/// Claims room for a byte string of this name, and for so many catalogues. It refuses where so many
-/// sectors more wouldn't stay unused, and then none is claimed.
+/// Claims sectors for the bytes `bytes`, for their entry with the name `name`, and for `catalogues`
+/// catalogues. Refuses with Full if that would leave fewer than `spare` sectors unused, and with
+/// Fragmented if the longest unused runs are too short for the bytes. If it refuses, claims none.
 pub(crate) fn take_put(
     layout: &mut Layout,
     name: &[u8],

@@ -1,4 +1,4 @@
-// Putting a byte string behind the others.
+// Putting a byte string after the others.
 use crate::change::{Change, Staged};
 use crate::edit::Edit;
 use crate::kept::Kept;
@@ -16,14 +16,14 @@ impl Kept {
     ghost use Rattle.sector_disk.specs.Disk.{Sector};
     ghost use Rattle.states.specs.Changes.{with_new};
     ghost use Rattle.states.specs.State.{State};
-    ghost use Rattle.store.specs.declared.edit.Edit.TheVariants.{Behind};
+    ghost use Rattle.store.specs.declared.edit.Edit.TheVariants.{Append};
     ghost use Rattle.store.specs.Names.{IsName, IsFileSize};
     ghost use Rattle.store.specs.Stands.{name_of};
     ghost use Rattle.store.specs.Step.{refusal_of_new, IsAnswer, IsRefusalOfPutNew};
     ghost use Rattle.store.specs.inside.Prepared.{Makes, Prepares, Puts, done_of};
     ghost use Rattle.store.specs.inside.Stored.{IsCounted, IsStored, longest_in, sectors_for};
 
-    /// Prepares a byte string behind the others: S2, S9, S10, S11, S7, S8.
+    /// Prepares to put a byte string after the others. Refuses with S2, S9, S10, S11, S7 or S8.
     pub(crate) fn prepare_new(
         &mut self,
         name: &[u8],
@@ -36,7 +36,7 @@ impl Kept {
         ensures prepares { Prepares self.old self.new IsRefusalOfPutNew result }
         ensures makes { (now : List Sector) → (s : State) → IfOk result (λ prepared.
             Makes now [] self.old prepared bytes.now s (with_new name.now bytes.now s)) }
-        ensures puts { IfOk result (λ prepared. Puts self.old prepared Behind
+        ensures puts { IfOk result (λ prepared. Puts self.old prepared Append
             (length self.old.entries.items + 1) bytes.now) }
         ensures refused { IsFalse self.old.failed → (s : State)
             → IsCounted self.old.root self.old.entries.items self.old.held self.old.layout s
@@ -56,7 +56,7 @@ impl Kept {
         };
         Ok(Prepared {
             change,
-            edit: Edit::Behind(room.put),
+            edit: Edit::Append(room.put),
         })
     }
 }
@@ -76,15 +76,14 @@ impl<D: Disk> Store<D> {
     ghost use Rattle.states.specs.Changes.{with_new};
     ghost use Rattle.store.specs.Step.{longest_unused, refusal_of_new, IsAnswer, IsRefusalOfPutNew};
 
-    /// Puts a byte string of 64 bytes to 16 MiB, with a name that no other has, behind the others.
-    /// It refuses with S2, S9, S10, S7, S8, S11 or S1, of which S1 alone may come after the first
-    /// write.
+    /// Puts a byte string of 64 bytes to 16 MiB, with a name that no other has, after the others.
+    /// Refuses with S2, S9, S10, S7, S8, S11 or S1; only S1 may come after the first write.
     pub fn put_new(&mut self, name: &[u8], bytes: &[u8]) -> Result<(), StoreRefusal>
         requires name { IsName name.now }
         requires size { IsFileSize (length bytes.now) }
         requires new { LacksName self.old name.now }
 
-        // A stop at any moment leaves the state from before it or the one after.
+        // A stop at any moment leaves the state before the put or the state after it.
         ensures any_moment { (s : State) → IsAt D.facts self.old s
             → LeavesOnly (D.facts self.old.disk) (D.facts self.new.disk)
             (λ m. Stands m s ⊎ Stands m (with_new name.now bytes.now s)) }
@@ -93,15 +92,17 @@ impl<D: Disk> Store<D> {
         ensures refused { (s : State) → IsAt D.facts self.old s → IsAnswer
             (refusal_of_new (room_of self.old) (longest_unused self.old) s bytes.now) result }
 
-        // It takes the sectors of the bytes first, then that of the entry, and then those of the
-        // catalogues. On an honest disk the bytes are there then, and zeros behind them.
+        // The put takes sectors for the bytes first, then one for the entry, and then those for the
+        // catalogues. On an honest disk the sectors for the bytes then have the bytes, followed by
+        // zeros.
         ensures placed { OnOk result
             (IsPutBehind D.facts self.old self.new bytes.now) }
 
-        // What somebody holds stays as it was.
+        // Byte strings that somebody holds keep their holders and their bytes.
         ensures held { KeepsHeld D.facts self.old self.new }
 
-        // On any disk. After a failed call the store has to be opened again.
+        // This holds on any disk. After a failed call of the disk, the store has to be opened
+        // again.
         ensures on_any_disk { Changed D.facts StoreRefusal.Device StoreRefusal.Reopen
             self.old self.new (div_ceil (length bytes.now) sector_bytes
             + catalogues_for (length self.old.entries + 1) + 4)

@@ -1,4 +1,4 @@
-// Putting other bytes in the place of a byte string's.
+// Replacing the bytes of a byte string.
 use crate::change::{Change, Staged};
 use crate::edit::Edit;
 use crate::kept::Kept;
@@ -15,13 +15,13 @@ impl Kept {
     ghost use Rattle.sector_disk.specs.Disk.{Sector};
     ghost use Rattle.states.specs.Changes.{with_bytes};
     ghost use Rattle.states.specs.State.{State};
-    ghost use Rattle.store.specs.declared.edit.Edit.TheVariants.{Over};
+    ghost use Rattle.store.specs.declared.edit.Edit.TheVariants.{Replace};
     ghost use Rattle.store.specs.Names.{IsFileSize};
     ghost use Rattle.store.specs.Step.{refusal_of_put, IsExactAnswer, IsRefusalOfPutOver};
     ghost use Rattle.store.specs.inside.Prepared.{StandsAt, Makes, Prepares, Puts, done_of};
     ghost use Rattle.store.specs.inside.Stored.{IsCounted, IsStored, longest_in, sectors_for};
 
-    /// Prepares other bytes in the place of those under a name: S2, S10, S7, S8.
+    /// Prepares to replace the bytes under a name. Refuses with S2, S10, S7 or S8.
     pub(crate) fn prepare_over(
         &mut self,
         name: &[u8],
@@ -35,7 +35,7 @@ impl Kept {
             Makes now [] self.old prepared bytes.now s (with_bytes name.now bytes.now s)) }
         ensures puts { IfOk result (λ prepared. (position : ℕ)
             × StandsAt self.old.entries.items name.now position
-            × Puts self.old prepared (Over position) (length self.old.entries.items) bytes.now) }
+            × Puts self.old prepared (Replace position) (length self.old.entries.items) bytes.now) }
         ensures refused { IsFalse self.old.failed → (s : State)
             → IsCounted self.old.root self.old.entries.items self.old.held self.old.layout s
             → IsExactAnswer
@@ -56,7 +56,7 @@ impl Kept {
         };
         Ok(Prepared {
             change,
-            edit: Edit::Over(position, room.put),
+            edit: Edit::Replace(position, room.put),
         })
     }
 }
@@ -77,14 +77,15 @@ impl<D: Disk> Store<D> {
     ghost use Rattle.store.specs.Step.{longest_unused, refusal_of_put};
     ghost use Rattle.store.specs.Step.{IsExactAnswer, IsRefusalOfPutOver};
 
-    /// Puts other bytes, 64 bytes to 16 MiB, in the place of those under this name. The sectors of
-    /// the old ones are unused once it is done, and not before. It takes no memory. It refuses with
-    /// S2, S10, S7, S8 or S1, of which S1 alone may come after the first write.
+    /// Replaces the bytes under the name `name` with `bytes`, which are 64 bytes to 16 MiB. The
+    /// sectors of the old bytes become unused once the change is done and nobody holds them, and
+    /// not before. Allocates nothing. Refuses with S2, S10, S7, S8 or S1; only S1 may come after
+    /// the first write.
     pub fn put_over(&mut self, name: &[u8], bytes: &[u8]) -> Result<(), StoreRefusal>
         requires present { HasName self.old name.now }
         requires size { IsFileSize (length bytes.now) }
 
-        // A stop at any moment leaves the state from before it or the one after.
+        // A stop at any moment leaves the state before the put or the state after it.
         ensures any_moment { (s : State) → IsAt D.facts self.old s
             → LeavesOnly (D.facts self.old.disk) (D.facts self.new.disk)
             (λ m. Stands m s ⊎ Stands m (with_bytes name.now bytes.now s)) }
@@ -93,15 +94,17 @@ impl<D: Disk> Store<D> {
         ensures refused { (s : State) → IsAt D.facts self.old s → IsExactAnswer
             (refusal_of_put (room_of self.old) (longest_unused self.old) s bytes.now) result }
 
-        // It takes the sectors of the bytes first, then that of the entry, and then those of the
-        // catalogues. On an honest disk the bytes are there then, and zeros behind them.
+        // The put takes sectors for the bytes first, then one for the entry, and then those for the
+        // catalogues. On an honest disk the sectors for the bytes then have the bytes, followed by
+        // zeros.
         ensures placed { OnOk result
             (IsPutOver D.facts self.old self.new name.now bytes.now) }
 
-        // What somebody holds stays as it was.
+        // Byte strings that somebody holds keep their holders and their bytes.
         ensures held { KeepsHeld D.facts self.old self.new }
 
-        // On any disk. After a failed call the store has to be opened again.
+        // This holds on any disk. After a failed call of the disk, the store has to be opened
+        // again.
         ensures on_any_disk { Changed D.facts StoreRefusal.Device StoreRefusal.Reopen
             self.old self.new (div_ceil (length bytes.now) sector_bytes
             + catalogues_for (length self.old.entries) + 4)

@@ -16,8 +16,8 @@ use passes::read_bytes;
 use sector_disk::{Disk, SECTOR_BYTES};
 use std::alloc::Global;
 
-/// The byte string of an entry, in a vector that is given, whatever that holds. Each of the entry's
-/// sectors is read once.
+/// Reads the byte string of the entry `placed` into the vector `buffer`, whatever `buffer` holds,
+/// and returns the vector. Reads each sector of the byte string once.
 pub(crate) fn read_file<D: Disk>(
     disk: &mut D,
     placed: &PlacedEntry,
@@ -52,8 +52,8 @@ pub(crate) fn read_file<D: Disk>(
 impl<D: Disk> Store<D> {
     ghost use Rattle.roots.specs.declared.version.Version.TheVariants.{Two};
 
-    /// The byte string at this position. It reads each of its sectors once, and writes nothing.
-    /// It refuses with S2, S11 or S1.
+    /// Returns the byte string at `position`. Reads each of its sectors once, and writes nothing.
+    /// Refuses with S2, S11 or S1.
     pub fn read_blob(&mut self, alloc: Global, position: usize) -> Result<Vec<u8>, StoreRefusal>
         requires { position < length self.old.entries }
         ensures { ReadsBlob Two D.facts self.old self.new position result }
@@ -61,9 +61,9 @@ impl<D: Disk> Store<D> {
         self.read_blob_into(position, Vec::new(alloc))
     }
 
-    /// The same, in a vector that is given, whatever that holds: it grows only where it is too
-    /// small, so that byte strings which are read one after the other take the memory of the
-    /// largest once. It refuses with S2, S11 or S1.
+    /// Reads the byte string at `position` into the vector `buffer`, whatever `buffer` holds, and
+    /// returns the vector. The vector grows only if it is too small, so byte strings that are read
+    /// one after the other need memory only for the largest of them. Refuses with S2, S11 or S1.
     pub fn read_blob_into(
         &mut self,
         position: usize,
@@ -82,8 +82,8 @@ impl<D: Disk> Store<D> {
 impl<D: Disk> OldStore<D> {
     ghost use Rattle.roots.specs.declared.version.Version.TheVariants.{One};
 
-    /// The byte string at this position. It reads each of its sectors once, and writes nothing.
-    /// It refuses with S11 or S1.
+    /// Returns the byte string at `position`. Reads each of its sectors once, and writes nothing.
+    /// Refuses with S11 or S1.
     pub fn read_blob(&mut self, alloc: Global, position: usize) -> Result<Vec<u8>, StoreRefusal>
         requires { position < length self.old.entries }
         ensures { ReadsBlob One D.facts self.old self.new position result }

@@ -22,7 +22,7 @@ impl<D: Disk> Model for Store<D> {
 impl<D: Disk> Store<D> {
     ghost use Rattle.std.specs.Prelude.{◌≡◌};
 
-    /// The disk.
+    /// Returns the disk.
     pub fn into_disk(self) -> D
         ensures { result ≡ self.disk }
     {

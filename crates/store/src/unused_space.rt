@@ -1,4 +1,4 @@
-// How much of a store's disk is unused, and the greatest byte string that still goes in.
+// How much of a store's disk is unused, and how large the largest byte string is that can be put.
 ghost use Rattle.std.specs.Prelude.{◌≡◌, ◌+◌, ◌-◌, ◌*◌, ◌≤◌, min};
 ghost use Rattle.sector_disk.specs.Disk.{sector_bytes};
 ghost use Rattle.extents.specs.Extent.{sector_count};
@@ -15,20 +15,20 @@ use sector_disk::{Disk, SECTOR_BYTES};
 /// How much of a store's disk is unused.
 #[derive(Clone, Copy, PartialEq, Eq)]
 pub struct UnusedSpace {
-    /// How many sectors are unused: the state doesn't use them, and nobody holds them.
+    /// The number of unused sectors: the state doesn't use them, and nobody holds them.
     pub sectors: u32,
-    /// How many of them are free, which `Full` counts: all but those that the next change's
-    /// catalogues take.
+    /// The number of these sectors that are free, as S7 (Full) counts them: all except those that
+    /// the next change's catalogues take.
     pub free: usize,
-    /// In how many runs they are.
+    /// The number of runs that the unused sectors form.
     pub runs: usize,
-    /// The greatest length in bytes of a byte string that a put under a new name would take now,
-    /// or 0 where it would take none. A name of any length takes as much.
+    /// The greatest length in bytes of a byte string that a put under a new name would accept now,
+    /// or 0 if it would accept none. It doesn't depend on the length of the name.
     pub largest: u32,
 }
 
-/// How many sectors bytes may take beside their entry and so many catalogues, where so many more
-/// stay unused.
+/// Returns the maximum number of sectors that bytes may take, beside their entry and `catalogues`
+/// catalogues, if `spare` sectors have to stay unused.
 fn most_sectors(layout: &Layout, catalogues: usize, spare: usize) -> usize
     requires few { catalogues ≤ most_catalogues }
     requires spare { spare ≤ most_catalogues }
@@ -39,7 +39,7 @@ fn most_sectors(layout: &Layout, catalogues: usize, spare: usize) -> usize
     unused.min(layout.longest_count() as usize)
 }
 
-/// The greatest length in bytes of a byte string that takes no more than so many sectors.
+/// Returns the greatest length in bytes of a byte string that takes at most `sectors` sectors.
 fn most_bytes(sectors: usize) -> u32
     ensures { result ≡ min (sector_bytes * sectors) most_file_bytes }
 {
@@ -57,8 +57,8 @@ impl<D: Disk> Store<D> {
     ghost use Rattle.store.specs.Holds.{layout_in_use, room_of};
     ghost use Rattle.store.specs.Step.{longest_unused, refusal_of_new};
 
-    /// The greatest length in bytes of a byte string that a put under a new name would take now,
-    /// or 0 where it would take none.
+    /// Returns the greatest length in bytes of a byte string that a put under a new name would
+    /// accept now, or 0 if it would accept none.
     fn largest(&self) -> u32
         ensures form { (result ≡ 0) ⊎ IsFileSize result }
         ensures failed { IsTrue self.now.failed → result ≡ 0 }
@@ -82,28 +82,28 @@ impl<D: Disk> Store<D> {
         most_bytes(sectors)
     }
 
-    /// How much of the disk is unused. It makes one pass over the unused runs, and neither takes
-    /// memory nor calls the disk.
+    /// Returns how much of the disk is unused. Makes one pass over the unused runs, allocates
+    /// nothing, and makes no call of the disk.
     pub fn unused_space(&self) -> UnusedSpace
         ensures sectors { result.sectors ≡ unused_count (layout_in_use self.now) }
         ensures runs { result.runs ≡ length (unused_runs (layout_in_use self.now)) }
 
-        // All are free but those that the next change's catalogues take: what the state leaves
-        // free.
+        // All unused sectors are free, except those that the next change's catalogues take. The
+        // state defines the same numbers.
         ensures free { result.free ≡ result.sectors - catalogues_for (length self.now.entries) }
         ensures state { (s : State) → IsAt D.facts self.now s
             → (result.free ≡ free (room_of self.now) s)
             × (result.sectors ≡ free (room_of self.now) s + catalogues_for (length s.libraries)) }
 
-        // A put of bytes under a new name has no reason to refuse them exactly up to this length:
-        // it is 0, or one of a byte string, which is accepted itself.
+        // Bytes pass the tests of a put under a new name exactly if they aren't longer than
+        // `largest`. `largest` is 0, or a length that passes the tests itself.
         ensures largest { (s : State) → IsAt D.facts self.now s
             → (bytes : List ℕ) → IsFileSize (length bytes)
             → (length bytes ≤ result.largest)
             ↔ (refusal_of_new (room_of self.now) (longest_unused self.now) s bytes ≡ None) }
         ensures form { (result.largest ≡ 0) ⊎ IsFileSize result.largest }
 
-        // After a failed call nothing goes in.
+        // After a failed call nothing can be put.
         ensures failed { IsTrue self.now.failed → result.largest ≡ 0 }
     {
         let sectors = self.kept.layout.free_count();

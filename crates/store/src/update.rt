@@ -7,9 +7,9 @@ use sector_disk::Disk;
 use std::alloc::Global;
 use std::marker::Model;
 
-/// A store in the midst of an update: what stands on its disk, and a draft of what is to stand. The
-/// byte strings of the draft are written beside what stands as they come, and nothing lists them
-/// before the commit.
+/// A store in the midst of an update: the current state on its disk, and a draft of the state after
+/// the update. The byte strings of the draft are written to unused sectors as they come, and
+/// nothing lists them before the commit.
 pub struct Update<D: Disk> {
     pub(crate) disk: D,
     pub(crate) kept: Kept,
@@ -34,8 +34,8 @@ impl<D: Disk> Store<D> {
     ghost use Rattle.store.specs.Draft.{IsDraftedAt, begun};
     ghost use Rattle.store.specs.Opened.{IsAt};
 
-    /// Begins an update, whose draft is what stands. It makes no call of the disk. It refuses with
-    /// S2 or S11, and hands the store back.
+    /// Begins an update, whose draft is the current state. Makes no call of the disk. Refuses with
+    /// S2 or S11, and then hands the store back.
     pub fn update(self, alloc: Global) -> Result<Update<D>, (StoreRefusal, Store<D>)>
         ensures begun { IfOk result (λ update. update ≡ begun self) }
         ensures usable { IfOk result (λ update. IsFalse self.failed) }
@@ -62,8 +62,8 @@ impl<D: Disk> Store<D> {
 impl<D: Disk> Update<D> {
     ghost use Rattle.std.specs.Prelude.{◌≡◌};
 
-    /// Gives an update up: the store is as it was before it, and so is its layout. It makes no call
-    /// of the disk, also after S2.
+    /// Gives an update up: the store and its layout are as if no update had been begun. Makes no
+    /// call of the disk, also after S2.
     pub fn give_up(self) -> Store<D>
         ensures { result ≡ self.store }
     {

@@ -1,4 +1,4 @@
-// The lines of an update: each changes the draft alone.
+// The lines of an update: each changes only the draft.
 use crate::edit::Edit;
 use crate::name_index::close_up;
 use crate::refusal::StoreRefusal;
@@ -23,10 +23,9 @@ impl<D: Disk> Update<D> {
     ghost use Rattle.store.specs.Step.{IsRefusalOfPutNew, IsRefusalOfPutOver};
     ghost use Rattle.store.specs.Step.{refusal_of_change, refusal_of_new, refusal_of_put};
 
-    /// Puts a byte string of 64 bytes to 16 MiB, with a name that no other of the draft has, behind
-    /// the draft's others. It writes its sectors and that of its entry, and doesn't sync. It
-    /// refuses with S2, S9, S10, S11, S7, S8 or S1, of which S1 alone may come after the first
-    /// write.
+    /// Puts a byte string of 64 bytes to 16 MiB, with a name that no other of the draft has, after
+    /// the draft's others. Writes its sectors and the sector of its entry, and doesn't sync.
+    /// Refuses with S2, S9, S10, S11, S7, S8 or S1; only S1 may come after the first write.
     pub fn put_new(&mut self, name: &[u8], bytes: &[u8]) -> Result<(), StoreRefusal>
         requires name { IsName name.now }
         requires size { IsFileSize (length bytes.now) }
@@ -41,14 +40,14 @@ impl<D: Disk> Update<D> {
     {
         let put = self.kept.take_new(&mut self.draft, name, bytes)?;
         self.kept.write_draft(&mut self.disk, &put, bytes)?;
-        self.draft.edit(&Edit::Behind(put));
+        self.draft.edit(&Edit::Append(put));
         Ok(())
     }
 
-    /// Puts other bytes, 64 bytes to 16 MiB, in the place of those that the draft has under this
-    /// name. The sectors of the old ones are unused once it is done where the update wrote them,
-    /// and else once it is committed. It takes no memory. It refuses with S2, S10, S7, S8 or S1,
-    /// of which S1 alone may come after the first write.
+    /// Replaces the bytes that the draft has under the name `name` with `bytes`, which are 64 bytes
+    /// to 16 MiB. The sectors of the old bytes become unused at once if the update wrote them, and
+    /// otherwise at the commit, unless somebody holds them. Allocates nothing. Refuses with S2,
+    /// S10, S7, S8 or S1; only S1 may come after the first write.
     pub fn put_over(&mut self, name: &[u8], bytes: &[u8]) -> Result<(), StoreRefusal>
         requires present { (position : ℕ) × IsDraftedNamed self.old name.now position }
         requires size { IsFileSize (length bytes.now) }
@@ -68,13 +67,13 @@ impl<D: Disk> Update<D> {
         let put = self.kept.take_over(libraries, name, bytes)?;
         self.kept.write_draft(&mut self.disk, &put, bytes)?;
         self.kept.leave(&self.draft.entries[position]);
-        self.draft.edit(&Edit::Over(position, put));
+        self.draft.edit(&Edit::Replace(position, put));
         Ok(())
     }
 
-    /// Takes the byte string with this name, which is none of the draft's preloads, out of the
-    /// draft. Those behind it close up, and the preloads keep their names. It makes no call of the
-    /// disk and takes no memory, and is never refused for want of sectors: S2, S10.
+    /// Removes the byte string with the name `name`, which isn't one of the draft's preloads, from
+    /// the draft. Those after it move up, and the preloads keep their names. Makes no call of the
+    /// disk, allocates nothing, and never lacks sectors. Refuses with S2 or S10.
     pub fn delete(&mut self, name: &[u8]) -> Result<(), StoreRefusal>
         requires present { (position : ℕ) × IsDraftedNamed self.old name.now position }
         requires no_preload { IsNoPreloadOfDraft self.old name.now }
@@ -91,13 +90,13 @@ impl<D: Disk> Update<D> {
             unreachable!();
         };
         self.kept.leave(&self.draft.entries[position]);
-        self.draft.edit(&Edit::Out(position));
+        self.draft.edit(&Edit::Remove(position));
         close_up(self.draft.preloads.as_mut_slice(), position as u16);
         Ok(())
     }
 
-    /// Makes the byte strings at these positions of the draft its preloads, in this order: 16 at
-    /// most, none of them twice. It makes no call of the disk and takes no memory: S2, S10.
+    /// Makes the byte strings at `positions` of the draft its preloads, in this order: at most 16,
+    /// none of them twice. Makes no call of the disk and allocates nothing. Refuses with S2 or S10.
     pub fn set_preloads(&mut self, positions: &[usize]) -> Result<(), StoreRefusal>
         requires few { length positions.now ≤ most_preloads }
         requires inside { All (λ position. position < length self.old.entries) positions.now }

@@ -1,4 +1,4 @@
-// What an update tells of its draft, and reading the draft's byte strings.
+// Queries of an update's draft, and reading the draft's byte strings.
 use crate::read::read_file;
 use crate::refusal::StoreRefusal;
 use crate::update::Update;
@@ -16,15 +16,15 @@ impl<D: Disk> Update<D> {
     ghost use Rattle.store.specs.Names.{IsFileSize, IsName};
     ghost use Rattle.store.specs.Stands.{HaveOwnNames, name_of, names_at, no_library};
 
-    /// Whether a write or a sync of the store failed. Then each line answers S2, and so does the
-    /// commit.
+    /// Returns whether a write or a sync of the store has failed. If so, each line of the update
+    /// returns S2, and so does the commit.
     pub fn has_failed(&self) -> bool
         ensures { result ≡ self.now.store.failed }
     {
         self.kept.failed
     }
 
-    /// How many byte strings the draft has.
+    /// The number of byte strings of the draft.
     pub fn count(&self) -> usize
         ensures value { result ≡ length self.now.entries }
         ensures few { result ≤ most_libraries }
@@ -34,15 +34,15 @@ impl<D: Disk> Update<D> {
         self.draft.entries.len()
     }
 
-    /// Does nothing: it tells proofs that on any disk no two byte strings of the draft have one
-    /// name.
+    /// Does nothing. Its clause states that on any disk no two byte strings of the draft have the
+    /// same name.
     pub fn entries_are_sound(&self)
         ensures { HaveOwnNames self.now.entries }
     {
         let _ = &self.draft.entries;
     }
 
-    /// The name of the byte string at this position of the draft.
+    /// Returns the name of the byte string at `position` of the draft.
     pub fn name(&self, position: usize) -> &[u8]
         requires { position < length self.now.entries }
         ensures value { (d : PlacedEntry) →
@@ -54,7 +54,7 @@ impl<D: Disk> Update<D> {
         self.draft.entries[position].entry.name_bytes()
     }
 
-    /// The length in bytes of the byte string at this position of the draft.
+    /// Returns the length in bytes of the byte string at `position` of the draft.
     pub fn length(&self, position: usize) -> u32
         requires { position < length self.now.entries }
         ensures value { (d : PlacedEntry) →
@@ -66,8 +66,8 @@ impl<D: Disk> Update<D> {
         self.draft.entries[position].entry.file_length
     }
 
-    /// The position of the draft's byte string with this name. It guesses, and else halves an order
-    /// of the names.
+    /// Returns the position of the draft's byte string with the name `name`. Tries a guess first,
+    /// and then a binary search by name.
     pub fn position(&self, name: &[u8]) -> Option<usize>
         ensures none { IsNone result → IsNewToDraft self.now name.now }
         ensures some { IfSome result (λ i. (i < length self.now.entries)
@@ -95,8 +95,8 @@ impl<D: Disk> Update<D> {
         self.draft.preloads.as_slice()
     }
 
-    /// The byte string at this position of the draft. It reads each of its sectors once, and writes
-    /// nothing. It refuses with S2, S11 or S1.
+    /// Returns the byte string at `position` of the draft. Reads each of its sectors once, and
+    /// writes nothing. Refuses with S2, S11 or S1.
     pub fn read_blob(&mut self, alloc: Global, position: usize) -> Result<Vec<u8>, StoreRefusal>
         requires { position < length self.old.entries }
         ensures { ReadsDraft D.facts self.old self.new position result }

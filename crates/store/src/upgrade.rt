@@ -20,13 +20,14 @@ impl<D: Disk> Store<D> {
     ghost use Rattle.store.specs.Upgraded.{upgraded, IsNotOld, IsUpgradeOf, IsRelistedFrom};
     ghost use Rattle.states.specs.State.{State};
 
-    /// Opens the store that a disk of either version holds, after a stop too, as one of version 2.
-    /// On version 2 it writes nothing. On version 1 it writes the catalogues of the same byte
-    /// strings and the next root, and a stop at any moment leaves the old one or the new one whole.
-    /// It refuses with S6, S3, S5, S10, S7, S11 or S1, of which S1 alone may come after the first
-    /// write, and hands the disk back.
+    /// Opens the store that a disk of either version holds, also after a stop, as a store of
+    /// version 2. On a disk of version 2 it writes nothing. On a disk of version 1 it writes the
+    /// catalogues of the same byte strings and the next root. A stop at any moment leaves the old
+    /// store or the new one whole. Refuses with S6, S3, S5, S10, S7, S11 or S1, and then hands the
+    /// disk back; only S1 may come after the first write.
     pub fn upgrade(alloc: Global, disk: D) -> Result<Store<D>, (StoreRefusal, D)>
-        // A stop at any moment leaves what it could leave before, or the state by either rules.
+        // A stop at any moment leaves what it could leave before, or the state by the rules of
+        // either version.
         ensures any_moment { IsTrue (D.facts disk).honest → (s : State)
             → StandsOld (D.facts disk).now s
             → LeavesOnly (D.facts disk) (D.facts (disk_after result))
@@ -37,15 +38,15 @@ impl<D: Disk> Store<D> {
             → IfErr result (λ e. e.0 ≢ StoreRefusal.Device
             → LeavesOnly (D.facts disk) (D.facts e.1) (Mixture (D.facts disk))) }
 
-        // What reads give stays where nothing is written.
+        // If nothing is written, reads return what they returned before.
         ensures now { IsTrue (D.facts disk).honest → IsNotOld (D.facts disk).now
             → (D.facts (disk_after result)).now ≡ (D.facts disk).now }
         ensures now_refused { IsTrue (D.facts disk).honest
             → IfErr result (λ e. e.0 ≢ StoreRefusal.Device
             → (D.facts e.1).now ≡ (D.facts disk).now) }
 
-        // The store is at the state that what reads gave held, or, on version 1, at the one after
-        // it: every mixture holds that.
+        // The store is at the state that the disk's sectors held before, or, if the disk was of
+        // version 1, at the state after it. Every mixture holds that state.
         ensures ok { IsTrue (D.facts disk).honest → IfOk result (λ store.
             (s : State) × IsUpgradeOf D.facts store (D.facts disk).now s) }
         ensures stands { IsTrue (D.facts disk).honest → (s : State) → Stands (D.facts disk).now s
@@ -63,8 +64,8 @@ impl<D: Disk> Store<D> {
         ensures refused { IsTrue (D.facts disk).honest → IsNotOld (D.facts disk).now
             → IfErr result (λ e. RefusesLook StandsEither (D.facts disk).now e.0) }
 
-        // It reads what an opening reads, and then writes the catalogues and the root, and syncs
-        // twice.
+        // The call reads what an opening reads. On a disk of version 1 it then writes the
+        // catalogues and the root, and syncs twice.
         ensures calls_current { IsTrue (D.facts disk).honest → (s : State)
             → Stands (D.facts disk).now s → IfOk result (λ store. AreCallsExactly
             (calls_to_open store) (D.facts disk) (D.facts store.disk)) }
@@ -73,7 +74,7 @@ impl<D: Disk> Store<D> {
             (3 + length store.entries + (catalogues_for (length store.entries) + 3))
             (D.facts disk) (D.facts store.disk)) }
 
-        // On any disk
+        // These clauses hold on any disk, honest or not.
         ensures unheld { IfOk result (λ store. store.held ≡ []) }
         ensures usable { IfOk result (λ store. IsFalse store.failed) }
         ensures geometry { IfOk result (λ _. IsGeometry (D.facts disk).sectors) }

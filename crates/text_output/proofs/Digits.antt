@@ -1,4 +1,4 @@
--- The two digits of a byte, made as one number.
+-- The two digits of a byte, computed as one number.
 use Rattle.std.proofs.Common.{◌≡◌, ℕ, ◌+◌, ◌*◌, ◌/◌, ◌%◌, ◌<◌, ◌==◌, ◌&&◌, Bool, true, slice_index, bit_and, zero, suc, refl, subst, inl, inr, arith}
 use Rattle.std.proofs.lemmas.Bool.{and_parts, cases_lt, eqb-true}
 use Rattle.std.specs.Int.{to_le_bytes, w16}
@@ -10,7 +10,7 @@ digits_number b =
     let values = b / 16 + b % 16 * 256 in
     values + 12336 + bit_and ((values + 1542) / 16) 257 * 39
 
--- each number below n passes
+-- all numbers below n pass the test p
 abbrev all_below : (ℕ → Bool) → ℕ → Bool
 all_below p zero = true
 all_below p (suc n) = p n && all_below p n

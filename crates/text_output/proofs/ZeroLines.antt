@@ -1,4 +1,4 @@
--- Lines of zeros, and lines of zeros behind others.
+-- Lines of zeros, by themselves and after other lines.
 use Rattle.std.proofs.Common.{◌≡◌, ℕ, ◌+◌, ◌-◌, ◌*◌, ◌/◌, ◌%◌, ◌<◌, ◌≤◌, List, [], ◌∷◌, ◌++◌, length, take, drop, slice_index_or}
 use Rattle.std.proofs.Common.{sym, ap, ◌∙◌, arith, suc, zero, append-nil, refl, Option, Some, None, ◌⊎◌, inl, inr, append_assoc, min}
 use Rattle.std.specs.Prelude.{replicate}
@@ -13,7 +13,7 @@ use Rattle.hex.specs.Hex.{encode_lower, encode_with}
 use Rattle.text_output.specs.Hexadecimal.{line_at, first_lines, line_count, hex_lines}
 use Rattle.text_output.proofs.Lines.{range-split}
 
--- two ranges give the same text where they do so place by place
+-- two ranges have the same text if each pair of their elements has the same text
 flat_map-moved : (f g : ℕ → List ℕ) (a b n : ℕ) → ((k : ℕ) → k < n → f (a + k) ≡ g (b + k)) → flat_map f (range_with_len a n) ≡ flat_map g (range_with_len b n)
 flat_map-moved f g a b zero h = refl
 flat_map-moved f g a b (suc n) h =
@@ -22,19 +22,19 @@ flat_map-moved f g a b (suc n) h =
     (λ k l. ap f (let e : a + 1 + k ≡ a + suc k = omega arith in e) ∙ h (suc k) (omega (arith, l)) ∙ ap g (let e : b + suc k ≡ b + 1 + k = omega arith in e)) in
     ap (λ l. l ++ flat_map f (range_with_len (a + 1) n)) here ∙ ap (λ l. g b ++ l) rest
 
--- a whole line is the same whatever follows
+-- a whole line of `a` is also a line of `a` followed by `b`
 line-front : (a b : List ℕ) (k : ℕ) → 16 * k + 16 ≤ length a → line_at (a ++ b) k ≡ line_at a k
 line-front a b k h =
     ap (λ l. encode_lower (take 16 l) ++ 10 ∷ []) (drop-append-le (16 * k) a b (omega (arith, h)))
     ∙ ap (λ l. encode_lower l ++ 10 ∷ []) (take-append-le 16 (drop (16 * k) a) b (omega (arith, length-drop (16 * k) a, h)))
 
--- and a line behind whole ones is a line of what is behind
+-- if `a` has n whole lines, line n + k of `a` followed by `b` is line k of `b`
 line-back : (a b : List ℕ) (n k : ℕ) → length a ≡ 16 * n → line_at (a ++ b) (n + k) ≡ line_at b k
 line-back a b n k e =
     let at : 16 * (n + k) ≡ length a + 16 * k = omega (arith, e) in
     ap (λ l. encode_lower (take 16 l) ++ 10 ∷ []) (ap (λ j. drop j (a ++ b)) at ∙ drop-append-add a b (16 * k))
 
--- the lines of bytes behind whole lines stand behind these
+-- if `a` has n whole lines, the lines of `a` followed by `b` are those of `a`, followed by those of `b`
 pub hex_lines-append : (a b : List ℕ) (n : ℕ) → length a ≡ 16 * n → hex_lines (a ++ b) ≡ hex_lines a ++ hex_lines b
 hex_lines-append a b n e =
     let all : line_count (a ++ b) ≡ n + line_count b = omega (arith, length-append a b, e) in
@@ -48,7 +48,7 @@ hex_lines-append a b n e =
     ∙ ap (λ l. l ++ flat_map (line_at (a ++ b)) (range_with_len (0 + n) (line_count b))) (front ∙ ap (first_lines a) own)
     ∙ ap (λ l. hex_lines a ++ l) back
 
--- so many whole lines of zeros
+-- n whole lines of zeros
 abbrev pub zero_lines : ℕ → List ℕ
 zero_lines n = hex_lines (replicate (16 * n) 0)
 
@@ -60,7 +60,7 @@ zero_lines-and n k =
 pub zero_lines-more : (n m : ℕ) → zero_lines n ++ zero_lines m ≡ zero_lines (n + m)
 zero_lines-more n m = zero_lines-and n (16 * m) ∙ ap (λ k. hex_lines (replicate k 0)) (let e : 16 * n + 16 * m ≡ 16 * (n + m) = omega arith in e)
 
--- the text of one line
+-- the text of sixteen zeros and a newline is one line of zeros
 pub one-line : encode_lower (replicate 16 0) ++ 10 ∷ [] ≡ zero_lines 1
 one-line = sym (append-nil (encode_lower (replicate 16 0) ++ 10 ∷ []))
 
@@ -68,14 +68,14 @@ length-one : length (zero_lines 1) ≡ 33
 unfolding encode_with
 length-one = refl
 
--- it has 33 bytes
+-- n lines of zeros have 33 bytes of text each
 pub length-zero_lines : (n : ℕ) → length (zero_lines n) ≡ 33 * n
 length-zero_lines zero = refl
 length-zero_lines (suc n) =
     let more : zero_lines n ++ zero_lines 1 ≡ zero_lines (suc n) = zero_lines-more n 1 ∙ ap zero_lines (let e : n + 1 ≡ suc n = omega arith in e) in
     omega (arith, ap length more, length-append (zero_lines n) (zero_lines 1), length-zero_lines n, length-one)
 
--- whole lines, of which the last are zeros, and what is behind them
+-- the lines of bytes are those of the front, the lines of zeros after it, and the line of the rest
 pub lines-in-three : (bytes lines rest front : List ℕ) (n : ℕ) → lines ++ rest ≡ bytes → length lines % 16 ≡ 0 → n ≤ length lines → n % 16 ≡ 0
     → front ≡ take n lines → drop n lines ≡ replicate (length lines - n) 0
     → (hex_lines front ++ zero_lines ((length lines - n) / 16)) ++ hex_lines rest ≡ hex_lines bytes
@@ -89,7 +89,7 @@ lines-in-three bytes lines rest front n all whole h first is e =
     ∙ ap (λ l. l ++ hex_lines rest) (sym (hex_lines-append (take n lines) (drop n lines) (n / 16) size) ∙ ap hex_lines (take-append-drop n lines))
     ∙ sym (hex_lines-append lines rest (length lines / 16) lines_size) ∙ ap hex_lines all
 
--- one of the whole blocks of 64 bytes
+-- block number i of the whole blocks of 64 bytes is the 64 bytes at offset 64 i
 block-at : (n i : ℕ) (bytes d : List ℕ) → i < n → slice_index_or (first_chunks 64 n bytes) i d ≡ take 64 (drop (64 * i) bytes)
 block-at zero i bytes d h = absurd (omega arith)
 block-at (suc n) zero bytes d h = refl
@@ -97,7 +97,7 @@ block-at (suc n) (suc i) bytes d h =
     let e : 64 + 64 * i ≡ 64 * suc i = omega arith in
     block-at n i (drop 64 bytes) d (omega arith) ∙ ap (take 64) (drop-drop (64 * i) 64 bytes ∙ ap (λ k. drop k bytes) e)
 
--- it has zeros alone
+-- if a block has only zeros, the 64 bytes at its offset are zeros
 pub zero-block : (blocks : List (List ℕ)) (n i : ℕ) (bytes d : List ℕ) → blocks ≡ first_chunks 64 n bytes → i < n → 64 * n ≤ length bytes
     → slice_index_or blocks i d ≡ replicate (length (slice_index_or blocks i d)) 0 → take 64 (drop (64 * i) bytes) ≡ replicate 64 0
 zero-block blocks n i bytes d e h fits z =
@@ -106,7 +106,7 @@ zero-block blocks n i bytes d e h fits z =
     let size : length block ≡ 64 = omega (arith, length-take 64 (drop (64 * i) bytes), length-drop (64 * i) bytes, h, fits) in
     sym is ∙ z ∙ ap (λ (l : List ℕ). replicate (length l) 0) is ∙ ap (λ k. replicate k 0) size
 
--- zeros before zeros
+-- if n bytes are zeros and all bytes after them are, all bytes from the first of them on are zeros
 pub zeros-before : (bytes : List ℕ) (at n : ℕ) → at + n ≤ length bytes → take n (drop at bytes) ≡ replicate n 0
     → drop (at + n) bytes ≡ replicate (length bytes - (at + n)) 0 → drop at bytes ≡ replicate (length bytes - at) 0
 zeros-before bytes at n h block e =
@@ -116,13 +116,14 @@ zeros-before bytes at n h block e =
     ∙ ap (λ l. replicate n 0 ++ l) (drop-drop n at bytes ∙ e)
     ∙ replicate-append-replicate n (length bytes - (at + n)) 0 ∙ ap (λ k. replicate k 0) size
 
--- what waits was sent, and waits on
+-- if the waiting bytes were sent and still wait, the writer's bytes with them have grown by them
 pub sent-and-kept : (a b : Option (List ℕ)) (waiting : List ℕ) → Appends a b waiting → Appends (append_known a waiting) (append_known b waiting) waiting
 sent-and-kept None b waiting p = tt
 sent-and-kept (Some x) None waiting p = absurd p
 sent-and-kept (Some x) (Some y) waiting p = ap (λ l. l ++ waiting) p
 
--- a whole line and zeros behind it, or a shorter one and nothing
+-- the lines of a line and of zeros after it are the lines of both together, if the line is whole or
+-- there are no zeros
 line-and : (line zeros : List ℕ) → (length line ≡ 16) ⊎ (zeros ≡ []) → hex_lines line ++ hex_lines zeros ≡ hex_lines (line ++ zeros)
 line-and line zeros (inl h) = sym (hex_lines-append line zeros 1 h)
 line-and line zeros (inr h) =
@@ -131,7 +132,8 @@ line-and line zeros (inr h) =
 full-or-last : (rest zeros more : ℕ) → rest < 16 → more ≡ min zeros (16 - rest) → (rest + more ≡ 16) ⊎ (zeros - more ≡ 0)
 full-or-last rest zeros more h e = elim (cases_lt zeros (16 - rest)) [ inl l ↦ inr (omega (arith, l, e)) | inr l ↦ inl (omega (arith, l, e, h)) ]
 
--- bytes with zeros behind them: their whole lines, the line that begins with the rest, and lines of zeros
+-- the lines of bytes followed by zeros are the whole lines, the line of the rest filled with zeros, and
+-- lines of zeros
 pub padded-lines : (bytes lines rest : List ℕ) (zeros more n : ℕ) → lines ++ rest ≡ bytes → length lines ≡ 16 * n → length rest < 16 → more ≡ min zeros (16 - length rest)
     → (hex_lines lines ++ hex_lines (take (length rest + more) (rest ++ replicate (16 - length rest) 0))) ++ hex_lines (replicate (zeros - more) 0) ≡ hex_lines (bytes ++ replicate zeros 0)
 padded-lines bytes lines rest zeros more n all whole short least =

@@ -9,14 +9,16 @@ use crate::fault::WriteFault;
 use std::io::Write;
 use std::marker::Model;
 
-/// The least size of a buffer, in bytes, and the longest text that goes into it in one piece: a
-/// longer one goes in pieces.
+/// The minimum size of a buffer in bytes, and the maximum length of a text that is added in one
+/// step. A longer text is added in several steps.
 pub const PIECE: usize = 64;
 
-/// At most `SIZE` bytes that wait for a writer. They lie in the value itself, so that writing takes
-/// no memory: a buffer of a line's size serves a line, a larger one a long text. A writer that
-/// failed gets nothing more from it, since how much of the bytes it took is open. Contracts see the
-/// bytes that wait, and whether the writer failed.
+/// At most `SIZE` bytes that wait for a writer.
+///
+/// They are in the value itself, so writing allocates nothing. `OutputBuffer<LINE>` is enough for a
+/// line; a larger buffer is for a long text. After the writer has failed, the buffer writes nothing
+/// more to it, because nobody knows how many bytes it has accepted. Contracts see the waiting
+/// bytes, and whether the writer failed.
 #[derive(Drop)]
 pub struct OutputBuffer<const SIZE: usize> {
     bytes: [u8; SIZE],
@@ -38,7 +40,7 @@ impl<const SIZE: usize> Model for OutputBuffer<SIZE> {
 }
 
 impl<const SIZE: usize> OutputBuffer<SIZE> {
-    /// A buffer in which nothing waits.
+    /// Makes a buffer in which no bytes wait.
     pub fn new() -> Self
         requires { PIECE ≤ SIZE }
         ensures { result ≡ record { waiting = []; failed = false } }
@@ -50,7 +52,7 @@ impl<const SIZE: usize> OutputBuffer<SIZE> {
         }
     }
 
-    /// How many more bytes have room.
+    /// Returns the number of bytes for which there is still room.
     pub(crate) fn room(&self) -> usize
         ensures room { result + length self.now.waiting ≡ SIZE }
         ensures size { PIECE ≤ SIZE }
@@ -93,8 +95,8 @@ impl<const SIZE: usize> OutputBuffer<SIZE> {
         self.failed = true;
     }
 
-    /// Gives the waiting bytes to the writer, all of them with one call of `write_all`, and lets
-    /// them wait on.
+    /// Writes the waiting bytes to the writer with one call of `write_all`, and keeps them in the
+    /// buffer.
     pub(crate) fn send_and_keep<W: Write>(&mut self, out: &mut W) -> Result<(), WriteFault>
         ensures ok { OnOk result (Appends (W.contents out.old) (W.contents out.new)
             self.old.waiting) }
@@ -116,15 +118,16 @@ impl<const SIZE: usize> OutputBuffer<SIZE> {
         }
     }
 
-    /// Gives the waiting bytes to the writer, all of them with one call of `write_all`.
+    /// Writes the waiting bytes to the writer with one call of `write_all`, and removes them from
+    /// the buffer.
     pub fn send<W: Write>(&mut self, out: &mut W) -> Result<(), WriteFault>
         ensures ok { OnOk result (Appends (W.contents out.old) (W.contents out.new)
             self.old.waiting) }
         ensures sent { OnOk result (self.new ≡ record { waiting = []; failed = false }) }
-        // At a fault the bytes wait on, and the failure is noted.
+        // After a fault the bytes still wait, and the failure is noted.
         ensures err { OnErr result
             (self.new ≡ record { waiting = self.old.waiting; failed = true }) }
-        // A writer that failed gets nothing more.
+        // A writer that has failed gets nothing more.
         ensures failed { self.old.failed ≡ true → IsErr result × (out.new ≡ out.old) }
     {
         self.send_and_keep(out)?;
@@ -132,13 +135,14 @@ impl<const SIZE: usize> OutputBuffer<SIZE> {
         Ok(())
     }
 
-    /// Puts a short text behind what waits, and sends that first where there is no room.
+    /// Adds a short text to the waiting bytes. If it has no room there, sends the waiting bytes
+    /// first.
     pub(crate) fn put_piece<W: Write>(&mut self, out: &mut W, text: &[u8]) -> Result<(), WriteFault>
         requires { length text.now ≤ PIECE }
         ensures ok { OnOk result (Sends (W.contents out.old) self.old (W.contents out.new) self.new
             text.now) }
         ensures err { OnErr result (self.new.failed ≡ true) }
-        // Where there is room nothing is asked of the writer.
+        // If the text has room, the writer isn't called.
         ensures fits { HasRoom SIZE self.old text.now
             → (result ≡ Ok tt) × (out.new ≡ out.old)
             × (self.new ≡ with_text self.old text.now) }
@@ -150,7 +154,7 @@ impl<const SIZE: usize> OutputBuffer<SIZE> {
         Ok(())
     }
 
-    /// Puts a text behind what waits, and sends that first where there is no room.
+    /// Adds a text to the waiting bytes, and sends these whenever there is no room for more.
     pub fn put<W: Write>(&mut self, out: &mut W, text: &[u8]) -> Result<(), WriteFault>
         ensures ok { OnOk result (Sends (W.contents out.old) self.old (W.contents out.new) self.new
             text.now) }

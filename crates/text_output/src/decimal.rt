@@ -10,7 +10,7 @@ use itoa::Buffer;
 use std::io::Write;
 
 impl<const SIZE: usize> OutputBuffer<SIZE> {
-    /// Puts a number in decimal behind what waits.
+    /// Adds a number in decimal to the waiting bytes.
     pub fn put_decimal<W: Write>(&mut self, out: &mut W, n: u64) -> Result<(), WriteFault>
         ensures ok { OnOk result (Sends (W.contents out.old) self.old (W.contents out.new) self.new
             (decimal n)) }

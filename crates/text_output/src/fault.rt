@@ -1,4 +1,4 @@
-// What a writer's failure is.
+// The failure of a writer.
 
 use thiserror::Error;
 

@@ -11,26 +11,27 @@ use crate::fault::WriteFault;
 use crate::zeros::{BLOCK, zeros_begin};
 use std::io::Write;
 
-/// How many bytes a line has.
+/// The number of bytes that one line shows.
 pub(crate) const LINE_BYTES: usize = 16;
 
-/// How many bytes its text has.
+/// The length of a whole line in bytes of text, with its newline.
 pub(crate) const LINE_TEXT: usize = 2 * LINE_BYTES + 1;
 
-/// The two digits of a byte. Each is made in one half of a number, both at once, which lets the
-/// compiler make all digits of a line at once.
+/// Returns the two digits of a byte. Both are computed at once, each in one half of a number, so
+/// the compiler can compute all digits of a line at once.
 fn digits(byte: u8) -> [u8; 2]
     ensures first { slice_index result 0 ≡ slice_index lower_digits (byte / 16) }
     ensures second { slice_index result 1 ≡ slice_index lower_digits (byte % 16) }
 {
     let wide = u16::from(byte);
     let values = wide / 16 + wide % 16 * 256;
-    // A half is 1 where its value is that of a letter: `a` comes 39 behind the byte after `9`.
+    // A half is 1 if its digit is a letter: the code of `a` is 39 more than that of the character
+    // after `9`.
     let letters = ((values + 0x0606) / 16) & 0x0101;
     (values + 0x3030 + letters * 39).to_le_bytes()
 }
 
-/// A line of sixteen bytes.
+/// Returns the line of sixteen bytes.
 pub(crate) fn line(bytes: &[u8; LINE_BYTES]) -> [u8; LINE_TEXT]
     ensures { result ≡ encode_lower bytes.now ++ codes "\n" }
 {
@@ -44,7 +45,7 @@ pub(crate) fn line(bytes: &[u8; LINE_BYTES]) -> [u8; LINE_TEXT]
 }
 
 impl<const SIZE: usize> OutputBuffer<SIZE> {
-    /// Puts an address in 16 digits behind what waits.
+    /// Adds an address in 16 hexadecimal digits to the waiting bytes.
     pub fn put_address<W: Write>(&mut self, out: &mut W, address: u64) -> Result<(), WriteFault>
         ensures ok { OnOk result (Sends (W.contents out.old) self.old (W.contents out.new) self.new
             (address_text address)) }
@@ -58,7 +59,8 @@ impl<const SIZE: usize> OutputBuffer<SIZE> {
         self.put_piece(out, &digits)
     }
 
-    /// Puts the line of fewer than sixteen bytes behind what waits.
+    /// Adds the line of hexadecimal digits of `bytes`, which are fewer than sixteen, to the buffered
+    /// text.
     fn put_short_line<W: Write>(&mut self, out: &mut W, bytes: &[u8]) -> Result<(), WriteFault>
         requires { length bytes.now < LINE_BYTES }
         ensures ok { OnOk result (Sends (W.contents out.old) self.old (W.contents out.new) self.new
@@ -72,7 +74,8 @@ impl<const SIZE: usize> OutputBuffer<SIZE> {
         self.put_piece(out, b"\n")
     }
 
-    /// Puts bytes in hexadecimal behind what waits, sixteen a line, each line by itself.
+    /// Adds bytes in hexadecimal to the waiting bytes, sixteen bytes a line. Formats each line by
+    /// itself.
     pub(crate) fn put_lines<W: Write>(
         &mut self,
         out: &mut W,
@@ -92,8 +95,8 @@ impl<const SIZE: usize> OutputBuffer<SIZE> {
         self.put_short_line(out, rest)
     }
 
-    /// Puts bytes in hexadecimal behind what waits, sixteen a line. Where over 2,048
-    /// lines of zeros end them, these are made once.
+    /// Adds bytes in hexadecimal to the waiting bytes, sixteen bytes a line. If the bytes end with
+    /// more than 2,048 lines of zeros, makes the text of these lines only once.
     pub fn put_hex_lines<W: Write>(&mut self, out: &mut W, bytes: &[u8]) -> Result<(), WriteFault>
         ensures ok { OnOk result (Sends (W.contents out.old) self.old (W.contents out.new) self.new
             (hex_lines bytes.now)) }

@@ -1,8 +1,8 @@
 //! Text on its way to a writer.
 //!
-//! `OutputBuffer` holds the bytes that wait for a writer, on the stack, and spells what texts have
-//! in common: numbers, addresses, names and lines of hexadecimal digits. It takes no memory.
-//! `write_name` writes one name.
+//! `OutputBuffer` keeps the bytes that wait for a writer, on the stack. It formats numbers,
+//! addresses, names, and lines of hexadecimal digits. It allocates nothing. `write_name` writes one
+//! name.
 #![tactic(auto)]
 
 mod buffer;

@@ -1,4 +1,4 @@
-// Names.
+// The text of a name.
 
 ghost use Rattle.std.specs.Prelude.{◌≡◌, true, OnOk, OnErr, Ok};
 ghost use Rattle.std.specs.Io.KnownBytes.{Appends};
@@ -29,8 +29,8 @@ impl<const SIZE: usize> OutputBuffer<SIZE> {
         self.put_piece(out, &[b'\\', b'x', digits[0], digits[1]])
     }
 
-    /// Puts a name behind what waits: bytes 0x21 to 0x7e other than `\` as they are, others as `\x`
-    /// and two hexadecimal digits, and the empty name as `\e`.
+    /// Adds a name to the waiting bytes. Bytes 0x21 to 0x7e except `\` are added as they are, all
+    /// others as `\x` and two hexadecimal digits. The text of the empty name is `\e`.
     pub fn put_name<W: Write>(&mut self, out: &mut W, name: &[u8]) -> Result<(), WriteFault>
         ensures ok { OnOk result (Sends (W.contents out.old) self.old (W.contents out.new) self.new
             (name_text name.now)) }
@@ -49,9 +49,10 @@ impl<const SIZE: usize> OutputBuffer<SIZE> {
     }
 }
 
-/// Writes a name, as `OutputBuffer::put_name` spells it. It takes no memory, and a name whose text
-/// is no longer than `LINE` goes out with one write. Where the writer tells what it holds, that has
-/// grown by the name's text.
+/// Writes a name in the format of `OutputBuffer::put_name`. If the writer's contents are known,
+/// they grow by the name's text.
+///
+/// Allocates nothing. A name whose text isn't longer than `LINE` is written with one write.
 pub fn write_name<W: Write>(out: &mut W, name: &[u8]) -> Result<(), WriteFault>
     ensures { OnOk result (Appends (W.contents out.old) (W.contents out.new) (name_text name.now)) }
 {

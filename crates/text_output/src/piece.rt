@@ -12,18 +12,19 @@ use crate::fault::WriteFault;
 use std::io::Write;
 use std::marker::Model;
 
-/// The most bytes of a piece: what a pipe takes whole or not at all.
+/// The maximum size of a piece in bytes: a pipe accepts a piece of this size as a whole or not at
+/// all.
 const PIECE_BYTES: usize = 4096;
 
-/// The longest text that is put at once.
+/// The maximum length in bytes of a text that is added with one call.
 pub const LONGEST: usize = 256;
 
-/// The bytes of a piece.
+/// The buffer for a piece.
 type Piece = OutputBuffer<PIECE_BYTES>;
 
-/// Lines on their way to a writer, which is given them in pieces of at most 4,096 bytes. Each but
-/// the last one ends within a line, so a text that is cut between two is seen to be cut.
-/// Contracts see the bytes that wait, an ended line's newline among them.
+/// Lines on their way to a writer. They are written in pieces of at most 4,096 bytes. Each piece
+/// except the last one ends within a line. So if a text is cut between two pieces, a reader sees
+/// that it is cut. Contracts see the waiting bytes, which include the newline of an ended line.
 #[derive(Drop)]
 pub struct PieceBuffer {
     piece: Piece,
@@ -46,7 +47,7 @@ impl Model for PieceBuffer {
         × (length s.piece.waiting < most_piece) };
 }
 
-/// Gives a piece to the writer, with one call of `write_all`, behind which another one comes.
+/// Writes a piece to the writer with one call of `write_all`. Another piece will follow.
 fn give<W: Write>(piece: &mut Piece, out: &mut W) -> Result<(), WriteFault>
     requires { IsFrontPiece piece.old.waiting }
     ensures ok { OnOk result (Appends (W.contents out.old) (W.contents out.new)
@@ -59,7 +60,7 @@ fn give<W: Write>(piece: &mut Piece, out: &mut W) -> Result<(), WriteFault>
 }
 
 impl PieceBuffer {
-    /// A text of which nothing waits.
+    /// Makes a buffer without waiting bytes.
     pub fn new() -> Self
         ensures { result.waiting ≡ [] }
     {
@@ -69,8 +70,8 @@ impl PieceBuffer {
         }
     }
 
-    /// Puts a part of a line after the bytes that wait. If there is no room for it and for a
-    /// newline, these are given to the writer first, as one piece.
+    /// Adds a part of a line to the waiting bytes. If there is no room for the part and a newline,
+    /// first writes the waiting bytes to the writer, as one piece.
     pub fn put<W: Write>(&mut self, out: &mut W, text: &[u8]) -> Result<(), WriteFault>
         requires short { length text.now ≤ LONGEST }
         requires line { IsWithinLine text.now }
@@ -79,7 +80,7 @@ impl PieceBuffer {
         ensures within { OnOk result ((EndsWithinLine self.old.waiting ⊎ (0 < length text.now))
             → EndsWithinLine self.new.waiting) }
 
-        // The writer gets nothing, or a piece that ends within a line.
+        // The writer receives nothing, or a piece that ends within a line.
         ensures piece { OnOk result
             (GetsFrontPiece (W.contents out.old) (W.contents out.new)) }
     {
@@ -97,7 +98,8 @@ impl PieceBuffer {
         Ok(())
     }
 
-    /// Ends the line. Its newline waits for the next one, or for the end.
+    /// Adds a newline to the waiting bytes. It waits there for the next line, or for the end of the
+    /// text.
     pub fn end_line(&mut self)
         requires { EndsWithinLine self.old.waiting }
         ensures { self.new.waiting ≡ self.old.waiting ++ codes "\n" }
@@ -105,7 +107,7 @@ impl PieceBuffer {
         self.line_is_ended = true;
     }
 
-    /// Gives all bytes that wait to the writer: the last piece.
+    /// Writes all waiting bytes to the writer, as the last piece.
     pub fn finish<W: Write>(self, out: &mut W) -> Result<(), WriteFault>
         ensures { OnOk result (Appends (W.contents out.old) (W.contents out.new) self.waiting) }
     {

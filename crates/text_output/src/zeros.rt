@@ -1,4 +1,4 @@
-// Zeros in hexadecimal.
+// Lines of zeros in hexadecimal.
 
 ghost use Rattle.std.specs.Prelude.{◌≡◌, ◌*◌, ◌-◌, ◌%◌, ◌<◌, ◌≤◌, ◌++◌, drop, length, replicate};
 ghost use Rattle.std.specs.Prelude.{true};
@@ -11,13 +11,14 @@ use crate::fault::WriteFault;
 use crate::hexadecimal::{LINE_BYTES, LINE_TEXT, line};
 use std::io::Write;
 
-/// How many lines of zeros are put one by one.
+/// The maximum number of lines of zeros that are added one by one.
 const FEW: u64 = 2048;
 
-/// How many bytes are looked at at once.
+/// The number of bytes that are tested for zeros at once.
 pub(crate) const BLOCK: usize = 64;
 
-/// Whether a block has zeros alone. All of it is read, which lets the compiler read it at once.
+/// Returns whether a block has only zeros. Looks at all bytes without stopping early, so that the
+/// compiler can use vector instructions.
 fn is_zero(block: &[u8; BLOCK]) -> bool
     ensures { result ≡ true → block.now ≡ replicate (length block.now) 0 }
 {
@@ -28,7 +29,8 @@ fn is_zero(block: &[u8; BLOCK]) -> bool
     highest == 0
 }
 
-/// Where the blocks of zeros begin that whole blocks end with.
+/// Returns the offset at which the blocks of zeros at the end of `bytes` begin. `bytes` has only
+/// whole blocks.
 pub(crate) fn zeros_begin(bytes: &[u8]) -> usize
     requires { length bytes.now % BLOCK ≡ 0 }
     ensures within { result ≤ length bytes.now }
@@ -43,7 +45,7 @@ pub(crate) fn zeros_begin(bytes: &[u8]) -> usize
     BLOCK * count
 }
 
-/// A line that begins with these bytes and goes on with zeros.
+/// Returns a line that begins with `bytes` and continues with zeros.
 fn line_of(bytes: &[u8]) -> [u8; LINE_BYTES]
     requires { length bytes.now < LINE_BYTES }
     ensures { result ≡ bytes.now ++ replicate (LINE_BYTES - length bytes.now) 0 }
@@ -54,7 +56,7 @@ fn line_of(bytes: &[u8]) -> [u8; LINE_BYTES]
 }
 
 impl<const SIZE: usize> OutputBuffer<SIZE> {
-    /// Puts so many lines of zeros behind what waits, one by one.
+    /// Adds `count` lines of zeros to the waiting bytes, one by one.
     fn put_few_zero_lines<W: Write>(&mut self, out: &mut W, count: u64) -> Result<(), WriteFault>
         ensures ok { OnOk result (Sends (W.contents out.old) self.old (W.contents out.new) self.new
             (hex_lines (replicate (16 * count) 0))) }
@@ -70,8 +72,8 @@ impl<const SIZE: usize> OutputBuffer<SIZE> {
         Ok(())
     }
 
-    /// Puts so many lines of zeros behind what waits. Where they are many, the buffer is filled
-    /// with such lines once, and sent again and again.
+    /// Adds `count` lines of zeros to the waiting bytes. If they are many, fills the buffer with
+    /// such lines once, and sends it repeatedly.
     pub(crate) fn put_zero_lines<W: Write>(
         &mut self,
         out: &mut W,
@@ -94,7 +96,7 @@ impl<const SIZE: usize> OutputBuffer<SIZE> {
         }
         self.put_few_zero_lines(out, left)
     }
-    /// Puts so many zeros in hexadecimal behind what waits, sixteen a line.
+    /// Adds `count` zeros in hexadecimal to the waiting bytes, sixteen bytes a line.
     fn put_zeros<W: Write>(&mut self, out: &mut W, count: u64) -> Result<(), WriteFault>
         ensures ok { OnOk result (Sends (W.contents out.old) self.old (W.contents out.new) self.new
             (hex_lines (replicate count 0))) }
@@ -105,8 +107,8 @@ impl<const SIZE: usize> OutputBuffer<SIZE> {
         self.put_lines(out, &zeros[..(count % LINE_BYTES as u64) as usize])
     }
 
-    /// Puts bytes and so many zeros behind them in hexadecimal behind what waits, sixteen a line.
-    /// The zeros are made as lines, and the lines once.
+    /// Adds `bytes`, followed by `zeros` zeros, in hexadecimal to the waiting bytes, sixteen bytes
+    /// a line. Makes the text of the lines of zeros only once.
     pub fn put_padded_hex_lines<W: Write>(
         &mut self,
         out: &mut W,

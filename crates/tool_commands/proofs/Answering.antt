@@ -1,4 +1,4 @@
--- A command to a registry of which no file was read when it was opened.
+-- Lemmas about a command to a registry that was opened without reading a library's file.
 use Rattle.std.proofs.Common.{◌≡◌, List, Ok, inl, inr, ap, sym, subst, ◌∙◌}
 use Rattle.std.specs.Prelude.{◌≢◌, ◌⊎◌, IsTrue}
 use Rattle.sector_disk.specs.Disk.{Sector, DiskFacts, Mixture, LeavesOnly}
@@ -18,7 +18,7 @@ use Rattle.registry.specs.Applied.{MayLeaveBy}
 use Rattle.registry.specs.Phase.{phase_of}
 use Rattle.tool_commands.specs.Request.{DiskStep, IsAnswered, IsChange}
 
--- a change that is refused, but for a failed call, leaves the registry as it was
+-- a change that is refused for another reason than a failed call leaves the registry unchanged
 same : {D : Type 0} (old new : Opened D) (request : Request) (refusal : Refusal) → IsChange request → Leaves old new request (Refused refusal) → refusal ≢ Device → new ≡ old
 same old new (install bytes) refusal h leaves other = leaves.1 other
 same old new (replace bytes) refusal h leaves other = leaves.1 other
@@ -28,11 +28,11 @@ same old new (bind program base) refusal h leaves other = absurd h
 same old new list refusal h leaves other = absurd h
 
 module _ {D : Type 0} (facts : D → DiskFacts) (disk left : D) (old new : Opened D) (request : Request) (reply : Reply) where
-  -- what a stop may leave from the opening to the end
+  -- a stop at any moment from the opening to the end may leave the sectors m
   abbrev MayBeLeft : State → State → List Sector → Type 0
   MayBeLeft s s' m = Mixture (facts disk) m ⊎ MayLeaveBy sectors.Stands (phase_of facts old s) request reply s' m
 
-  -- nothing was written where the registry is as it was
+  -- if the registry is unchanged, nothing was written
   nothing : Opens sectors.Stands facts (store.IsAt facts) disk (Ok old) → IsTrue (facts disk).honest → left ≡ old.disk
       → LeavesOnly (facts disk) (facts left) (Mixture (facts disk)) × ((facts left).now ≡ (facts disk).now)
   nothing opened honest back = (
@@ -40,7 +40,7 @@ module _ {D : Type 0} (facts : D → DiskFacts) (disk left : D) (old new : Opene
     ap (λ (d : D). (facts d).now) back ∙ opened.now honest,
   )
 
-  -- a registry that was opened and then answered
+  -- if a registry was opened and then answered a command, `IsAnswered` holds
   pub answered : OpensByEntries facts disk (Ok old) → DiskStep facts old request reply new → left ≡ new.disk → IsAnswered facts disk request reply left
   answered is step back = record {
     old = old;

@@ -1,4 +1,4 @@
--- What a dump ends with.
+-- Lemmas about how a dump ends.
 use Rattle.std.proofs.Common.{◌≡◌, ◌<◌, ℕ, List, ◌++◌, length, Option, Some, None, get_or, ap, inl, inr}
 use Rattle.std.specs.List.{flat_map}
 use Rattle.sector_disk.specs.Disk.{DiskFacts}
@@ -22,14 +22,15 @@ module _ (old new : DiskFacts) (purpose : Purpose) (io : Streams) (status : Stat
   lacked l (Found finding) is h failed says = inl (finding, h.0, h.1, λ e. failed (ap Found e), is, says)
   lacked l OutOfMemory is h failed says = inr (is, says)
 
-  -- a script that was written, whole or cut
+  -- if a script was written, whole or cut, the dump ends as `DumpEnds` defines
   pub ended : (s : State) (cut : Option Cut) → status ≡ dump_status cut → IsGone s cut → IsLacking old new cut → SaysCut s.libraries cut io.errors_before io.errors_after
       → Tells io (libraries_text s cut ++ end_text purpose s.preloads cut) → DumpEnds old new purpose s io status
   ended s None is gone lacks says put = inl (is, gone, put, says)
   ended s (Some cut) is gone lacks says put =
       inr (inl (cut.position, gone.0, lacked (get_or s.libraries cut.position no_library) cut.lack is gone.1 lacks.1 says, put))
 
-  -- on any disk
+  -- on any disk, a dump ends with a whole script, or with one that is cut for a reason for which `IsCut`
+  -- holds
   some_cut : (l : Library) (lack : Lack) → status ≡ lack_status lack → IsLacking old new (Some (record { position = 0; lack = lack })) → Says io (lack_line l lack) → IsCut old new io status
   some_cut l (Found finding) is lacks says = inl (finding, l.name, length l.bytes, (λ e. lacks.0 (ap Found e)), (λ e. lacks.1 (ap Found e)), is, says)
   some_cut l OutOfMemory is lacks says = inr (is, says)

@@ -1,4 +1,5 @@
--- What is told of a program by what was found for it, and by what is installed.
+-- The report for a program with the libraries that were found is the report with the installed
+-- libraries.
 use Rattle.std.proofs.Common.{◌≡◌, ℕ, Option, Some, None, true, false, List, map, inl, inr, refl, sym, subst, ◌∙◌}
 use Rattle.std.specs.Prelude.{is_some}
 use Rattle.bindings.proofs.Known.{texts-same}
@@ -13,7 +14,7 @@ use Rattle.states.specs.State.{State}
 use Rattle.tool_commands.specs.Bindings.{FoundTells, LackingTells, StateTells, WholeTells}
 use Rattle.tool_parts.specs.Streams.{Streams, TellsOnly}
 
--- where no name is missing
+-- an option that isn't `Some` is `None`, so no name is missing
 pub lacks-none : (o : Option Need) → is_some o ≡ false → o ≡ None
 lacks-none None none = refl
 lacks-none (Some need) none = absurd (let no : true ≡ false = none in cc)
@@ -22,7 +23,7 @@ module _ (s : State) (program : List ℕ) (base : ℕ) (found : Found) (io : Str
   abbrev order : List Named
   order = load_order program (objects s) (preload_numbers s)
 
-  -- what was found is what is installed of what is needed
+  -- a report with the libraries that were found is a report with the installed libraries
   pub state-tells : FoundTells program base found io status → StateTells s program base io status
   state-tells (inl h) = inl (is.lacks ∙ h.0, subst (λ o. WholeTells (place base o) io status) (sym is.order) h.1)
   state-tells (inr h) = inr ((λ none. h.0 (sym is.lacks ∙ none)), lacking (subst (λ o. LackingTells (names_of (map object_of found.libraries)) o io status) (sym is.order) h.1))

@@ -1,4 +1,4 @@
--- Lines of libraries, one behind the other.
+-- Lemmas about the lines for libraries, one after the other.
 use Rattle.std.proofs.Common.{◌≡◌, ℕ, ◌+◌, ◌<◌, List, [], ◌∷◌, ◌++◌, get_or, take, length, length-take, sym, ap, ◌∙◌, append_assoc, append-nil, arith}
 use Rattle.std.proofs.lemmas.List.{take_more}
 use Rattle.states.specs.State.{Library}
@@ -12,7 +12,7 @@ module _ {T : Type 0} (text : Library → T → List ℕ) where
   push (k ∷ ls) (y ∷ xs) l x h =
       ap (λ (t : List ℕ). text k y ++ t) (push ls xs l x (omega (arith, h))) ∙ sym (append_assoc (text k y) (lines_of text ls xs) (text l x))
 
-  -- one library more
+  -- the lines for the first i + 1 libraries are those for the first i and that for library number i
   pub lines-more : (ls : List Library) (xs : List T) (i : ℕ) (dl : Library) (dx : T) → i < length ls → i < length xs
       → lines_of text (take (i + 1) ls) (take (i + 1) xs) ≡ lines_of text (take i ls) (take i xs) ++ text (get_or ls i dl) (get_or xs i dx)
   lines-more ls xs i dl dx hl hx =

@@ -1,4 +1,4 @@
--- What a store tells of the libraries that it lists.
+-- Lemmas about the libraries that a store lists.
 use Rattle.std.proofs.Common.{◌≡◌, ℕ, ◌<◌, List, length, map, get_or, sym, ap, ◌∙◌, ⊎_elim}
 use Rattle.std.proofs.lemmas.List.{get_or-map, length-map, length-replicate}
 use Rattle.sector_disk.specs.Disk.{DiskFacts}
@@ -10,23 +10,23 @@ use Rattle.store.proofs.UsedAlone.{no_entry}
 use Rattle.tool_commands.specs.inside.Listed.{AreListed, Lists, as_listed}
 
 module _ {D : Type 0} (facts : D → DiskFacts) (store : Opened D) (libraries : List Library) (lists : Lists facts store libraries) where
-  -- how many they are
+  -- the number of entries is the number of the libraries
   pub count_listed : (n : ℕ) → n ≡ length store.entries → ((s : State) → IsAt facts store s → n ≡ length s.libraries) → n ≡ length libraries
   count_listed n value state = ⊎_elim (λ h. state h.0 h.1 ∙ ap length h.2) (λ h. value ∙ h.count) lists
 
-  -- the name of the one at a position
+  -- the name at a position is the name of the library there
   pub name_listed : (i : ℕ) (name : List ℕ) → i < length store.entries → ((d : PlacedEntry) → name ≡ name_of (get_or store.entries i d).entry)
       → ((s : State) → IsAt facts store s → name ≡ (get_or s.libraries i no_library).name) → name ≡ (get_or libraries i no_library).name
   name_listed i name lt value state =
       ⊎_elim (λ h. state h.0 h.1 ∙ ap (λ ls. (get_or ls i no_library).name) h.2) (λ h. value no_entry ∙ h.name i lt no_entry) lists
 
-  -- and its length
+  -- the length at a position is the length of the library there
   pub length_listed : (i n : ℕ) → i < length store.entries → ((d : PlacedEntry) → n ≡ (get_or store.entries i d).entry.file_length)
       → ((s : State) → IsAt facts store s → n ≡ length (get_or s.libraries i no_library).bytes) → n ≡ length (get_or libraries i no_library).bytes
   length_listed i n lt value state =
       ⊎_elim (λ h. state h.0 h.1 ∙ ap (λ ls. length (get_or ls i no_library).bytes) h.2) (λ h. value no_entry ∙ h.size i lt no_entry) lists
 
--- entries list libraries of their names and lengths
+-- entries have the names and lengths of the libraries that are made from them
 pub are_listed : (entries : List PlacedEntry) → AreListed entries (map as_listed entries)
 are_listed entries = record {
   count = sym (length-map entries as_listed);

@@ -1,4 +1,5 @@
--- What the forms end with: none ends as words do that are none, and what is said is apart from what is told.
+-- How the forms end: no form ends with the status of bad arguments, and messages on standard error are
+-- kept apart from the output.
 use Rattle.std.proofs.Common.{◌≡◌, ℕ, Bool, List, Option, Some, None, map, true, false, inl, inr, refl, sym, ap, ◌∙◌, ⊎_elim, arith}
 use Rattle.std.proofs.lemmas.Bool.{false≢true}
 use Rattle.std.specs.Prelude.{◌≢◌, ◌⊎◌, if◌then◌else◌, is_none}
@@ -60,7 +61,7 @@ use Rattle.tool_commands.specs.declared.telling.Telling.TheVariants.{Text, Execu
 
 -- ---- statuses
 
--- what is asked isn't done, but words were read
+-- the status is neither Done nor that of bad arguments
 abbrev IsFault : Status → Type 0
 IsFault status = (status ≢ Done) × (status ≢ BadWords)
 
@@ -107,7 +108,7 @@ executable_fault other = refused_fault
 
 open_fault : (fault : OpenFault) → IsFault (open_status fault)
 open_fault disk_file.CannotOpen = failed_fault
-open_fault disk_file.BadLength = refused_fault
+open_fault (disk_file.BadLength length) = refused_fault
 open_fault disk_file.OutOfMemory = memory_fault
 
 read_fault : (fault : FileFault) → IsFault (read_status fault)
@@ -127,7 +128,7 @@ bindings_words : (objects : List Placed) → bindings_status objects ≢ BadWord
 bindings_words objects =
     elim (is_none (undefined_refusal objects)) as (λ none. (if none then Done else Refused) ≢ BadWords) [ true ↦ done_words | false ↦ refused_fault.1 ]
 
--- a status that is one of these
+-- if a form ends with a status other than BadWords, its status isn't BadWords
 same_words : (ends status : Status) → ends ≢ BadWords → status ≡ ends → status ≢ BadWords
 same_words ends status other is h = other (sym is ∙ h)
 
@@ -136,13 +137,14 @@ same_fault ends status fault is = (λ h. fault.0 (sym is ∙ h), λ h. fault.1 (
 
 -- ---- the ends of each kind
 
--- what is told as an executable file may be told with a warning
+-- whether a warning may be written in addition to the output
 abbrev may_add : Telling → Bool
 may_add Text = false
 may_add Executable = true
 
 module _ (io : Streams) (status : Status) where
-  -- what an end says that may warn or may not, and may say something beside what it tells or may not
+  -- the three facts about the end of a form; `warning` is whether the form may warn, and `beside`
+  -- whether it may write to both streams
   abbrev Kind : (warning beside : Bool) → Type 0
   Kind warning beside = (status ≢ BadWords)
       × (warning ≡ false → status ≡ Done → IsSilent io)
@@ -159,7 +161,7 @@ module _ (io : Streams) (status : Status) where
       let other = same_fault ends status fault is in
       (other.1, λ isnt done. absurd (other.0 done), λ isnt failed. inr none)
 
-  -- beside which something may be said
+  -- if a form ends in one of its ways, the three facts hold
   broken : {w : Bool} (ends : Status) → IsFault ends → status ≡ ends → Kind w true
   broken ends fault is =
       let other = same_fault ends status fault is in
@@ -248,10 +250,10 @@ module _ (io : Streams) (status : Status) where
   order_kind lacks names order base (inr (lacking, inr h)) = said NoMemory _ memory_fault h
 
   bound_kind : {D : Type 0} (facts : D → DiskFacts) (old new : Opened D) (program : List ℕ) (base : ℕ) → BindingsTell facts old new program base io status → Kind false false
-  bound_kind facts old new program base (inl h) = refused_kind (of_bind h.0) h.2
+  bound_kind facts old new program base (inl (same, h)) = refused_kind (of_bind h.0) h.2
   bound_kind facts old new program base (inr (inl h)) = refused_kind h.0 h.2
   bound_kind facts old new program base (inr (inr h)) =
-      order_kind h.0.missing (names_of (map object_of h.0.libraries)) (available program (map object_of h.0.libraries)) base h.1
+      order_kind h.0.missing (names_of (map object_of h.0.libraries)) (available program (map object_of h.0.libraries)) base h.2
 
   bindings_kind : (program : List ℕ) (base : ℕ) → BindingsAskEnds program base io status → Kind false false
   bindings_kind program base (inl h) = ⊎_elim
@@ -264,7 +266,7 @@ module _ (io : Streams) (status : Status) where
   read_bindings_kind base (inl h) = bindings_kind h.0 base h.2
   read_bindings_kind base (inr h) = untold (read_status h.0) (read_fault h.0) h.1 h.2
 
--- of an update whose lines a fault ended, both streams have something
+-- An update may write to both streams if a fault ends its lines.
 module _ (io : program.Streams) (status : Status) where
   abbrev UpdateKind : Type 0
   UpdateKind = Kind (outputs_of io) status false true
@@ -294,7 +296,7 @@ module _ (io : program.Streams) (status : Status) where
     deed_kind (executable path base) h = read_kind (outputs_of io) status (λ bytes. request.bind bytes base) Executable h
     deed_kind (bindings path base) h = read_bindings_kind (outputs_of io) status base h
 
--- ---- a line, by its number
+-- ---- a command line, by the number of its status
 
 number_done : (status : Status) → status_number status ≡ 0 → status ≡ Done
 number_done Done h = refl

@@ -1,4 +1,5 @@
--- What the forms end with on any disk, also on one that lies: a text of the form, and the status that goes with it (own).
+-- How the forms end on any disk, even on a disk that lies: with a text of the form and the status of
+-- this text (own).
 use Rattle.std.specs.Prelude.{◌≡◌, ◌≢◌, ◌⊎◌, ◌<◌, ℕ, List, ◌++◌, length, codes, All, Option, count_by, is_none}
 use Rattle.std.specs.List.{flat_map}
 use Rattle.sector_disk.specs.Disk.{DiskFacts}
@@ -20,48 +21,49 @@ use Rattle.tool_commands.specs.Said.{not_installed_line}
 use Rattle.tool_parts.specs.Streams.{Streams, CannotWrite, IsSilent, Says, SaysOnly, Tells, TellsOnly}
 use Rattle.tool_commands.specs.declared.form.Purpose.{Purpose}
 
--- `info`: the lines of some numbers
+-- `info`: exactly the lines for some numbers are written
 abbrev pub InfoTells : Streams → Status → Type 0
 InfoTells io status = (told : Info)
     × TellsOnly Done (info_text told.sectors told.generation told.libraries told.preloads told.unused.sectors told.unused.free told.unused.runs told.unused.largest) io status
 
--- what is told by reading byte strings, which took a disk from the one to the other
+-- The forms read byte strings, and their calls changed the disk's facts from `old` to `new`.
 module _ (old new : DiskFacts) where
-  -- `check`: what is found of some libraries, and for each that can't be read a call failed; or memory
-  -- was refused
+  -- `check`: findings for some libraries are written, and at least one call failed for each library that
+  -- can't be read; or memory was refused
   abbrev pub CheckTells : Streams → Status → Type 0
   CheckTells io status =
       ((libraries : List Library) × (findings : List Finding) × (length findings ≡ length libraries) × HaveFailed old new (count_by is_unreadable findings)
       × TellsOnly (check_status findings) (check_text libraries findings) io status)
       ⊎ SaysOnly NoMemory memory_line io status
 
-  -- `digest`: the digests of some bytes, under some libraries' names, and for each that can't be read
-  -- a call failed; or memory was refused
+  -- `digest`: the digests of some bytes are written with the names of some libraries, and at least one
+  -- call failed for each library that can't be read; or memory was refused
   abbrev pub DigestTells : Streams → Status → Type 0
   DigestTells io status =
       ((libraries : List Library) × (digests : List (Option (List ℕ))) × (length digests ≡ length libraries) × All IsDigestOfSome digests
       × HaveFailed old new (count_by is_none digests) × TellsDigests libraries digests io status)
       ⊎ SaysOnly NoMemory memory_line io status
 
-  -- the bytes of a library can't be read, since a call failed; or memory was refused
+  -- either the bytes of a library can't be read because a call failed, or memory was refused
   abbrev pub IsUnread : Streams → Status → Type 0
   IsUnread io status = ((old.failures < new.failures) × SaysOnly Failed device_line io status) ⊎ SaysOnly NoMemory memory_line io status
 
-  -- `file`: some bytes; or none
+  -- `file`: either some bytes are written, or the library isn't installed, or its bytes can't be read
   abbrev pub FileTells : Streams → Status → Type 0
   FileTells io status =
       ((bytes : List ℕ) × TellsOnly Done bytes io status)
       ⊎ (SaysOnly Refused not_installed_line io status ⊎ IsUnread io status)
 
-  -- why a script is cut, which is said: some library can't be read, since a call failed, or isn't one
-  -- of its name, or memory was refused
+  -- Standard error reports why a script is cut. Either a library can't be read because a call failed, or
+  -- a file isn't a library with its entry's name, or memory was refused.
   abbrev pub IsCut : Streams → Status → Type 0
   IsCut io status =
       ((finding : Finding) × (name : List ℕ) × (size : ℕ) × (finding ≢ Sound) × (finding ≡ Unreadable → old.failures < new.failures)
       × (status ≡ cut_status finding) × Says io (said_line (finding_line name size finding)))
       ⊎ ((status ≡ NoMemory) × Says io memory_line)
 
-  -- `dump`: the script for this of some libraries and preloads; or of some libraries, cut; or the output failed
+  -- `dump`: either the whole script for some libraries and preloads and this purpose is written, or a
+  -- script for some libraries that is cut, or the output failed
   abbrev pub DumpTells : Purpose → Streams → Status → Type 0
   DumpTells purpose io status =
       ((libraries : List Library) × (preloads : List (List ℕ)) × (status ≡ Done)
@@ -69,7 +71,8 @@ module _ (old new : DiskFacts) where
       ⊎ (((libraries : List Library) × IsCut io status × Tells io (flat_map install_text libraries ++ codes "cut"))
       ⊎ CannotWrite io status)
 
--- what is asked of what a disk seems to have, whose calls took it from the one to the other
+-- the question is answered with some text about the disk, and the calls changed the disk's facts from
+-- `old` to `new`
 abbrev pub FormTells : (old new : DiskFacts) → Question → Streams → Status → Type 0
 FormTells old new info io status = InfoTells io status
 FormTells old new check io status = CheckTells old new io status

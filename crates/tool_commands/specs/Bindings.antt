@@ -1,4 +1,4 @@
--- What is told of what the symbols of a program are bound to (own).
+-- How a form ends that reports what the symbols of a program are bound to (own).
 use Rattle.std.specs.Prelude.{◌≡◌, ◌≢◌, ◌⊎◌, ℕ, List, Option, None, Ok, Err, map, false, is_none, if◌then◌else◌}
 use Rattle.bindings.specs.Bindings.{bindings_text}
 use Rattle.bindings.specs.Dependencies.{dependencies_text}
@@ -9,14 +9,15 @@ use Rattle.program_parts.specs.Reply.{command_refusal_text}
 use Rattle.program_parts.specs.Status.{disk_status, refusal_status}
 use Rattle.program_parts.specs.declared.status.Status.{Status}
 use Rattle.program_parts.specs.declared.status.Status.TheVariants.{Done, Refused, NoMemory}
-use Rattle.registry.specs.Found.{Found, IsFindRefusal}
+use Rattle.registry.specs.Binding.{bind_sectors}
+use Rattle.registry.specs.Found.{Found, IsFindRefusal, found_sectors}
 use Rattle.registry.specs.Untested.{ReadsLibraries}
 use Rattle.requests.specs.Binding.{object_of, objects, of_bind, preload_numbers}
 use Rattle.requests.specs.declared.refusal.Refusal.{Refusal}
 use Rattle.requests.specs.declared.refusal.Refusal.TheVariants.{Damaged}
 use Rattle.scope.specs.LoadOrder.{Need, available, load_order, missing, names_of}
 use Rattle.scope.specs.Objects.{Named}
-use Rattle.sector_disk.specs.Disk.{DiskFacts}
+use Rattle.sector_disk.specs.Disk.{AreCallsExactly, DiskFacts}
 use Rattle.states.specs.State.{State}
 use Rattle.store.specs.IsRead.{IsRead}
 use Rattle.store.specs.Opened.{IsAt, Opened}
@@ -25,79 +26,100 @@ use Rattle.store.specs.declared.refusal.StoreRefusal.{StoreRefusal}
 use Rattle.tool_parts.specs.Said.{memory_line, refusal_line, said_line}
 use Rattle.tool_parts.specs.Streams.{Streams, SaysOnly, TellsOnly}
 
--- a refusal is said as that of a bind, and nothing is told
+-- standard error reports the refusal as one of a bind, and nothing is written to the output
 abbrev pub SaysRefusal : Refusal → Streams → Status → Type 0
 SaysRefusal refusal io status = SaysOnly (refusal_status refusal) (said_line (command_refusal_text refusal)) io status
 
--- what objects in their places end with: 1 where the symbol of a relocation is undefined
+-- the status for placed objects: Refused if the symbol of a relocation is undefined, and otherwise
+-- Done
 abbrev pub bindings_status : List Placed → Status
 bindings_status objects = if is_none (undefined_refusal objects) then Done else Refused
 
--- what their symbols are bound to is told; or they have no room, or memory was refused
+-- the output gets a report of what the symbols of the placed objects are bound to; or the objects have
+-- no room; or memory was refused
 abbrev pub PlacedTells : List Placed → Streams → Status → Type 0
 PlacedTells objects io status =
     ((lacks_room objects ≡ false) × TellsOnly (bindings_status objects) (bindings_text objects) io status)
     ⊎ ((refusal : BindRefusal) × IsPlaceAnswer objects refusal × SaysRefusal (of_bind refusal) io status)
 
--- the same, where memory was refused before they had places
+-- `PlacedTells` holds, or memory was refused before the objects were placed
 abbrev pub WholeTells : List Placed → Streams → Status → Type 0
 WholeTells objects io status = PlacedTells objects io status ⊎ SaysOnly NoMemory memory_line io status
 
--- what each of these objects needs is told, and which names aren't among these; or memory was refused
+-- the output gets a report of what each object needs and of the needed names that aren't among `names`;
+-- or memory was refused
 abbrev pub LackingTells : List (List ℕ) → List Named → Streams → Status → Type 0
 LackingTells names objects io status = TellsOnly Refused (dependencies_text names objects) io status ⊎ SaysOnly NoMemory memory_line io status
 
--- of objects in load order, the program at a base; where a name is missing, by names of libraries
+-- A report about `order`, the objects in load order, with the program at the address `base`. If no name
+-- is missing, it has the bindings. Otherwise it has what the objects need, and the needed names that
+-- aren't among `names`.
 abbrev pub OrderTells : Option Need → List (List ℕ) → List Named → ℕ → Streams → Status → Type 0
 OrderTells lacks names order base io status =
     ((lacks ≡ None) × WholeTells (place base order) io status) ⊎ ((lacks ≢ None) × LackingTells names order io status)
 
--- of what was found for a program
+-- the report about a program and the libraries that were found for it
 abbrev pub FoundTells : List ℕ → ℕ → Found → Streams → Status → Type 0
 FoundTells program base found io status =
     OrderTells found.missing (names_of (map object_of found.libraries)) (available program (map object_of found.libraries)) base io status
 
--- of a program with what is installed
+-- the report about a program and the installed libraries
 abbrev pub StateTells : State → List ℕ → ℕ → Streams → Status → Type 0
 StateTells s program base io status =
     OrderTells (missing program (objects s) (preload_numbers s)) (names_of (objects s)) (load_order program (objects s) (preload_numbers s)) base io status
 
--- the program is refused by itself, which is said
+-- a test refuses the program by itself, and standard error reports the refusal
 abbrev pub IsRefusedAlone : List ℕ → ℕ → Streams → Status → Type 0
 IsRefusedAlone program base io status = (refusal : BindRefusal) × IsProgramAnswer program base refusal × SaysRefusal (of_bind refusal) io status
 
--- over a state: the program is refused alone, or a library can't be read, S5 only where one is none
+-- The program is refused by itself, and no call of the disk is made.
+abbrev pub IsRefusedUnread : {D : Type 0} → Opened D → Opened D → List ℕ → ℕ → Streams → Status → Type 0
+IsRefusedUnread old new program base io status = (new ≡ old) × IsRefusedAlone program base io status
+
+-- Exactly the calls of a bind were made: one call for each sector of each library that the program needs.
+abbrev pub ReadsAsBind : {D : Type 0} → (D → DiskFacts) → Opened D → Opened D → State → List ℕ → Type 0
+ReadsAsBind facts old new s program = AreCallsExactly (bind_sectors s program) (facts old.disk) (facts new.disk)
+
+-- Each library that was found was read once, and nothing else was read.
+abbrev pub ReadsFound : {D : Type 0} → (D → DiskFacts) → Opened D → Opened D → Found → Type 0
+ReadsFound facts old new found = AreCallsExactly (found_sectors found) (facts old.disk) (facts new.disk)
+
+-- How `bindings` ends over a disk that holds the state `s`. There are three cases: the program is refused
+-- by itself; a library can't be read, and S5 (Damaged) then means that a file that the bind reads isn't a
+-- library; or the bindings or the missing names are reported, after exactly the calls of a bind.
 abbrev pub BindingsEnd : {D : Type 0} → (D → DiskFacts) → Opened D → Opened D → State → List ℕ → ℕ → Streams → Status → Type 0
 BindingsEnd facts old new s program base io status =
-    IsRefusedAlone program base io status
+    IsRefusedUnread old new program base io status
     ⊎ ((program_refusal program base ≡ None)
     × (((refusal : Refusal) × IsFindRefusal facts old new refusal × (refusal ≡ Damaged → ReadsLibraries s program → ⊥) × SaysRefusal refusal io status)
-    ⊎ (ReadsLibraries s program × StateTells s program base io status)))
+    ⊎ (ReadsLibraries s program × ReadsAsBind facts old new s program × StateTells s program base io status)))
 
--- On any disk, also on one that lies: the same of some libraries.
+-- The form ends on any disk, even on one that lies. Either the program is refused by itself, or a
+-- library can't be read, or a report with some libraries is written.
 abbrev pub BindingsTell : {D : Type 0} → (D → DiskFacts) → Opened D → Opened D → List ℕ → ℕ → Streams → Status → Type 0
 BindingsTell facts old new program base io status =
-    IsRefusedAlone program base io status
+    IsRefusedUnread old new program base io status
     ⊎ (((refusal : Refusal) × IsFindRefusal facts old new refusal × SaysRefusal refusal io status)
-    ⊎ ((found : Found) × FoundTells program base found io status))
+    ⊎ ((found : Found) × ReadsFound facts old new found × FoundTells program base found io status))
 
--- A registry told of a program, and was only read.
+-- The bindings of a program with the libraries of a registry were reported. The registry was only read.
 pub record ToldBindings {D : Type 0} (facts : D → DiskFacts) (old new : Opened D) (program : List ℕ) (base : ℕ) (io : Streams) (status : Status) : Type 0 where
   pub read : IsRead facts old new
   pub ends : (s : State) → IsAt facts old s → BindingsEnd facts old new s program base io status
   pub told : BindingsTell facts old new program base io status
 
--- A disk was opened, whatever named byte strings it holds, and told of a program, and it is handed
--- back so.
+-- A disk was opened, whatever named byte strings it holds, and the bindings of a program were reported.
+-- `left` is the disk after that.
 pub record IsAskedFor {D : Type 0} (facts : D → DiskFacts) (disk : D) (program : List ℕ) (base : ℕ) (io : Streams) (status : Status) (left : D) : Type 0 where
   pub old : Opened D
-  -- no file was read
+  -- opening the disk read no library's file
   pub opened : OpensByEntries facts disk (Ok old)
   pub new : Opened D
   pub tells : ToldBindings facts old new program base io status
   pub back : left ≡ new.disk
 
--- a program is told of, or the disk was refused and handed back, which is said
+-- either the bindings of a program with the disk's libraries are reported, or standard error reports why
+-- the disk was refused; `left` is the disk after that
 abbrev pub BindingsEnds : {D : Type 0} → (D → DiskFacts) → D → List ℕ → ℕ → Streams → Status → D → Type 0
 BindingsEnds facts disk program base io status left =
     IsAskedFor facts disk program base io status left

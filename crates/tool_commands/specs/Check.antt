@@ -1,4 +1,4 @@
--- What is told of each library (own).
+-- The text of `check` about each library (own).
 use Rattle.std.specs.Prelude.{◌≡◌, ℕ, ◌+◌, ◌<◌, ◌≤◌, List, ◌++◌, length, slice_index_or, Bool, true, false, if◌then◌else◌, codes}
 use Rattle.std.specs.List.{list_all}
 use Rattle.std.specs.Fmt.{decimal}
@@ -14,43 +14,43 @@ use Rattle.program_parts.specs.declared.status.Status.{Status}
 use Rattle.program_parts.specs.declared.status.Status.TheVariants as status
 use Rattle.tool_commands.specs.Lines.{lines_of}
 
--- the line of a library of this name that can't be read
+-- the line for a library named `name` that can't be read
 abbrev pub unreadable_line : (name : List ℕ) → List ℕ
 unreadable_line name = codes "unreadable " ++ name_text name ++ codes "\n"
 
--- the line of a library of this name and of so many bytes, of which this was found
+-- the line for a library named `name` of `length` bytes with this finding
 abbrev pub finding_line : (name : List ℕ) (length : ℕ) → Finding → List ℕ
 finding_line name length Sound = codes "ok " ++ name_text name ++ codes " " ++ decimal length ++ codes "\n"
 finding_line name length (Refused refusal) = codes "damaged " ++ name_text name ++ codes " " ++ file_refusal_text refusal ++ codes "\n"
 finding_line name length OtherName = codes "damaged " ++ name_text name ++ codes " OtherName\n"
 finding_line name length Unreadable = unreadable_line name
 
--- of a library
+-- the line for a library with this finding
 abbrev pub finding_text : Library → Finding → List ℕ
 finding_text l finding = finding_line l.name (length l.bytes) finding
 
--- the lines of libraries, in their order
+-- the lines for the libraries, in their order
 abbrev pub findings_text : List Library → List Finding → List ℕ
 findings_text libraries findings = lines_of finding_text libraries findings
 
--- all of it
+-- the whole text of `check`
 abbrev pub check_text : List Library → List Finding → List ℕ
 check_text libraries findings = findings_text libraries findings ++ codes "end\n"
 
--- one is found of each library
+-- There is one finding for each library, and each finding is true.
 pub record AreFindings (libraries : List Library) (findings : List Finding) : Type 0 where
   pub all : length findings ≡ length libraries
   pub each : (i : ℕ) → i < length libraries → (d : Finding) → IsFinding (slice_index_or libraries i no_library) (slice_index_or findings i d)
 
--- at least so many calls of the disk failed
+-- at least `count` calls of the disk failed
 abbrev pub HaveFailed : (old new : DiskFacts) → (count : ℕ) → Type 0
 HaveFailed old new count = old.failures + count ≤ new.failures
 
--- it is a library of its name
+-- the finding is that the file is a library with its entry's name
 abbrev pub is_sound : Finding → Bool
 is_sound Sound = true
 is_sound finding = false
 
--- what a check ends with: 1 where one isn't a library of its name, or can't be read
+-- the status of a check: Refused if a file isn't a library with its entry's name, or can't be read
 abbrev pub check_status : List Finding → Status
 check_status findings = if list_all is_sound findings then status.Done else status.Refused

@@ -1,4 +1,4 @@
--- What is told of the digests of libraries: lines as GNU sha256sum prints them (Coreutils manual, "md5sum invocation").
+-- The text of `digest`: lines as GNU sha256sum prints them (Coreutils manual, "md5sum invocation").
 use Rattle.std.specs.Prelude.{◌≡◌, ◌⊎◌, ℕ, ◌<◌, List, [], ◌∷◌, ◌++◌, length, slice_index_or, Bool, true, ◌==◌, ◌||◌, if◌then◌else◌, codes, Option, Some, None, is_some}
 use Rattle.std.specs.List.{flat_map, list_all, list_any}
 use Rattle.hex.specs.Hex.{encode_lower}
@@ -12,55 +12,55 @@ use Rattle.tool_commands.specs.Lines.{lines_of}
 use Rattle.tool_parts.specs.Said.{said_line}
 use Rattle.tool_parts.specs.Streams.{Streams, CannotWrite, IsSilent, Says, Tells}
 
--- a backslash, a newline or a carriage return
+-- whether the byte is a backslash, a newline or a carriage return
 abbrev pub is_escaped : ℕ → Bool
 is_escaped b = b == 92 || b == 10 || b == 13
 
--- a byte of a name: itself, or a backslash and what stands for it
+-- a byte of a name: itself, or its escape, which begins with a backslash
 abbrev pub escaped_byte : ℕ → List ℕ
 escaped_byte b = if b == 92 then codes "\\\\" else if b == 10 then codes "\\n" else if b == 13 then codes "\\r" else b ∷ []
 
--- what a line begins with: a backslash where a byte of the name is escaped
+-- the beginning of a line: a backslash if a byte of the name is escaped, and otherwise nothing
 abbrev pub escape_mark : List ℕ → List ℕ
 escape_mark name = if list_any is_escaped name then codes "\\" else []
 
--- the line of a digest and a name
+-- the line for a name and its digest
 abbrev pub sum_line : (name digest : List ℕ) → List ℕ
 sum_line name digest = escape_mark name ++ encode_lower digest ++ codes "  " ++ flat_map escaped_byte name ++ codes "\n"
 
--- the line of a library of this name; one that can't be read has none
+-- the line for a library named `name` on the output; a library that can't be read has none
 abbrev pub digest_line : (name : List ℕ) → Option (List ℕ) → List ℕ
 digest_line name (Some digest) = sum_line name digest
 digest_line name None = []
 
--- what is said of it: that it can't be read, where it can't
+-- the line for a library named `name` on standard error, if the library can't be read
 abbrev pub unread_line : (name : List ℕ) → Option (List ℕ) → List ℕ
 unread_line name (Some digest) = []
 unread_line name None = said_line (unreadable_line name)
 
--- all lines of the digests of libraries
+-- the text on the output: the lines for all libraries with a digest
 abbrev pub digests_text : List Library → List (Option (List ℕ)) → List ℕ
 digests_text libraries digests = lines_of (λ l. digest_line l.name) libraries digests
 
--- all that is said of them
+-- the text on standard error: the lines for all libraries that can't be read
 abbrev pub unread_text : List Library → List (Option (List ℕ)) → List ℕ
 unread_text libraries digests = lines_of (λ l. unread_line l.name) libraries digests
 
--- there is one of each library, or it can't be read
+-- There is one item for each library: its digest, or none if the library can't be read.
 pub record AreDigests (libraries : List Library) (digests : List (Option (List ℕ))) : Type 0 where
   pub all : length digests ≡ length libraries
   pub each : (i : ℕ) → i < length libraries → (d : Option (List ℕ)) → IsDigest (slice_index_or libraries i no_library).bytes (slice_index_or digests i d)
 
--- each library could be read
+-- whether each library could be read
 abbrev pub are_read : List (Option (List ℕ)) → Bool
 are_read digests = list_all is_some digests
 
--- what it ends with: 1 where one can't be read
+-- the status of `digest`: Refused if a library can't be read
 abbrev pub digest_status : List (Option (List ℕ)) → Status
 digest_status digests = if are_read digests then Done else Refused
 
--- exactly the lines of the digests were told, and nothing was said but of those that can't be read;
--- or the output failed
+-- either exactly the lines for the digests were written, and standard error reports only the libraries
+-- that can't be read, or the output failed
 abbrev pub TellsDigests : List Library → List (Option (List ℕ)) → Streams → Status → Type 0
 TellsDigests libraries digests io status =
     ((status ≡ digest_status digests) × Tells io (digests_text libraries digests)

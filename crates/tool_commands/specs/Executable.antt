@@ -1,4 +1,4 @@
--- The executable file of a bound program, and what is told of it (own).
+-- The executable file of a bound program, and how a form that writes it ends (own).
 use Rattle.std.specs.Prelude.{◌≡◌, ◌⊎◌, ◌≤◌, ℕ, List, codes}
 use Rattle.elf_file.specs.Header.{header_count}
 use Rattle.image.specs.Image.{MemoryImage}
@@ -11,24 +11,26 @@ use Rattle.program_parts.specs.declared.status.Status.TheVariants.{Done, Refused
 use Rattle.tool_parts.specs.Said.{said_line}
 use Rattle.tool_parts.specs.Streams.{Streams, CannotWrite, IsSilent, Says, SaysOnly, Tells}
 
--- what is said beside a file with more program headers than one page of 4,096 bytes has: such a page is what Linux before 6.17 takes
+-- The warning for a file whose program headers don't fit in one page of 4,096 bytes: Linux before 6.17
+-- accepts no more than fit in such a page.
 abbrev pub many_headers_line : List ℕ
 many_headers_line = said_line (codes "Linux before 6.17 starts no file with more than 73 program headers\n")
 
--- nothing but that is said beside a file, and not even that where it has no more
+-- if a file is written, standard error gets at most the warning, and nothing if the file has at most 73
+-- program headers
 abbrev pub SaysBeside : List ℕ → Streams → Type 0
 SaysBeside file io = Says io many_headers_line × (header_count file ≤ 73 → IsSilent io)
 
--- what it ends with
+-- the status if there is no executable file
 abbrev pub executable_status : ExecutableRefusal → Status
 executable_status refusal.OutOfMemory = NoMemory
 executable_status other = Refused
 
--- exactly this file was told; or the output failed
+-- exactly this file was written; or the output failed
 abbrev pub TellsFile : List ℕ → Streams → Status → Type 0
 TellsFile file io status = ((status ≡ Done) × Tells io file × SaysBeside file io) ⊎ CannotWrite io status
 
--- exactly the image's file was told; or there is none, and why is said
+-- either exactly the image's file was written, or there is no such file, and standard error reports why
 abbrev pub TellsExecutable : MemoryImage → Streams → Status → Type 0
 TellsExecutable image io status =
     ((file : List ℕ) × IsExecutableOf image file × TellsFile file io status)

@@ -1,4 +1,4 @@
--- Which form the words of a command line are (own).
+-- Which form the arguments of a command line have (own).
 use Rattle.std.specs.Prelude.{ℕ, List, [], ◌∷◌, map, Bool, true, false, Option, Some, None, Result, Ok, Err, Vec, String, string_bytes, if◌then◌else◌, bytes_eq, codes}
 use Rattle.std.specs.Option.{option_map}
 use Rattle.program_parts.specs.Base.{base_of}
@@ -10,7 +10,7 @@ use Rattle.tool_commands.specs.declared.form.Form.TheVariants as form
 use Rattle.tool_commands.specs.declared.form.Purpose.{Purpose}
 use Rattle.tool_commands.specs.declared.form.Purpose.TheVariants.{Script, Update}
 
--- what is to be told of a disk; of a file by its name, and of a script what it is for
+-- A question about a disk. `file` has the name of a library, and `dump` the purpose of the script.
 pub data Question : Type 0 where
   info : Question
   check : Question
@@ -18,8 +18,8 @@ pub data Question : Type 0 where
   file : List ℕ → Question
   dump : Purpose → Question
 
--- what is to be done: to tell, to replace by a path's file, to remove a name, to update, to bind a
--- path's file, and to tell what its symbols are bound to
+-- What to do: answer a question, replace a library by the file at a path, remove a library by its name,
+-- or update. Or write the executable file of the program at a path, or what its symbols are bound to.
 pub data Deed : Type 0 where
   tell : Question → Deed
   replace : List ℕ → Deed
@@ -28,37 +28,37 @@ pub data Deed : Type 0 where
   executable : List ℕ → ℕ → Deed
   bindings : List ℕ → ℕ → Deed
 
--- a command line: the path of the disk, and what is to be done with it
+-- a command line: the path of the disk, and what to do with the disk
 pub record CommandLine : Type 0 where
   pub disk : List ℕ
   pub deed : Deed
 
--- DISK alone
+-- the command line if DISK is the only argument
 abbrev pub of_one : Deed → List (List ℕ) → Option CommandLine
 of_one deed (disk ∷ []) = Some (record { disk = disk; deed = deed })
 of_one deed words = None
 
--- what a word behind DISK says that a dump is for
+-- the purpose of a dump that the argument after DISK names
 abbrev pub purpose_of : List ℕ → Option Purpose
 purpose_of word = if bytes_eq word (codes "commit") then Some Update else None
 
--- DISK alone, or with `commit` behind it
+-- the command line of a dump if the arguments are DISK, or DISK `commit`
 abbrev pub of_dump : List (List ℕ) → Option CommandLine
 of_dump (disk ∷ []) = Some (record { disk = disk; deed = tell (dump Script) })
 of_dump (disk ∷ word ∷ []) = option_map (λ purpose. record { disk = disk; deed = tell (dump purpose) }) (purpose_of word)
 of_dump words = None
 
--- DISK and one word more
+-- the command line if the arguments are DISK and one more
 abbrev pub of_two : (List ℕ → Deed) → List (List ℕ) → Option CommandLine
 of_two deed (disk ∷ word ∷ []) = Some (record { disk = disk; deed = deed word })
 of_two deed words = None
 
--- DISK PROGRAM BASE
+-- the command line if the arguments are DISK PROGRAM BASE
 abbrev pub of_program : (List ℕ → ℕ → Deed) → List (List ℕ) → Option CommandLine
 of_program deed (disk ∷ program ∷ base ∷ []) = option_map (λ at. record { disk = disk; deed = deed program at }) (base_of base)
 of_program deed words = None
 
--- the command line that words are: the first is the form's name
+-- the command line for these arguments, the first of which is the form's name
 abbrev pub command_line : List (List ℕ) → Option CommandLine
 command_line (name ∷ words) =
     if bytes_eq name (codes "info") then of_one (tell info) words
@@ -74,7 +74,7 @@ command_line (name ∷ words) =
     else None
 command_line [] = None
 
--- what the code asks
+-- the question for a form that the code has read
 abbrev pub question_of : Form → Question
 question_of form.Info = info
 question_of form.Check = check
@@ -82,7 +82,7 @@ question_of form.Digest = digest
 question_of (form.File name) = file name.now
 question_of (form.Dump purpose) = dump purpose
 
--- what the code does
+-- what an action that the code has read is to do
 abbrev pub deed_of : Action → Deed
 deed_of (action.Tell form) = tell (question_of form)
 deed_of (action.Replace path) = replace path.now
@@ -91,21 +91,21 @@ deed_of action.Update = update
 deed_of (action.Executable program base) = executable program.now base
 deed_of (action.Bindings program base) = bindings program.now base
 
--- the command line that the code reads
+-- the command line that the code has read
 abbrev pub line_of : Asked → CommandLine
 line_of asked = record { disk = asked.disk.now; deed = deed_of asked.action }
 
--- it reads the input
+-- whether the form reads the input
 abbrev pub reads_input : Deed → Bool
 reads_input update = true
 reads_input deed = false
 
--- words are a command line, and what is to be done is such
+-- whether the arguments are a command line for whose deed `is_such` is true
 abbrev pub asks_for : (Deed → Bool) → Option CommandLine → Bool
 asks_for is_such (Some line) = is_such line.deed
 asks_for is_such None = false
 
--- the command line that the words of the process are, where they were read
+-- the command line for the arguments of the process, if they could be read
 abbrev pub line_read : {A Z E : Type 0} → Result (Vec (String A) Z) E → Option CommandLine
 line_read (Ok words) = command_line (map (λ word. string_bytes word) words.items)
 line_read (Err e) = None

@@ -1,10 +1,11 @@
--- What the program ends with by its words, over the file of a disk of which nothing is known (own).
+-- How the program ends, depending on its arguments, with the file of any disk (own).
 use Rattle.std.specs.Prelude.{◌≡◌, ◌≢◌, ◌⊎◌, ◌<◌, ℕ, List, Option, Some, None, Bool, true, false, length}
 use Rattle.std.specs.declared.io.ErrorKind.{ErrorKind}
 use Rattle.std.specs.declared.io.ErrorKind.TheVariants.{OutOfMemory}
 use Rattle.requests.specs.Request.{Request}
 use Rattle.requests.specs.Request as request
 use Rattle.file_disk.specs.FileDisk.{file_facts, IsNew}
+use Rattle.file_disk.specs.Length.{IsLengthFault}
 use Rattle.file_disk.specs.contracts.disk_file.DiskFileSectorFile.TheImpl.{ghosts}
 use Rattle.file_disk.specs.declared.disk.FileDisk.{FileDisk}
 use Rattle.file_disk.specs.declared.disk_file.DiskFile.{DiskFile}
@@ -31,25 +32,26 @@ use Rattle.tool_commands.specs.declared.telling.Telling.TheVariants.{Text, Execu
 use Rattle.updates.specs.Ends.{UpdateEnds}
 use Rattle.updates.specs.Streams.{outputs_of}
 
--- what a file ends with that isn't opened as a disk
+-- the status if a file can't be opened as a disk
 abbrev pub open_status : OpenFault → Status
 open_status disk_file.CannotOpen = Failed
-open_status disk_file.BadLength = Refused
+open_status (disk_file.BadLength length) = Refused
 open_status disk_file.OutOfMemory = NoMemory
 
--- what a file ends with that isn't read
+-- the status if a file can't be read
 abbrev pub read_status : FileFault → Status
 read_status read_file.CannotRead = Failed
 read_status read_file.OutOfMemory = NoMemory
 
--- what is said of a file that isn't opened as a disk: of one that can't be opened that it can't be
--- read, whatever standard error took of it
+-- The text on standard error if a file can't be opened as a disk. If the file can't be opened at all,
+-- the text is unspecified.
 abbrev pub SaysFault : OpenFault → Option (List ℕ) → Option (List ℕ) → Type 0
 SaysFault disk_file.CannotOpen before after = Unit {0}
-SaysFault disk_file.BadLength before after = AppendsFront before after (refusal_line BadGeometry)
+SaysFault (disk_file.BadLength length) before after = AppendsFront before after (refusal_line BadGeometry)
 SaysFault disk_file.OutOfMemory before after = AppendsFront before after memory_line
 
--- what is said of a file that isn't read
+-- The text on standard error if the bytes of a file aren't available. If the file can't be read, the
+-- text is unspecified; otherwise memory was refused.
 abbrev pub SaysUnread : FileFault → Option (List ℕ) → Option (List ℕ) → Type 0
 SaysUnread read_file.CannotRead before after = Unit {0}
 SaysUnread read_file.OutOfMemory before after = AppendsFront before after memory_line
@@ -58,43 +60,48 @@ SaysUnread read_file.OutOfMemory before after = AppendsFront before after memory
 abbrev pub SystemDisk : Type 0
 SystemDisk = FileDisk DiskFile ghosts
 
--- a form is told of a new disk over a file; or no disk was opened, which is said
+-- Either the question is answered for a new disk over a file, or no disk was opened, and standard error
+-- reports why. S6 (BadGeometry) is reported only of a length that no disk has.
 abbrev pub TellEnds : Question → Streams → Status → Type 0
 TellEnds question io status =
     ((disk : SystemDisk) × (left : SystemDisk) × IsNew disk × DiskEnds file_facts disk question io status left)
-    ⊎ ((fault : OpenFault) × EndsUnopened question (open_status fault) io.before io.after status × SaysFault fault io.errors_before io.errors_after)
+    ⊎ ((fault : OpenFault) × EndsUnopened question (open_status fault) io.before io.after status × SaysFault fault io.errors_before io.errors_after
+    × IsLengthFault fault)
 
--- a new disk over a file ended so; or no disk was opened, which is said, and nothing was told
+-- Either `Ends` holds for a new disk over a file, or no disk was opened, standard error reports why, and
+-- nothing was written. S6 is reported only of a length that no disk has.
 abbrev pub OpenEnds : (SystemDisk → SystemDisk → Type 0) → Streams → Status → Type 0
 OpenEnds Ends io status =
     ((disk : SystemDisk) × (left : SystemDisk) × IsNew disk × Ends disk left)
-    ⊎ ((fault : OpenFault) × (status ≡ open_status fault) × IsUntold io × SaysFault fault io.errors_before io.errors_after)
+    ⊎ ((fault : OpenFault) × (status ≡ open_status fault) × IsUntold io × SaysFault fault io.errors_before io.errors_after × IsLengthFault fault)
 
--- a request was made of the registry on it
+-- a request was made to the registry on the disk
 abbrev pub AskEnds : Request → Telling → Streams → Status → Type 0
 AskEnds asked telling io status = OpenEnds (λ disk left. RequestEnds file_facts disk asked telling io status left) io status
 
--- it told what the symbols of a program at a base are bound to
+-- the form reported what the symbols of a program at the address `base` are bound to, with the disk's
+-- libraries
 abbrev pub BindingsAskEnds : List ℕ → ℕ → Streams → Status → Type 0
 BindingsAskEnds program base io status = OpenEnds (λ disk left. BindingsEnds file_facts disk program base io status left) io status
 
--- the bytes of a file were read, with this end; or they weren't, which is said, and nothing was told
+-- either the bytes of a file were read, and `Ends` holds for them, or they weren't read, standard error
+-- reports why, and nothing was written
 abbrev pub ReadEnds : (List ℕ → Type 0) → Streams → Status → Type 0
 ReadEnds Ends io status =
     ((bytes : List ℕ) × (length bytes < read_limit) × Ends bytes)
     ⊎ ((fault : FileFault) × (status ≡ read_status fault) × IsUntold io × SaysUnread fault io.errors_before io.errors_after)
 
--- the process exits with the number of a status that is so
+-- the process exits with the number of a status for which `IsSo` holds
 abbrev pub ExitsWith : (Status → Type 0) → ℕ → Type 0
 ExitsWith IsSo number = (status : Status) × IsSo status × (number ≡ status_number status)
 
--- what an output holds, where that is known
+-- `contents` is the bytes that an output holds, if its contract defines them.
 module _ {O : Type 0} (contents : O → Option (List ℕ)) where
-  -- an update was run over it
+  -- an update was run over the disk
   abbrev pub UpdateAskEnds : program.Streams → Status → Type 0
   UpdateAskEnds io status = OpenEnds (λ disk left. UpdateEnds file_facts disk contents io status left) (outputs_of io) status
 
-  -- what is done
+  -- the action of the arguments was carried out
   abbrev pub DeedEnds : Deed → program.Streams → Status → Type 0
   DeedEnds (tell question) io status = TellEnds question (outputs_of io) status
   DeedEnds (replace path) io status = ReadEnds (λ bytes. AskEnds (request.replace bytes) Text (outputs_of io) status) (outputs_of io) status
@@ -103,29 +110,31 @@ module _ {O : Type 0} (contents : O → Option (List ℕ)) where
   DeedEnds (executable path base) io status = ReadEnds (λ bytes. AskEnds (request.bind bytes base) Executable (outputs_of io) status) (outputs_of io) status
   DeedEnds (bindings path base) io status = ReadEnds (λ bytes. BindingsAskEnds bytes base (outputs_of io) status) (outputs_of io) status
 
-  -- For words that are none of the forms just the usage is said, and no others have their status: what
-  -- these ask is done; or their disk is the file behind a standard stream, and nothing was told.
+  -- If the arguments have none of the forms, exactly the usage is reported. Only such arguments end with
+  -- the status BadWords. Any other arguments are carried out; or a standard stream is open, or may be
+  -- open, to the disk's file, and nothing was written.
   abbrev pub IsEnd : Option CommandLine → program.Streams → Status → Type 0
   IsEnd None io status = SaysOnly BadWords usage_line (outputs_of io) status
   IsEnd (Some line) io status = (status ≢ BadWords) × (DeedEnds line.deed io status ⊎ ((status ≡ Failed) × IsUntold (outputs_of io)))
 
-  -- with the number that the process exits with
+  -- the process exits with the number of a status with which the arguments end
   abbrev pub LineEnds : Option CommandLine → program.Streams → ℕ → Type 0
   LineEnds line io number = ExitsWith (IsEnd line io) number
 
-  -- Words that weren't read, by why not: where memory was refused just that is said; and any others end as
-  -- words that are none of the forms.
+  -- How the program ends if its arguments couldn't be read. If memory was refused, exactly that is
+  -- reported. Otherwise the program ends as if the arguments had none of the forms.
   abbrev pub UnreadEnds : ErrorKind → program.Streams → ℕ → Type 0
   UnreadEnds why io number =
       (why ≡ OutOfMemory → ExitsWith (SaysOnly NoMemory memory_line (outputs_of io)) number) × (why ≢ OutOfMemory → LineEnds None io number)
 
--- at status 0 something may be said too: beside an executable file
+-- whether standard error may get something although the status is Done, as it may when an executable
+-- file is written
 abbrev pub warns : Deed → Bool
 warns (executable path base) = true
 warns deed = false
 
--- something may be said beside what is told: of digests, of which some library has none, of a script that
--- is cut, of an update whose lines a fault ended, and beside an executable file
+-- Whether both streams may get something. This is possible for digests, if a library has none; for a
+-- script that is cut; for an update whose lines a fault ended; and for an executable file.
 abbrev pub says_beside : Deed → Bool
 says_beside (tell digest) = true
 says_beside (tell (dump purpose)) = true

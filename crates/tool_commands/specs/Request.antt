@@ -1,4 +1,5 @@
--- What a command does to a registry on a disk of which no file is read when it is opened, and what it tells (own).
+-- The effect of a command on a registry that was opened without reading a library's file, and how the
+-- form ends (own).
 use Rattle.std.specs.Prelude.{◌≡◌, ◌≢◌, ◌⊎◌, Ok, Err, IsTrue}
 use Rattle.sector_disk.specs.Disk.{DiskFacts, Mixture, LeavesOnly, AreCallsExactly}
 use Rattle.states.specs.State.{State}
@@ -25,42 +26,44 @@ use Rattle.tool_parts.specs.Streams.{Streams, SaysOnly}
 use Rattle.tool_commands.specs.Telling.{TellsReply}
 use Rattle.tool_commands.specs.declared.telling.Telling.{Telling}
 
--- What such a registry answers to a command, and does.
+-- A registry that was opened without reading a library's file answered a command. `old` and `new` are
+-- the registry before and after it.
 pub record DiskStep {D : Type 0} (facts : D → DiskFacts) (old : Opened D) (request : Request) (answer : Reply) (new : Opened D) : Type 0 where
-  -- from any byte strings a change and a listing are answered as the step table says
+  -- if the byte strings are any files, a change and a listing are steps of the step table
   pub untested : (s : State) → store.IsAt facts old s → AppliesUntested facts old new s request answer
-  -- from libraries every command is
+  -- if all files are libraries, every command is a step of the step table
   pub applied : (s : State) → IsAt facts old s → Applies facts old new s request answer
   -- an accepted command makes exactly its calls of the disk
   pub all_calls : (s : State) → store.IsAt facts old s → IfAccepted answer (AreCallsExactly (calls_of s request) (facts old.disk) (facts new.disk))
-  -- what such an answer says on any disk, also on one that lies
+  -- the meaning of the answer on any disk, even on a disk that lies
   pub on_any_disk : Answered facts old new request answer
 
--- a bind and a listing ask for no change
+-- the request asks for a change: it is neither a bind nor a listing
 abbrev pub IsChange : Request → Type 0
 IsChange (bind program base) = ⊥
 IsChange list = ⊥
 IsChange request = Unit {0}
 
--- The registry on a disk was opened, whatever named byte strings it holds, a command was applied to
--- it, and the disk is left so.
+-- A registry on a disk was opened, whatever named byte strings it holds, and a command was applied to
+-- it. `left` is the disk after that.
 pub record IsAnswered {D : Type 0} (facts : D → DiskFacts) (disk : D) (request : Request) (answer : Reply) (left : D) : Type 0 where
   pub old : Opened D
-  -- no file was read
+  -- opening the disk read no library's file
   pub opened : OpensByEntries facts disk (Ok old)
   pub new : Opened D
   pub step : DiskStep facts old request answer new
-  -- a stop at any moment leaves what it could leave before, the byte strings that an honest disk
-  -- held, those after the command, or the change in flight
+  -- A stop at any moment leaves what it could leave before, or the byte strings before or after the
+  -- command. If a call failed within an accepted command, it may also leave those that the command would
+  -- have made.
   pub any_moment : IsTrue (facts disk).honest → (s : State) → sectors.Stands (facts disk).now s → (s' : State) × AppliedUntested facts old new s s' request answer
       × LeavesOnly (facts disk) (facts left) (λ m. Mixture (facts disk) m ⊎ MayLeaveBy sectors.Stands (phase_of facts old s) request answer s' m)
-  -- a change that is refused, but for a failed call, wrote nothing
+  -- a change that was refused for another reason than a failed call wrote nothing
   pub unwritten : IsTrue (facts disk).honest → IsChange request → (refusal : Refusal) → answer ≡ reply.Refused refusal → refusal ≢ Device
       → LeavesOnly (facts disk) (facts left) (Mixture (facts disk)) × ((facts left).now ≡ (facts disk).now)
   pub back : left ≡ new.disk
 
--- a command was answered and exactly its reply was told; or the disk was refused and handed back,
--- which is said
+-- either a command was answered, and exactly its reply was written, or standard error reports why the
+-- disk was refused; `left` is the disk after that
 abbrev pub RequestEnds : {D : Type 0} → (D → DiskFacts) → D → Request → Telling → Streams → Status → D → Type 0
 RequestEnds facts disk request telling io status left =
     ((answer : Reply) × IsAnswered facts disk request answer left × TellsReply telling answer io status)

@@ -1,10 +1,10 @@
--- What is said on standard error (own).
+-- The messages on standard error (own).
 use Rattle.std.specs.Prelude.{ℕ, List, codes}
 
--- no library has the name
+-- the message that no library has the name
 abbrev pub not_installed_line : List ℕ
 not_installed_line = codes "rlibreg-tool: refused C3 NotInstalled\n"
 
--- the words are none of the forms
+-- the message that the arguments have none of the forms
 abbrev pub usage_line : List ℕ
 usage_line = codes "usage: rlibreg-tool info|check|digest|dump|update DISK, dump DISK commit, file|remove DISK NAME, replace DISK FILE or executable|bindings DISK PROGRAM BASE\n"

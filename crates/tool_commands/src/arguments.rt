@@ -1,4 +1,4 @@
-// The words of the process.
+// The arguments of the process.
 
 ghost use Rattle.std.specs.Prelude.{◌≡◌, ◌≢◌, ◌≤◌, ◌⊎◌, IfErr, OnOk, None, false};
 ghost use Rattle.std.specs.IoError.{error_kind};
@@ -15,8 +15,9 @@ use std::rt::{Clock, Files};
 use store::StoreRefusal;
 use tool_parts::say_refusal;
 
-/// Does what `run_words` does with words that were read. Where they weren't, want of memory is
-/// told as want of memory, and anything else as words that are none of the forms.
+/// Does the same as `run_words` if the arguments could be read. If memory for them was refused,
+/// reports that. If they couldn't be read for another reason, reports the usage, as for arguments
+/// that have none of the forms.
 pub fn run_arguments<R: Files<File = File> + Clock, I: Read, O: Write, E: Write>(
     rt: &R,
     alloc: Global,
@@ -27,7 +28,7 @@ pub fn run_arguments<R: Files<File = File> + Clock, I: Read, O: Write, E: Write>
 ) -> u8
     ensures most { result ≤ 4 }
 
-    // Words that were read end as they do in `run_words`.
+    // If the arguments could be read, the program ends as `run_words` would end.
     ensures ends { OnOk words (LineEnds O.contents (line_read words) (record {
       unread = I.remaining input.old;
       before = O.contents output.old;
@@ -36,7 +37,7 @@ pub fn run_arguments<R: Files<File = File> + Clock, I: Read, O: Write, E: Write>
       errors_after = E.contents errors.new;
     }) result) }
 
-    // Words that weren't: by why not.
+    // If the arguments couldn't be read, the end depends on the error.
     ensures not_read { IfErr words (λ e. UnreadEnds O.contents (error_kind e) (record {
       unread = I.remaining input.old;
       before = O.contents output.old;

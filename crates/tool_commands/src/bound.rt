@@ -16,10 +16,10 @@ use std::io::Write;
 use text_output::WriteFault;
 use tool_parts::cannot_write;
 
-/// The most program headers that one page of 4,096 bytes has.
+/// The maximum number of program headers in one page of 4,096 bytes.
 const MOST_IN_A_PAGE: u16 = 73;
 
-/// Says of a file with more program headers than a page has that not every kernel starts it.
+/// If `file` has more program headers than fit in a page, reports that not every kernel starts it.
 fn say_many_headers<E: Write>(file: &Executable, errors: &mut E)
     ensures said { AppendsFront (E.contents errors.old) (E.contents errors.new)
         many_headers_line }
@@ -34,7 +34,7 @@ fn say_many_headers<E: Write>(file: &Executable, errors: &mut E)
     }
 }
 
-/// Writes an executable file, or says that the output failed.
+/// Writes an executable file, or reports that the output failed.
 fn write_executable<O: Write, E: Write>(file: &Executable, output: &mut O, errors: &mut E) -> Status
     ensures { TellsFile file.now (record {
       before = O.contents output.old;
@@ -52,7 +52,7 @@ fn write_executable<O: Write, E: Write>(file: &Executable, output: &mut O, error
     }
 }
 
-/// Spells the line of why there is no executable file.
+/// Appends to `line` the line that reports why there is no executable file.
 fn spell_executable_refusal(
     line: &mut Vec<u8>,
     refusal: &ExecutableRefusal,
@@ -66,7 +66,7 @@ fn spell_executable_refusal(
     text.send(line)
 }
 
-/// What a program ends with of which there is no executable file.
+/// Returns the status for a bound program that has no executable file.
 fn executable_status(refusal: &ExecutableRefusal) -> Status
     ensures { result ≡ executable_status refusal.now }
 {
@@ -76,7 +76,7 @@ fn executable_status(refusal: &ExecutableRefusal) -> Status
     }
 }
 
-/// Says why there is no executable file, where there is memory for the line.
+/// Reports why there is no executable file, if there is memory for the line. Returns the status.
 fn say_executable_refusal<E: Write>(
     alloc: Global,
     refusal: &ExecutableRefusal,
@@ -93,7 +93,7 @@ fn say_executable_refusal<E: Write>(
     executable_status(refusal)
 }
 
-/// Writes the executable file of an image, or says why there is none.
+/// Writes the executable file of an image, or reports why there is none.
 pub(crate) fn tell_executable<O: Write, E: Write>(
     alloc: Global,
     image: &Image,

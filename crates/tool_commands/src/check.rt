@@ -1,10 +1,11 @@
-// Whether the libraries are libraries.
+// Tests the installed libraries, and writes the findings.
 
-ghost use Rattle.std.specs.Prelude.{◌≡◌, List, OnOk, length};
+ghost use Rattle.std.specs.Prelude.{◌≡◌, List, OnOk, length, sum_by};
 ghost use Rattle.std.specs.List.{list_all};
 ghost use Rattle.std.specs.Io.KnownBytes.{Appends};
+ghost use Rattle.sector_disk.specs.Disk.{AreCallsAtMost};
 ghost use Rattle.states.specs.State.{Library, State};
-ghost use Rattle.store.specs.IsRead.{IsRead};
+ghost use Rattle.store.specs.IsRead.{IsRead, file_sectors};
 ghost use Rattle.store.specs.Opened.{IsAt};
 ghost use Rattle.text_output.specs.Sends.{Sends};
 ghost use Rattle.tool_commands.specs.AnyDisk.{CheckTells};
@@ -23,7 +24,7 @@ use store::{Store, StoreRefusal};
 use text_output::WriteFault;
 use tool_parts::{cannot_write, say_refusal};
 
-/// The line of each library, in their order.
+/// Appends the line for each library, in their order, to the buffered text.
 fn put_findings<D: Disk, W: Write>(
     store: &Store<D>,
     findings: &[Finding],
@@ -42,7 +43,7 @@ fn put_findings<D: Disk, W: Write>(
     Ok(())
 }
 
-/// The line of each library, and the line `end`.
+/// Appends the line for each library, and the line `end`, to the buffered text.
 fn put_check<D: Disk, W: Write>(
     store: &Store<D>,
     findings: &[Finding],
@@ -58,7 +59,7 @@ fn put_check<D: Disk, W: Write>(
     line.put(out, b"end\n")
 }
 
-/// Writes the line of each library, and the line `end`.
+/// Writes the line for each library, and the line `end`.
 fn write_findings<D: Disk, W: Write>(
     store: &Store<D>,
     findings: &[Finding],
@@ -74,21 +75,21 @@ fn write_findings<D: Disk, W: Write>(
     line.send(out)
 }
 
-/// Whether it is a library of its name.
+/// Returns whether a finding is that the file is a library with its entry's name.
 fn is_sound(finding: Finding) -> bool
     ensures { result ≡ is_sound finding }
 {
     matches!(&finding, Finding::Sound)
 }
 
-/// Whether all are.
+/// Returns whether all findings are sound.
 fn are_sound(findings: &[Finding]) -> bool
     ensures { result ≡ list_all is_sound findings.now }
 {
     findings.iter().all(|finding| is_sound(*finding))
 }
 
-/// 1 where a library isn't one, or can't be read.
+/// Returns `Refused` if some finding isn't sound, and otherwise `Done`.
 fn status_of_findings(findings: &[Finding]) -> Status
     ensures { result ≡ check_status findings.now }
 {
@@ -99,7 +100,7 @@ fn status_of_findings(findings: &[Finding]) -> Status
     }
 }
 
-/// Writes what was found, or says that the output failed.
+/// Writes the findings, or reports that the output failed.
 fn tell_findings<D: Disk, O: Write, E: Write>(
     store: &Store<D>,
     findings: &[Finding],
@@ -122,7 +123,8 @@ fn tell_findings<D: Disk, O: Write, E: Write>(
     }
 }
 
-/// Reads each library, and writes what is found of it: a line for each, in their order, and `end`.
+/// Reads each library, and writes a line with the finding for each, in their order. Then writes the
+/// line `end`.
 pub fn run_check<D: Disk, O: Write, E: Write>(
     contents: &mut Contents<D>,
     alloc: Global,
@@ -131,20 +133,25 @@ pub fn run_check<D: Disk, O: Write, E: Write>(
 ) -> Status
     ensures read { IsRead D.facts contents.old contents.new }
     ensures ends { (s : State) → IsAt D.facts contents.old s
-        → CheckEnds (D.facts contents.old.disk) (D.facts contents.new.disk) s (record {
+        → CheckEnds (D.facts contents.old.disk) (D.facts contents.new.disk) contents.old.entries s
+        (record {
           before = O.contents output.old;
           after = O.contents output.new;
           errors_before = E.contents errors.old;
           errors_after = E.contents errors.new;
         }) result }
 
-    // On any disk
+    // The following holds on any disk.
     ensures told { CheckTells (D.facts contents.old.disk) (D.facts contents.new.disk) (record {
       before = O.contents output.old;
       after = O.contents output.new;
       errors_before = E.contents errors.old;
       errors_after = E.contents errors.new;
     }) result }
+
+    // It makes at most one call of the disk for each sector of each library.
+    ensures calls { AreCallsAtMost (sum_by file_sectors contents.old.entries)
+        (D.facts contents.old.disk) (D.facts contents.new.disk) }
 {
     match contents.check(alloc) {
         Ok(findings) => tell_findings(contents.store(), &findings, output, errors),

@@ -1,4 +1,4 @@
-// A command line.
+// Carries out a command line.
 
 ghost use Rattle.std.specs.Prelude.{◌≡◌, ◌≢◌, ◌≤◌, ◌⊎◌, Some, None, false, map, string_bytes};
 ghost use Rattle.tool_commands.specs.Form.{asks_for, command_line, deed_of, line_of, reads_input};
@@ -13,7 +13,8 @@ use std::fs::File;
 use std::io::{Read, Write};
 use std::rt::{Clock, Files};
 
-/// Does what is asked, unless what is told would be written into the disk, or read from it.
+/// Does what the arguments ask for, unless a standard stream is open, or may be open, to the disk's
+/// file: the output would then be written into the disk, or the input read from it.
 fn run_apart<R: Files<File = File> + Clock, I: Read, O: Write, E: Write>(
     rt: &R,
     alloc: Global,
@@ -39,9 +40,10 @@ fn run_apart<R: Files<File = File> + Clock, I: Read, O: Write, E: Write>(
     }
 }
 
-/// Does what the program does with these words after its name, and gives its exit status: 0 done,
-/// 1 refused, 2 the words are none of the forms, 3 the disk, its file or a stream failed, 4 memory
-/// was refused. Only `update` reads the input.
+/// Does what the program does with `words`, the arguments after its name, and returns its exit
+/// status. The status is 0 if the action was carried out, 1 if it was refused, and 2 if the
+/// arguments have none of the forms. It is 3 if the disk, its file or a stream failed, and 4 if
+/// memory was refused. Only `update` reads the input.
 pub fn run_words<R: Files<File = File> + Clock, I: Read, O: Write, E: Write>(
     rt: &R,
     alloc: Global,
@@ -52,8 +54,8 @@ pub fn run_words<R: Files<File = File> + Clock, I: Read, O: Write, E: Write>(
 ) -> u8
     ensures most { result ≤ 4 }
 
-    // What the status says of what was asked, and of what was told and said: 2 exactly where the
-    // words are none of the forms.
+    // How the program ends with these arguments: its status, its output, and its messages on
+    // standard error. The status is 2 exactly if the arguments have none of the forms.
     ensures ends { LineEnds O.contents (command_line (map (λ word. string_bytes word) words.now))
         (record {
           unread = I.remaining input.old;
@@ -67,15 +69,17 @@ pub fn run_words<R: Files<File = File> + Clock, I: Read, O: Write, E: Write>(
     ensures unread { asks_for reads_input (command_line (map (λ word. string_bytes word) words.now))
         ≡ false → input.new ≡ input.old }
 
-    // Words that are none of the forms leave the output alone.
+    // If the arguments have none of the forms, nothing is written to the output.
     ensures same { command_line (map (λ word. string_bytes word) words.now) ≡ None
         → output.new ≡ output.old }
 
-    // At 0 nothing is given to standard error, but beside an executable file.
+    // With status 0 nothing is written to standard error, except when an executable file is
+    // written.
     ensures silent { asks_for warns (command_line (map (λ word. string_bytes word) words.now))
         ≡ false → result ≡ 0 → E.contents errors.new ≡ E.contents errors.old }
 
-    // What is said there isn't said on the output too, unless something failed.
+    // Unless something failed, only one of standard error and the output is written to, except by
+    // the forms that may write to both.
     ensures apart { asks_for says_beside (command_line (map (λ word. string_bytes word) words.now))
         ≡ false → result ≢ 3 → (E.contents errors.new ≡ E.contents errors.old)
         ⊎ (O.contents output.new ≡ O.contents output.old) }

@@ -1,9 +1,10 @@
-// The digests of the libraries.
+// Writes the digests of the libraries.
 
-ghost use Rattle.std.specs.Prelude.{◌≡◌, List, IfSome, OnOk, length, true};
+ghost use Rattle.std.specs.Prelude.{◌≡◌, List, IfSome, OnOk, length, sum_by, true};
 ghost use Rattle.std.specs.Io.KnownBytes.{Appends};
+ghost use Rattle.sector_disk.specs.Disk.{AreCallsAtMost};
 ghost use Rattle.states.specs.State.{Library, State};
-ghost use Rattle.store.specs.IsRead.{IsRead};
+ghost use Rattle.store.specs.IsRead.{IsRead, file_sectors};
 ghost use Rattle.store.specs.Opened.{IsAt};
 ghost use Rattle.program_parts.specs.Said.{AppendsFront};
 ghost use Rattle.text_output.specs.Sends.{Sends};
@@ -26,7 +27,7 @@ use store::{Store, StoreRefusal};
 use text_output::WriteFault;
 use tool_parts::{cannot_write, say_refusal};
 
-/// What goes to a stream of each library, in their order.
+/// Appends the line for each library on the stream `stream`, in their order, to the buffered text.
 fn put_stream<D: Disk, W: Write>(
     store: &Store<D>,
     digests: &[Option<[u8; 32]>],
@@ -45,7 +46,7 @@ fn put_stream<D: Disk, W: Write>(
     Ok(())
 }
 
-/// Writes what goes to a stream.
+/// Writes the lines for the stream `stream`.
 fn write_stream<D: Disk, W: Write>(
     store: &Store<D>,
     digests: &[Option<[u8; 32]>],
@@ -62,14 +63,15 @@ fn write_stream<D: Disk, W: Write>(
     line.send(out)
 }
 
-/// Whether each library could be read.
+/// Returns whether each library could be read.
 fn are_read(digests: &[Option<[u8; 32]>]) -> bool
     ensures { result ≡ are_read digests.now }
 {
     digests.iter().all(|digest| digest.is_some())
 }
 
-/// The lines of the libraries that can't be read, where there is memory for them.
+/// Returns the lines for the libraries that can't be read, or `None` if memory for the lines is
+/// refused.
 fn unread_lines<D: Disk>(
     store: &Store<D>,
     alloc: Global,
@@ -86,7 +88,7 @@ fn unread_lines<D: Disk>(
     }
 }
 
-/// Says which libraries can't be read.
+/// Reports which libraries can't be read, if there is memory for the lines.
 fn say_unread<D: Disk, E: Write>(
     store: &Store<D>,
     alloc: Global,
@@ -104,7 +106,7 @@ fn say_unread<D: Disk, E: Write>(
     }
 }
 
-/// Says which libraries can't be read, where there are such.
+/// Reports which libraries can't be read, if there are any. Returns the status.
 fn end_digests<D: Disk, E: Write>(
     store: &Store<D>,
     alloc: Global,
@@ -125,8 +127,8 @@ fn end_digests<D: Disk, E: Write>(
     Status::Refused
 }
 
-/// Writes the line of each library that could be read, and says which can't; or says that the
-/// output failed.
+/// Writes the line for each library that could be read, and reports the others. If the output
+/// fails, reports that instead.
 fn tell_digests<D: Disk, O: Write, E: Write>(
     store: &Store<D>,
     alloc: Global,
@@ -149,9 +151,9 @@ fn tell_digests<D: Disk, O: Write, E: Write>(
     }
 }
 
-/// Reads each library, and then writes the digest of each as GNU sha256sum does, in their order.
-/// One that can't be read has no line: that is said. Whether they are those of libraries isn't
-/// looked at.
+/// Reads each library, and then writes the digests in the libraries' order, as GNU sha256sum does.
+/// A library that can't be read has no line on the output, and is reported on standard error.
+/// Doesn't test whether the files are libraries.
 pub fn run_digest<D: Disk, O: Write, E: Write>(
     contents: &mut Contents<D>,
     alloc: Global,
@@ -167,13 +169,17 @@ pub fn run_digest<D: Disk, O: Write, E: Write>(
           errors_after = E.contents errors.new;
         }) result }
 
-    // On any disk
+    // The following holds on any disk.
     ensures told { DigestTells (D.facts contents.old.disk) (D.facts contents.new.disk) (record {
       before = O.contents output.old;
       after = O.contents output.new;
       errors_before = E.contents errors.old;
       errors_after = E.contents errors.new;
     }) result }
+
+    // It makes at most one call of the disk for each sector of each library.
+    ensures calls { AreCallsAtMost (sum_by file_sectors contents.old.entries)
+        (D.facts contents.old.disk) (D.facts contents.new.disk) }
 {
     match contents.digests(alloc) {
         Ok(digests) => tell_digests(contents.store(), alloc, &digests, output, errors),

@@ -1,4 +1,4 @@
-// The line of a library's digest, as GNU sha256sum prints it.
+// The line for a library's digest, as GNU sha256sum prints it.
 
 ghost use Rattle.std.specs.Prelude.{◌≡◌, OnOk};
 ghost use Rattle.std.specs.List.{flat_map, list_any};
@@ -12,31 +12,32 @@ use crate::stream::Stream;
 use std::io::Write;
 use text_output::WriteFault;
 
-/// How many digits a digest has.
+/// The number of digits of a digest.
 const DIGITS: usize = 64;
 
-/// Whether a name has something else in the place of this byte.
+/// Returns whether a line has an escape in place of `byte`.
 fn is_escaped(byte: u8) -> bool
     ensures { result ≡ is_escaped byte }
 {
     byte == b'\\' || byte == b'\n' || byte == b'\r'
 }
 
-/// Whether a byte of a name is one of these.
+/// Returns whether some byte of a name is escaped.
 fn has_escape(name: &[u8]) -> bool
     ensures { result ≡ list_any is_escaped name.now }
 {
     name.iter().any(|byte| is_escaped(*byte))
 }
 
-/// What a line begins with: a backslash where a byte of the name is escaped.
+/// Returns the beginning of a line: a backslash if a byte of the name is escaped, and otherwise
+/// nothing.
 fn mark_of(name: &[u8]) -> &'static [u8]
     ensures { result.now ≡ escape_mark name.now }
 {
     if has_escape(name) { b"\\" } else { b"" }
 }
 
-/// The digits of a digest.
+/// Appends the digits of a digest to the buffered text.
 fn put_digits<W: Write>(line: &mut Line, out: &mut W, digest: &[u8; 32]) -> Result<(), WriteFault>
     ensures { OnOk result (Sends (W.contents out.old) line.old (W.contents out.new) line.new
         (encode_lower digest.now)) }
@@ -46,7 +47,7 @@ fn put_digits<W: Write>(line: &mut Line, out: &mut W, digest: &[u8; 32]) -> Resu
     line.put(out, &digits)
 }
 
-/// A byte of a name, or what stands for it.
+/// Appends a byte of a name, or its escape, to the buffered text.
 fn put_escaped_byte<W: Write>(line: &mut Line, out: &mut W, byte: u8) -> Result<(), WriteFault>
     ensures { OnOk result (Sends (W.contents out.old) line.old (W.contents out.new) line.new
         (escaped_byte byte)) }
@@ -59,7 +60,7 @@ fn put_escaped_byte<W: Write>(line: &mut Line, out: &mut W, byte: u8) -> Result<
     }
 }
 
-/// A name.
+/// Appends a name with its escapes to the buffered text.
 fn put_escaped<W: Write>(line: &mut Line, out: &mut W, name: &[u8]) -> Result<(), WriteFault>
     ensures { OnOk result (Sends (W.contents out.old) line.old (W.contents out.new) line.new
         (flat_map escaped_byte name.now)) }
@@ -70,7 +71,7 @@ fn put_escaped<W: Write>(line: &mut Line, out: &mut W, name: &[u8]) -> Result<()
     Ok(())
 }
 
-/// The line of a name and a digest.
+/// Appends the line for a name and its digest to the buffered text.
 fn put_sum<W: Write>(
     line: &mut Line,
     out: &mut W,
@@ -87,8 +88,8 @@ fn put_sum<W: Write>(
     line.put(out, b"\n")
 }
 
-/// What goes to a stream of a library of this name: the line of its digest; that it can't be read,
-/// where it can't.
+/// Appends the line for a library named `name` on the stream `stream` to the buffered text. The
+/// output has a line if the library could be read, and standard error has one if it can't be read.
 pub(crate) fn put_stream_line<W: Write>(
     stream: Stream,
     line: &mut Line,

@@ -1,4 +1,4 @@
-// The script that makes a registry anew.
+// Writes the script that makes a registry again.
 
 ghost use Rattle.std.specs.Prelude.{◌≡◌, ◌++◌, ◌<◌, ℕ, List, IfOk, IfSome, OnOk, length};
 ghost use Rattle.std.specs.Prelude.{slice_index_or};
@@ -35,14 +35,14 @@ use store::{Store, StoreRefusal};
 use text_output::{PieceBuffer, WriteFault};
 use tool_parts::{cannot_write, say_refusal};
 
-/// Where a script was cut, and why.
+/// The library at which a script was cut, and the reason.
 #[derive(Clone, Copy, PartialEq, Eq)]
 struct Cut {
     position: usize,
     lack: Lack,
 }
 
-/// The line that installs a file.
+/// Appends the line that installs a file to the buffered text.
 fn put_install<W: Write>(
     script: &mut PieceBuffer,
     out: &mut W,
@@ -58,8 +58,8 @@ fn put_install<W: Write>(
     Ok(())
 }
 
-/// The lines of the libraries, in their order, one in memory at a time. At one that isn't given it
-/// ends.
+/// Appends the lines for the libraries, in their order, to the buffered text, with one library in
+/// memory at a time. Stops at a library whose file isn't returned.
 fn put_libraries<D: Disk, W: Write>(
     contents: &mut Contents<D>,
     alloc: Global,
@@ -86,7 +86,7 @@ fn put_libraries<D: Disk, W: Write>(
     Ok(None)
 }
 
-/// The names of the preloads, each behind a space.
+/// Appends the names of the preloads, with a space before each, to the buffered text.
 fn put_preload_names<D: Disk, W: Write>(
     store: &Store<D>,
     script: &mut PieceBuffer,
@@ -106,7 +106,7 @@ fn put_preload_names<D: Disk, W: Write>(
     Ok(())
 }
 
-/// The line that sets the preloads, where there are any.
+/// Appends the line that sets the preloads, if there are any, to the buffered text.
 fn put_preloads<D: Disk, W: Write>(
     store: &Store<D>,
     script: &mut PieceBuffer,
@@ -125,7 +125,7 @@ fn put_preloads<D: Disk, W: Write>(
     Ok(())
 }
 
-/// The line `commit`, where a script has one.
+/// Appends the line `commit`, if the script is for an update, to the buffered text.
 fn put_commit<W: Write>(
     purpose: Purpose,
     script: &mut PieceBuffer,
@@ -144,8 +144,8 @@ fn put_commit<W: Write>(
     }
 }
 
-/// What stands behind the libraries: the preloads and perhaps `commit`, or `cut`, without a line's
-/// end.
+/// Appends the text after the lines for the libraries: the preloads and, for an update, `commit`;
+/// or `cut` without a newline, if the script is cut.
 fn put_end<D: Disk, W: Write>(
     store: &Store<D>,
     purpose: Purpose,
@@ -191,7 +191,7 @@ fn write_script<D: Disk, W: Write>(
     Ok(cut)
 }
 
-/// Spells the line of what was found of a library of this name and of so many bytes.
+/// Appends to `spelt` the line for a library named `name` of `length` bytes with this finding.
 fn spell_finding(
     finding: Finding,
     name: &[u8],
@@ -207,7 +207,7 @@ fn spell_finding(
     line.send(spelt)
 }
 
-/// Says what was found of a library, where there is memory for the line.
+/// Reports the finding for a library, if there is memory for the line. Returns the status.
 fn say_finding<E: Write>(
     alloc: Global,
     finding: Finding,
@@ -226,7 +226,7 @@ fn say_finding<E: Write>(
     finding_status(finding)
 }
 
-/// What a library ends with of which this was found.
+/// Returns the status for a script that is cut at a library with this finding.
 fn finding_status(finding: Finding) -> Status
     ensures { result ≡ cut_status finding }
 {
@@ -237,7 +237,7 @@ fn finding_status(finding: Finding) -> Status
     }
 }
 
-/// Says why a script was cut.
+/// Reports why a script was cut.
 fn say_cut<D: Disk, E: Write>(store: &Store<D>, alloc: Global, cut: Cut, errors: &mut E) -> Status
     requires { cut.position < length store.now.entries }
     ensures status { result ≡ lack_status cut.lack }
@@ -258,7 +258,7 @@ fn say_cut<D: Disk, E: Write>(store: &Store<D>, alloc: Global, cut: Cut, errors:
     }
 }
 
-/// Says why a script was cut, where it was.
+/// Reports why a script was cut, if it was cut. Returns the status.
 fn end_dump<D: Disk, E: Write>(
     store: &Store<D>,
     alloc: Global,
@@ -276,10 +276,11 @@ fn end_dump<D: Disk, E: Write>(
     }
 }
 
-/// Writes the script that makes the registry anew: an `install` line for each library, in their
-/// order, a `preload` line where there are preloads, and for an update the line `commit`. One
-/// library is in memory at a time, and its sectors are read once. Where one can't be read, or isn't
-/// one of its name, or memory is refused, the script ends with `cut`, without a line's end.
+/// Writes the script that makes the registry again: an `install` line for each library, in their
+/// order, a `preload` line if there are preloads, and for an update the line `commit`. One library
+/// is in memory at a time, and its sectors are read once. If a file can't be read, or isn't a
+/// library with its entry's name, or memory is refused, the script ends with `cut`, without a
+/// newline.
 pub fn run_dump<D: Disk, O: Write, E: Write>(
     contents: &mut Contents<D>,
     alloc: Global,
@@ -296,7 +297,7 @@ pub fn run_dump<D: Disk, O: Write, E: Write>(
           errors_after = E.contents errors.new;
         }) result }
 
-    // On any disk
+    // The following holds on any disk.
     ensures told { DumpTells (D.facts contents.old.disk) (D.facts contents.new.disk) purpose
         (record {
           before = O.contents output.old;

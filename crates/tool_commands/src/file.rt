@@ -1,4 +1,4 @@
-// The bytes of a library.
+// Writes the bytes of a library.
 
 ghost use Rattle.std.specs.Prelude.{◌≡◌};
 ghost use Rattle.states.specs.State.{State};
@@ -20,7 +20,7 @@ use std::io::Write;
 use store::StoreRefusal;
 use tool_parts::{cannot_write, say_refusal};
 
-/// Writes bytes.
+/// Writes `bytes`, or reports that the output failed.
 fn write_bytes<O: Write, E: Write>(bytes: &[u8], output: &mut O, errors: &mut E) -> Status
     ensures { TellsOnly Done bytes.now (record {
       before = O.contents output.old;
@@ -35,7 +35,7 @@ fn write_bytes<O: Write, E: Write>(bytes: &[u8], output: &mut O, errors: &mut E)
     }
 }
 
-/// Says why there are no bytes.
+/// Reports why the bytes of a library can't be written, and returns the status.
 fn say_unread<E: Write>(alloc: Global, unread: Unread, errors: &mut E) -> Status
     ensures status { result ≡ unread_status unread }
     ensures said { AppendsFront (E.contents errors.old) (E.contents errors.new)
@@ -48,8 +48,8 @@ fn say_unread<E: Write>(alloc: Global, unread: Unread, errors: &mut E) -> Status
     }
 }
 
-/// Writes the bytes of the library of this name, and nothing else. Whether they are those of a
-/// library isn't looked at.
+/// Writes exactly the bytes of the library named `name`. Doesn't test whether the file is a
+/// library.
 pub fn run_file<D: Disk, O: Write, E: Write>(
     contents: &mut Contents<D>,
     alloc: Global,
@@ -66,7 +66,7 @@ pub fn run_file<D: Disk, O: Write, E: Write>(
           errors_after = E.contents errors.new;
         }) result }
 
-    // On any disk
+    // The following holds on any disk.
     ensures told { FileTells (D.facts contents.old.disk) (D.facts contents.new.disk) (record {
       before = O.contents output.old;
       after = O.contents output.new;

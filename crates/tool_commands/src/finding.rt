@@ -1,4 +1,4 @@
-// The line of what is found of a library.
+// The line that reports the finding for a library.
 
 ghost use Rattle.std.specs.Prelude.{◌++◌, codes, OnOk};
 ghost use Rattle.std.specs.Fmt.{decimal};
@@ -13,10 +13,10 @@ use program_parts::put_file_refusal;
 use std::io::Write;
 use text_output::{LINE, OutputBuffer, WriteFault};
 
-/// A line on its way to a writer.
+/// The buffer of a line that goes to a writer.
 pub(crate) type Line = OutputBuffer<LINE>;
 
-/// A name between texts.
+/// Appends a name between two texts to the buffered text.
 pub(crate) fn put_around<W: Write>(
     line: &mut Line,
     out: &mut W,
@@ -32,7 +32,7 @@ pub(crate) fn put_around<W: Write>(
     line.put(out, back)
 }
 
-/// The line of a library of its name.
+/// Appends the line for a library that is sound to the buffered text.
 fn put_sound<W: Write>(
     line: &mut Line,
     out: &mut W,
@@ -50,7 +50,7 @@ fn put_sound<W: Write>(
     Ok(())
 }
 
-/// The line of a library that a test refuses.
+/// Appends the line for a library that a test refuses to the buffered text.
 fn put_refused<W: Write>(
     line: &mut Line,
     out: &mut W,
@@ -69,7 +69,8 @@ fn put_refused<W: Write>(
     Ok(())
 }
 
-/// The line of what is found of a library of this name and of so many bytes.
+/// Appends the line for a library named `name` of `length` bytes with this finding to the buffered
+/// text.
 pub(crate) fn put_finding<W: Write>(
     line: &mut Line,
     out: &mut W,

@@ -1,4 +1,4 @@
-// The forms of the program, and which of them words are.
+// The forms of the program, and which form the arguments have.
 
 ghost use Rattle.std.specs.Prelude.{◌≡◌, ◌∷◌, map, string_bytes};
 ghost use Rattle.std.specs.Option.{option_map};
@@ -9,67 +9,67 @@ ghost use Rattle.tool_commands.specs.Form.{purpose_of};
 
 use program_parts::parse_base;
 
-/// What a script is written for.
+/// The purpose of a script.
 #[derive(Clone, Copy, PartialEq, Eq)]
 pub enum Purpose {
-    /// `rlibreg script`, which does what each line asks before it reads the next.
+    /// For `rlibreg script`, which carries out each line before it reads the next.
     Script,
-    /// An update, which does what all lines ask at their end: its last line is `commit`.
+    /// For an update, which carries out all lines together at the end. The last line is `commit`.
     Update,
 }
 
-/// What is told of a disk.
+/// A question about a disk.
 #[derive(Clone, Copy, PartialEq, Eq)]
 pub enum Form<'a> {
-    /// Tells of the whole.
+    /// Writes the numbers of the whole registry.
     Info,
-    /// Tells of each library whether it is one.
+    /// Tests each library, and writes the finding for it.
     Check,
-    /// Gives the digest of each library.
+    /// Writes the digest of each library.
     Digest,
-    /// Gives the bytes of the library of this name.
+    /// Writes the bytes of the library with the given name.
     File(&'a str),
-    /// Gives the script that makes the registry anew.
+    /// Writes the script that makes the registry again.
     Dump(Purpose),
 }
 
 /// What is done with a disk.
 #[derive(Clone, Copy, PartialEq, Eq)]
 pub enum Action<'a> {
-    /// Tells what it has. It is only read.
+    /// Answers a question about what the disk has. The disk is only read.
     Tell(Form<'a>),
-    /// Puts the file of this path in the place of the library of the same name.
+    /// Replaces the library with the same name by the file at the given path.
     Replace(&'a str),
-    /// Removes the library of this name.
+    /// Removes the library with the given name.
     Remove(&'a str),
-    /// Makes all changes at once that the lines of the input ask for.
+    /// Makes all the changes that the lines of the input ask for, in one commit.
     Update,
-    /// Gives the executable file of a bound program.
+    /// Writes the executable file of a bound program.
     Executable {
         /// The path of the program's file.
         program: &'a str,
-        /// The address at which it is bound.
+        /// The address at which the program is bound.
         base: u64,
     },
-    /// Tells what the symbols of a program are bound to.
+    /// Writes what the symbols of a program are bound to.
     Bindings {
         /// The path of the program's file.
         program: &'a str,
-        /// The address at which it is bound.
+        /// The address at which the program is bound.
         base: u64,
     },
 }
 
-/// What words ask: what is done, and the path of the disk.
+/// The action that arguments ask for, and the path of the disk.
 #[derive(Clone, Copy, PartialEq, Eq)]
 pub struct Asked<'a> {
     /// The path of the disk.
     pub disk: &'a str,
-    /// What is done with it.
+    /// What is done with the disk.
     pub action: Action<'a>,
 }
 
-/// What is done with DISK, where it stands alone.
+/// Reads the argument DISK of a form that has no other argument, and returns DISK and `action`.
 fn read_disk<'a>(action: Action<'a>, words: &'a [String]) -> Option<Asked<'a>>
     ensures { option_map line_of result
         ≡ of_one (deed_of action.entry) (map (λ word. string_bytes word) words.now) }
@@ -80,7 +80,7 @@ fn read_disk<'a>(action: Action<'a>, words: &'a [String]) -> Option<Asked<'a>>
     }
 }
 
-/// What a word behind DISK says that a dump is for.
+/// Reads the argument after DISK, which names the purpose of a dump.
 fn read_purpose(word: &str) -> Option<Purpose>
     ensures { result ≡ purpose_of word.now }
 {
@@ -90,7 +90,7 @@ fn read_purpose(word: &str) -> Option<Purpose>
     }
 }
 
-/// `dump` of DISK, or of DISK `commit`.
+/// Reads the arguments of `dump`: DISK, or DISK `commit`.
 fn read_dump(words: &[String]) -> Option<Asked<'_>>
     ensures { option_map line_of result ≡ of_dump (map (λ word. string_bytes word) words.now) }
 {
@@ -108,7 +108,7 @@ fn read_dump(words: &[String]) -> Option<Asked<'_>>
     }
 }
 
-/// `file` of DISK NAME.
+/// Reads the arguments of `file`: DISK NAME.
 fn read_file(words: &[String]) -> Option<Asked<'_>>
     ensures { option_map line_of result
         ≡ of_two (λ name. tell (file name)) (map (λ word. string_bytes word) words.now) }
@@ -122,7 +122,7 @@ fn read_file(words: &[String]) -> Option<Asked<'_>>
     }
 }
 
-/// `replace` of DISK FILE.
+/// Reads the arguments of `replace`: DISK FILE.
 fn read_replace(words: &[String]) -> Option<Asked<'_>>
     ensures { option_map line_of result
         ≡ of_two replace (map (λ word. string_bytes word) words.now) }
@@ -136,7 +136,7 @@ fn read_replace(words: &[String]) -> Option<Asked<'_>>
     }
 }
 
-/// `remove` of DISK NAME.
+/// Reads the arguments of `remove`: DISK NAME.
 fn read_remove(words: &[String]) -> Option<Asked<'_>>
     ensures { option_map line_of result
         ≡ of_two remove (map (λ word. string_bytes word) words.now) }
@@ -150,7 +150,7 @@ fn read_remove(words: &[String]) -> Option<Asked<'_>>
     }
 }
 
-/// `executable` of DISK PROGRAM BASE.
+/// Reads the arguments of `executable`: DISK PROGRAM BASE.
 fn read_executable(words: &[String]) -> Option<Asked<'_>>
     ensures { option_map line_of result
         ≡ of_program executable (map (λ word. string_bytes word) words.now) }
@@ -165,7 +165,7 @@ fn read_executable(words: &[String]) -> Option<Asked<'_>>
     }
 }
 
-/// `bindings` of DISK PROGRAM BASE.
+/// Reads the arguments of `bindings`: DISK PROGRAM BASE.
 fn read_bindings(words: &[String]) -> Option<Asked<'_>>
     ensures { option_map line_of result
         ≡ of_program bindings (map (λ word. string_bytes word) words.now) }
@@ -180,7 +180,7 @@ fn read_bindings(words: &[String]) -> Option<Asked<'_>>
     }
 }
 
-/// What is done by the form of this name, and with which disk.
+/// Reads the arguments of the form named `name`.
 fn read_form<'a>(name: &str, words: &'a [String]) -> Option<Asked<'a>>
     ensures { option_map line_of result
         ≡ command_line (name.now ∷ map (λ word. string_bytes word) words.now) }
@@ -200,7 +200,8 @@ fn read_form<'a>(name: &str, words: &'a [String]) -> Option<Asked<'a>>
     }
 }
 
-/// What the words after the program's name ask. It takes no memory.
+/// Reads the arguments after the program's name. Returns `None` if they have none of the forms.
+/// Allocates nothing.
 pub fn read_words(words: &[String]) -> Option<Asked<'_>>
     ensures { option_map line_of result
         ≡ command_line (map (λ word. string_bytes word) words.now) }

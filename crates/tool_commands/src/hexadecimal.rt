@@ -1,4 +1,4 @@
-// Bytes in hexadecimal, on one line.
+// Writes bytes in hexadecimal, on one line.
 
 ghost use Rattle.std.specs.Prelude.{◌≤◌, OnOk, length};
 ghost use Rattle.hex.specs.Hex.{encode_lower};
@@ -8,10 +8,10 @@ ghost use Rattle.text_output.specs.Pieces.{EndsWithinLine};
 use std::io::Write;
 use text_output::{PieceBuffer, WriteFault};
 
-/// How many bytes are spelt at once.
+/// The number of bytes that are encoded at once.
 const PIECE_BYTES: usize = 32;
 
-/// Puts bytes in lower case hexadecimal behind what waits, without a line's end.
+/// Appends bytes in lower-case hexadecimal to the buffered text, without a newline.
 pub(crate) fn put_hex<W: Write>(
     text: &mut PieceBuffer,
     out: &mut W,
@@ -28,7 +28,7 @@ pub(crate) fn put_hex<W: Write>(
     Ok(())
 }
 
-/// The same of a few bytes.
+/// Appends at most `PIECE_BYTES` bytes in lower-case hexadecimal to the buffered text.
 fn put_hex_piece<W: Write>(
     text: &mut PieceBuffer,
     out: &mut W,

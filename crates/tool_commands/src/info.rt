@@ -1,4 +1,4 @@
-// What is told of the whole.
+// Writes the numbers of the whole registry.
 
 ghost use Rattle.std.specs.Prelude.{◌++◌, codes, length, OnOk};
 ghost use Rattle.std.specs.Fmt.{decimal};
@@ -19,10 +19,10 @@ use std::io::Write;
 use text_output::{LINE, OutputBuffer, WriteFault};
 use tool_parts::cannot_write;
 
-/// A line on its way to a writer.
+/// The buffer of a line that goes to a writer.
 type Line = OutputBuffer<LINE>;
 
-/// A number between texts.
+/// Appends a number between two texts to the buffered text.
 fn put_number<W: Write>(
     line: &mut Line,
     out: &mut W,
@@ -38,7 +38,7 @@ fn put_number<W: Write>(
     line.put(out, back)
 }
 
-/// The lines of the disk and of its changes.
+/// Appends the lines about the disk and the number of its changes to the buffered text.
 fn put_disk<W: Write>(line: &mut Line, out: &mut W, info: &Info) -> Result<(), WriteFault>
     ensures { OnOk result (Sends (W.contents out.old) line.old (W.contents out.new) line.new
         (disk_lines info.now.sectors info.now.generation)) }
@@ -48,7 +48,8 @@ fn put_disk<W: Write>(line: &mut Line, out: &mut W, info: &Info) -> Result<(), W
     put_number(line, out, b"generation ", info.generation, b"\n")
 }
 
-/// The lines of what is installed, with its limits.
+/// Appends the lines about the installed libraries and the preloads, with their limits, to the
+/// buffered text.
 fn put_counts<W: Write>(line: &mut Line, out: &mut W, info: &Info) -> Result<(), WriteFault>
     ensures { OnOk result (Sends (W.contents out.old) line.old (W.contents out.new) line.new
         (count_lines info.now.libraries info.now.preloads)) }
@@ -63,7 +64,8 @@ fn put_counts<W: Write>(line: &mut Line, out: &mut W, info: &Info) -> Result<(),
     put_number(line, out, b"preloads ", info.preloads as u64, b" of 16\n")
 }
 
-/// The lines of what is unused, and of what goes in.
+/// Appends the lines about the unused sectors, with the largest file that can be installed, to the
+/// buffered text.
 fn put_room<W: Write>(line: &mut Line, out: &mut W, info: &Info) -> Result<(), WriteFault>
     ensures { OnOk result (Sends (W.contents out.old) line.old (W.contents out.new) line.new
         (room_lines info.now.unused.sectors info.now.unused.free info.now.unused.runs
@@ -81,7 +83,7 @@ fn put_room<W: Write>(line: &mut Line, out: &mut W, info: &Info) -> Result<(), W
     )
 }
 
-/// All of it.
+/// Appends all lines to the buffered text.
 fn put_info<W: Write>(line: &mut Line, out: &mut W, info: &Info) -> Result<(), WriteFault>
     ensures { OnOk result (Sends (W.contents out.old) line.old (W.contents out.new) line.new
         (info_text info.now.sectors info.now.generation info.now.libraries info.now.preloads
@@ -93,7 +95,7 @@ fn put_info<W: Write>(line: &mut Line, out: &mut W, info: &Info) -> Result<(), W
     put_room(line, out, info)
 }
 
-/// Writes it, with one write.
+/// Writes all lines, with one write.
 fn write_info<W: Write>(out: &mut W, info: &Info) -> Result<(), WriteFault>
     ensures { OnOk result (Appends (W.contents out.old) (W.contents out.new)
         (info_text info.now.sectors info.now.generation info.now.libraries info.now.preloads
@@ -105,7 +107,7 @@ fn write_info<W: Write>(out: &mut W, info: &Info) -> Result<(), WriteFault>
     line.send(out)
 }
 
-/// Writes what is told of the whole, or says that the output failed.
+/// Writes all lines, or reports that the output failed.
 fn tell_info<O: Write, E: Write>(info: &Info, output: &mut O, errors: &mut E) -> Status
     ensures { TellsOnly Done (info_text info.now.sectors info.now.generation info.now.libraries
         info.now.preloads info.now.unused.sectors info.now.unused.free info.now.unused.runs
@@ -123,8 +125,8 @@ fn tell_info<O: Write, E: Write>(info: &Info, output: &mut O, errors: &mut E) ->
     }
 }
 
-/// Writes what is told of the whole: its lines, with one write. It takes no memory and makes no
-/// call of the disk.
+/// Writes the numbers of the whole registry in one write. Allocates nothing, and makes no call of
+/// the disk.
 pub fn run_info<D: Disk, O: Write, E: Write>(
     contents: &Contents<D>,
     output: &mut O,
@@ -138,7 +140,7 @@ pub fn run_info<D: Disk, O: Write, E: Write>(
           errors_after = E.contents errors.new;
         }) result }
 
-    // On any disk
+    // The following holds on any disk.
     ensures told { InfoTells (record {
       before = O.contents output.old;
       after = O.contents output.new;

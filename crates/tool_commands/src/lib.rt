@@ -1,13 +1,15 @@
-//! What the program `rlibreg-tool` does with words and disks, for whoever links it.
+//! What the program `rlibreg-tool` does with arguments and disks, as a library for other programs.
 //!
-//! `run_info`, `run_check`, `run_digest`, `run_file` and `run_dump` tell what a disk has: how much
-//! of it is unused, whether its libraries are libraries, their digests, the bytes of one, and the
-//! script that makes them all anew.
-//! `run_form` opens a disk, whatever it is, and does one of these; `run_request` applies a command
-//! to its registry, whatever its libraries are, and tells the reply as `Telling` says;
-//! `run_bindings` tells what the symbols of a program are bound to. `run_words`
-//! reads the words of a command line and opens the file that is the disk, also for an update, which
-//! the crate `updates` runs; `run_arguments` does the same with the words of the process.
+//! `run_info`, `run_check`, `run_digest`, `run_file` and `run_dump` report what a disk has: how
+//! much of it is unused, whether each file is a library, the digests of the files, the bytes of one
+//! library, and the script that makes the registry again.
+//!
+//! `run_form` opens any disk and calls one of these. `run_request` applies a command to a disk's
+//! registry, even if some files aren't libraries, and writes the reply as `Telling` determines.
+//! `run_bindings` writes what the symbols of a program are bound to.
+//!
+//! `run_words` reads the arguments of a command line and opens the disk's file, also for an update,
+//! which the crate `updates` runs. `run_arguments` does the same with the arguments of the process.
 #![tactic(auto)]
 
 mod arguments;

@@ -1,4 +1,4 @@
-// What is done with the disk that a file is.
+// Opens the file of a disk, and carries out the action of the arguments.
 
 ghost use Rattle.std.specs.Prelude.{◌≡◌, false};
 ghost use Rattle.requests.specs.Request.{request_of};
@@ -26,20 +26,20 @@ use store::StoreRefusal;
 use tool_parts::say_refusal;
 use updates::run_update;
 
-/// Says why the file of a disk isn't opened.
+/// Reports why the file of a disk can't be opened, and returns the status.
 fn not_opened<E: Write>(alloc: Global, path: &str, fault: OpenFault, errors: &mut E) -> Status
     ensures status { result ≡ open_status fault }
     ensures said { SaysFault fault (E.contents errors.old) (E.contents errors.new) }
 {
     match fault {
         OpenFault::CannotOpen => cannot_read(errors, path),
-        OpenFault::BadLength => say_refusal(alloc, StoreRefusal::BadGeometry, errors),
+        OpenFault::BadLength(_) => say_refusal(alloc, StoreRefusal::BadGeometry, errors),
         OpenFault::OutOfMemory => say_refusal(alloc, StoreRefusal::OutOfMemory, errors),
     }
 }
 
-/// Opens the disk for reading alone, and tells what it has. Its lock is held until the output is
-/// written.
+/// Opens the disk only for reading, and answers a question about it. Keeps the disk locked until
+/// the output is written.
 fn tell<R: Files<File = File> + Clock, O: Write, E: Write>(
     rt: &R,
     alloc: Global,
@@ -68,8 +68,8 @@ fn tell<R: Files<File = File> + Clock, O: Write, E: Write>(
     }
 }
 
-/// Opens a disk, applies a command to its registry, and tells the reply. The lock is held until the
-/// output is written.
+/// Opens a disk, applies a command to its registry, and writes the reply. Keeps the disk locked
+/// until the output is written.
 fn ask<R: Files<File = File> + Clock, O: Write, E: Write>(
     rt: &R,
     alloc: Global,
@@ -98,7 +98,7 @@ fn ask<R: Files<File = File> + Clock, O: Write, E: Write>(
     }
 }
 
-/// Says why a file wasn't read.
+/// Reports why a file can't be read, and returns the status.
 fn not_read<E: Write>(alloc: Global, path: &str, fault: FileFault, errors: &mut E) -> Status
     ensures status { result ≡ read_status fault }
     ensures said { SaysUnread fault (E.contents errors.old) (E.contents errors.new) }
@@ -109,7 +109,7 @@ fn not_read<E: Write>(alloc: Global, path: &str, fault: FileFault, errors: &mut 
     }
 }
 
-/// Reads a file, and then opens the disk and asks what is asked with the file's bytes.
+/// Reads a file, and then opens the disk and makes a request with the file's bytes.
 fn ask_with<R: Files<File = File> + Clock, O: Write, E: Write>(
     rt: &R,
     alloc: Global,
@@ -144,8 +144,8 @@ fn ask_with<R: Files<File = File> + Clock, O: Write, E: Write>(
     }
 }
 
-/// Opens the disk for reading alone, and tells what the symbols of a program are bound to. Its lock
-/// is held until the output is written.
+/// Opens the disk only for reading, and writes what the symbols of a program are bound to. Keeps
+/// the disk locked until the output is written.
 fn tell_bindings<R: Files<File = File> + Clock, O: Write, E: Write>(
     rt: &R,
     alloc: Global,
@@ -172,7 +172,7 @@ fn tell_bindings<R: Files<File = File> + Clock, O: Write, E: Write>(
     }
 }
 
-/// Reads a program, and then opens the disk and tells what its symbols are bound to.
+/// Reads a program, and then opens the disk and writes what the program's symbols are bound to.
 fn tell_file_bindings<R: Files<File = File> + Clock, O: Write, E: Write>(
     rt: &R,
     alloc: Global,
@@ -195,8 +195,8 @@ fn tell_file_bindings<R: Files<File = File> + Clock, O: Write, E: Write>(
     }
 }
 
-/// Opens a disk with a lock that nobody else may hold, and runs an update over it. The lock is held
-/// until the output is written.
+/// Opens a disk, locked exclusively, and runs an update over it. Keeps the disk locked until the
+/// output is written.
 fn update<R: Files<File = File> + Clock, I: Read, O: Write, E: Write>(
     rt: &R,
     alloc: Global,
@@ -223,7 +223,7 @@ fn update<R: Files<File = File> + Clock, I: Read, O: Write, E: Write>(
     }
 }
 
-/// Does what is asked.
+/// Carries out the action of the arguments.
 pub(crate) fn run_asked<R: Files<File = File> + Clock, I: Read, O: Write, E: Write>(
     rt: &R,
     alloc: Global,

@@ -1,4 +1,4 @@
-// A command to the registry on a disk, whatever the disk is, and whatever its libraries are.
+// Applies a command to the registry on any disk, even if some files aren't libraries.
 
 ghost use Rattle.requests.specs.Request.{request_of};
 ghost use Rattle.requests.specs.declared.reply.Reply.{Reply};
@@ -14,7 +14,7 @@ use std::alloc::Global;
 use std::io::Write;
 use tool_parts::say_refusal;
 
-/// Applies a command to a registry, and tells the reply.
+/// Applies `command` to `registry`, and writes the reply.
 fn answer<D: Disk, O: Write, E: Write>(
     registry: &mut Registry<D>,
     alloc: Global,
@@ -36,11 +36,10 @@ fn answer<D: Disk, O: Write, E: Write>(
     tell(alloc, telling, &reply, output, errors)
 }
 
-/// Opens the registry on a disk without a test of its libraries, applies a command, and tells the
-/// reply; or says why the disk is refused. So a library that is damaged, or can't be read, keeps no
-/// other from being changed, and itself from being replaced or removed. Gives the status, and hands
-/// the disk back. Where the output fails the status is `Failed`, and the command was applied all
-/// the same.
+/// Opens the registry on `disk` without testing its libraries, applies `command`, and writes the
+/// reply. If the disk is refused, reports why. So a library that is damaged or can't be read can be
+/// replaced or removed, and doesn't prevent changes of other libraries. Returns the status and the
+/// disk. If the output fails, the status is `Failed`, although the command was applied.
 pub fn run_request<D: Disk, O: Write, E: Write>(
     alloc: Global,
     disk: D,

@@ -1,4 +1,4 @@
-// A form over a disk, whatever the disk is.
+// Carries out a form over any disk.
 
 ghost use Rattle.std.specs.Prelude.{codes, OnOk};
 ghost use Rattle.std.specs.Io.KnownBytes.{Appends};
@@ -6,7 +6,7 @@ ghost use Rattle.states.specs.State.{State};
 ghost use Rattle.store.specs.IsRead.{IsRead};
 ghost use Rattle.store.specs.Opened.{IsAt};
 ghost use Rattle.tool_commands.specs.AnyDisk.{FormTells};
-ghost use Rattle.tool_commands.specs.Ends.{DiskEnds, EndsUnopened, FormEnds};
+ghost use Rattle.tool_commands.specs.Ends.{DiskEnds, EndsUnopened, FormEnds, FormReads};
 ghost use Rattle.tool_commands.specs.Form.{question_of};
 
 use crate::check::run_check;
@@ -23,7 +23,7 @@ use std::io::Write;
 use text_output::{OutputBuffer, PIECE, WriteFault};
 use tool_parts::say_refusal;
 
-/// Cuts a script of which there is nothing: it is none that could be taken for a whole one.
+/// Writes `cut` as the whole script, so that nobody takes the output for a complete script.
 fn cut_script<O: Write>(output: &mut O) -> Result<(), WriteFault>
     ensures { OnOk result (Appends (O.contents output.old) (O.contents output.new) (codes "cut")) }
 {
@@ -32,7 +32,8 @@ fn cut_script<O: Write>(output: &mut O) -> Result<(), WriteFault>
     text.send(output)
 }
 
-/// What ends with this status without a disk that is opened: a script is cut.
+/// Ends a form whose disk couldn't be opened. If the form is a dump, writes a script that is cut.
+/// Returns `status`, or `Failed` if the output failed.
 pub(crate) fn end_unopened<O: Write>(form: &Form<'_>, status: Status, output: &mut O) -> Status
     ensures { EndsUnopened (question_of form.now) status
         (O.contents output.old) (O.contents output.new) result }
@@ -46,7 +47,7 @@ pub(crate) fn end_unopened<O: Write>(form: &Form<'_>, status: Status, output: &m
     }
 }
 
-/// Does what is asked of what a disk has.
+/// Answers a question about the contents of an opened disk.
 fn run_opened<D: Disk, O: Write, E: Write>(
     contents: &mut Contents<D>,
     alloc: Global,
@@ -70,6 +71,8 @@ fn run_opened<D: Disk, O: Write, E: Write>(
           errors_before = E.contents errors.old;
           errors_after = E.contents errors.new;
         }) result }
+    ensures calls { FormReads (D.facts contents.old.disk) (D.facts contents.new.disk)
+        contents.old.entries (question_of form.now) }
 {
     match *form {
         Form::Info => run_info(contents, output, errors),
@@ -80,8 +83,8 @@ fn run_opened<D: Disk, O: Write, E: Write>(
     }
 }
 
-/// Opens what a disk has, does what is asked, and hands the disk back. Nothing is written to the
-/// disk.
+/// Opens the contents of `disk`, answers a question about them, and returns the status and the
+/// disk. Writes nothing to the disk.
 pub fn run_form<D: Disk, O: Write, E: Write>(
     alloc: Global,
     disk: D,

@@ -1,4 +1,4 @@
-// What is said on standard error.
+// The messages on standard error.
 
 ghost use Rattle.std.specs.Prelude.{◌≡◌};
 ghost use Rattle.program_parts.specs.Said.{AppendsFront};
@@ -8,7 +8,7 @@ ghost use Rattle.tool_commands.specs.Said.{not_installed_line, usage_line};
 use program_parts::{Status, say};
 use std::io::Write;
 
-/// Says that no library has the name.
+/// Reports that no library with that name is installed.
 pub(crate) fn say_not_installed<E: Write>(errors: &mut E) -> Status
     ensures status { result ≡ Refused }
     ensures said { AppendsFront (E.contents errors.old) (E.contents errors.new)
@@ -18,7 +18,7 @@ pub(crate) fn say_not_installed<E: Write>(errors: &mut E) -> Status
     Status::Refused
 }
 
-/// Says that the words are none of the forms, and which these are.
+/// Reports that the arguments have none of the forms, and which forms there are.
 pub(crate) fn bad_words<E: Write>(errors: &mut E) -> Status
     ensures status { result ≡ BadWords }
     ensures said { AppendsFront (E.contents errors.old) (E.contents errors.new) usage_line }
@@ -31,7 +31,7 @@ pub(crate) fn bad_words<E: Write>(errors: &mut E) -> Status
     Status::BadWords
 }
 
-/// Says that a file can't be read.
+/// Reports that a file can't be read.
 pub(crate) fn cannot_read<E: Write>(errors: &mut E, path: &str) -> Status
     ensures { result ≡ Failed }
 {

@@ -1,4 +1,4 @@
-// The file of a library that is one.
+// Reads the file of a library, and tests that it is a library.
 
 ghost use Rattle.std.specs.Prelude.{◌≡◌, ◌≢◌, ◌<◌, IfOk, IfErr, length, slice_index_or};
 ghost use Rattle.states.specs.State.{State};
@@ -14,10 +14,10 @@ use contents::{Contents, Finding, Unread, finding_of};
 use sector_disk::Disk;
 use std::alloc::{AllocError, Global};
 
-/// Why a library isn't given.
+/// The reason why a library's file isn't returned.
 #[derive(Clone, Copy, PartialEq, Eq)]
 pub(crate) enum Lack {
-    /// It can't be read, or isn't one of its name.
+    /// The file can't be read, or isn't a library with its entry's name.
     Found(Finding),
     /// Memory was refused.
     OutOfMemory,
@@ -31,7 +31,7 @@ impl From<AllocError> for Lack {
     }
 }
 
-/// A file that is a library of this name.
+/// Returns the file `file` if it is a library named `name`, and otherwise the reason why it isn't.
 fn tested(alloc: Global, name: &[u8], file: Vec<u8>) -> Result<Vec<u8>, Lack>
     ensures ok { IfOk result (λ f. (f.items ≡ file.items)
         × IsLibrary (record { name = name.now; bytes = file.items })) }
@@ -45,7 +45,8 @@ fn tested(alloc: Global, name: &[u8], file: Vec<u8>) -> Result<Vec<u8>, Lack>
     }
 }
 
-/// The file of the library at this position. Its sectors are read once.
+/// Reads the file of the library at `position`, and returns it if it is a library with its entry's
+/// name. Reads each of its sectors once.
 pub(crate) fn sound_file<D: Disk>(
     contents: &mut Contents<D>,
     alloc: Global,

@@ -1,6 +1,6 @@
-// The two streams of what is told.
+// The two streams that a form writes to.
 
-/// A stream that a line goes to.
+/// A stream to which a form writes a line.
 #[derive(Clone, Copy, PartialEq, Eq)]
 pub(crate) enum Stream {
     /// Standard output.

@@ -1,4 +1,4 @@
-// What the symbols of a program and its libraries are bound to.
+// Writes what the symbols of a program and its libraries are bound to.
 
 ghost use Rattle.std.specs.Prelude.{◌≡◌, true, None};
 ghost use Rattle.scope.specs.LoadOrder.{available, names_of};
@@ -31,7 +31,7 @@ use std::io::Write;
 use store::StoreRefusal;
 use tool_parts::{cannot_write, say_refusal};
 
-/// Says why nothing is told of a program.
+/// Reports why a bind is refused. Returns the status.
 fn say_refused<E: Write>(alloc: Global, refusal: Refusal, errors: &mut E) -> Status
     ensures status { result ≡ refusal_status refusal }
     ensures said { AppendsFront (E.contents errors.old) (E.contents errors.new)
@@ -40,7 +40,7 @@ fn say_refused<E: Write>(alloc: Global, refusal: Refusal, errors: &mut E) -> Sta
     say_reply(alloc, &Reply::Refused(refusal), errors)
 }
 
-/// Writes what the symbols of objects in their places are bound to, or says that the output failed.
+/// Writes what the symbols of the placed objects are bound to, or reports that the output failed.
 fn write_bindings<O: Write, E: Write>(
     bindings: &Bindings<'_>,
     output: &mut O,
@@ -60,8 +60,8 @@ fn write_bindings<O: Write, E: Write>(
     }
 }
 
-/// Places the objects of an order, and tells what their symbols are bound to; or says why they
-/// can't be placed.
+/// Places the objects of an order, and writes what their symbols are bound to. If they can't be
+/// placed, reports why.
 fn tell_placed<O: Write, E: Write>(
     alloc: Global,
     order: &Order<'_>,
@@ -83,7 +83,7 @@ fn tell_placed<O: Write, E: Write>(
     }
 }
 
-/// Tells what the symbols of a program and of all the libraries that it needs are bound to.
+/// Writes what the symbols of a program and of all the libraries that it needs are bound to.
 fn tell_whole<O: Write, E: Write>(
     alloc: Global,
     program: &Admitted<'_>,
@@ -106,7 +106,8 @@ fn tell_whole<O: Write, E: Write>(
     }
 }
 
-/// Writes what was found for a program, and what is missing, or says that the output failed.
+/// Writes the libraries that were found for a program and the names that are missing, or reports
+/// that the output failed.
 fn write_dependencies<O: Write, E: Write>(
     dependencies: &Dependencies<'_>,
     output: &mut O,
@@ -126,7 +127,8 @@ fn write_dependencies<O: Write, E: Write>(
     }
 }
 
-/// Tells what was found for a program that lacks libraries, and what is missing.
+/// Writes which libraries were found and which names are missing, for a program that lacks
+/// libraries.
 fn tell_lacking<O: Write, E: Write>(
     alloc: Global,
     program: &Admitted<'_>,
@@ -148,7 +150,8 @@ fn tell_lacking<O: Write, E: Write>(
     }
 }
 
-/// Tells what the symbols are bound to of a program for which this was found, or what is missing.
+/// Writes what the symbols of a program are bound to, with the libraries in `found`. If names are
+/// missing, writes which ones instead.
 fn tell_found<O: Write, E: Write>(
     alloc: Global,
     program: &Admitted<'_>,
@@ -177,7 +180,7 @@ fn tell_found<O: Write, E: Write>(
     }
 }
 
-/// Finds the libraries of a program that is admitted, and tells what the symbols are bound to.
+/// Finds the libraries of an admitted program, and writes what the symbols are bound to.
 fn tell_admitted<D: Disk, O: Write, E: Write>(
     registry: &mut Registry<D>,
     alloc: Global,
@@ -200,7 +203,8 @@ fn tell_admitted<D: Disk, O: Write, E: Write>(
     }
 }
 
-/// Tells what the symbols of a program at a base are bound to, or says why nothing is told.
+/// Writes what the symbols of a program at the address `base` are bound to, or reports why it
+/// can't.
 fn tell_program<D: Disk, O: Write, E: Write>(
     registry: &mut Registry<D>,
     alloc: Global,
@@ -222,11 +226,12 @@ fn tell_program<D: Disk, O: Write, E: Write>(
     }
 }
 
-/// Opens the registry on a disk without a test of its libraries, and tells of a program at a base
-/// what each symbol that a relocation names is bound to, object by object in load order; or, where
-/// needed names aren't installed, which libraries are found, and all names that are missing; or
-/// says why neither is. It reads the libraries that the program needs, and hands the disk back.
-/// Where a symbol is undefined or a name is missing the status is `Refused`.
+/// Opens the registry on `disk` without testing its libraries, and binds the symbols of a program
+/// at the address `base`. Writes what each symbol that a relocation names is bound to, object by
+/// object in load order. If needed names aren't installed, writes instead which libraries are
+/// found, and all names that are missing. If neither is possible, reports why. Reads only the
+/// libraries that the program needs, and returns the status and the disk. The status is `Refused`
+/// if a symbol is undefined or a name is missing.
 pub fn run_bindings<D: Disk, O: Write, E: Write>(
     alloc: Global,
     disk: D,

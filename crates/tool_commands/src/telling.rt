@@ -1,4 +1,4 @@
-// How a reply is told.
+// Writes a reply.
 
 ghost use Rattle.std.specs.Prelude.{◌≡◌, ◌++◌, OnOk};
 ghost use Rattle.program_parts.specs.Reply.{reply_text};
@@ -16,16 +16,17 @@ use std::io::Write;
 use text_output::WriteFault;
 use tool_parts::cannot_write;
 
-/// How a reply is told.
+/// How a reply is written.
 #[derive(Clone, Copy, PartialEq, Eq)]
 pub enum Telling {
-    /// By its text, on the output.
+    /// The text of the reply goes to the output.
     Text,
-    /// An image as an executable file, on the output; anything else on standard error.
+    /// An image goes to the output as an executable file. The text of any other reply goes to
+    /// standard error.
     Executable,
 }
 
-/// Writes a reply, or says that the output failed.
+/// Writes the text of a reply, or reports that the output failed.
 fn tell_text<O: Write, E: Write>(reply: &Reply, output: &mut O, errors: &mut E) -> Status
     ensures { TellsOnly (reply_status reply.now) (reply_text reply.now) (record {
       before = O.contents output.old;
@@ -40,7 +41,7 @@ fn tell_text<O: Write, E: Write>(reply: &Reply, output: &mut O, errors: &mut E) 
     }
 }
 
-/// Spells the line of a reply.
+/// Appends the line of a reply to `line`.
 fn spell_reply(line: &mut Vec<u8>, reply: &Reply) -> Result<(), WriteFault>
     ensures { OnOk result
         (line.new.items ≡ line.old.items ++ said_line (reply_text reply.now)) }
@@ -51,7 +52,7 @@ fn spell_reply(line: &mut Vec<u8>, reply: &Reply) -> Result<(), WriteFault>
     text.send(line)
 }
 
-/// Says what came in the place of an image, where there is memory for the line.
+/// Writes the line of a reply to standard error, if there is memory for it. Returns the status.
 pub(crate) fn say_reply<E: Write>(alloc: Global, reply: &Reply, errors: &mut E) -> Status
     ensures status { result ≡ reply_status reply.now }
     ensures said { AppendsFront (E.contents errors.old) (E.contents errors.new)
@@ -64,7 +65,7 @@ pub(crate) fn say_reply<E: Write>(alloc: Global, reply: &Reply, errors: &mut E) 
     Status::of_reply(reply)
 }
 
-/// Tells a reply. Where the output fails the status is `Failed`.
+/// Writes `reply` in the way that `telling` names. If the output fails, returns `Failed`.
 pub(crate) fn tell<O: Write, E: Write>(
     alloc: Global,
     telling: Telling,

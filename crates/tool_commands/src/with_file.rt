@@ -1,4 +1,4 @@
-// What is asked with the bytes of a file.
+// Requests that need the bytes of a file.
 
 ghost use Rattle.std.specs.Prelude.{◌≡◌};
 ghost use Rattle.requests.specs.Request.{request_of};
@@ -9,20 +9,20 @@ use crate::telling::Telling;
 use file_disk::Access;
 use requests::Command;
 
-/// What is asked of a registry with the bytes of a file.
+/// A request to a registry that needs the bytes of a file.
 #[derive(Clone, Copy)]
 pub(crate) enum WithFile {
-    /// Puts it in the place of the library of the same name.
+    /// Writes the executable file of the program that is read from the file.
     Replace,
-    /// Gives the executable file of a program.
+    /// Writes the executable file of the program whose file is read.
     Executable {
-        /// The address at which it is bound.
+        /// The address at which the program is bound.
         base: u64,
     },
 }
 
 impl WithFile {
-    /// The command, with these bytes.
+    /// Returns the command with the file `bytes`.
     pub(crate) fn command(self, bytes: &[u8]) -> Command<'_>
         ensures { request_of result ≡ request_with self bytes.now }
     {
@@ -35,7 +35,7 @@ impl WithFile {
         }
     }
 
-    /// What its disk is opened for.
+    /// Returns the access with which the disk is opened.
     pub(crate) fn access(self) -> Access
         ensures { result ≡ access_of self }
     {
@@ -45,7 +45,7 @@ impl WithFile {
         }
     }
 
-    /// How its reply is told.
+    /// Returns how the reply is written.
     pub(crate) fn telling(self) -> Telling
         ensures { result ≡ telling_of self }
     {

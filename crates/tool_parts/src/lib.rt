@@ -1,5 +1,6 @@
-//! What the program `rlibreg-tool` tells and says, for the crates that are its forms: how an output
-//! and standard error stand before and after, and the lines that several forms say.
+//! How the forms of `rlibreg-tool` write their output and their messages: the bytes that the output
+//! and standard error hold before and after, and the lines that several forms write to standard
+//! error.
 #![tactic(auto)]
 
 mod said;

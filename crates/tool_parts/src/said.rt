@@ -1,4 +1,4 @@
-// Lines that several forms say on standard error.
+// The lines that several forms write to standard error.
 
 ghost use Rattle.std.specs.Prelude.{◌≡◌, ◌++◌, OnOk};
 ghost use Rattle.program_parts.specs.Said.{AppendsFront};
@@ -12,7 +12,7 @@ use std::io::Write;
 use store::StoreRefusal;
 use text_output::{LINE, OutputBuffer, WriteFault};
 
-/// Spells the line of the refusal of a disk.
+/// Appends to `line` the line that reports why a disk is refused.
 fn spell_refusal(line: &mut Vec<u8>, refusal: StoreRefusal) -> Result<(), WriteFault>
     ensures { OnOk result (line.new.items ≡ line.old.items ++ refusal_line refusal) }
 {
@@ -22,7 +22,7 @@ fn spell_refusal(line: &mut Vec<u8>, refusal: StoreRefusal) -> Result<(), WriteF
     text.send(line)
 }
 
-/// Says why a disk is refused, where there is memory for the line.
+/// Reports why a disk is refused, if there is memory for the line. Returns the status.
 pub fn say_refusal<E: Write>(alloc: Global, refusal: StoreRefusal, errors: &mut E) -> Status
     ensures status { result ≡ disk_status refusal }
     ensures said { AppendsFront (E.contents errors.old) (E.contents errors.new)
@@ -35,7 +35,7 @@ pub fn say_refusal<E: Write>(alloc: Global, refusal: StoreRefusal, errors: &mut 
     Status::of_disk(refusal)
 }
 
-/// Says that the output failed.
+/// Reports that the output failed.
 pub fn cannot_write<E: Write>(errors: &mut E) -> Status
     ensures status { result ≡ Failed }
     ensures said { AppendsFront (E.contents errors.old) (E.contents errors.new)

@@ -1,4 +1,4 @@
-// Tests of the crates that read files, bind programs and spell texts.
+// Tests of the crates that read files, bind programs and format texts.
 
 mod each_call;
 mod images;

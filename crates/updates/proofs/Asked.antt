@@ -1,4 +1,4 @@
--- What a line asks for, and what comes of it.
+-- Lemmas about the request of a line, and its effects.
 use Rattle.std.proofs.Common.{◌≡◌, ◌≢◌, ℕ, List, Option, Some, None, Result, Ok, Err, true, false, sym, subst, ◌∙◌}
 use Rattle.std.specs.Prelude.{IfErr, IfOk, bytes_eq}
 use Rattle.std.proofs.lemmas.Slice.Eq.{bytes_eq-Decides}
@@ -23,7 +23,7 @@ module _ {D : Type 0} (facts : D → DiskFacts) (old new : Drafted D) (line : Li
   one_line (Some (Refused refusal.CutLine)) h = absurd h
   one_line (Some (Refused refusal.NoCommit)) h = absurd h
 
-  -- what comes of the command comes of its line
+  -- the effects of a line's command are the effects of the line
   pub asked_line : (result : Result (Option Ending) ScriptFault) → IfOk result (AskedEnds facts old new request waits now) → IfOk result (LineEnds facts old new line waits now)
   asked_line (Ok ending) h = one_line ending h
   asked_line (Err fault) h = tt
@@ -32,7 +32,7 @@ module _ {D : Type 0} (facts : D → DiskFacts) (old new : Drafted D) (line : Li
   missed_line (Ok ending) h = tt
   missed_line (Err fault) h = subst (MissesLine facts old new line waits now) (sym h.0) (h.1, ((request, asks, h.2), h.3))
 
--- a line that equals `commit` is it, and one that doesn't isn't
+-- a line asks for the commit exactly if it has the bytes of `commit`
 pub commits_line : (line : List ℕ) → bytes_eq line commit_line ≡ true → line ≡ commit_line
 commits_line line is = (bytes_eq-Decides line commit_line).0 is
 

@@ -1,4 +1,4 @@
--- The lines of an update are requests to a draft of the state that stands.
+-- The lines of an update are requests to a draft of the current state.
 use Rattle.std.proofs.Common.{◌≡◌, ℕ, List, [], ◌∷◌, Option, Some, refl, sym, subst}
 use Rattle.std.specs.Prelude.{◌↔◌, false}
 use Rattle.std.specs.List.{filter_map, list_any}
@@ -16,7 +16,7 @@ use Rattle.scripts.specs.Asked.{request_meaning}
 use Rattle.updates.specs.Lines.{ArePlanned, LineStep}
 use Rattle.updates.specs.Update.{requests_of}
 
--- a line that asks something has one request more
+-- a line that makes a request adds one request to the list
 asks_more : {X Y : Type 0} (f : X → Option Y) (x : X) (xs : List X) (y : Y) → f x ≡ Some y → filter_map f (x ∷ xs) ≡ y ∷ filter_map f xs
 asks_more f x xs y is = rw is refl
 
@@ -39,18 +39,18 @@ module _ {D : Type 0} (facts : D → DiskFacts) where
     accepted = planned.accepted;
   }
 
-  -- something of a draft was changed exactly where a line asks for a change
+  -- a draft has a change exactly if a line asks for a change
   pub is_changed : (old new : Drafted D) (lines : List (List ℕ)) (answers : List Reply) → old.touched ≡ Nothing → ArePlanned facts old new lines answers
       → (new.touched ≡ Nothing) ↔ (list_any asks_change (requests_of lines) ≡ false)
   is_changed old new lines answers none planned = requests.is_changed facts old new (requests_of lines) answers none (plans old new lines answers planned)
 
   module _ (s : State) where
-    -- while they are answered, the disk holds what stands
+    -- while the lines are answered, the disk holds the current state
     pub planned_moment : (old new : Drafted D) (lines : List (List ℕ)) (answers : List Reply) → IsDraftedAt facts old s s → ArePlanned facts old new lines answers
         → LeavesOnly (facts old.store.disk) (facts new.store.disk) (λ m. Stands m s)
     planned_moment old new lines answers at planned = requests.plans_moment facts s old new (requests_of lines) answers at (plans old new lines answers planned)
 
-    -- and that is an update
+    -- the lines are an update of the current state
     pub is_update : (old new : Drafted D) (lines : List (List ℕ)) (answers : List Reply) → old.touched ≡ Nothing → IsDraftedAt facts old s s → ArePlanned facts old new lines answers
         → IsUpdate facts old new s (requests_of lines) answers
     is_update old new lines answers none at planned = requests.is_update facts s old new (requests_of lines) answers none at (plans old new lines answers planned)

@@ -1,4 +1,4 @@
--- What an update that has begun ends with, by what ended its lines.
+-- How an update ends, depending on what ended its lines.
 use Rattle.std.proofs.Common.{◌≡◌, ◌≢◌, ℕ, List, [], ◌++◌, Option, inl, inr, ap, subst, ◌∙◌}
 use Rattle.std.specs.Prelude.{◌⊎◌, Result}
 use Rattle.std.specs.Io.KnownBytes.{Appends}
@@ -39,30 +39,30 @@ module _ (unread before after errors_before errors_after : Option (List ℕ)) (s
   abbrev pub all : Streams
   all = record { unread = unread; before = before; after = after; errors_before = errors_before; errors_after = errors_after }
 
-  -- the outputs once the answers were written
+  -- the two outputs after the answers were written
   abbrev pub end : Option (List ℕ) → outputs.Streams
   end mid = record { before = mid; after = after; errors_before = errors_before; errors_after = errors_after }
 
-  -- a text was written after others
+  -- a text that was written after other texts makes one text with them
   tells_behind : (mid : Option (List ℕ)) (ends : Status) (texts text : List ℕ) → Appends before mid texts → outputs.TellsOnly ends text (end mid) status → TellsOnly ends (texts ++ text) all status
   tells_behind mid ends texts text written (inl h) = inl (h.0, Appends-trans before mid after texts text written h.1, h.2)
   tells_behind mid ends texts text written (inr h) = inr h
 
-  -- a fault was reported after texts
+  -- if a fault was reported after the answers, the update ended with the fault
   breaks_off : (fault : ScriptFault) (texts : List ℕ) → (fault ≢ Write → Appends before after texts) → status ≡ fault_status fault → AppendsFront errors_before errors_after (fault_line fault)
       → BreaksOff fault texts all status
   breaks_off Write texts written ends said = (ends, said)
   breaks_off Read texts written ends said = inl (ends, written (λ is. cc is), said)
   breaks_off OutOfMemory texts written ends said = inl (ends, written (λ is. cc is), said)
 
-  -- the output failed
+  -- if the output failed, this was reported
   cannot_write : (fault : ScriptFault) → fault ≡ Write → status ≡ fault_status fault → AppendsFront errors_before errors_after (fault_line fault) → CannotWrite all status
   cannot_write Write is ends said = (ends, said)
   cannot_write Read is ends said = absurd (cc is)
   cannot_write OutOfMemory is ends said = absurd (cc is)
 
   module _ {D O : Type 0} (facts : D → DiskFacts) (contents : O → Option (List ℕ)) (old last : Drafted D) (new : Opened D) where
-    -- by `commit`
+    -- if the lines ended with `commit`, the update ends with a commit
     pub by_commit : (held : O) (answer : Result (Unit {0}) Refusal) → Ended facts unread before (contents held) old last Commit → Commits facts last answer new
         → outputs.TellsOnly (reply_status (answer_of answer)) (reply_text (answer_of answer)) (end (contents held)) status → EndsBegun facts contents old all status new
     by_commit held answer so commits told = (
@@ -81,7 +81,7 @@ module _ (unread before after errors_before errors_after : Option (List ℕ)) (s
     )
 
     module _ (is : new ≡ last.store) where
-      -- by a refusal
+      -- if the lines ended with a refusal, the update ends with this refusal
       pub by_refusal : (mid : Option (List ℕ)) (refusal : UpdateRefusal) → Ended facts unread before mid old last (Refused refusal)
           → outputs.TellsOnly (update_status refusal) (update_refusal_text refusal) (end mid) status → EndsBegun facts contents old all status new
       by_refusal mid refusal so told = (
@@ -92,7 +92,7 @@ module _ (unread before after errors_before errors_after : Option (List ℕ)) (s
         inr (inl (refusal, last, so.4, is, tells_behind mid (update_status refusal) (plan_texts so.1) (update_refusal_text refusal) so.5 told)),
       )
 
-      -- by either, but the output failed before it had all answers
+      -- if the output failed before all answers were written, the update ends with a failed output
       unsent : (lines : List (List ℕ)) (answers : List Reply) (u : Drafted D) (ending : Ending) → ArePlanned facts old u lines answers → EndsLines facts unread lines u last ending
           → CannotWrite all status → EndsBegun facts contents old all status new
       unsent lines answers u Commit planned ends failed = (
@@ -104,13 +104,13 @@ module _ (unread before after errors_before errors_after : Option (List ℕ)) (s
       )
       unsent lines answers u (Refused why) planned ends failed = (lines, answers, u, planned, inr (inl (why, last, ends, is, inr failed)))
 
-      -- by a fault
+      -- if the lines ended with a fault, the update ends with this fault
       pub by_fault : (fault : ScriptFault) → status ≡ fault_status fault → AppendsFront errors_before errors_after (fault_line fault)
           → Broken facts unread before after old last fault ⊎ Unsent facts unread old last fault → EndsBegun facts contents old all status new
       by_fault fault ends said (inl so) = (so.0, so.1, last, so.3, inr (inr (fault, so.2, so.4, so.5, is, breaks_off fault (plan_texts so.1) so.6 ends said)))
       by_fault fault ends said (inr so) = unsent so.1 so.2 so.3 so.4 so.5 so.6 (cannot_write fault so.0 ends said)
 
--- memory was refused before any line was read
+-- if memory was refused before any line was read, the update ends with the fault of refused memory
 pub by_memory : {D O : Type 0} (facts : D → DiskFacts) (contents : O → Option (List ℕ)) (old new : Opened D) (unread before errors_before errors_after : Option (List ℕ)) (status : Status) → new ≡ old
     → status ≡ NoMemory → AppendsFront errors_before errors_after memory_line
     → EndsBegun facts contents (begun old) (record { unread = unread; before = before; after = before; errors_before = errors_before; errors_after = errors_after }) status new

@@ -1,4 +1,4 @@
--- What a stop leaves of an update, from the opening of its disk to its end.
+-- Which states a stop leaves during an update, from the opening of its disk to its end.
 use Rattle.std.proofs.Common.{◌≡◌, ℕ, List, [], ◌∷◌, ◌++◌, Option, Ok, Err, inl, inr, ⊎_elim, refl, sym, subst, ◌∙◌, ap}
 use Rattle.std.specs.Prelude.{All, ◌⊎◌, IsTrue, OnOk, Result}
 use Rattle.std.specs.List.{list_any}
@@ -36,7 +36,7 @@ use Rattle.registry.proofs.Running.{steps_ran}
 use Rattle.registry.proofs.Updating.{begun_at, each_next}
 use Rattle.updates.proofs.Drafts.{is_changed, is_update, planned_moment, plans}
 
--- where each file is a library, the same of a registry
+-- if each file is a library, sectors that hold the state of the store also hold it as a registry
 listed : (m : List Sector) (s : State) → All IsLibrary s.libraries → Stands m s → registry.Stands m s
 listed m s libraries stands = record { stored = stands; libraries = libraries }
 
@@ -54,7 +54,7 @@ both facts disk left stored = (
 module _ {D : Type 0} (facts : D → DiskFacts) (disk : D) (old : Opened D) (opened : OpensByEntries facts disk (Ok old))
     (holds : IsTrue (facts old.disk).honest → HoldsNow (facts old.disk)) (lines : List (List ℕ)) (answers : List Reply) (u : Drafted D)
     (planned : ArePlanned facts (begun old) u lines answers) where
-  -- the draft began at the state that the disk holds
+  -- the draft began in the state that the disk holds
   starts : IsTrue (facts disk).honest → (s : State) → Stands (facts disk).now s → IsDraftedAt facts (begun old) s s
   starts honest s stands = begun_at facts s old holds (opened.opened.stands honest s stands)
 
@@ -73,7 +73,7 @@ module _ {D : Type 0} (facts : D → DiskFacts) (disk : D) (old : Opened D) (ope
   abbrev Standing : State → List Sector → Type 0
   Standing s m = Mixture (facts disk) m ⊎ Stands m s
 
-  -- until all lines were answered
+  -- until all lines were answered, a stop leaves the state that the disk holds
   drafting : LeavesStandingBy facts disk Stands u.store.disk
   drafting honest s stands =
       goes_on (Standing s) (weaken _ (Standing s) (λ m h. inl h) (opened.opened.any_moment honest))
@@ -82,7 +82,7 @@ module _ {D : Type 0} (facts : D → DiskFacts) (disk : D) (old : Opened D) (ope
   pub to_draft : LeavesStanding facts disk u.store.disk
   to_draft = both facts disk u.store.disk drafting
 
-  -- until a refusal was answered
+  -- until a refusal was answered, a stop leaves the state that the disk holds
   pub to_refusal : (unread : Option (List ℕ)) (last : Drafted D) (refusal : UpdateRefusal) → IsRefusedAt facts unread lines u last refusal → LeavesStanding facts disk last.store.disk
   to_refusal unread last BadLine h = subst (λ (v : Drafted D). LeavesStanding facts disk v.store.disk) (sym h.0) to_draft
   to_refusal unread last CutLine h = subst (λ (v : Drafted D). LeavesStanding facts disk v.store.disk) (sym h.0) to_draft
@@ -91,14 +91,14 @@ module _ {D : Type 0} (facts : D → DiskFacts) (disk : D) (old : Opened D) (ope
       goes_on (Standing s) (drafting honest s stands)
       (weaken _ (Standing s) (λ m k. inr k) (h.2.2.applied s (drafted_by s (requests_of lines)) (update_of honest s stands).at).1.any_moment))
 
-  -- over a disk that holds a registry, it was that of a registry
+  -- if the disk holds a registry, the opened store is a registry at its state
   starts_at : IsTrue (facts disk).honest → (s : State) → registry.Stands (facts disk).now s → at.IsAt facts old s
   starts_at honest s stands = record { stored = opened.opened.stands honest s stands.stored; libraries = stands.libraries }
 
   asked : Plans facts (begun old) u (requests_of lines) answers
   asked = plans facts (begun old) u lines answers planned
 
-  -- what was asked, also a line more
+  -- the requests to the draft, including that of a refused line
   asked_until : (unread : Option (List ℕ)) (last : Drafted D) (refusal : UpdateRefusal) → IsRefusedAt facts unread lines u last refusal
       → (requests : List Request) × (replies : List Reply) × Run (DraftAnswers facts) (begun old) requests replies last
   asked_until unread last BadLine h = (requests_of lines, answers, subst (λ (v : Drafted D). Run (DraftAnswers facts) (begun old) (requests_of lines) answers v) (sym h.0) asked.run)
@@ -110,7 +110,7 @@ module _ {D : Type 0} (facts : D → DiskFacts) (disk : D) (old : Opened D) (ope
     run_more (DraftAnswers facts) (begun old) u last h.2.0 (reply.Refused refusal) (requests_of lines) answers asked.run h.2.2,
   )
 
-  -- an update that is given up is one exchange
+  -- an update that is given up is one exchange of a run
   gives_up_from : (requests : List Request) (replies : List Reply) (last : Drafted D) → Run (DraftAnswers facts) (begun old) requests replies last → IsExchange facts disk old given_up last.store
   gives_up_from requests replies last run honest s stands =
       let here = starts_at honest s stands in (
@@ -129,7 +129,7 @@ module _ {D : Type 0} (facts : D → DiskFacts) (disk : D) (old : Opened D) (ope
   pub given_up_refused : (unread : Option (List ℕ)) (last : Drafted D) (refusal : UpdateRefusal) → IsRefusedAt facts unread lines u last refusal → IsExchange facts disk old given_up last.store
   given_up_refused unread last refusal h = let until = asked_until unread last refusal h in gives_up_from until.0 until.1 last until.2
 
-  -- until the commit was answered
+  -- a stop until the commit was answered may leave the sectors m
   abbrev MayBeLeft : State → State → List Sector → Type 0
   MayBeLeft s t m = Mixture (facts disk) m ⊎ (Stands m s ⊎ Stands m t)
 
@@ -137,7 +137,7 @@ module _ {D : Type 0} (facts : D → DiskFacts) (disk : D) (old : Opened D) (ope
   widen s t m (inl h) = inl h
   widen s t m (inr h) = inr (inl h)
 
-  -- and so is one that is committed
+  -- an update that is committed is one exchange of a run
   pub updates_once : (answer : Result (Unit {0}) Refusal) (new : Opened D) → Commits facts u answer new → IsExchange facts disk old (answered (update (requests_of lines)) (answer_of answer)) new
   updates_once answer new commit honest s stands =
       let here = starts_at honest s stands in
@@ -161,11 +161,11 @@ module _ {D : Type 0} (facts : D → DiskFacts) (disk : D) (old : Opened D) (ope
         (weaken _ (MayBeLeft s (updated s (requests_of lines))) (λ m h. inr h)
         (subst (λ (t : State). LeavesOnly (facts u.store.disk) (facts new.disk) (λ m. Stands m s ⊎ Stands m t)) made_so.made (commit.any_moment s (drafted_by s (requests_of lines)) made_so.at)))
 
-    -- and once it is acknowledged
+    -- once the commit is acknowledged, the updated state is on the disk
     pub once_committed : OnOk answer (IsAt facts new (updated s (requests_of lines)))
     once_committed = subst (λ (t : State). OnOk answer (IsAt facts new t)) made_so.made (commit.ok s (drafted_by s (requests_of lines)) made_so.at)
 
-    -- where each file was a library, each is one
+    -- If each file was a library before the update, each file is one after it.
     module _ (all : All IsLibrary s.libraries) where
       abbrev to : State
       to = updated s (requests_of lines)
@@ -245,6 +245,6 @@ module _ {D O : Type 0} (facts : D → DiskFacts) (contents : O → Option (List
         })),
       )
 
-  -- an update that was begun over a disk was run over it
+  -- an update that was begun over a disk was run over this disk
   pub is_run : EndsBegun facts contents (begun old) io status new → IsRun facts disk contents io status left
   is_run h = is_run_by h.0 h.1 h.2 h.3 h.4

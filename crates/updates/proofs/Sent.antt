@@ -1,4 +1,4 @@
--- The answers to lines once those that waited were sent.
+-- Lemmas about lines whose buffered answers are sent at the end.
 use Rattle.std.proofs.Common.{◌≡◌, ℕ, List, Option, inl, inr, subst}
 use Rattle.std.specs.Prelude.{◌⊎◌, IfErr, IfOk, Result, Ok, Err}
 use Rattle.std.specs.Io.KnownBytes.{Appends, append_known}
@@ -22,7 +22,7 @@ module _ {D : Type 0} (facts : D → DiskFacts) (unread before : Option (List �
     pub broken_sent : (fault : ScriptFault) → Broken facts unread start (append_known held waiting) old new fault → Broken facts unread before now old new fault
     broken_sent fault so = (so.0, so.1, so.2, so.3, so.4, so.5, λ other. written (plan_texts so.1) (so.6 other))
 
-  -- the output failed
+  -- if the output failed when the buffered answers were sent, the lines ended with a failed output
   pub not_sent : (start held now : Option (List ℕ)) (ended : Result Ending ScriptFault) (fault : ScriptFault) → fault ≡ Write → IfOk ended (Ended facts unread start held old new)
       → IfErr ended (Broken facts unread start held old new) → Broken facts unread before now old new fault ⊎ Unsent facts unread old new fault
   not_sent start held now (Ok ending) fault is ok err = inr (is, ok.0, ok.1, ok.2, ending, ok.3, ok.4)

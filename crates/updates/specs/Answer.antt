@@ -1,4 +1,4 @@
--- The texts of what an update answers (own).
+-- The texts that answer the lines of an update (own).
 use Rattle.std.specs.Prelude.{ℕ, List, codes}
 use Rattle.std.specs.List.{flat_map}
 use Rattle.requests.specs.declared.reply.Reply.{Reply}
@@ -9,18 +9,18 @@ use Rattle.scripts.specs.declared.line_refusal.LineRefusal.TheVariants as line
 use Rattle.updates.specs.declared.answer.UpdateRefusal.{UpdateRefusal}
 use Rattle.updates.specs.declared.answer.UpdateRefusal.TheVariants as update
 
--- the text of an answer to a line: of a change that it is planned, since it isn't on the disk yet, and
--- of a bind that there is an image, of a state that may never be
+-- the text of an answer to a line: `planned` for a change, because it isn't on the disk yet, and
+-- `bound` for a bind, because its image is of a state that may never be on the disk
 abbrev pub plan_text : Reply → List ℕ
 plan_text Done = codes "planned\n"
 plan_text (Bound image) = codes "bound\n"
 plan_text reply = reply_text reply
 
--- what is written for answers
+-- the texts of the answers, one after the other
 abbrev pub plan_texts : List Reply → List ℕ
 plan_texts replies = flat_map plan_text replies
 
--- the text of why an update is refused
+-- the text that reports why an update is refused
 abbrev pub update_refusal_text : UpdateRefusal → List ℕ
 update_refusal_text update.BadLine = line_refusal_text line.BadLine
 update_refusal_text update.CutLine = line_refusal_text line.CutLine

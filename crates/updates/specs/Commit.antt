@@ -1,4 +1,4 @@
--- What the commit of an update does (own).
+-- How the commit of an update ends (own).
 use Rattle.std.specs.Prelude.{◌≡◌, ◌⊎◌, List, Result, OnOk, OnErr, length}
 use Rattle.sector_disk.specs.Disk.{DiskFacts, LeavesOnly}
 use Rattle.states.specs.State.{State}
@@ -19,18 +19,18 @@ use Rattle.registry.specs.Updating.{Plans}
 
 -- The draft was committed, or the commit was refused.
 pub record Commits {D : Type 0} (facts : D → DiskFacts) (u : Drafted D) (answer : Result (Unit {0}) Refusal) (new : Opened D) : Type 0 where
-  -- a stop at any moment leaves what stood, or all of the draft
+  -- a stop at any moment leaves the current state, or the draft's whole state
   pub any_moment : (s d : State) → IsDraftedAt facts u s d → LeavesOnly (facts u.store.disk) (facts new.disk) (λ m. Stands m s ⊎ Stands m (committed u.touched s d))
-  -- once it is acknowledged it is on the disk
+  -- once the commit is acknowledged, the draft is on the disk
   pub ok : (s d : State) → IsDraftedAt facts u s d → OnOk answer (IsAt facts new (committed u.touched s d))
-  -- on a registry at a state it is one exchange of a run
+  -- on a registry at a state, the update is one exchange of a run
   pub made : (old : Opened D) (s : State) (requests : List Request) (answers : List Reply) → registry.IsAt facts old s → Plans facts (begun old) u requests answers
       → (s' : State) × UpdatesAt facts (point old s) requests (answer_of answer) (point new s')
-  -- what somebody holds stays as it was
+  -- the held byte strings stay unchanged
   pub held : KeepsHeld facts u.store new
-  -- the rest holds on any disk, also on one that lies
+  -- the other fields hold on any disk, even on a disk that lies
   pub on_any_disk : Changed facts Device Reopen u.store new (commit_calls u.touched (length u.entries)) (λ e. (e ≡ Device) ⊎ (e ≡ Reopen)) answer
   pub given_up : OnErr answer ((new.root ≡ u.store.root) × (new.entries ≡ u.store.entries) × (new.held ≡ u.store.held))
   pub entries : OnOk answer (new.entries ≡ u.entries)
-  -- without a change nothing is done
+  -- if the draft has no change, nothing is done
   pub same : u.touched ≡ Nothing → new ≡ u.store

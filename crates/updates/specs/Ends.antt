@@ -1,4 +1,5 @@
--- What an update ends with on the disk that it is given: what it did there, and what it told (own).
+-- How an update ends on the disk that it is given: its effect on the disk, its output and its messages
+-- (own).
 use Rattle.std.specs.Prelude.{◌≡◌, ◌⊎◌, ◌↔◌, ◌++◌, ℕ, List, [], ◌∷◌, Option, Result, Ok, Err, OnOk, IsTrue, false}
 use Rattle.std.specs.Io.{StopsAt}
 use Rattle.std.specs.Io.KnownBytes.{Appends}
@@ -36,63 +37,66 @@ use Rattle.updates.specs.Update.{requests_of}
 use Rattle.updates.specs.declared.answer.UpdateRefusal.{UpdateRefusal}
 
 module _ {D : Type 0} (facts : D → DiskFacts) (disk : D) where
-  -- The registry on the disk was opened, whatever named byte strings it holds, and lines led from what
-  -- it holds to a draft.
+  -- The registry on the disk was opened, whatever named byte strings it holds, and the lines were
+  -- planned in a draft.
   pub record IsBegun (lines : List (List ℕ)) (answers : List Reply) (u : Drafted D) : Type 0 where
     pub old : Opened D
-    -- no file was read
+    -- opening the disk read no library's file
     pub opened : OpensByEntries facts disk (Ok old)
     pub planned : ArePlanned facts (begun old) u lines answers
-    -- something of the draft was changed exactly where a line asks for a change
+    -- the draft has a change exactly if a line asks for a change
     pub changed : (u.touched ≡ Nothing) ↔ (list_any asks_change (requests_of lines) ≡ false)
-    -- on an honest disk that is an update of the state that it holds
+    -- on an honest disk the lines are an update of the state that the disk holds
     pub update : IsTrue (facts disk).honest → (s : State) → Stands (facts disk).now s → IsUpdate facts (begun old) u s (requests_of lines) answers
 
-  -- a stop at any moment leaves what it could leave before, or the state that the disk holds, in the words
-  -- of what sectors hold a state
+  -- a stop at any moment leaves what a stop could leave before, or the state that the disk holds;
+  -- `Holds` defines when sectors hold a state
   abbrev pub LeavesStandingBy : (List Sector → State → Type 0) → D → Type 0
   LeavesStandingBy Holds left = IsTrue (facts disk).honest → (s : State) → Holds (facts disk).now s
       → LeavesOnly (facts disk) (facts left) (λ m. Mixture (facts disk) m ⊎ Holds m s)
 
-  -- of byte strings, whatever they are, and of a registry, whose files are libraries
+  -- a stop leaves the state that the disk holds, both as byte strings and, if each file is a library, as
+  -- a registry
   abbrev pub LeavesStanding : D → Type 0
   LeavesStanding left = LeavesStandingBy Stands left × LeavesStandingBy registry.Stands left
 
-  -- a stop at any moment leaves what it could leave before, the state that the disk holds, or what an
-  -- update makes of it
+  -- a stop at any moment leaves what a stop could leave before, the state that the disk holds, or the
+  -- updated state
   abbrev pub LeavesUpdated : (List Sector → State → Type 0) → List Request → D → Type 0
   LeavesUpdated Holds requests left = IsTrue (facts disk).honest → (s : State) → Holds (facts disk).now s
       → LeavesOnly (facts disk) (facts left) (λ m. Mixture (facts disk) m ⊎ (Holds m s ⊎ Holds m (updated s requests)))
 
-  -- If the disk held a registry, this is one exchange of a run, from the registry that was opened.
+  -- If the disk held a registry, the update is one exchange of a run, from the registry that was opened.
   abbrev pub IsExchange : Opened D → Exchange → Opened D → Type 0
   IsExchange old exchange new = IsTrue (facts disk).honest → (s : State) → registry.Stands (facts disk).now s
       → at.IsAt facts old s × RunsThrough facts old (new ∷ []) new s (exchange ∷ [])
 
-  -- what an output holds, where that is known
+  -- `contents` is the bytes that an output holds, if its contract defines them.
   module _ {O : Type 0} (contents : O → Option (List ℕ)) (io : Streams) (lines : List (List ℕ)) (answers : List Reply) (old : Opened D) (u : Drafted D) (status : Status) (left : D) where
-    -- Behind the lines came `commit`: the answers to them and to it were told, or the output failed.
+    -- After the lines came `commit`. The answers to the lines and to the commit were written, or
+    -- the output failed.
     pub record EndsInCommit : Type 0 where
       pub read : BeginsWith io.unread lines (ended commit_line)
-      -- before the commit the output held the answers to all lines
+      -- before the commit, the output held the answers to all lines
       pub held : O
       pub sent : Appends io.before (contents held) (plan_texts answers)
       pub answer : Result (Unit {0}) Refusal
       pub new : Opened D
       pub commit : Commits facts u answer new
       pub any_moment : LeavesUpdated Stands (requests_of lines) left
-      -- once the commit is acknowledged that is on the disk
+      -- once the commit is acknowledged, the updated state is on the disk
       pub ok : IsTrue (facts disk).honest → (s : State) → Stands (facts disk).now s → OnOk answer (IsAt facts new (updated s (requests_of lines)))
-      -- the same of a registry: each file of what is left is a library
+      -- if the disk holds a registry, each file is still a library in the state that is left
       pub registry_moment : LeavesUpdated registry.Stands (requests_of lines) left
       pub registry_ok : IsTrue (facts disk).honest → (s : State) → registry.Stands (facts disk).now s → OnOk answer (at.IsAt facts new (updated s (requests_of lines)))
-      -- so this was an update, as one exchange of a run
+      -- the update was one exchange of a run
       pub ran : IsExchange old (answered (update (requests_of lines)) (answer_of answer)) new
       pub told : TellsOnly (reply_status (answer_of answer)) (plan_texts answers ++ reply_text (answer_of answer)) io status
       pub back : left ≡ new.disk
 
   module _ (io : Streams) (lines : List (List ℕ)) (answers : List Reply) (old : Opened D) (u : Drafted D) (status : Status) (left : D) where
-    -- Behind the lines came what refuses the update, and that was told behind the answers, or the output failed.
+    -- After the lines came a reason to refuse the update. It was written after the answers, or the
+    -- output failed.
     pub record EndsRefused : Type 0 where
       pub refusal : UpdateRefusal
       pub last : Drafted D
@@ -102,8 +106,8 @@ module _ {D : Type 0} (facts : D → DiskFacts) (disk : D) where
       pub told : TellsOnly (update_status refusal) (plan_texts answers ++ update_refusal_text refusal) io status
       pub back : left ≡ last.store.disk
 
-    -- Behind the lines came a fault: of a stream, or for want of memory. At most one line more was
-    -- read, and not answered.
+    -- After the lines came a fault: a stream failed or memory was refused. At most one more line
+    -- was read, and not answered.
     pub record EndsBroken : Type 0 where
       pub fault : ScriptFault
       pub part : List ℕ
@@ -115,13 +119,15 @@ module _ {D : Type 0} (facts : D → DiskFacts) (disk : D) where
       pub back : left ≡ u.store.disk
 
   module _ {O : Type 0} (contents : O → Option (List ℕ)) where
-    -- the registry was opened, and lines led to a draft, behind which came one of these
+    -- the registry was opened, lines were planned in a draft, and then `commit`, a refusal or a fault
+    -- came
     abbrev pub IsRun : Streams → Status → D → Type 0
     IsRun io status left = (lines : List (List ℕ)) × (answers : List Reply) × (u : Drafted D) × (begins : IsBegun lines answers u)
         × (EndsInCommit contents io lines answers begins.old u status left
         ⊎ (EndsRefused io lines answers begins.old u status left ⊎ EndsBroken io lines answers begins.old u status left))
 
-    -- an update was run over the disk; or the disk was refused and handed back, which is said
+    -- either an update was run over the disk, or the disk was refused and returned, and standard error
+    -- reports why
     abbrev pub UpdateEnds : Streams → Status → D → Type 0
     UpdateEnds io status left =
         IsRun io status left

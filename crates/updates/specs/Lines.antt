@@ -1,4 +1,4 @@
--- What the lines of an update do to its draft, and how they end (own).
+-- The draft that the lines of an update make, and how the lines end (own).
 use Rattle.std.specs.Prelude.{◌≡◌, ◌≢◌, ◌<◌, ℕ, List, [], ◌++◌, length, All, codes, Option, Some, None, IfSome, false}
 use Rattle.std.specs.List.{flat_map}
 use Rattle.sector_disk.specs.Disk.{DiskFacts}
@@ -17,26 +17,27 @@ use Rattle.updates.specs.declared.answer.UpdateRefusal.TheVariants.{BadLine, Cut
 abbrev pub commit_line : List ℕ
 commit_line = codes "commit"
 
--- a line was answered: what it asks was asked of the draft
+-- a line was answered: its request was made to the draft
 abbrev pub LineStep : {D : Type 0} → (D → DiskFacts) → Drafted D → List ℕ → Reply → Drafted D → Type 0
 LineStep facts old line answer new = (request : Request) × (request_meaning line ≡ Some request) × DraftAnswers facts old request answer new
 
--- Lines were answered one after the other, none was refused, and they led from one draft to another.
+-- Lines were answered one after the other, none was refused, and they changed the draft from `old` to
+-- `new`.
 pub record ArePlanned {D : Type 0} (facts : D → DiskFacts) (old new : Drafted D) (lines : List (List ℕ)) (answers : List Reply) : Type 0 where
   pub whole : All IsLine lines
   pub run : Run (LineStep facts) old lines answers new
   pub accepted : All (λ answer. is_refusal answer ≡ false) answers
 
--- bytes, where they are known, begin with these lines, each with its newline, and with this behind them
+-- the bytes, if they are known, begin with these lines, each with its newline, and then `part`
 abbrev pub BeginsWith : Option (List ℕ) → List (List ℕ) → List ℕ → Type 0
 BeginsWith unread lines part = IfSome unread (λ text. (others : List ℕ) × (text ≡ flat_map ended lines ++ part ++ others))
 
--- bytes, where they are known, are these lines, each with its newline, and this behind them
+-- the bytes, if they are known, are these lines, each with its newline, and then `rest`
 abbrev pub AreJust : Option (List ℕ) → List (List ℕ) → List ℕ → Type 0
 AreJust unread lines rest = IfSome unread (λ text. text ≡ flat_map ended lines ++ rest)
 
--- Behind lines that were answered comes what refuses the update: a line that asks nothing, one without
--- a newline, the end, or a line whose command is refused. It leaves this draft.
+-- After the answered lines came the reason that refuses the update: a line that asks for nothing, a line
+-- without a newline, the end of the input, or a line whose command is refused. The draft is then `new`.
 abbrev pub IsRefusedAt : {D : Type 0} → (D → DiskFacts) → Option (List ℕ) → List (List ℕ) → Drafted D → Drafted D → UpdateRefusal → Type 0
 IsRefusedAt facts unread lines old new BadLine = (new ≡ old) × (line : List ℕ) × IsLine line × (line ≢ commit_line) × (request_meaning line ≡ None)
     × BeginsWith unread lines (ended line)

@@ -1,4 +1,4 @@
--- What an update ends with that makes nothing (own).
+-- The statuses of an update that changes nothing (own).
 use Rattle.program_parts.specs.Status.{refusal_status}
 use Rattle.program_parts.specs.declared.status.Status.{Status}
 use Rattle.program_parts.specs.declared.status.Status.TheVariants as status
@@ -7,12 +7,13 @@ use Rattle.scripts.specs.declared.fault.ScriptFault.TheVariants as fault
 use Rattle.updates.specs.declared.answer.UpdateRefusal.{UpdateRefusal}
 use Rattle.updates.specs.declared.answer.UpdateRefusal.TheVariants.{Refused}
 
--- what it ends with that is refused: the same as the command's, where a command is refused, or the commit
+-- the status of an update that is refused; if a command or the commit is refused, it is the status of
+-- that refusal
 abbrev pub update_status : UpdateRefusal → Status
 update_status (Refused refusal) = refusal_status refusal
 update_status refusal = status.Refused
 
--- what it ends with whose lines a fault ended
+-- the status of an update whose lines a fault ended
 abbrev pub fault_status : ScriptFault → Status
 fault_status fault.OutOfMemory = status.NoMemory
 fault_status other = status.Failed

@@ -1,4 +1,4 @@
--- What an update tells on the output, and what it says on standard error (own).
+-- The text that an update writes to the output and to standard error (own).
 use Rattle.std.specs.Prelude.{◌≡◌, ◌⊎◌, ℕ, List}
 use Rattle.program_parts.specs.Streams.{Streams}
 use Rattle.program_parts.specs.declared.status.Status.{Status}
@@ -12,20 +12,21 @@ use Rattle.updates.specs.Status.{fault_status}
 abbrev pub outputs_of : Streams → outputs.Streams
 outputs_of io = record { before = io.before; after = io.after; errors_before = io.errors_before; errors_after = io.errors_after }
 
--- the output failed, and nothing else was said
+-- the output failed, and standard error reports only this
 abbrev pub CannotWrite : Streams → Status → Type 0
 CannotWrite io status = outputs.CannotWrite (outputs_of io) status
 
--- exactly this text was told, with this status, and nothing was said; or the output failed
+-- either exactly this text was written to the output, with this status, and nothing to standard error,
+-- or the output failed
 abbrev pub TellsOnly : Status → List ℕ → Streams → Status → Type 0
 TellsOnly ends text io status = outputs.TellsOnly ends text (outputs_of io) status
 
--- nothing was told, and nothing but this was said, with this status
+-- nothing was written to the output, and only this line to standard error, with this status
 abbrev pub SaysOnly : Status → List ℕ → Streams → Status → Type 0
 SaysOnly ends line io status = outputs.SaysOnly ends line (outputs_of io) status
 
--- A fault ended the lines: exactly this text was told, the fault is said, and the status is the one that
--- goes with it; or the output failed.
+-- A fault ended the lines. Either exactly this text was written, standard error reports the fault, and
+-- the status is that of the fault, or the output failed.
 abbrev pub BreaksOff : ScriptFault → List ℕ → Streams → Status → Type 0
 BreaksOff Write text io status = CannotWrite io status
 BreaksOff fault text io status =

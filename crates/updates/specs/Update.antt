@@ -1,9 +1,9 @@
--- What the lines of an update ask for (own).
+-- The requests of the lines of an update (own).
 use Rattle.std.specs.Prelude.{ℕ, List}
 use Rattle.std.specs.List.{filter_map}
 use Rattle.requests.specs.Request.{Request}
 use Rattle.scripts.specs.Asked.{request_meaning}
 
--- what lines ask for, of those that ask for something
+-- the requests of the lines that make one
 abbrev pub requests_of : List (List ℕ) → List Request
 requests_of lines = filter_map request_meaning lines

@@ -1,4 +1,4 @@
-// What is written of the lines of an update.
+// The texts that answer the lines of an update.
 
 ghost use Rattle.std.specs.Prelude.{◌≡◌, IfErr, IfOk, OnErr, OnOk, true};
 ghost use Rattle.text_output.specs.Sends.{Sends};
@@ -11,21 +11,21 @@ use requests::{Refusal, Reply};
 use scripts::{LineRefusal, ScriptFault, put_line_refusal};
 use std::io::Write;
 
-/// Why an update is refused.
+/// The reason why an update is refused.
 #[derive(Drop)]
 pub enum UpdateRefusal {
-    /// L1: a line asks nothing.
+    /// L1: a line asks for nothing.
     BadLine,
     /// L2: the last line has no newline.
     CutLine,
     /// L3: no line is `commit`.
     NoCommit,
-    /// What a line asks was refused, or the commit.
+    /// The command of a line, or the commit, was refused.
     Refused(Refusal),
 }
 
-/// Puts the text of an answer to a line behind what waits: of a change that it is planned, and of a
-/// bind that there is an image, since neither is on the disk yet.
+/// Appends the text of an answer to the buffered text: `planned` for a change and `bound` for a
+/// bind, because neither is on the disk yet.
 pub(crate) fn put_plan<W: Write>(
     waiting: &mut Line,
     out: &mut W,
@@ -44,7 +44,7 @@ pub(crate) fn put_plan<W: Write>(
     Ok(())
 }
 
-/// Puts the text of why an update is refused behind what waits.
+/// Appends the text that reports why an update is refused to the buffered text. Returns the status.
 pub(crate) fn put_refusal<W: Write>(
     waiting: &mut Line,
     out: &mut W,

@@ -7,11 +7,11 @@ use registry::{Registry, Update};
 use requests::Refusal;
 use sector_disk::Disk;
 
-/// Shows that a commit has succeeded. `report_commit` writes `ok` only if it is given one, and only
-/// `commit_draft` makes one: so `ok` is written after the commit.
+/// A value that shows that a commit has succeeded. `report_commit` writes `ok` only if it is given
+/// such a value, and only `commit_draft` makes one. So `ok` is written after the commit.
 #[derive(Drop)]
 pub(crate) struct Committed {
-    // Private to this module, so that no other function makes one.
+    // Private to this module, so that no other function can make a `Committed`.
     made: (),
 }
 

@@ -1,7 +1,9 @@
-//! An update of a registry on a disk: the changes that lines ask for, which one commit makes.
+//! Updates of a registry on a disk: one commit makes all the changes that the lines of the input
+//! ask for.
 //!
-//! `run_update` opens the registry, reads lines up to `commit`, answers each, and commits what they
-//! planned; the first refusal ends the update and leaves what the disk holds as it was.
+//! `run_update` opens the registry, reads lines up to `commit`, answers each, and commits the
+//! changes that they planned. The first refusal ends the update, and leaves the disk's contents
+//! unchanged.
 #![tactic(auto)]
 
 mod answer;

@@ -1,4 +1,4 @@
-// The lines of an update, up to what ends them.
+// Reads and answers the lines of an update, until something ends them.
 
 ghost use Rattle.std.specs.Prelude.{◌≡◌, ◌⊎◌, IfErr, IfOk, MatchResult, bytes_eq, false};
 ghost use Rattle.std.specs.Io.Buffered.{reader_remaining};
@@ -18,7 +18,7 @@ use sector_disk::Disk;
 use std::alloc::Global;
 use std::io::{BufReader, Read, Write};
 
-/// What ended the lines of an update.
+/// The reason why the lines of an update ended.
 #[derive(Drop)]
 pub(crate) enum Ending {
     /// The line `commit`.
@@ -27,14 +27,14 @@ pub(crate) enum Ending {
     Refused(UpdateRefusal),
 }
 
-/// Whether a line asks for the commit.
+/// Returns whether a line asks for the commit.
 fn asks_commit(line: &[u8]) -> bool
     ensures { result ≡ bytes_eq line.now commit_line }
 {
     line == b"commit".as_slice()
 }
 
-/// The refusal that a reply is, or the reply.
+/// Returns the reply, or its refusal as an error.
 fn accepted(reply: Reply) -> Result<Reply, Refusal>
     ensures { MatchResult result (λ answer. (answer ≡ reply) × (is_refusal answer ≡ false))
         (λ why. reply ≡ Reply.Refused why) }
@@ -45,8 +45,8 @@ fn accepted(reply: Reply) -> Result<Reply, Refusal>
     }
 }
 
-/// Asks of the draft what a line asks, and answers it; or says that the lines end with it. A
-/// refusal is told by whoever ends the update.
+/// Applies the command of a line to the draft and writes the answer, or returns how the line ends
+/// the update. Doesn't write a refusal: the caller, which ends the update, writes it.
 fn answer_asked<D: Disk, O: Write>(
     asked: &AskedCommand<'_>,
     update: &mut Update<D>,
@@ -69,7 +69,7 @@ fn answer_asked<D: Disk, O: Write>(
     }
 }
 
-/// Answers a whole line, or says that the lines end with it.
+/// Answers a whole line, or returns how the line ends the update.
 fn answer_line<D: Disk, O: Write>(
     alloc: Global,
     line: &[u8],
@@ -98,8 +98,8 @@ fn answer_line<D: Disk, O: Write>(
     }
 }
 
-/// Reads lines and answers each, up to the one that ends them. Some answers may still be in the
-/// buffer then.
+/// Reads lines and answers each, until something ends them. Some answers may still be in the buffer
+/// when it returns.
 fn read_lines<D: Disk, I: Read, O: Write>(
     alloc: Global,
     update: &mut Update<D>,
@@ -131,9 +131,9 @@ fn read_lines<D: Disk, I: Read, O: Write>(
     Err(ScriptFault::Read)
 }
 
-/// Reads lines and answers each, up to the one that ends them; no line after it is read. Whatever
-/// ends them, all answers have been written when it returns, unless the output failed. It can't
-/// commit: the update stays with its caller.
+/// Reads lines and answers each, until something ends them, and reads no line after that. All
+/// answers have been written when it returns, unless the output failed. It can't commit: the caller
+/// keeps the update.
 pub(crate) fn answer_lines<D: Disk, I: Read, O: Write>(
     alloc: Global,
     update: &mut Update<D>,

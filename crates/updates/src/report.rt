@@ -1,4 +1,4 @@
-// How the end of an update is reported, once its draft is committed or given up.
+// Reports how an update ended, after its draft was committed or given up.
 
 ghost use Rattle.requests.specs.Step.{answer_of};
 ghost use Rattle.program_parts.specs.Reply.{reply_text};
@@ -15,8 +15,8 @@ use requests::{Refusal, Reply};
 use std::io::Write;
 use tool_parts::cannot_write;
 
-/// Writes why an update is refused, and returns the status that belongs to it. If the output fails,
-/// reports that on standard error.
+/// Writes why an update is refused, and returns its status. If the output fails, reports that on
+/// standard error.
 pub(crate) fn report_refusal<O: Write, E: Write>(
     refusal: UpdateRefusal,
     output: &mut O,
@@ -39,7 +39,7 @@ pub(crate) fn report_refusal<O: Write, E: Write>(
     }
 }
 
-/// Writes what came of a commit: `ok`, which no other function of an update writes, or why the
+/// Writes the answer to a commit: `ok`, which no other function of an update writes, or why the
 /// commit was refused. It has no disk, update or registry, so it can't commit anything.
 pub(crate) fn report_commit<O: Write, E: Write>(
     answer: Result<Committed, Refusal>,

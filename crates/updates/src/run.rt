@@ -1,4 +1,4 @@
-// An update over the registry on a disk.
+// Runs an update over the registry on a disk.
 
 ghost use Rattle.std.specs.Prelude.{IsFalse};
 ghost use Rattle.store.specs.Draft.{begun};
@@ -16,11 +16,11 @@ use std::alloc::Global;
 use std::io::{BufReader, Read, Write};
 use tool_parts::say_refusal;
 
-/// How many bytes are read at once.
+/// The number of bytes that are read from the input at once.
 const PAGE: usize = 0x10000;
 
 /// Begins an update of a registry, answers its lines, and commits it or gives it up. Only this
-/// function has both the output and the update itself, and it writes nothing itself: `answer_lines` writes
+/// function has both the output and the update, and it writes nothing itself. `answer_lines` writes
 /// and can't commit, `commit_draft` commits and has no output, and `report_commit` writes `ok` and
 /// has no disk.
 fn run_opened<D: Disk, I: Read, O: Write, E: Write>(
@@ -58,17 +58,17 @@ fn run_opened<D: Disk, I: Read, O: Write, E: Write>(
     }
 }
 
-/// Runs an update of the registry on a disk. The registry is opened without a test of its
-/// libraries, so that one that is damaged, or can't be read, can be replaced or removed. Each line
-/// up to `commit` is answered: a change by `planned`, a listing by its text, and a bind by `bound`.
-/// `commit` makes all changes at once, and is answered by `ok`; what stands behind it isn't read.
-/// The first refusal is told, ends the update, and leaves what the disk holds as it was; so does a
-/// line that asks nothing, one without a newline, and the end. Until `commit` writes its root, a
-/// stop leaves what the disk held.
+/// Runs an update of the registry on `disk`. Opens the registry without testing its libraries, so
+/// that a library that is damaged or can't be read can be replaced or removed. Each line up to
+/// `commit` is answered: a change by `planned`, a listing by its text, and a bind by `bound`.
+/// `commit` makes all changes at once and is answered by `ok`; nothing after it is read. The first
+/// refusal is written, ends the update, and leaves the disk's contents unchanged. The same happens
+/// if a line asks for nothing, if a line has no newline, and if the input ends. Until `commit`
+/// writes its root, a stop leaves the state that the disk held.
 ///
-/// Why the disk is refused, that memory was refused for a line, and that a stream failed is said on
-/// `errors`. Where the output fails before the commit nothing is changed. Gives the status, and
-/// hands the disk back.
+/// If the disk is refused, memory for a line is refused, or a stream fails, reports that on
+/// `errors`. If the output fails before the commit, nothing is changed. Returns the status and the
+/// disk.
 pub fn run_update<D: Disk, I: Read, O: Write, E: Write>(
     alloc: Global,
     disk: D,

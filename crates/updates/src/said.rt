@@ -1,4 +1,4 @@
-// What is said on standard error.
+// The messages on standard error.
 
 ghost use Rattle.std.specs.Prelude.{◌≡◌};
 ghost use Rattle.program_parts.specs.Said.{AppendsFront};
@@ -12,7 +12,7 @@ use scripts::ScriptFault;
 use std::io::Write;
 use tool_parts::cannot_write;
 
-/// Says that memory was refused.
+/// Reports that memory was refused.
 pub(crate) fn no_memory<E: Write>(errors: &mut E) -> Status
     ensures status { result ≡ NoMemory }
     ensures said { AppendsFront (E.contents errors.old) (E.contents errors.new) memory_line }
@@ -21,7 +21,7 @@ pub(crate) fn no_memory<E: Write>(errors: &mut E) -> Status
     Status::NoMemory
 }
 
-/// Says why no more lines were read.
+/// Reports why no more lines were read.
 pub(crate) fn say_fault<E: Write>(fault: ScriptFault, errors: &mut E) -> Status
     ensures status { result ≡ fault_status fault }
     ensures said { AppendsFront (E.contents errors.old) (E.contents errors.new)

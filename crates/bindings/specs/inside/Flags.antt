@@ -1,4 +1,4 @@
--- Which symbols relocations name, by number. Nobody has to believe this.
+-- Flags for the symbols that relocations name. A reader doesn't have to believe these definitions.
 use Rattle.std.specs.Prelude.{ℕ, ◌≡◌, ◌<◌, List, [], length, get_or, Bool, false}
 use Rattle.std.specs.List.{list_any}
 use Rattle.elf_dynamic.specs.Relocation.{relocations}
@@ -8,16 +8,16 @@ use Rattle.image.specs.Placement.{Placed}
 use Rattle.image.specs.Relocating.{file_at}
 use Rattle.bindings.specs.Named.{names_symbol}
 
--- flags by number: which of so many symbols some of these relocations name
+-- there are `count` flags, and the flag of a symbol says whether one of the relocations names the symbol
 pub record AreFlags (count : ℕ) (rs : List Relocation) (flags : List Bool) : Type 0 where
   pub counted : length flags ≡ count
   pub are : (i : ℕ) → i < count → get_or flags i false ≡ list_any (names_symbol i) rs
 
--- those of a file
+-- the flags are right for all symbols and all relocations of a file
 abbrev pub FileFlags : List ℕ → List Bool → Type 0
 FileFlags file flags = AreFlags (length (symbols file)) (relocations file) flags
 
--- those of each object
+-- there are flags for each object, and they are right for its file
 pub record AllFlags (objects : List Placed) (flags : List (List Bool)) : Type 0 where
   pub counted : length flags ≡ length objects
   pub each : (own : ℕ) → own < length objects → FileFlags (file_at objects own) (get_or flags own [])

@@ -1,20 +1,21 @@
--- Where the latest content of a sector is found.
+-- How the latest content of a sector is found.
 use Rattle.std.specs.Prelude.{ℕ, List, [], map, Option, Some, None, slice_index_or}
 use Rattle.sector_disk.specs.Disk.{Sector, sector}
 use Rattle.byte_disk.specs.declared.planned.PlannedStep.{PlannedStep}
 use Rattle.byte_disk.specs.declared.step.Step.{Step}
 use Rattle.byte_disk.specs.declared.step.Step.TheVariants.{Write, Sync}
 
--- the steps alone
+-- the steps without the counts of calls
 abbrev pub plan_in : List PlannedStep → List Step
 plan_in planned = map (λ p. p.step) planned
 
--- what a step writes
+-- the content that a step writes
 abbrev pub content_of : Step → Sector
 content_of (Write at content) = content
 content_of Sync = []
 
--- the content of sector k where the step at this place wrote it last, or none did
+-- the content of sector k: that of the step at the given place, which wrote it last, or the first content of the sector
+-- if no step wrote it
 abbrev pub content_by : List Sector → List Step → ℕ → Option ℕ → Sector
 content_by start steps k None = sector start k
 content_by start steps k (Some place) = content_of (slice_index_or steps place Sync)

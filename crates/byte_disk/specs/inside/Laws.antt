@@ -1,4 +1,4 @@
--- What is true of a disk of given bytes at any moment.
+-- What is true of a disk over given bytes at any moment.
 use Rattle.std.proofs.Common.{[], sym, subst, arith}
 use Rattle.std.proofs.lemmas.List.Elements.{All-get_or}
 use Rattle.std.specs.Prelude.{take}
@@ -11,7 +11,7 @@ use Rattle.byte_disk.specs.inside.Latest.{plan_in}
 use Rattle.byte_disk.specs.inside.PlanLaws.{length-carried_out, carried_out_whole, writes_taken, left_whole, now_left, plan_now}
 use Rattle.std.proofs.Common.{length}
 
--- What reads give is one of the mixtures.
+-- The contents that reads of a disk over given bytes return are one of the mixtures.
 pub byte_holds : (disk : ByteDisk) → HoldsNow (byte_facts disk)
 byte_holds disk =
     let start = disk.start.now in
@@ -23,7 +23,7 @@ byte_holds disk =
           (now_left start (plan_in planned) k);
     }
 
--- Its sectors are whole.
+-- The sectors of a disk over given bytes are whole.
 pub byte_whole : (disk : ByteDisk) → HasWholeSectors (byte_facts disk)
 byte_whole disk =
     let start = disk.start.now in

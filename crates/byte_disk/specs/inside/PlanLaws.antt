@@ -1,4 +1,4 @@
--- What follows of what a plan leaves, and of the moments at which its steps are made.
+-- Consequences of the definitions: the contents that a plan leaves, and the moments at which its steps are made.
 use Rattle.std.proofs.Common.{◌≡◌, ℕ, zero, suc, ◌+◌, ◌-◌, ◌<◌, List, [], ◌∷◌}
 use Rattle.std.proofs.Common.{length, set, take, refl, sym, ◌∙◌, ap, subst, arith}
 use Rattle.std.proofs.lemmas.Bool.{lt-ltb}
@@ -19,7 +19,7 @@ length-carried_out start [] = refl
 length-carried_out start (Write at content ∷ steps) = length-carried_out (set start at content) steps ∙ length-set start at content
 length-carried_out start (Sync ∷ steps) = length-carried_out start steps
 
--- whole sectors stay whole
+-- whole sectors stay whole when steps are carried out
 pub carried_out_whole : (n : ℕ) (start : List Sector) (steps : List Step) → All IsWhole start → All (IsWriteOn n) (writes_in steps)
     → All IsWhole (carried_out start steps)
 carried_out_whole n start [] whole writes = whole
@@ -38,7 +38,7 @@ writes_taken P (suc i) (Write at content ∷ steps) all =
     (writes_taken P i steps (All-tail P (at, content) (writes_in steps) all))
 writes_taken P (suc i) (Sync ∷ steps) all = writes_taken P i steps all
 
--- what may be left is whole
+-- each content that may be left is whole
 pub left_whole : (n : ℕ) (start : List Sector) (steps : List Step) (k : ℕ) (c : Sector)
     → k < length start → All IsWhole start → All (IsWriteOn n) (writes_in steps) → MayBeLeft start steps k c → IsWhole c
 left_whole n start steps k c lt whole writes left =
@@ -47,7 +47,7 @@ left_whole n start steps k c lt whole writes left =
     (All-get_or IsWhole (carried_out start front) k [] (omega (arith, lt, length-carried_out start front))
     (carried_out_whole n start front whole (writes_taken (IsWriteOn n) left.0 steps writes)))
 
--- what reads give may be left
+-- what reads return may be left
 pub now_left : (start : List Sector) (steps : List Step) (k : ℕ) → MayBeLeft start steps k (sector (carried_out start steps) k)
 now_left start steps k = (
   length steps,
@@ -56,7 +56,7 @@ now_left start steps k = (
   ap (λ front. sector (carried_out start front) k) (sym (take_all (length steps) steps (omega arith))),
 )
 
--- once all steps are made, all are made
+-- once all calls are made, all steps are made
 pub steps_at_end : (planned : List PlannedStep) (n : ℕ) → steps_at planned (calls_for planned + n) ≡ length planned
 steps_at_end [] n = refl
 steps_at_end (p ∷ planned) n =

@@ -1,15 +1,15 @@
--- What is true of a disk that nothing changes, at any moment.
+-- What is true of a disk that can't be changed, at any moment.
 use Rattle.std.proofs.Common.{[], refl, subst, sym}
 use Rattle.std.proofs.lemmas.List.Elements.{All-get_or}
 use Rattle.sector_disk.specs.Disk.{IsWhole, HoldsNow, HasWholeSectors}
 use Rattle.byte_disk.specs.declared.read_only.ReadOnlyDisk.{ReadOnlyDisk}
 use Rattle.byte_disk.specs.ReadOnlyDisk.{read_only_facts}
 
--- What reads give is one of the mixtures.
+-- The contents that reads of such a disk return are one of the mixtures.
 pub read_only_holds : (disk : ReadOnlyDisk) → HoldsNow (read_only_facts disk)
 read_only_holds disk = record { size = refl; each = λ k lt. refl }
 
--- Its sectors are whole.
+-- The sectors of such a disk are whole.
 pub read_only_whole : (disk : ReadOnlyDisk) → HasWholeSectors (read_only_facts disk)
 read_only_whole disk =
     record {

@@ -1,4 +1,4 @@
--- The registry that was opened on bytes (own).
+-- A registry that was opened on bytes (own).
 use Rattle.std.specs.Prelude.{◌≡◌, ℕ, List, []}
 use Rattle.sector_disk.specs.Disk.{LeavesOnly, MayAddSync, Mixture}
 use Rattle.byte_disk.specs.declared.disk.ByteDisk.{ByteDisk}
@@ -8,7 +8,8 @@ use Rattle.store.specs.Opened.{Opened, IsAt}
 use Rattle.store.specs.Stands.{Stands}
 use Rattle.byte_registry.specs.Asked.{IsDiskOf}
 
--- It was opened on a disk of these bytes: nothing was written, and it is at the one state that they hold.
+-- A registry was opened on a disk with these bytes. Nothing was written, and the registry is at the one
+-- state that the bytes hold.
 pub record IsOpenedOn (bytes : List ℕ) (opened : Opened ByteDisk) : Type 0 where
   -- the disk before any call
   pub disk : ByteDisk

@@ -1,4 +1,4 @@
--- What is told of objects in their places, and of what was found for a program.
+-- The text about placed objects, and the text about the libraries that were found for a program.
 use Rattle.std.specs.Prelude.{◌≡◌, ◌≢◌, ◌⊎◌, ℕ, List, None, map, true, false}
 use Rattle.bindings.specs.Bindings.{bindings_text}
 use Rattle.bindings.specs.Dependencies.{dependencies_text}
@@ -13,13 +13,13 @@ use Rattle.scope.specs.LoadOrder.{available, names_of}
 use Rattle.scope.specs.Objects.{Named}
 use Rattle.c_answers.specs.Bindings.{bound_number}
 
--- The objects have room, and this is what their symbols are bound to.
+-- The objects have room, and the text states what their symbols are bound to.
 pub record IsPlacedText (objects : List Placed) (number : ℕ) (said : List ℕ) : Type 0 where
   pub room : lacks_room objects ≡ false
   pub text : said ≡ bindings_text objects
   pub number_is : number ≡ bound_number (undefined_refusal objects)
 
--- why there is none: no room, or want of memory
+-- the reason why there is no text: the objects have no room, or memory was refused
 abbrev pub IsUnplaced : List Placed → Refusal → Type 0
 IsUnplaced objects why = ((why ≡ Bind NoRoom) × (lacks_room objects ≡ true)) ⊎ (why ≡ OutOfMemory)
 
@@ -27,17 +27,18 @@ IsUnplaced objects why = ((why ≡ Bind NoRoom) × (lacks_room objects ≡ true)
 abbrev pub found_objects : List ℕ → Found → List Named
 found_objects program found = available program (map object_of found.libraries)
 
--- what is missing among what was found
+-- the text about which libraries were found for a program and which are missing
 abbrev pub found_text : List ℕ → Found → List ℕ
 found_text program found = dependencies_text (names_of (map object_of found.libraries)) (found_objects program found)
 
--- no name is missing, and the objects are told of in their places; or what is missing is told
+-- either no name is missing, and the text is about the placed objects, or the text is about the missing
+-- libraries
 abbrev pub IsFoundText : List ℕ → ℕ → Found → ℕ → List ℕ → Type 0
 IsFoundText program base found number said =
     ((found.missing ≡ None) × IsPlacedText (place base (found_objects program found)) number said)
     ⊎ ((found.missing ≢ None) × (number ≡ 103) × (said ≡ found_text program found))
 
--- why neither is told
+-- the reason why there is neither of these texts
 abbrev pub IsUnfoundText : List ℕ → ℕ → Found → Refusal → Type 0
 IsUnfoundText program base found why =
     ((found.missing ≡ None) × IsUnplaced (place base (found_objects program found)) why) ⊎ (why ≡ OutOfMemory)

@@ -1,4 +1,4 @@
--- Which disk a command of the program has, and what a command of a registry opens it for.
+-- The disk of a command of the program, and the access that a command of a registry needs.
 use Rattle.std.specs.Prelude.{ℕ, List, Option, Some, None}
 use Rattle.file_disk.specs.declared.disk_file.Access.{Access}
 use Rattle.file_disk.specs.declared.disk_file.Access.TheVariants.{Reading, Changes}
@@ -6,7 +6,7 @@ use Rattle.requests.specs.Request.{Request, bind, list}
 use Rattle.commands.specs.Words.{CommandLine}
 use Rattle.commands.specs.Words as words
 
--- the path of the disk: every command but `image` has one
+-- the path of a command's disk; every command except `image` has one
 abbrev pub disk_of : CommandLine → Option (List ℕ)
 disk_of (words.image program base) = None
 disk_of (words.format disk sectors) = Some disk
@@ -19,7 +19,7 @@ disk_of (words.list disk) = Some disk
 disk_of (words.bind disk program base) = Some disk
 disk_of (words.script disk) = Some disk
 
--- a listing and a bind change nothing
+-- the access that a request needs: a listing and a bind only read
 abbrev pub access_of : Request → Access
 access_of list = Reading
 access_of (bind program base) = Reading

@@ -1,4 +1,4 @@
--- What the code reads in a line, as what may happen.
+-- The event of a line that the code has read.
 use Rattle.binders.specs.Events.{Happening, apply, begin, advance, cancel}
 use Rattle.scripts.specs.Asked.{request_asked}
 use Rattle.commands.specs.declared.asked.Asked.{Asked}

@@ -1,4 +1,4 @@
--- What the parts of a run end with.
+-- How the parts of a command end.
 use Rattle.std.specs.Prelude.{ℕ, List, Option, Some, None, ◌≡◌, ◌⊎◌, true, is_some}
 use Rattle.std.specs.Io.KnownBytes.{Appends}
 use Rattle.sector_disk.specs.Disk.{DiskFacts}
@@ -25,7 +25,7 @@ use Rattle.commands.specs.declared.disk.NoRegistry.{NoRegistry}
 use Rattle.commands.specs.declared.disk.NoRegistry.TheVariants as no
 use Rattle.commands.specs.declared.show.Shown.TheVariants as shown
 
--- what showing an image ends with, by the base that was asked for
+-- how showing an image ends; `asked` is the base, or none if BASE can't be read
 abbrev pub ImageEnds : Option ℕ → Option (List ℕ) → Option (List ℕ) → Status → Type 0
 ImageEnds asked before after Done = (base : ℕ) × (asked ≡ Some base) × PrintsImage base before after
 ImageEnds asked before after Refused = (base : ℕ) × (asked ≡ Some base) × PrintsRefusal base before after
@@ -33,13 +33,13 @@ ImageEnds asked before after BadWords = (asked ≡ None) × (after ≡ before)
 ImageEnds asked before after Failed = is_some asked ≡ true
 ImageEnds asked before after NoMemory = (is_some asked ≡ true) × Appends before after memory_text
 
--- what stands on standard error: nothing more than before; or the output is as it was, and it is a
--- front of the line of words that are turned away, or what is said of a file that can't be read
+-- The text on standard error. Either nothing was written. Or the output is unchanged, and standard error
+-- got a prefix of the line for bad arguments, or a message about a file that can't be read.
 abbrev pub IsSaid : List ℕ → Option (List ℕ) → Option (List ℕ) → Option (List ℕ) → Option (List ℕ) → Status → Type 0
 IsSaid text before after errors errors' status = (errors' ≡ errors)
     ⊎ ((after ≡ before) × (((status ≡ BadWords) × AppendsFront errors errors' text) ⊎ (status ≡ Failed)))
 
--- what showing a file's bytes at a base ends with
+-- how showing a file's bytes at a base ends
 abbrev pub IsShown : List ℕ → ℕ → Option (List ℕ) → Option (List ℕ) → Status → Type 0
 IsShown file base before after Done = Shows file base before after shown.Image
 IsShown file base before after Refused = Shows file base before after shown.Refused
@@ -47,17 +47,18 @@ IsShown file base before after BadWords = ⊥
 IsShown file base before after Failed = Unit {0}
 IsShown file base before after NoMemory = Shows file base before after shown.NoMemory
 
--- what a file that wasn't read ends with
+-- how a command ends if its file wasn't read
 abbrev pub IsNotRead : FileFault → Option (List ℕ) → Option (List ℕ) → Status → Type 0
 IsNotRead CannotRead before after status = (status ≡ Failed) × (after ≡ before)
 IsNotRead OutOfMemory before after status = IsTold NoMemory memory_text before after status
 
--- why there is no registry: for such a refusal, or since there is no such file
+-- the reason why there is no registry: a refusal for which `MayRefuse` holds, or a file that can't be
+-- opened
 abbrev pub IsNoRegistry : (StoreRefusal → Type 0) → NoRegistry → Type 0
 IsNoRegistry MayRefuse no.CannotOpen = Unit
 IsNoRegistry MayRefuse (no.Refused refusal) = MayRefuse refusal
 
--- what a disk that isn't opened or made ends with
+-- how a command ends if the registry on its disk can't be opened or made
 abbrev pub IsTurnedAway : (StoreRefusal → Type 0) → Option (List ℕ) → Option (List ℕ) → Status → Type 0
 IsTurnedAway MayRefuse before after Done = ⊥
 IsTurnedAway MayRefuse before after Refused = TurnsAway MayRefuse Refused before after
@@ -69,7 +70,7 @@ IsTurnedAway MayRefuse before after NoMemory = Appends before after memory_text
 abbrev pub IsWritten : Reply → Option (List ℕ) → Option (List ℕ) → Status → Type 0
 IsWritten reply before after status = IsTold (reply_status reply) (reply_text reply) before after status
 
--- what a command on a disk ends with that asks such a request
+-- how a command on a disk ends if `IsAsked` holds for its request
 abbrev pub Replied : (Request → Type 0) → Option (List ℕ) → Option (List ℕ) → Status → Type 0
 Replied IsAsked before after Done = Replies IsAsked Done before after
 Replied IsAsked before after Refused = Replies IsAsked Refused before after ⊎ TurnsAway IsOpenRefusal Refused before after
@@ -77,26 +78,26 @@ Replied IsAsked before after BadWords = ⊥
 Replied IsAsked before after Failed = Unit {0}
 Replied IsAsked before after NoMemory = Appends before after memory_text
 
--- what a bind on a disk ends with, by the base that was asked for
+-- how a bind on a disk ends; `asked` is the base, or none if BASE can't be read
 abbrev pub BindEnds : Option ℕ → (Request → Type 0) → Option (List ℕ) → Option (List ℕ) → Status → Type 0
 BindEnds asked IsAsked before after BadWords = (asked ≡ None) × (after ≡ before)
 BindEnds asked IsAsked before after status = (is_some asked ≡ true) × Replied IsAsked before after status
 
--- what making a registry of so many sectors ends with
+-- how making a registry of `sectors` sectors ends
 abbrev pub IsFormatted : ℕ → Option (List ℕ) → Option (List ℕ) → Status → Type 0
 IsFormatted sectors before after Done = Makes sectors before after
 IsFormatted sectors before after status = IsTurnedAway IsFormatRefusal before after status
 
--- what upgrading a registry ends with
+-- how upgrading a registry ends
 abbrev pub IsUpgradedOver : Option (List ℕ) → Option (List ℕ) → Status → Type 0
 IsUpgradedOver before after Done = Upgrades before after
 IsUpgradedOver before after status = IsTurnedAway IsUpgradeRefusal before after status
 
--- what a script ends with over a registry with binders, on a disk
+-- how a script over a registry with binders on a disk ends
 abbrev pub IsRun : {D : Type 0} → (D → DiskFacts) → Streams → Slotted D → Slotted D → Status → Type 0
 IsRun facts io old new status = RunsOnDisk facts io old new status ⊎ BreaksOnDisk facts io old new status
 
--- what a script over a disk ends with
+-- how a script over a disk ends
 abbrev pub ScriptEnds : Streams → Status → Type 0
 ScriptEnds io Done = Runs io Done
 ScriptEnds io Refused = Runs io Refused ⊎ TurnsAway IsOpenRefusal Refused io.before io.after

@@ -1,4 +1,4 @@
--- How far a script has come.
+-- The intermediate states of a script.
 use Rattle.std.specs.Prelude.{◌≡◌, ◌++◌, ℕ, List, length, All, Option}
 use Rattle.std.specs.List.{flat_map, AllZip}
 use Rattle.std.specs.Io.KnownBytes.{Appends, Consumes}
@@ -13,13 +13,13 @@ use Rattle.commands.specs.Script.{Counts}
 use Rattle.commands.specs.declared.answer.Answer.{Answer}
 use Rattle.commands.specs.declared.summary.Summary.{Summary}
 
--- the streams at a place of a script: what is left to read, and what the writer holds
+-- the streams at some point of a script: the bytes left to read, and the bytes that the writer holds
 pub record Place : Type 0 where
   pub unread : Option (List ℕ)
   pub written : Option (List ℕ)
 
 module _ {S : Type 0} (step : S → Happening → EventReply → S → Type 0) where
-  -- Whole lines were read, answered one after the other, and their answers written.
+  -- Whole lines were read and answered one after the other, and their answers were written.
   pub record Answered (p q : Place) (s t : S) (summary : Summary) (whole : List (List ℕ)) (answers : List Answer) : Type 0 where
     pub read : Consumes p.unread q.unread (flat_map ended whole)
     pub lines : All IsLine whole
@@ -31,13 +31,14 @@ module _ {S : Type 0} (step : S → Happening → EventReply → S → Type 0) w
   abbrev pub Stepped : S → List ℕ → S → Type 0
   Stepped s line s' = (answer : Answer) × LineStep step s line answer s'
 
-  -- Of a whole line, with what the writer holds and what waits behind it, before and now:
-  -- for want of memory nothing was done; or the line was applied, and then the writer failed.
+  -- How a whole line can fail. `waits` and `now` are what the writer holds before and after, each
+  -- followed by the answers that aren't sent yet. If memory is refused, nothing was done. If the writer
+  -- failed, the line was applied first.
   abbrev pub Misses : S → S → Option (List ℕ) → Option (List ℕ) → List ℕ → ScriptFault → Type 0
   Misses s s' waits now line Write = Stepped s line s'
   Misses s s' waits now line fault = (s' ≡ s) × (now ≡ waits)
 
--- A writer held exactly the answers to the first lines; each of the others may wait.
+-- The writer holds exactly the answers to the first lines. Each of the other answers may be sent later.
 pub record Told (before held : Option (List ℕ)) (whole : List (List ℕ)) (answers : List Answer) : Type 0 where
   pub told : List (List ℕ)
   pub untold : List (List ℕ)

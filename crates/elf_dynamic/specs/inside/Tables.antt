@@ -1,4 +1,4 @@
--- The tables of a file that the code keeps.
+-- The tables of a file, as the code keeps them.
 use Rattle.std.specs.Prelude.{ℕ, ◌+◌, ◌*◌, ◌≡◌, List, length}
 use Rattle.std.specs.Prelude.{Option, Some, None, if◌then◌else◌}
 use Rattle.elf_file.specs.Constant.{DT_SONAME, DT_STRSZ, SYMBOL_SIZE}
@@ -11,18 +11,18 @@ use Rattle.elf_dynamic.specs.Relocation.{rela_table, jmprel_table}
 use Rattle.elf_dynamic.specs.declared.hash_table.HashTable.{HashTable}
 use Rattle.elf_dynamic.specs.declared.parts.Parts.{Parts}
 
--- the hash table of a file
+-- `table` is the hash table of the file
 pub record IsHashTable (file : List ℕ) (table : HashTable) : Type 0 where
   pub bytes : table.bytes.now ≡ hash_table file
   pub size : length table.bytes.now ≡ WORD_SIZE * (2 + (bucket_count file + chain_count file))
   pub buckets : table.bucket_count ≡ bucket_count file
   pub chains : table.chain_count ≡ chain_count file
 
--- where the object's own name stands in the string table, where it has one
+-- the offset of the object's own name in the string table, if it has a name
 abbrev pub soname_offset : List ℕ → Option ℕ
 soname_offset file = if is_present file DT_SONAME then Some (tag_value file DT_SONAME) else None
 
--- the tables of a file, and what else is kept of its tags
+-- `parts` has the tables of the file, and the right values of the tags that the code keeps
 pub record HasParts (file : List ℕ) (parts : Parts) : Type 0 where
   pub strings : parts.strings.now ≡ string_table file
   pub strings_size : length parts.strings.now ≡ tag_value file DT_STRSZ
@@ -35,7 +35,7 @@ pub record HasParts (file : List ℕ) (parts : Parts) : Type 0 where
   pub soname : parts.soname ≡ soname_offset file
   pub symbolic : parts.symbolic ≡ is_symbolic file
 
--- what is kept of a file: its tables, and the offsets of the needed libraries' names
+-- `offsets` has the offsets of the needed libraries' names, and `parts` has the tables of the file
 pub record HasTables (file offsets : List ℕ) (parts : Parts) : Type 0 where
   pub needed : offsets ≡ needed_offsets file
   pub has : HasParts file parts

@@ -1,4 +1,4 @@
--- What is kept of the entries of the dynamic section.
+-- The values that the code keeps of the entries of the dynamic section.
 use Rattle.std.specs.Prelude.{ℕ, ◌+◌, ◌/◌, ◌≤◌, ◌≡◌, map, length, List, Option, Some}
 use Rattle.std.specs.Prelude.{None, ◌==◌, count_by, slice_index_or, unwrap_or, if◌then◌else◌}
 use Rattle.std.specs.Option.{option_map}
@@ -10,7 +10,7 @@ use Rattle.elf_file.specs.declared.entry.Entry.{Entry}
 use Rattle.elf_file.specs.declared.tag_table.Slot.{Slot}
 use Rattle.elf_file.specs.declared.tag_table.Tags.{Tags}
 
--- the place of a tag's number in the table, where it has one
+-- the place of a tag's number in the table, if it has one
 abbrev pub place_of : ℕ → Option ℕ
 place_of number =
     if number == DT_NEEDED then Some 0 else
@@ -35,29 +35,29 @@ place_of number =
     if number == DT_VERNEED then Some 19 else
     None
 
--- what entries say of a tag: how often it is present, and the value of the first entry with it, or 0
+-- a tag's slot: how often the tag is present in the entries, and the value of the first entry with it, or 0
 abbrev pub slot_of : List Entry → ℕ → Slot
 slot_of es tag = record { count = count_by (has_tag tag) es; value = unwrap_or (option_map (λ e. e.value) (find (has_tag tag) es)) 0 }
 
--- the same after one more entry with the tag
+-- the slot after one more entry with its tag
 abbrev pub slot_more : ℕ → Slot → Slot
 slot_more value slot = record { count = slot.count + 1; value = if slot.count == 0 then value else slot.value }
 
--- the same after one more entry
+-- the slot of a tag after one more entry
 abbrev pub slot_and : ℕ → Entry → Slot → Slot
 slot_and tag e slot = if has_tag tag e then slot_more e.value slot else slot
 
--- the table has what entries say of each tag that has a place in it
+-- the table has the right slot for each tag that has a place in it
 abbrev pub IsTable : List Entry → List Slot → Type 0
 IsTable es slots = (n k : ℕ) (d : Slot) → place_of n ≡ Some k → slice_index_or slots k d ≡ slot_of es n
 
--- what is kept is that of the entries of a section
+-- `tags` is what the code keeps of the entries of a section
 pub record IsTagsOf (section : List ℕ) (tags : Tags) : Type 0 where
   pub entries : entries_in section ≡ map (entry section) (range_with_len 0 tags.count)
   pub within : tags.count ≤ length section / DYNAMIC_ENTRY_SIZE
   pub table : IsTable (entries_in section) tags.table.slots
 
--- the section is the file's, and what is kept is that of its entries
+-- the section is the file's dynamic section, and `tags` is what the code keeps of its entries
 pub record HasTags (file section : List ℕ) (tags : Tags) : Type 0 where
   pub same : section ≡ dynamic_section file
   pub kept : IsTagsOf section tags

@@ -1,4 +1,4 @@
--- What is known of an image once what a loader would do is looked for.
+-- What is true of an image that none of the tests for self-relocation and for functions to call refuses.
 use Rattle.std.specs.Prelude.{◌≡◌, false, None}
 use Rattle.image.specs.Image.{MemoryImage}
 use Rattle.executable.specs.StaticPie.{is_static_pie}

@@ -1,10 +1,10 @@
--- What keeps the two buffers of a disk over a file apart.
+-- The condition that keeps the two buffers of a disk over a file apart.
 use Rattle.std.specs.Prelude.{◌≡◌, ℕ, None, IsSome}
-use Rattle.file_disk.specs.declared.ahead.Ahead.{Ahead}
-use Rattle.file_disk.specs.declared.gathered.Gathered.{Gathered}
-use Rattle.file_disk.specs.Ahead.{ahead_at}
-use Rattle.file_disk.specs.Gathered.{gathered_at}
+use Rattle.file_disk.specs.declared.read_ahead.ReadAhead.{ReadAhead}
+use Rattle.file_disk.specs.declared.write_buffer.WriteBuffer.{WriteBuffer}
+use Rattle.file_disk.specs.ReadAhead.{read_ahead_at}
+use Rattle.file_disk.specs.WriteBuffer.{write_buffer_at}
 
--- no sector that waits is kept as the file gave it
-abbrev pub IsApart : Gathered → Ahead → Type 0
-IsApart gathered ahead = (k : ℕ) → IsSome (gathered_at gathered k) → ahead_at ahead k ≡ None
+-- no sector of the write buffer is in the read-ahead buffer
+abbrev pub IsApart : WriteBuffer → ReadAhead → Type 0
+IsApart write_buffer read_ahead = (k : ℕ) → IsSome (write_buffer_at write_buffer k) → read_ahead_at read_ahead k ≡ None

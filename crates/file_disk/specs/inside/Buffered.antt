@@ -1,15 +1,15 @@
--- What the calls of a file with its buffers do, where the file is honest.
+-- The effects of the calls of a file with its buffers, if the file is honest.
 use Rattle.std.specs.Prelude.{◌≡◌, ◌≢◌, ◌<◌, ◌⊎◌, ℕ, None, true, false}
 use Rattle.sector_disk.specs.Disk.{Sector, sector}
 use Rattle.file_disk.specs.declared.buffered.Buffered.{Buffered}
 use Rattle.file_disk.specs.declared.sector_file.SectorFile.{Ghosts}
 use Rattle.file_disk.specs.Buffered.{shown_at, Leaves}
-use Rattle.file_disk.specs.Gathered.{gathered_at}
+use Rattle.file_disk.specs.WriteBuffer.{write_buffer_at}
 use Rattle.file_disk.specs.SectorFile.{MayHave}
 use Rattle.file_disk.specs.inside.Transfer.{StaysWithin}
 
 module _ {F : Type 0} {g : Ghosts F} where
-  -- the file has what it had
+  -- reads of the file return what they returned, and its medium had only what a stop may leave
   pub record IsStill (old new : Buffered F g) : Type 0 where
     pub within : StaysWithin (Leaves old) (g.facts old.file) (g.facts new.file)
     pub now : old.failed ≡ false → (g.facts new.file).now ≡ (g.facts old.file).now
@@ -24,24 +24,24 @@ module _ {F : Type 0} {g : Ghosts F} where
     pub within : StaysWithin (Leaves old) (g.facts old.file) (g.facts new.file)
     pub cause : (old.failed ≡ true) ⊎ ((g.facts old.file).failures < (g.facts new.file).failures)
 
-  -- the file has what reads gave
-  pub record IsGiven (old new : Buffered F g) : Type 0 where
+  -- reads of the file return what reads through the buffers returned
+  pub record IsWrittenBack (old new : Buffered F g) : Type 0 where
     pub within : StaysWithin (Leaves old) (g.facts old.file) (g.facts new.file)
     pub shown : (k : ℕ) → sector (g.facts new.file).now k ≡ shown_at old k
 
-  -- reads give what they gave, and nothing more waits
+  -- reads return what they returned, and nothing was added to the write buffer
   pub record IsRoomy (old new : Buffered F g) : Type 0 where
     pub within : StaysWithin (Leaves old) (g.facts old.file) (g.facts new.file)
     pub shown : (k : ℕ) → shown_at new k ≡ shown_at old k
-    pub waits : (k : ℕ) → (gathered_at new.gathered k ≡ gathered_at old.gathered k) ⊎ (gathered_at new.gathered k ≡ None)
+    pub waits : (k : ℕ) → (write_buffer_at new.write_buffer k ≡ write_buffer_at old.write_buffer k) ⊎ (write_buffer_at new.write_buffer k ≡ None)
 
-  -- reads give what they gave in each sector but this one
+  -- reads return what they returned in each sector except this one
   pub record IsPut (at : ℕ) (old new : Buffered F g) : Type 0 where
     pub within : StaysWithin (Leaves old) (g.facts old.file) (g.facts new.file)
     pub shown : (k : ℕ) → k ≢ at → shown_at new k ≡ shown_at old k
 
-  -- reads give what they gave, and the medium has that alone
-  pub record IsSettled (old new : Buffered F g) : Type 0 where
+  -- reads return what they returned, and the medium has only that
+  pub record IsSynced (old new : Buffered F g) : Type 0 where
     pub within : StaysWithin (Leaves old) (g.facts old.file) (g.facts new.file)
     pub shown : (k : ℕ) → sector (g.facts new.file).now k ≡ shown_at old k
     pub alone : (k : ℕ) (c : Sector) → MayHave (g.facts new.file) k c → c ≡ shown_at old k

@@ -9,11 +9,11 @@ use Rattle.file_disk.specs.declared.memory_file.MemoryFile.{MemoryFile}
 use Rattle.file_disk.specs.SectorFile.{HoldsWhatIsRead, HasWholeContents}
 use Rattle.file_disk.specs.MemoryFile.{memory_file_facts}
 
--- at this moment the medium is what it is
+-- at the present moment the medium is the present one
 abbrev present : (file : MemoryFile) → slice_index_or file.past.items (length file.past.items) file.medium ≡ file.medium
 present file = get_or_past file.past.items (length file.past.items) file.medium (omega arith)
 
--- What reads give is on the medium, or may come there.
+-- The contents that reads of a file in memory return are on the medium, or may reach it.
 pub file_holds : (file : MemoryFile) → HoldsWhatIsRead (memory_file_facts file)
 file_holds file =
     let holds = memory_holds file.medium in
@@ -22,7 +22,7 @@ file_holds file =
       each = λ k lt. (lt, subst (λ m. MayLeave (memory_facts m) k (sector (memory_facts file.medium).now k)) (sym (present file)) (holds.each k lt));
     }
 
--- What the medium may have are whole sectors.
+-- The medium of a file in memory has only whole sectors.
 pub file_whole : (file : MemoryFile) → HasWholeContents (memory_file_facts file)
 file_whole file = record {
   each = λ k c has.

@@ -1,5 +1,5 @@
--- Names that are tails of strings, read from their ends, as they are told by numbers where they share bytes. Nobody has to
--- believe this.
+-- Names that are tails of strings, read from their ends. The code numbers names in this way if they
+-- share bytes. A reader doesn't have to believe these definitions.
 use Rattle.std.specs.Prelude.{ℕ, List, ◌≡◌, ◌≢◌, ◌<◌, ◌≤◌, ◌-◌, false, length, take, reverse, slice_index}
 use Rattle.std.specs.Cmp.Lexicographic.{slice_cmp}
 use Rattle.std.specs.Ordering.{nat_cmp, is_lt}
@@ -8,40 +8,42 @@ use Rattle.std.specs.List.Sorted.{IsSortedBy}
 use Rattle.hash_check.specs.Numbers.{nth_text}
 use Rattle.hash_check.specs.declared.endings.Ending.{Ending}
 
--- the bytes of the name of a number, the last one first
+-- the bytes of name number `k`, the last byte first
 unfoldable pub back : List (List ℕ) → ℕ → List ℕ
 back names k = reverse (nth_text names k)
 
--- the bytes of a string, the last one first
+-- the bytes of the string of an ending, the last byte first
 abbrev pub string_back : Ending → List ℕ
 string_back e = reverse e.string.now
 
--- a name of an ending
+-- name number `k` is one of the names of the ending
 abbrev pub IsIn : ℕ → Ending → Type 0
 IsIn k e = (e.first ≤ k) × (k < e.past)
 
--- names that are tails of one string
+-- the names of an ending are tails of its string
 pub record IsEnding (names : List (List ℕ)) (e : Ending) : Type 0 where
   pub order : e.first ≤ e.past
   pub within : e.past ≤ length names
   pub tails : (k : ℕ) → IsIn k e → take (length (back names k)) (string_back e) ≡ back names k
 
--- the endings of names, each name in one of them
+-- each name is in one of the endings, and the names of each ending are tails of its string
 pub record AreEndings (names : List (List ℕ)) (endings : List Ending) : Type 0 where
   pub each : All (IsEnding names) endings
   pub all : (k : ℕ) → k < length names → Any (IsIn k) endings
 
--- the same, sorted by the strings from their last bytes on
+-- each name is in one of the endings, and the endings are sorted by their strings, read from the last
+-- byte
 pub record AreSorted (names : List (List ℕ)) (endings : List Ending) : Type 0 where
   pub are : AreEndings names endings
   pub sorted : IsSortedBy (λ a b. is_lt (slice_cmp nat_cmp (string_back a) (string_back b))) endings
 
--- no number
+-- all numbers are 0, so no name has a number yet
 abbrev pub AreNone : List ℕ → Type 0
 AreNone numbers = (k : ℕ) → slice_index numbers k ≡ 0
 
--- The names so far have their numbers, and 0 is that of the others. They don't come behind the last string, and those that
--- are tails of it are marked by their lengths.
+-- Some names have their numbers, and the others have 0. Read from its end, no name with a number comes
+-- after the string `last`. The numbers of the names that are tails of `last` are in `marks`, at the
+-- names' lengths.
 pub record AreHeld (names : List (List ℕ)) (last marks numbers : List ℕ) : Type 0 where
   pub size : length numbers ≡ length names
   pub short : (n : ℕ) → slice_index marks n ≢ 0 → n ≤ length last

@@ -1,4 +1,4 @@
--- Names that are hashed several at a time.
+-- Names that are hashed together, eight at a time.
 use Rattle.std.specs.Prelude.{ℕ, List, true, ◌≡◌, ◌≢◌, ◌<◌, ◌≤◌, ◌-◌, length, take, drop, slice_index, fold}
 use Rattle.elf_dynamic.specs.Strings.{name_of, string_table}
 use Rattle.elf_dynamic.specs.HashTable.{buckets, chains}
@@ -8,11 +8,12 @@ use Rattle.hash_check.specs.Walk.{Meets}
 use Rattle.hash_check.specs.HashTable.{bucket_of}
 use Rattle.hash_check.specs.declared.lanes.Lanes.{Lanes}
 
--- the bytes of a table from a place up to an end
+-- the bytes of a table from offset `place` up to offset `end`
 abbrev pub between : List ℕ → ℕ → ℕ → List ℕ
 between table place end = take (end - place) (drop place table)
 
--- a hash with what is left of an exported symbol's name, or a free lane
+-- the lane is free, or has an exported symbol, the hash of the first bytes of its name, and the place
+-- and the end of the bytes that are left
 pub record IsLane (file : List ℕ) (symbol hash place end : ℕ) : Type 0 where
   pub order : place ≤ end
   pub within : end ≤ length (string_table file)
@@ -22,14 +23,14 @@ pub record IsLane (file : List ℕ) (symbol hash place end : ℕ) : Type 0 where
 pub record AreLanes (file : List ℕ) (l : Lanes) : Type 0 where
   pub each : (k : ℕ) → k < 8 → IsLane file (slice_index l.symbols k) (slice_index l.hashes k) (slice_index l.places k) (slice_index l.ends k)
 
--- no name ends before its place
+-- in none of the eight lanes is the end before the place
 pub record AreOrdered (places ends : List ℕ) : Type 0 where
   pub order : (k : ℕ) → k < 8 → slice_index places k ≤ slice_index ends k
 
--- a symbol is met on the walk from the bucket of its name's hash
+-- symbol `i` is met on the walk from the bucket of its name's hash
 abbrev pub IsMet : List ℕ → ℕ → Type 0
 IsMet file i = Meets (chains file) (bucket_of (buckets file) (elf_hash (name_of file i))) i
 
--- each symbol of a lane is
+-- the symbol of each lane is met on the walk from the bucket of its name's hash
 pub record AllMet (file symbols : List ℕ) : Type 0 where
   pub met : (k : ℕ) → k < 8 → slice_index symbols k ≢ 0 → IsMet file (slice_index symbols k)

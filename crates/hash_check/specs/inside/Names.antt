@@ -1,4 +1,4 @@
--- The names of symbols, and the strings of the string table that they are tails of.
+-- The names of symbols, and the strings of the string table whose tails they are.
 use Rattle.std.specs.Prelude.{ℕ, List, true, map, ◌≡◌, ◌≢◌, ◌<◌, ◌≤◌, ◌+◌, ◌-◌, length, take, drop, reverse, slice_index, slice_get}
 use Rattle.std.specs.List.{All, range_with_len}
 use Rattle.std.specs.Option.{option_map_or}
@@ -8,20 +8,20 @@ use Rattle.elf_dynamic.specs.Strings.{string_table, string_at}
 use Rattle.hash_check.specs.Export.{is_exported}
 use Rattle.hash_check.specs.declared.strings.Stretch.{Stretch}
 
--- a symbol other than number 0
+-- there is a symbol with number `i`, and `i` isn't 0
 pub record IsSymbol (file : List ℕ) (i : ℕ) : Type 0 where
   pub some : 1 ≤ i
   pub within : i < length (symbols file)
 
--- the numbers of all symbols but number 0
+-- the numbers of all symbols except 0
 unfoldable pub all_symbols : List ℕ → List ℕ
 all_symbols file = range_with_len 1 (length (symbols file) - 1)
 
--- where the name of a symbol begins in the string table
+-- the offset of a symbol's name in the string table
 abbrev pub offset_of : List ℕ → ℕ → ℕ
 offset_of file i = option_map_or (λ s. s.name) (slice_get (symbols file) i) 0
 
--- a string of the table with its length
+-- the stretch is a string of the string table: its length is the string's length
 abbrev pub IsStretch : List ℕ → Stretch → Type 0
 IsStretch file s = length (string_at (string_table file) s.from) ≡ s.length
 
@@ -29,7 +29,7 @@ IsStretch file s = length (string_at (string_table file) s.from) ≡ s.length
 unfoldable pub stretch_bytes : List ℕ → Stretch → List ℕ
 stretch_bytes file s = take s.length (drop s.from (string_table file))
 
--- the bytes of a stretch, the last one first
+-- the bytes of a stretch, the last byte first
 unfoldable pub stretch_back : List ℕ → Stretch → List ℕ
 stretch_back file s = reverse (stretch_bytes file s)
 
@@ -37,7 +37,7 @@ stretch_back file s = reverse (stretch_bytes file s)
 abbrev pub BeginsIn : List ℕ → ℕ → Stretch → Type 0
 BeginsIn file i s = (s.from ≤ offset_of file i) × (offset_of file i ≤ s.from + s.length)
 
--- so many bytes are as long as the name of a symbol
+-- `n` is the length of the name of a symbol
 abbrev pub IsLengthOf : List ℕ → ℕ → ℕ → Type 0
 IsLengthOf file i n = n ≡ length (name_of file i)
 
@@ -45,11 +45,11 @@ IsLengthOf file i n = n ≡ length (name_of file i)
 pub record AllDiffer (file numbers : List ℕ) : Type 0 where
   pub differ : (i j : ℕ) → i < j → j < length numbers → name_of file (slice_index numbers i) ≢ name_of file (slice_index numbers j)
 
--- exported symbols with their names
+-- the symbols are exported, and `names` has their names, in the same order
 pub record AreExports (file symbols : List ℕ) (names : List (List ℕ)) : Type 0 where
   pub exported : All (λ i. is_exported file i ≡ true) symbols
   pub named : names ≡ map (name_of file) symbols
 
--- each exported symbol stands in a list
+-- the list has every exported symbol
 pub record IsWhole (file symbols : List ℕ) : Type 0 where
   pub stands : (i : ℕ) → is_exported file i ≡ true → (k : ℕ) × (k < length symbols) × (slice_index symbols k ≡ i)

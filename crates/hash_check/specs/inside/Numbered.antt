@@ -1,21 +1,22 @@
--- Symbols and their names while they are gathered. Nobody has to believe this.
+-- Symbols and their names, while they are collected. A reader doesn't have to believe these definitions.
 use Rattle.std.specs.Prelude.{ℕ, List, ◌≡◌, ◌+◌, map}
 use Rattle.hash_check.specs.Numbered.{name_in, AreSymbols}
 use Rattle.hash_check.specs.declared.numbered.NumberedSymbol.{NumberedSymbol}
 use Rattle.hash_check.specs.declared.endings.Ending.{Ending}
 
--- a symbol of the object at a place that has no number yet
+-- symbol number `i` of object number `place`, which has no number for its name yet
 abbrev pub unnumbered : ℕ → ℕ → NumberedSymbol
 unnumbered place i = record { object = place; symbol = i; number = 0 }
 
 abbrev pub with_number : NumberedSymbol → ℕ → NumberedSymbol
 with_number s n = record { object = s.object; symbol = s.symbol; number = n }
 
--- an ending of names that stand behind some others
+-- an ending after `before` other names were put in front of its names
 unfoldable pub behind : ℕ → Ending → Ending
 behind before e = record { string = e.string; first = before + e.first; past = before + e.past }
 
--- the symbols of the first n objects, and their names
+-- `all` has the symbols of the first `n` objects, except those with number 0, and `names` has their
+-- names, in the same order
 pub record AreGathered (files : List (List ℕ)) (n : ℕ) (all : List NumberedSymbol) (names : List (List ℕ)) : Type 0 where
   pub are : AreSymbols files n all
   pub names_are : names ≡ map (name_in files) all

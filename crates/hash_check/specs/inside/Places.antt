@@ -1,5 +1,5 @@
--- What is kept of the walks that were followed: of each index on them how far it is from 0, and an
--- index further along.
+-- The walks that the code has followed. For each index it keeps the number of steps to 0, and an index
+-- further along the walk.
 use Rattle.std.specs.Prelude.{ℕ, List, Option, Some, None, ◌≡◌, ◌≢◌, ◌<◌, ◌≤◌}
 use Rattle.std.specs.Prelude.{◌-◌, ◌+◌, length, slice_index, slice_index_or, set}
 use Rattle.std.proofs.Math.ListN.{replicate}
@@ -7,7 +7,7 @@ use Rattle.std.specs.List.{All}
 use Rattle.hash_check.specs.Walk.{walk, Meets}
 use Rattle.hash_check.specs.declared.place.Place.{Place}
 
--- the first 0 on the walk from an index comes after d steps
+-- the walk from an index first reaches 0 after `d` steps
 pub record Depth (chains : List ℕ) (from d : ℕ) : Type 0 where
   pub arrives : walk chains from d ≡ 0
   pub before : (k : ℕ) → k < d → walk chains from k ≢ 0
@@ -20,7 +20,7 @@ pub record Known (places : List (Option Place)) (i : ℕ) : Type 0 where
   pub place : Place
   pub is : place_at places i ≡ Some place
 
--- what the place of an index says
+-- the place `p` of an index describes its walk correctly
 pub record Says (chains : List ℕ) (places : List (Option Place)) (i : ℕ) (p : Place) : Type 0 where
   pub depth : Depth chains i p.depth
   pub landing : p.landing ≤ p.depth
@@ -32,33 +32,33 @@ pub record Says (chains : List ℕ) (places : List (Option Place)) (i : ℕ) (p 
 pub record Sound (chains : List ℕ) (places : List (Option Place)) : Type 0 where
   pub says : (i : ℕ) (p : Place) → place_at places i ≡ Some p → Says chains places i p
 
--- what has a place keeps one
+-- every index that had a place still has one
 pub record Keeps (old new : List (Option Place)) : Type 0 where
   pub known : (i : ℕ) → Known old i → Known new i
 
--- the place of an index on the walk from a head, whose next one has the place p
+-- `new` is a right place for an index whose next index on the walk is `next`; the place of `next` is `p`
 pub record IsBefore (chains : List ℕ) (head next : ℕ) (p new : Place) : Type 0 where
   pub begins : new.head ≡ head
   pub depth : new.depth ≡ p.depth + 1
   pub landing : new.landing ≤ p.depth
   pub jump : walk chains next (p.depth - new.landing) ≡ new.jump
 
--- the indices of a path are those of a walk that hasn't met 0 yet
+-- the path has the first indices of a walk, and the walk hasn't reached 0 at any of them
 pub record IsPath (chains : List ℕ) (from : ℕ) (path : List ℕ) : Type 0 where
   pub walked : (k : ℕ) → k < length path → slice_index path k ≡ walk chains from k
   pub before : (k : ℕ) → k < length path → walk chains from k ≢ 0
 
--- the places of n indices before any walk
+-- the places of `n` indices before any walk is followed: only index 0 has one
 unfoldable pub none_but_zero : ℕ → List (Option Place)
 none_but_zero n = set (replicate n None) 0 (Some (record { depth = 0; jump = 0; landing = 0; head = 0 }))
 
--- the walks from all buckets were followed
+-- the walks from all buckets have been followed
 pub record Placed (buckets chains : List ℕ) (places : List (Option Place)) : Type 0 where
   pub size : length places ≡ length chains
   pub sound : Sound chains places
   pub known : All (Known places) buckets
 
--- the walks from all buckets meet an index, unless it is 0
+-- the walks from all buckets meet the joint, unless it is 0
 pub record IsJoint (buckets chains : List ℕ) (places : List (Option Place)) (joint : ℕ) : Type 0 where
   pub within : joint < length chains
   pub known : Known places joint

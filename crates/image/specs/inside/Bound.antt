@@ -9,13 +9,14 @@ use Rattle.image.specs.Loading.{all_loaded}
 use Rattle.image.specs.Placement.{Placed}
 use Rattle.image.specs.Relocating.{file_at, writes_of}
 
--- the values of its symbols by number, and which of them are known
+-- `known` marks the symbols of object number `own` for which `values` has the value; both lists are by
+-- symbol number
 pub record AreValues (objects : List Placed) (own : ℕ) (values : List ℕ) (known : List Bool) : Type 0 where
   pub counted : length values ≡ length (symbols (file_at objects own))
   pub flags : length known ≡ length values
   pub are : (k : ℕ) → slice_get known k ≡ Some true → IsKnown objects own values k
 
--- an image of the first so many of the objects
+-- an image of the first `count` objects
 pub record IsFilled (objects : List Placed) (count : ℕ) (image : MemoryImage) : Type 0 where
   pub objects_are : image.objects ≡ map object_of (take count objects)
   pub headings : map heading image.segments ≡ map (λ l. l.heading) (all_loaded (take count objects))

@@ -1,4 +1,4 @@
--- Where segments lie, and what loading and relocating do to them. Nobody has to believe these.
+-- Where segments lie, and what loading and relocating do to them. A reader doesn't have to believe these definitions.
 use Rattle.std.specs.Prelude.{ℕ, ◌≡◌, ◌+◌, ◌-◌, ◌^◌, ◌<◌, ◌≤◌, Bool, ◌&&◌, true, nat_le, if◌then◌else◌}
 use Rattle.std.specs.Prelude.{List, [], ◌∷◌, ◌++◌, length, map, take, drop, replicate, sum_by, Option, Some, None}
 use Rattle.std.specs.Int.{byte_at}
@@ -14,11 +14,11 @@ use Rattle.image.specs.Placement.{Placed, Stacked, placed_at}
 use Rattle.image.specs.Relocating.{Write}
 use Rattle.image.specs.declared.object.ImageObject.{ImageObject}
 
--- bytes with zeros behind them, so many together
+-- `size` bytes, which begin with `front` and continue with zeros
 abbrev pub padded : List ℕ → ℕ → List ℕ
 padded front size = front ++ replicate (size - length front) 0
 
--- a PT_LOAD in memory before any relocation: the file's bytes, and zeros behind them
+-- a PT_LOAD in memory before any relocation: the file's bytes, and zeros after them
 abbrev pub fresh : Loaded → ImageSegment
 fresh s =
     record {
@@ -27,50 +27,52 @@ fresh s =
       bytes = padded s.contents s.heading.size;
     }
 
--- each segment lies above those before it, and all of them at or above `from`
+-- each segment begins at or above the end of the one before it, the first one at or above `from`
 abbrev pub Rising : ℕ → List Heading → Type 0
 Rising from [] = Unit {0}
 Rising from (s ∷ rest) = (from ≤ s.address) × Rising (s.address + s.size) rest
 
--- the eight bytes at a place lie in the segment
+-- a segment has the eight bytes that begin at `place`
 abbrev pub room_in : ℕ → Heading → Bool
 room_in place s = nat_le s.address place && nat_le (place + 8) (s.address + s.size)
 
--- eight bytes of a value in a list of bytes
+-- a list of bytes after the eight bytes of `value` were written at offset `at`
 abbrev pub with_value : List ℕ → ℕ → ℕ → List ℕ
 with_value bytes at value = take at bytes ++ little_bytes 8 value ++ drop (at + 8) bytes
 
--- a segment with a value written at a place
+-- a segment after a value was written at an address
 abbrev pub patched_at : ImageSegment → ℕ → ℕ → ImageSegment
 patched_at s place value =
     record { address = s.address; permissions = s.permissions; bytes = with_value s.bytes (place - s.address) value }
 
--- the byte at an address after eight bytes of a value were written from a place on
+-- the byte at an address after the eight bytes of a value were written at `place`
 abbrev pub over : ℕ → ℕ → Option ℕ → ℕ → Option ℕ
 over place value old address = if within place 8 address then Some (byte_at (address - place) value) else old
 
--- the same after what a relocation writes, if it writes
+-- the byte at an address after a relocation's write, if the relocation writes
 abbrev pub after : Option Write → Option ℕ → ℕ → Option ℕ
 after (Some w) old address = over w.place w.value old address
 after None old address = old
 
--- a write lies in the memory of some segment, below 2^64
+-- a write lies within one segment, below 2^64
 abbrev pub Lands : List Heading → Write → Type 0
 Lands headings w = (w.place < 2 ^ 64) × (list_any (room_in w.place) headings ≡ true)
 
--- the segments rise, none of them ends above the limit, and the objects have all of them
+-- the segments rise, none of them ends above the limit, and the objects' numbers of segments add up to
+-- all of them
 pub record IsWhole (objects : List ImageObject) (segments : List ImageSegment) : Type 0 where
   pub rising : Rising 0 (map heading segments)
   pub low : All (λ s. s.address + length s.bytes ≤ MEMORY_LIMIT) segments
   pub counted : sum_by (λ o. o.segment_count) objects ≡ length segments
 
--- objects at bases
+-- each object at the base with the same number in the list
 abbrev pub with_bases : List Named → List ℕ → List Placed
 with_bases [] bases = []
 with_bases (o ∷ os) [] = []
 with_bases (o ∷ os) (b ∷ bs) = placed_at b o ∷ with_bases os bs
 
--- each of the objects has its base, and they stand in memory one above the other
+-- there is a base for each object of the order, and the objects at these bases lie one above the other
+-- in memory
 pub record IsPlaced (order : List Named) (bases : List ℕ) : Type 0 where
   pub counted : length bases ≡ length order
   pub stacked : Stacked 0 (with_bases order bases)

@@ -1,4 +1,4 @@
--- The texts of replies that go through a line's buffer.
+-- The texts of replies that are written through the buffer of a line.
 use Rattle.std.specs.Prelude.{ℕ, List, []}
 use Rattle.requests.specs.declared.reply.Reply.{Reply}
 use Rattle.requests.specs.declared.reply.Reply.TheVariants.{Bound}

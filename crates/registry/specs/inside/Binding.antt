@@ -7,12 +7,12 @@ use Rattle.registry.specs.declared.needs.Needs.{Needs}
 use Rattle.registry.specs.declared.walk.Walk.{Walk}
 use Rattle.registry.specs.inside.Walked.{IsAmong, IsWalked}
 
--- what a walk has found: what is needed, and the files that were read
+-- what a walk has found: the needs, and the files that were read
 pub record Found : Type 0 where
   pub needs : Needs
   pub files : List Library
 
--- a binder: its program, where to bind it, the snapshot, and what its walk has found so far
+-- a binder: its program, its base, the snapshot, and what its walk has found so far
 pub record Binding : Type 0 where
   pub program : List ℕ
   pub base : ℕ
@@ -23,7 +23,8 @@ abbrev pub found_of : Option Walk → Option Found
 found_of None = None
 found_of (Some walk) = Some (record { needs = walk.needs; files = walk.files.items })
 
--- Once it walks, no test refuses its program by itself, and its walk is among its snapshot's files.
+-- Once the walk has begun, no test refuses the program by itself, and the walk is a walk among the files
+-- of the snapshot.
 abbrev pub IsReadyFor : Binding → Option Found → Type 0
 IsReadyFor binder None = Unit
 IsReadyFor binder (Some found) = (program_refusal binder.program binder.base ≡ None)
@@ -32,13 +33,14 @@ IsReadyFor binder (Some found) = (program_refusal binder.program binder.base ≡
 abbrev pub IsReady : Binding → Type 0
 IsReady binder = IsReadyFor binder binder.found
 
--- it binds the same, and holds the same
+-- the binder keeps its program, its base and its snapshot
 pub record Stays (old new : Binding) : Type 0 where
   pub program : new.program ≡ old.program
   pub base : new.base ≡ old.base
   pub snapshot : new.snapshot ≡ old.snapshot
 
--- after so many steps: none, or one that looked at the program, and one for each file
+-- `going` steps were made: none if the walk hasn't begun, otherwise one for the program and one for each
+-- file that was read
 abbrev pub HasCome : State → List ℕ → ℕ → Option Found → ℕ → Type 0
 HasCome s program base None going = going ≡ 0
 HasCome s program base (Some found) going = (program_refusal program base ≡ None)

@@ -1,4 +1,4 @@
--- What the parts of an update do to its draft.
+-- The effect of the parts of an update on its draft.
 use Rattle.std.specs.Prelude.{◌≡◌, ◌≢◌, ℕ, Result, OnErr, OnOk}
 use Rattle.sector_disk.specs.Disk.{DiskFacts}
 use Rattle.states.specs.State.{State}
@@ -11,7 +11,8 @@ use Rattle.requests.specs.declared.refusal.Refusal.TheVariants.{Device, Reopen}
 use Rattle.store.specs.declared.refusal.StoreRefusal.{StoreRefusal}
 use Rattle.registry.specs.inside.Reading.{IsReadRefusal}
 
--- A change of the draft, of at most so many calls, with these refusals, on any disk.
+-- A change of the draft made at most `most` calls, and was refused only with a refusal for which
+-- `Refuses` holds, on any disk.
 pub record IsPlanned {D : Type 0} (facts : D → DiskFacts) (old new : Drafted D) (most : ℕ) (Refuses : Refusal → Type 0)
     (result : Result (Unit {0}) Refusal) : Type 0 where
   pub beside : StaysBeside facts old new
@@ -20,13 +21,13 @@ pub record IsPlanned {D : Type 0} (facts : D → DiskFacts) (old new : Drafted D
   -- the draft counts as changed
   pub planned : OnOk result (new.touched ≢ Nothing)
 
--- Files of the draft are read, whatever comes of it.
+-- Files of the draft were read. Whatever the result is, the draft keeps its state and its entries.
 pub record ReadsBeside {D : Type 0} (facts : D → DiskFacts) (old new : Drafted D) : Type 0 where
   pub read : IsRead facts (listing old) (listing new)
   pub same : (s d : State) → IsDraftedAt facts old s d → IsDraftedAt facts new s d
   pub stands : new.store.entries ≡ old.store.entries
   pub draft : IsSameDraft old new
 
--- what reading them may be refused with, on any disk
+-- the refusals that reading files of a draft may return, on any disk
 abbrev pub IsDraftReadRefusal : {D : Type 0} → (D → DiskFacts) → Drafted D → Drafted D → StoreRefusal → Type 0
 IsDraftReadRefusal facts old new refusal = IsReadRefusal facts (listing old) (listing new) refusal

@@ -1,4 +1,4 @@
--- The byte strings of a store by the names that a command gives.
+-- The byte strings of a store, found by the names in a command.
 use Rattle.std.specs.Prelude.{◌≡◌, ◌<◌, ℕ, List, length, map, slice_index_or, All}
 use Rattle.store.specs.declared.placed_entry.PlacedEntry.{PlacedEntry}
 use Rattle.store.specs.Stands.{name_of}
@@ -14,6 +14,6 @@ pub record AreNamed (entries : List PlacedEntry) (positions : List ℕ) (names :
   pub inside : All (λ position. position < length entries) positions
   pub each : (d : PlacedEntry) → map (λ position. name_of (slice_index_or entries position d).entry) positions ≡ names
 
--- what the tests of a command read has the names of this state
+-- the table that a command's tests read has the names and the preloads of state s
 abbrev pub IsTableOf : Table → State → Type 0
 IsTableOf t s = (t.names ≡ names_of s.libraries) × (t.preloads ≡ s.preloads)

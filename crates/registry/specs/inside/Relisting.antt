@@ -1,4 +1,4 @@
--- What relisting a store of version 1 ends with, once every file of it was admitted.
+-- How it ends when a store of version 1 gets catalogues. Its files are admitted first.
 use Rattle.std.specs.Prelude.{◌≡◌, ◌≢◌, ◌+◌, ◌<◌, ◌⊎◌, [], Result, All, IsTrue, IsFalse, IfOk, IfErr, length, sum_by}
 use Rattle.sector_disk.specs.Disk.{DiskFacts, Mixture, LeavesOnly, LogGrows, AreCalls, AreCallsExactly}
 use Rattle.states.specs.Cost.{catalogues_for}
@@ -14,11 +14,11 @@ use Rattle.requests.specs.Library.{IsLibrary}
 use Rattle.registry.specs.Opened.{IsAt}
 use Rattle.registry.specs.Stands.{Stands, StandsOld}
 
--- what refuses the files of a store that can be used
+-- the refusals that admitting the files of a usable store may return
 abbrev pub IsAdmissionRefusal : StoreRefusal → Type 0
 IsAdmissionRefusal e = (e ≡ Device) ⊎ (e ≡ Damaged) ⊎ (e ≡ OutOfMemory)
 
--- the store is listed by catalogues now, or was refused and its disk handed back
+-- the store now has catalogues, or it was refused and its disk handed back
 pub record EndsRelisting {D : Type 0} (facts : D → DiskFacts) (store : Opened D) (relisting : Result (Opened D) (StoreRefusal × D)) : Type 0 where
   pub any_moment : (s : State) → IsOldAt facts store s → All IsLibrary s.libraries
       → LeavesOnly (facts store.disk) (facts (disk_after relisting)) (λ m. StandsOld m s ⊎ Stands m (upgraded s))
@@ -30,7 +30,7 @@ pub record EndsRelisting {D : Type 0} (facts : D → DiskFacts) (store : Opened 
   pub ok : (s : State) → IsOldAt facts store s → IfOk relisting (λ registry. All IsLibrary s.libraries × IsAt facts registry (upgraded s))
   pub answer : (s : State) → IsOldAt facts store s → All IsLibrary s.libraries → IsUpgradeAnswer (refusal_of_upgrade store.root.sectors s) (answer_of relisting)
   pub no_library : (s : State) → IsOldAt facts store s → (All IsLibrary s.libraries → ⊥) → IfErr relisting (λ e. IsAdmissionRefusal e.0)
-  -- the rest holds on any disk, also on one that lies
+  -- the following holds on any disk, even on a disk that lies
   pub usable : IfOk relisting (λ registry. IsFalse registry.failed)
   pub unheld : IfOk relisting (λ registry. registry.held ≡ [])
   pub placed : IfOk relisting (IsRelisted store)

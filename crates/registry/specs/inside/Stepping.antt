@@ -1,4 +1,4 @@
--- What a step of a binder answers where it is refused.
+-- The results of a binder's step if a read or the bind is refused.
 use Rattle.std.specs.Prelude.{Result, Ok, Err}
 use Rattle.image.specs.declared.refusal.BindRefusal.{BindRefusal}
 use Rattle.image.specs.declared.refusal.BindRefusal.TheVariants as binding
@@ -10,12 +10,12 @@ use Rattle.requests.specs.declared.reply.Reply.TheVariants.{Refused}
 use Rattle.registry.specs.declared.binder.Step.{Step}
 use Rattle.registry.specs.declared.binder.Step.TheVariants.{Final}
 
--- where binding was refused
+-- the result of a step if binding was refused
 abbrev pub refused_step : BindRefusal → Result Step Refusal
 refused_step binding.OutOfMemory = Err OutOfMemory
 refused_step refusal = Ok (Final (Refused (Bind refusal)))
 
--- where reading was refused
+-- the result of a step if a read was refused
 abbrev pub unread_step : StoreRefusal → Result Step Refusal
 unread_step reading.Device = Err Device
 unread_step reading.Reopen = Err Reopen

@@ -1,4 +1,4 @@
--- What a bind has found on its walk through the files of its load order.
+-- The findings of a bind while it walks through the files of its load order.
 use Rattle.std.specs.Prelude.{◌≡◌, ℕ, ◌+◌, ◌-◌, ◌<◌, List, [], ◌∷◌, ◌++◌, length, map, take, drop, get_or, slice_index_or}
 use Rattle.std.specs.Prelude.{Option, Some, None, Result, IfOk, IfErr, OnOk}
 use Rattle.std.specs.List.{filter_map, flat_map, find}
@@ -25,48 +25,50 @@ use Rattle.registry.specs.declared.needs.Needs.{Needs}
 use Rattle.registry.specs.declared.source.Source.{Source}
 use Rattle.registry.specs.inside.Source.{HasEntries, HasFiles}
 
--- what is needed after an object that needs these too: the places of the names that files go by,
--- and the first missing name
+-- The needs after an object that needs the names `needed`. The places of the files with these names are
+-- added, and the first missing name is noted.
 abbrev pub more_needs : List (List ℕ) → Needs → List ℕ → List (List ℕ) → Needs
 more_needs names needs needer needed = record {
   places = record { limit = needs.places.limit; places = grown needs.places.places (filter_map (place_of names) needed) };
   missing = option_or needs.missing (find (is_missing names) (map (λ name. record { needer = needer; name = name }) needed));
 }
 
--- What is needed grows: the queue keeps its beginning, and a name that is noted stays noted.
+-- The needs only grow: the queue keeps its first places, and a missing name that was noted stays noted.
 pub record Grows (old new : Needs) : Type 0 where
   pub limit : new.places.limit ≡ old.places.limit
   pub begins : take (length old.places.places) new.places.places ≡ old.places.places
   pub missing : (need : Need) → old.missing ≡ Some need → new.missing ≡ Some need
 
--- a queue of places: that of the program, which is the first, and of so many files
+-- a queue of places for the program, which is first, and for up to `count` files
 pub record ArePlaces (count : ℕ) (queue : Queue) : Type 0 where
   pub limit : queue.limit ≡ count + 1
   pub first : get_or queue.places 0 1 ≡ 0
 
--- a walk among so many files, of which it has read some of those in its queue
+-- a walk among `count` files has these needs, and has read at most as many files as its queue has after
+-- the program
 pub record IsAmong (count : ℕ) (needs : Needs) (files : List Library) : Type 0 where
   pub places : ArePlaces count needs.places
   pub within : length files < length needs.places.places
 
--- the place of the file that is read next
+-- the place of the next file to read
 abbrev pub next_place : Needs → List Library → ℕ
 next_place needs files = get_or needs.places.places (length files + 1) 0
 
--- the places of those that were read: those in the queue behind the program's
+-- the places of the first `count` files in the queue, which come after the program's place
 abbrev pub walked : List ℕ → ℕ → List ℕ
 walked places count = drop 1 (take (count + 1) places)
 
--- At this state the program was looked at, and then the files of the queue's places before this many,
--- each once: the queue has what these need, and the first of these names that no file goes by is noted.
+-- In state s, the program was examined, and then the files at the next places of the queue, each once.
+-- The queue has the places of the files that they need, and the first needed name that no file has is
+-- noted.
 pub record IsWalked (program : List ℕ) (s : State) (needs : Needs) (files : List Library) : Type 0 where
   pub among : IsAmong (length s.libraries) needs files
   pub missing : needs.missing ≡ find (is_missing (names_of (objects s))) (flat_map needed_by (available program (map object_of files)))
   pub each : map object_of files ≡ map (object_at (available program (objects s))) (walked needs.places.places (length files))
   pub reached : Reached (needs_of program (objects s)) (length (available program (objects s))) (level_0 (preload_numbers s)) needs.places.places (length files + 1)
 
--- The file of the next place was read behind the others, by a call for each of its sectors, and is
--- a library.
+-- The file at the next place was read and appended to `files`, with one call for each of its sectors,
+-- and the file is a library.
 pub record HasReadNext {D : Type 0} (facts : D → DiskFacts) (source : Source) (old new : Opened D) (needs : Needs) (files more : List Library) : Type 0 where
   pub file : Library
   pub behind : more ≡ files ++ file ∷ []
@@ -74,30 +76,30 @@ pub record HasReadNext {D : Type 0} (facts : D → DiskFacts) (source : Source) 
   pub is : (s : State) → HasFiles facts source old s → file ≡ slice_index_or s.libraries (next_place needs files - 1) no_library
   pub calls : (entries : List PlacedEntry) → HasEntries source old entries → AreCallsExactly (data_sectors file.bytes) (facts old.disk) (facts new.disk)
 
--- a program and the files that were read, in memory
+-- the program and the files that were read, at their addresses if the program is at `base`
 abbrev pub walked_objects : List ℕ → ℕ → List Library → List Placed
 walked_objects program base files = place base (available program (map object_of files))
 
--- B3 where a name is missing, else B4 and B5
+-- B3 if a name is missing, otherwise the first of B4 and B5 that applies
 abbrev pub walked_refusal : List ℕ → ℕ → Option Need → List Library → Option BindRefusal
 walked_refusal program base missing files =
     first_of (option_map missing_by missing ∷ placed_refusal (walked_objects program base files) ∷ [])
 
--- an answer behind tests, of which this is the first that applies
+-- an answer that some tests decide; `first` is the first refusal that applies
 pub record IsTestedBy {A : Type 0} (first : Option BindRefusal) (answer : Result A BindRefusal) : Type 0 where
   pub accepted : OnOk answer (first ≡ None)
   pub refused : IfErr answer (IsFirstOrWantsMemory first)
 
--- the image of these objects, where no test applies
+-- the answer is the image of these objects if no test applies
 pub record IsImageOf (first : Option BindRefusal) (objects : List Placed) (answer : Result MemoryImage BindRefusal) : Type 0 where
   pub tested : IsTestedBy first answer
   pub ok : IfOk answer (λ image. image ≡ image_of objects)
   pub bytes : IfOk answer (λ image. (a : ℕ) → image_byte image a ≡ byte_of objects a)
 
--- what binding a program with the files of its load order answers: from B4 on
+-- the answer to binding a program with the files of its load order, with the tests from B4 on
 abbrev pub IsBoundWith : List ℕ → ℕ → List Library → Result MemoryImage BindRefusal → Type 0
 IsBoundWith program base files answer = IsImageOf (placed_refusal (walked_objects program base files)) (walked_objects program base files) answer
 
--- what binding it with what a walk has found answers: from B3 on
+-- the answer to binding a program with the findings of a walk, with the tests from B3 on
 abbrev pub IsBoundBy : List ℕ → ℕ → Option Need → List Library → Result MemoryImage BindRefusal → Type 0
 IsBoundBy program base missing files answer = IsImageOf (walked_refusal program base missing files) (walked_objects program base files) answer

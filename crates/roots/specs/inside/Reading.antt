@@ -13,26 +13,26 @@ use Rattle.roots.specs.declared.root.Root.{Root}
 use Rattle.roots.specs.declared.catalogue.Catalogue.{Catalogue}
 use Rattle.roots.specs.declared.entry.Entry.{Entry}
 
--- the number that stands there
+-- the number in the bytes from `at` on
 abbrev pub number_at : Width → ℕ → List ℕ → ℕ
 number_at w at bytes = from_le_bytes w (drop at bytes)
 
--- the extent at the front of these bytes
+-- the extent that the first of these bytes encode
 abbrev pub extent_of : List ℕ → Extent
 extent_of bytes = record { start = from_le_bytes w32 bytes; count = from_le_bytes w32 (drop 4 bytes) }
 
--- so many values, one after the other in steps of `step` bytes
+-- n values, one after the other, in steps of `step` bytes
 unfoldable pub values_at : {A : Type 0} → (List ℕ → A) → ℕ → ℕ → ℕ → List ℕ → List A
 values_at read step n at bytes = map (λ k. read (drop (at + step * k) bytes)) (range_with_len 0 n)
 
--- what the list of a root sector says, by its magic
+-- the list in a root sector, which depends on its magic
 unfoldable pub list_of : List ℕ → EntryList
 list_of bytes =
     if starts_with (λ a b. a == b) bytes magic_2
     then InCatalogues (number_at w16 56 bytes) (values_at (from_le_bytes w32) 4 most_catalogues 64 bytes)
     else InRoot (values_at (from_le_bytes w32) 4 most_root_entries 64 bytes)
 
--- what the fields of a root sector say
+-- the contents of the fields of a root sector
 unfoldable pub root_of : List ℕ → Root
 root_of bytes = record {
   generation = number_at w64 8 bytes;
@@ -43,14 +43,14 @@ root_of bytes = record {
   list = list_of bytes;
 }
 
--- what the fields of a catalogue sector say
+-- the contents of the fields of a catalogue sector
 unfoldable pub catalogue_of : List ℕ → Catalogue
 catalogue_of bytes = record {
   count = number_at w16 4 bytes;
   entry_sectors = values_at (from_le_bytes w32) 4 most_catalogue_entries 16 bytes;
 }
 
--- what the fields of an entry sector say
+-- the contents of the fields of an entry sector
 unfoldable pub entry_of : List ℕ → Entry
 entry_of bytes = record {
   file_length = number_at w32 4 bytes;

@@ -1,7 +1,7 @@
--- A queue that grows by several places. Nobody has to believe this.
+-- A queue to which several places are added. A reader doesn't have to believe this definition.
 use Rattle.std.specs.Prelude.{ℕ, List, fold}
 use Rattle.scope.specs.Queue.{grown_by}
 
--- places with some more, one after another
+-- a queue after several places were added, one after another
 unfoldable pub grown : List ℕ → List ℕ → List ℕ
 grown ps qs = fold grown_by ps qs

@@ -1,4 +1,4 @@
--- What is true of a disk behind a fuse at any moment.
+-- What is true of a disk under a fuse at any moment.
 use Rattle.std.specs.Prelude.{◌≡◌, ◌-◌, ℕ, List, length}
 use Rattle.std.proofs.Common.{sym, subst, ap, ◌∙◌, arith}
 use Rattle.std.proofs.lemmas.List.{drop_all}
@@ -7,18 +7,18 @@ use Rattle.sector_disk.specs.declared.fuse.Step.{Step}
 use Rattle.sector_disk.specs.Disk.{sector, DiskFacts, HoldsNow, HasWholeSectors}
 use Rattle.sector_disk.specs.Fuse.{reached, inner_moment, fused}
 
--- at this moment the inner disk is at its own
+-- at the present moment of the fuse, the inner disk is at its own present moment
 pub inner_now : (time : ℕ) (past : List Step) → inner_moment time past (length past) ≡ time
 inner_now time past = ap (λ steps. time - reached steps) (drop_all (length past) past (omega arith)) ∙ omega arith
 
--- What reads give is one of the mixtures.
+-- The contents that reads of a fuse return are one of the mixtures.
 pub fused_holds : (plan : Plan) (inner : DiskFacts) (past : List Step) → HoldsNow inner → HoldsNow (fused plan inner past)
 fused_holds plan inner past holds = record {
   size = holds.size;
   each = λ k lt. subst (λ u. inner.may_leave u k (sector inner.now k)) (sym (inner_now inner.time past)) (holds.each k lt);
 }
 
--- Its sectors are whole.
+-- The sectors of a fuse are whole.
 pub fused_whole : (plan : Plan) (inner : DiskFacts) (past : List Step) → HasWholeSectors inner → HasWholeSectors (fused plan inner past)
 fused_whole plan inner past whole = record {
   now = whole.now;

@@ -13,12 +13,12 @@ use Rattle.sector_disk.specs.Written.{contents, written_to, choices}
 use Rattle.sector_disk.specs.inside.WrittenLaws.{length-contents, now_chosen}
 use Rattle.sector_disk.specs.Memory.{memory_facts}
 
--- the present moment's mark
+-- moment number `length past` is the present moment
 pub present : (writes : List Written) (synced : ℕ) (past : List Moment)
     → moment_at writes synced past (length past) ≡ record { writes = length writes; synced = synced; failed = false }
 present writes synced past = get_or_past past (length past) _ (omega arith)
 
--- what a stop now may leave, told without the past
+-- what a stop now may leave, stated without the past
 pub left_now : (start : List Sector) (writes : List Written) (synced : ℕ) (past : List Moment) (k : ℕ) (c : Sector)
     → Contains (choices start writes synced k) c → (facts_of start writes synced past).may_leave (length past) k c
 left_now start writes synced past k c left =
@@ -31,14 +31,14 @@ now_leaves start writes synced past k c left =
     subst (λ ws. Contains (choices start ws synced k) c) (take_all (length writes) writes (omega arith))
     (subst (λ moment. Contains (choices start (take moment.writes writes) moment.synced k) c) (present writes synced past) left)
 
--- What reads give is one of the mixtures.
+-- The contents that reads of a disk in memory return are one of the mixtures.
 pub memory_holds : (m : Memory) → HoldsNow (memory_facts m)
 memory_holds m = record {
   size = length-contents m.start.items m.writes.items;
   each = λ k lt. left_now m.start.items m.writes.items m.synced m.past.items k _ (now_chosen m.start.items m.writes.items m.synced k lt);
 }
 
--- whole contents stay whole under whole writes
+-- whole contents stay whole after writes of whole contents
 contents_whole : (start : List Sector) (writes : List Written) → All IsWhole start
     → All (λ (write : Written). IsWhole write.content) writes → All IsWhole (contents start writes)
 contents_whole start [] whole whole_writes = whole
@@ -59,7 +59,7 @@ choices_whole start writes synced k lt whole whole_writes =
     (All-map IsWhole (λ (write : Written). write.content) (filter (λ (write : Written). write.at == k) (drop synced writes))
     (All-filter (λ (write : Written). write.at == k) IsWholeWrite (drop synced writes) (All-drop IsWholeWrite synced writes whole_writes)))
 
--- Its sectors are whole.
+-- The sectors of a disk in memory are whole.
 pub memory_whole : (m : Memory) → HasWholeSectors (memory_facts m)
 memory_whole m = record {
   now = λ k lt. All-get_or IsWhole (contents m.start.items m.writes.items) k [] (omega (arith, lt, length-contents m.start.items m.writes.items))

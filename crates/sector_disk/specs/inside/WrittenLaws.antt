@@ -1,4 +1,4 @@
--- What follows of the contents and the choices after some writes.
+-- Consequences of the definitions of the contents and the choices after some writes.
 use Rattle.std.proofs.Common.{◌≡◌, ◌≢◌, ⊎_elim, ℕ, zero, suc, ◌<◌, List, [], ◌∷◌}
 use Rattle.std.proofs.Common.{length, set, take, drop, refl, sym, ◌∙◌, ap, subst, arith}
 use Rattle.std.proofs.lemmas.Bool.{cases_eq, eq-eqb, ne_eqb}
@@ -12,14 +12,14 @@ pub length-contents : (start : List Sector) (writes : List Written) → length (
 length-contents start [] = refl
 length-contents start (w ∷ writes) = length-contents (set start w.at w.content) writes ∙ length-set start w.at w.content
 
--- the first writes, and then the others
+-- the first n writes, and then the others, leave the same contents as all writes at once
 pub contents_split : (start : List Sector) (writes : List Written) (n : ℕ)
     → contents start writes ≡ contents (contents start (take n writes)) (drop n writes)
 contents_split start writes zero = refl
 contents_split start [] (suc n) = refl
 contents_split start (w ∷ writes) (suc n) = contents_split (set start w.at w.content) writes n
 
--- one write more, to this sector or to another
+-- one more write at the front counts for its own sector, and not for another one
 pub written_to_same : (k : ℕ) (w : Written) (writes : List Written) → w.at ≡ k → written_to k (w ∷ writes) ≡ w.content ∷ written_to k writes
 written_to_same k w writes same = rw (eq-eqb w.at k same) refl
 
@@ -45,7 +45,7 @@ module _ (k : ℕ) (start : List Sector) (w : Written) (writes : List Written) (
       subst (λ cs. Contains (sector start k ∷ cs) now) (sym (written_to_other k w writes not))
       (subst (λ c. Contains (c ∷ written_to k writes) now) there so_far)
 
--- what reads give is what was there, or one of the contents that were written
+-- what reads return is the content at the start, or one of the contents that were written
 now_among : (k : ℕ) (start : List Sector) (writes : List Written) → k < length start
     → Contains (sector start k ∷ written_to k writes) (sector (contents start writes) k)
 now_among k start [] lt = (0, omega arith, refl)
@@ -54,7 +54,7 @@ now_among k start (w ∷ writes) lt =
     let so_far = now_among k more writes (omega (arith, lt, length-set start w.at w.content)) in
     ⊎_elim (among_same k start w writes _ so_far lt) (among_other k start w writes _ so_far) (cases_eq w.at k)
 
--- what reads give is one of the choices
+-- what reads return is one of the choices
 pub now_chosen : (start : List Sector) (writes : List Written) (synced k : ℕ) → k < length start
     → Contains (choices start writes synced k) (sector (contents start writes) k)
 now_chosen start writes synced k lt =

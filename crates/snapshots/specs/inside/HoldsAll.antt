@@ -1,4 +1,4 @@
--- How far the holding of all byte strings has come.
+-- The progress of holding all byte strings.
 use Rattle.std.specs.Prelude.{◌≡◌, ℕ, ◌+◌, ◌<◌, List, length, slice_index_or, Result, IfOk, IfErr}
 use Rattle.std.specs.Global.{Vec}
 use Rattle.sector_disk.specs.Disk.{DiskFacts}
@@ -11,7 +11,7 @@ use Rattle.store.specs.Opened.{Opened, IsAt}
 use Rattle.store.specs.Stands.{no_library}
 use Rattle.snapshots.specs.Snapshot.{times}
 
--- whatever was held before is held as it was, and all else of the store is as it was
+-- all held byte strings are still held with the same bytes, and everything else in the store is unchanged
 pub record StaysBeside {D : Type 0} (facts : D → DiskFacts) (old new : Opened D) : Type 0 where
   pub others : (sector : ℕ) (library : Library) → HeldIs facts old sector library → HeldIs facts new sector library
   pub holds : (sector : ℕ) (placed : PlacedEntry) → IsHeldBy old.held sector placed → IsHeldBy new.held sector placed
@@ -19,7 +19,7 @@ pub record StaysBeside {D : Type 0} (facts : D → DiskFacts) (old new : Opened 
   pub kept : (new.disk ≡ old.disk) × (new.root ≡ old.root) × (new.entries ≡ old.entries) × (new.failed ≡ old.failed)
   pub same : (s : State) → IsAt facts old s → IsAt facts new s
 
--- Of the byte strings of a store the first so many are held by these handles.
+-- The handles hold the first `count` byte strings of a store.
 pub record HoldsFirst {D : Type 0} (facts : D → DiskFacts) (old new : Opened D) (count : ℕ) (handles : List ℕ) : Type 0 where
   pub size : length handles ≡ count
   pub each : (i : ℕ) (d : PlacedEntry) → i < count → IsHeldBy new.held (slice_index_or handles i 0) (slice_index_or old.entries i d)

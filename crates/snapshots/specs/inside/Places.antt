@@ -1,8 +1,9 @@
--- What the positions that a snapshot keeps are good for. Nobody has to believe this.
+-- The positions that a snapshot keeps are valid. No reader has to believe this definition.
 use Rattle.std.specs.Prelude.{ℕ, ◌<◌, ◌≤◌, List, All, length, nat_eq}
 use Rattle.std.specs.List.{IsDistinct}
 
--- There are as few handles as a store can list; the preloads' positions are among them, each once.
+-- The number of handles is at most the maximum number of byte strings of a store. Each preload's position is that of a
+-- handle, and no position occurs twice.
 pub record AreInside (handles preloads : List ℕ) : Type 0 where
   pub few : length handles ≤ 2048
   pub inside : All (λ p. p < length handles) preloads

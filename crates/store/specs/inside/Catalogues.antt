@@ -7,17 +7,17 @@ use Rattle.roots.specs.Catalogue.{catalogue_bytes, catalogue_of_sectors}
 use Rattle.states.specs.Limits.{most_libraries, most_catalogue_entries}
 use Rattle.states.specs.Cost.{catalogues_for}
 
--- the sector of a catalogue that lists these
+-- the sector at `at`, as a catalogue that lists these entry sectors
 abbrev pub catalogue_single : ℕ → List ℕ → SingleSector
 catalogue_single at sectors = record { at = at; content = catalogue_bytes (catalogue_of_sectors sectors) }
 
--- the sectors of catalogues that list these, each its part of them
+-- the sectors of catalogues that list these entry sectors, each its part of them
 abbrev pub catalogue_singles : List ℕ → List ℕ → List SingleSector
 catalogue_singles [] sectors = []
 catalogue_singles (at ∷ catalogues) sectors =
     catalogue_single at (take most_catalogue_entries sectors) ∷ catalogue_singles catalogues (drop most_catalogue_entries sectors)
 
--- So many catalogues can list these sectors of entries.
+-- `catalogues` catalogues can list these entry sectors.
 pub record CanBeCatalogued (catalogues : ℕ) (sectors : List ℕ) : Type 0 where
   pub enough : catalogues ≡ catalogues_for (length sectors)
   pub few : length sectors ≤ most_libraries

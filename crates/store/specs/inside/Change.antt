@@ -1,4 +1,4 @@
--- A change that is planned: what it stages, and what sectors hold once it is carried out.
+-- A planned change: what it stages, and what the sectors hold once it is carried out.
 use Rattle.std.specs.Prelude.{◌≡◌, ◌⊎◌, ℕ, ◌+◌, ◌*◌, List, [], ◌++◌, length, set, Contains, Result, OnOk}
 use Rattle.std.specs.List.{flat_map}
 use Rattle.sector_disk.specs.Disk.{Sector, sector, sector_bytes, DiskFacts, Mixture, LeavesOnly}
@@ -26,54 +26,57 @@ staged_sectors Nothing = []
 staged_sectors (Catalogues catalogues) = catalogues
 staged_sectors (Put put catalogues) = sectors_of put ++ catalogues
 
--- how many calls that takes: a write for each of them, and a sync
+-- the number of calls that staging takes: a write for each staged sector, and a sync; none if
+-- nothing is staged
 abbrev pub staged_calls : Staged → ℕ
 staged_calls Nothing = 0
 staged_calls (Catalogues catalogues) = length catalogues + 1
 staged_calls (Put put catalogues) = sector_count (extents_of put.entry) + length catalogues + 2
 
--- an entry that is put has a spelling
+-- an entry that is put can be encoded
 abbrev pub HasSpelling : Staged → Type 0
 HasSpelling Nothing = Unit
 HasSpelling (Catalogues catalogues) = Unit
 HasSpelling (Put put catalogues) = EntryHasSpelling put.entry
 
--- What is staged has its places on a disk of so many sectors, and the catalogues just the room for
--- these sectors of entries.
+-- What is staged fits on a disk of `sectors` sectors, and the number of catalogues is the number that these entry
+-- sectors need.
 abbrev pub CanBeStaged : ℕ → Staged → List ℕ → Type 0
 CanBeStaged sectors Nothing listed = Unit
 CanBeStaged sectors (Catalogues catalogues) listed = HavePlaces sectors catalogues × CanBeCatalogued (length catalogues) listed
 CanBeStaged sectors (Put put catalogues) listed = HasPlace sectors put catalogues × CanBeCatalogued (length catalogues) listed
 
--- bytes that are put stand in their extents, with zeros behind them
+-- bytes that are put are in their extents, followed by zeros
 abbrev pub HasBytes : List Sector → Staged → List ℕ → Type 0
 HasBytes m Nothing bytes = Unit
 HasBytes m (Catalogues catalogues) bytes = Unit
 HasBytes m (Put put catalogues) bytes =
     bytes_at m (places (extents_of put.entry)) ≡ padded (sector_bytes * sector_count (extents_of put.entry)) bytes
 
--- In these sectors all is staged.
+-- The sectors `m` have everything that is staged.
 abbrev pub IsStaged : List Sector → Staged → (bytes listed : List ℕ) → Type 0
 IsStaged m Nothing bytes listed = Unit
 IsStaged m (Catalogues catalogues) bytes listed = AreCatalogued m catalogues listed
 IsStaged m (Put put catalogues) bytes listed =
     HasBytes m (Put put catalogues) bytes × SpellsEntry (sector m put.at) put.entry × AreCatalogued m catalogues listed
 
--- What is staged lies apart from the sectors of these entries and their bytes.
+-- No staged sector is a sector of these entries or of their bytes.
 abbrev pub IsApartFrom : Staged → List PlacedEntry → Type 0
 IsApartFrom staged written = (k : ℕ) → Contains (staged_sectors staged) k → Contains (flat_map sectors_of written) k → ⊥
 
--- A sync stands between what was written before and the root: one is made where anything is staged.
+-- Earlier writes are synced before the root is written: staging makes a sync, and if nothing is staged, nothing was
+-- written earlier.
 abbrev pub HasSync : Staged → (written : List PlacedEntry) → Type 0
 HasSync Nothing written = written ≡ []
 HasSync staged written = Unit
 
--- Entries and their bytes, which were written before, stand in these sectors as they do now.
+-- The sectors of these entries and their bytes, which were written before, are in `m` as they are
+-- now.
 pub record AreWritten (now : List Sector) (written : List PlacedEntry) (m : List Sector) : Type 0 where
   pub each : (k : ℕ) → Contains (flat_map sectors_of written) k → sector m k ≡ sector now k
 
--- Sectors that hold s, in which this is staged beside what s uses and beside what was written
--- before, hold s' once the next root is written.
+-- What is staged is in sectors that `s` doesn't use and that weren't written before. Sectors that
+-- hold `s`, what is staged and what was written before hold `s'` once the next root is written.
 pub record IsFollowed (version : Version) (root : Root) (entries : List PlacedEntry) (s : State) (now : List Sector) (written : List PlacedEntry)
     (change : Change) (bytes listed : List ℕ) (others : List PlacedEntry) (s' : State) : Type 0 where
   pub unused : (k : ℕ) → Contains (staged_sectors change.staged) k → Contains (used root entries) k → ⊥
@@ -82,8 +85,8 @@ pub record IsFollowed (version : Version) (root : Root) (entries : List PlacedEn
   pub stands : (m : List Sector) → StandsBy version m root entries s → IsStaged m change.staged bytes listed → AreWritten now written m
       → StandsBy Two (set m (slot_of change.root.generation) (root_bytes change.root)) change.root others s'
 
--- A state that a root lists, what was written beside it since, and the state that a change makes of
--- it, with its entries.
+-- A state with its root and its entries, the entries that were written beside it since, and the state after a change,
+-- with that state's entries.
 pub record Transition : Type 0 where
   pub version : Version
   pub root : Root
@@ -93,13 +96,14 @@ pub record Transition : Type 0 where
   pub others : List PlacedEntry
   pub after : State
 
--- Every mixture of the disk holds the state before, and the one after follows by this change.
+-- Every mixture of the disk holds the transition's state before the change, and the change makes the transition's state
+-- after it.
 pub record IsBegun (disk : DiskFacts) (change : Change) (bytes listed : List ℕ) (t : Transition) : Type 0 where
   pub stands : (m : List Sector) → Mixture disk m → StandsBy t.version m t.root t.entries t.before
   pub followed : IsFollowed t.version t.root t.entries t.before disk.now t.written change bytes listed t.others t.after
 
--- A change was carried out, or a call failed: whatever it leads from and to, a stop at any moment
--- leaves the one or the other, and at the end every mixture holds the other alone.
+-- A change was carried out, or a call failed. For each transition that the change can make, a stop at any moment leaves
+-- the state before or the state after. If no call failed, every mixture then holds the state after.
 pub record IsCarriedOut (old new : DiskFacts) (change : Change) (bytes listed : List ℕ) (result : Result (Unit {0}) DiskFault) : Type 0 where
   pub any_moment : (t : Transition) → IsBegun old change bytes listed t → LeavesOnly old new (λ m. StandsAs t.version m t.before ⊎ Stands m t.after)
   pub done : (t : Transition) → IsBegun old change bytes listed t

@@ -1,4 +1,4 @@
--- What an update keeps beside what its store keeps, whatever the disk does.
+-- The data that an update keeps in addition to those of its store, whatever the disk does.
 use Rattle.std.specs.Prelude.{◌≡◌, ◌≢◌, ◌↔◌, ℕ, ◌+◌, ◌-◌, ◌*◌, ◌<◌, ◌≤◌, Bool, List, [], length, All, Contains, IsTrue, if◌then◌else◌}
 use Rattle.std.specs.Prelude.{Result, Ok, Err, IfOk, IfErr, OnErr}
 use Rattle.std.specs.List.{flat_map}
@@ -27,19 +27,19 @@ use Rattle.store.specs.inside.Stored.{opened}
 abbrev pub drafting : {D : Type 0} → D → Kept → Draft → Drafted D
 drafting disk kept draft = record { store = opened disk kept; entries = draft.entries.items; preloads = draft.preloads.items; touched = draft.touched }
 
--- the sectors that an entry has beside those of a list: none where the list has it
+-- the sectors of an entry that the list `others` doesn't use: none if the list has the entry
 abbrev pub own_in : (others : List PlacedEntry) → PlacedEntry → List ℕ
 own_in others placed = if lists others placed then [] else sectors_of placed
 
--- the sectors that entries have beside those of a list, one by one
+-- the sectors of `entries` that the list `others` doesn't use, one by one
 abbrev pub own_sectors_in : (others entries : List PlacedEntry) → List ℕ
 own_sectors_in others entries = flat_map (own_in others) entries
 
--- An entry whose sector one of these has is one of these.
+-- If the entry is in the sector of one of these entries, it is one of them.
 abbrev pub IsOneOrApart : List PlacedEntry → PlacedEntry → Type 0
 IsOneOrApart others placed = IsTrue (lists others placed) → Contains others placed
 
--- A draft's list: each of its entries is one that stands, or in a sector of its own.
+-- The entries can be a draft's list: each of them is in the current list, or in a sector of its own.
 pub record IsDraftList (standing entries : List PlacedEntry) : Type 0 where
   pub fit : HaveSpellings entries
   pub names : HaveOwnNames entries
@@ -47,25 +47,27 @@ pub record IsDraftList (standing entries : List PlacedEntry) : Type 0 where
   pub once : AreDistinct (entry_sectors entries)
   pub each : All (IsOneOrApart standing) entries
 
--- the positions of a draft's preloads, in a list of so many
+-- the positions can be those of a draft's preloads, in a list of `libraries` entries
 pub record ArePreloads (libraries : ℕ) (preloads : List ℕ) : Type 0 where
   pub few : length preloads ≤ most_preloads
   pub inside : All (λ position. position < libraries) preloads
   pub once : AreDistinct preloads
 
--- How many sectors stay unused beside a draft of so many byte strings, over so many catalogues that
--- stand: for the commit's catalogues, and for those of the change that follows it.
+-- The number of sectors that stay unused beside a draft of `libraries` byte strings, if the current
+-- list has `standing` catalogues. They are for the commit's catalogues, and for those of the change
+-- that follows it.
 abbrev pub spare_of : (standing libraries : ℕ) → ℕ
 spare_of standing libraries = standing + 2 * (catalogues_for libraries - standing)
 
--- the layout has just what stands, what is held and what is staged, and room for the commit
+-- exactly the sectors of the current state, of held byte strings and of what the update wrote are
+-- claimed in the layout, and there is room for the commit
 pub record IsStagedIn (kept : Kept) (entries : List PlacedEntry) : Type 0 where
   pub standing : List Bool
   pub stands : IsKept kept.root kept.entries.items kept.held standing
   pub claimed : IsClaimedBeside standing kept.layout (own_sectors_in kept.entries.items entries)
   pub room : spare_of (length (catalogues_of kept.root)) (length entries) ≤ unused_count kept.layout
 
--- What an update keeps beside a disk of so many sectors.
+-- The data that an update keeps beside a disk of `sectors` sectors are consistent.
 pub record IsDrafting (sectors : ℕ) (kept : Kept) (draft : Draft) : Type 0 where
   pub staged : IsStagedIn kept draft.entries.items
   pub indexed : IsIndex kept.entries.items kept.index
@@ -80,7 +82,7 @@ pub record IsDrafting (sectors : ℕ) (kept : Kept) (draft : Draft) : Type 0 whe
   pub same : draft.touched ≢ touched.List → draft.entries.items ≡ kept.entries.items
   pub first : draft.touched ≡ touched.Nothing → draft.preloads.items ≡ listed_preloads kept.root
 
--- the same with another layout
+-- what is kept, with another layout
 abbrev pub with_layout : Kept → List Bool → Kept
 with_layout kept layout = record {
   root = kept.root;
@@ -93,7 +95,7 @@ with_layout kept layout = record {
   failed = kept.failed;
 }
 
--- what is listed and what is held stays
+-- the list and the held byte strings stay the same
 pub record KeepsList (old new : Kept) : Type 0 where
   pub root : new.root ≡ old.root
   pub entries : new.entries ≡ old.entries
@@ -101,7 +103,8 @@ pub record KeepsList (old new : Kept) : Type 0 where
   pub index : new.index ≡ old.index
   pub held : new.held ≡ old.held
 
--- Bytes get room beside a draft, or nothing changes but the layout where they do.
+-- Bytes got room beside a draft, and only the layout changed; or they got none, and nothing
+-- changed.
 pub record TakesBeside (old new : Kept) (name bytes : List ℕ) (spare : ℕ) (Refuses : StoreRefusal → Type 0)
     (result : Result PlacedEntry StoreRefusal) : Type 0 where
   pub kept : new ≡ with_layout old new.layout
@@ -111,7 +114,8 @@ pub record TakesBeside (old new : Kept) (name bytes : List ℕ) (spare : ℕ) (R
   pub refusals : IfErr result Refuses
   pub early : IfErr result (λ e. e ≢ Device)
 
--- What is known of a draft's state on so many sectors, by what is kept beside so many byte strings.
+-- The generation, the number of byte strings and the free sectors of a draft's state, on a disk of
+-- `sectors` sectors, agree with what is kept.
 pub record IsDraftCounted (kept : Kept) (libraries sectors : ℕ) (d : State) : Type 0 where
   pub generation : d.generation ≡ kept.root.generation
   pub count : length d.libraries ≡ libraries

@@ -1,14 +1,15 @@
 -- Sectors in use before a change and after it, counted one by one.
 use Rattle.std.specs.Prelude.{◌≡◌, ℕ, ◌+◌, ◌==◌, List, ◌++◌, sum_by, if◌then◌else◌}
 
--- one where it is the number
+-- 1 if `x` is `k`, and otherwise 0
 abbrev pub one : ℕ → ℕ → ℕ
 one k x = if x == k then 1 else 0
 
--- how often a number stands in a list
+-- the number of times that a number occurs in a list
 abbrev pub occurs : ℕ → List ℕ → ℕ
 occurs k xs = sum_by (one k) xs
 
--- What is in use after a change, and what it gives up, are what was in use before it and what it took.
+-- The sectors in use after a change and those that it gives up are together the sectors in use before the change and
+-- those that it took.
 pub record IsMoved (before more after gone : List ℕ) : Type 0 where
   pub parts : (k : ℕ) → occurs k after + occurs k gone ≡ occurs k (before ++ more)

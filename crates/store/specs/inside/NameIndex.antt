@@ -9,20 +9,20 @@ use Rattle.std.specs.declared.cmp.Ordering.TheVariants.{Less}
 use Rattle.store.specs.declared.placed_entry.PlacedEntry.{PlacedEntry}
 use Rattle.store.specs.NameOrder.{entry_names, name_at, name_order, IsOrderOf}
 
--- what an index keeps: positions, and how many more it takes without new memory
+-- what an index keeps: positions, and the number of further positions that fit in its memory
 pub record Index : Type 0 where
   pub positions : List ℕ
   pub room : ℕ
 
--- the name at a position against one that is looked for
+-- the order of the name at a position and of a name that is looked for
 abbrev pub order_to : List (List ℕ) → List ℕ → ℕ → Ordering
 order_to names name position = slice_cmp nat_cmp (name_at names position) name
 
--- It has the positions of these entries in the order of their names.
+-- The index has the positions of these entries in the order of their names.
 abbrev pub IsIndex : List PlacedEntry → Index → Type 0
 IsIndex entries index = IsOrderOf (entry_names entries) index.positions
 
--- each position of these names once, where no name falls
+-- each position of these names occurs once, and no name is less than the one before it
 pub record IsSortedOrder (names : List (List ℕ)) (positions : List ℕ) : Type 0 where
   pub moved : IsPermutation (range_with_len 0 (length names)) positions
   pub sorted : IsSortedBy (λ a b. is_lt (name_order names a b)) positions
@@ -31,12 +31,12 @@ pub record IsSortedOrder (names : List (List ℕ)) (positions : List ℕ) : Type
 pub record Rises (names : List (List ℕ)) (positions : List ℕ) : Type 0 where
   pub rise : (k : ℕ) → k + 1 < length positions → name_order names (slice_index positions k) (slice_index positions (k + 1)) ≡ Less
 
--- the place of a name: as many names come before it
+-- the place of a name: the number of names that come before it
 pub record IsPlace (names : List (List ℕ)) (positions name : List ℕ) (place : ℕ) : Type 0 where
   pub within : place ≤ length positions
   pub before : (k : ℕ) → k < place → order_to names name (slice_index positions k) ≡ Less
   pub behind : (k : ℕ) → place ≤ k → k < length positions → is_lt (order_to names name (slice_index positions k)) ≡ false
 
--- a position once an entry is gone, over which those behind it closed up
+-- a position after the entry at `gone` was removed: the entries after it moved up
 abbrev pub closed_up : ℕ → ℕ → ℕ
 closed_up gone position = if nat_lt gone position then position - 1 else position

@@ -1,4 +1,4 @@
--- A change that is prepared, what it makes of a state, and what preparing one does.
+-- A prepared change, its effect on a state, and the effect of preparing one.
 use Rattle.std.specs.Prelude.{◌≡◌, ◌≢◌, ◌⊎◌, ◌↔◌, ℕ, ◌+◌, ◌-◌, ◌<◌, ◌≤◌, Bool, List, length, slice_index_or, IsTrue, IsFalse, Result, Ok, Err, IfOk, IfErr, OnErr}
 use Rattle.std.specs.Int.{div_ceil}
 use Rattle.sector_disk.specs.Disk.{Sector, sector_bytes}
@@ -12,7 +12,7 @@ use Rattle.states.specs.Limits.{most_libraries, last_generation}
 use Rattle.states.specs.State.{State}
 use Rattle.store.specs.declared.change.Staged.TheVariants.{Catalogues, Put}
 use Rattle.store.specs.declared.edit.Edit.{Edit}
-use Rattle.store.specs.declared.edit.Edit.TheVariants.{Out}
+use Rattle.store.specs.declared.edit.Edit.TheVariants.{Remove}
 use Rattle.store.specs.declared.kept.Kept.{Kept}
 use Rattle.store.specs.declared.prepared.Prepared.{Prepared}
 use Rattle.store.specs.declared.placed_entry.PlacedEntry.{PlacedEntry}
@@ -37,14 +37,15 @@ abbrev pub IsTestedChange : Kept → StoreRefusal → Type 0
 IsTestedChange kept e = ((e ≡ Reopen) × IsTrue kept.failed)
     ⊎ ((e ≡ GenerationEnd) × IsFalse kept.failed × (kept.root.generation ≡ last_generation))
 
--- likewise one byte string more, where as many stand already as may
+-- why one more byte string is refused before anything is taken: the store has to be opened again, has 2,048
+-- byte strings, or has no next generation
 abbrev pub IsTestedNew : Kept → StoreRefusal → Type 0
 IsTestedNew kept e = ((e ≡ Reopen) × IsTrue kept.failed)
     ⊎ ((e ≡ TooMany) × IsFalse kept.failed × (most_libraries ≤ length kept.entries.items))
     ⊎ ((e ≡ GenerationEnd) × IsFalse kept.failed × (length kept.entries.items < most_libraries) × (kept.root.generation ≡ last_generation))
 
--- What it stages is claimed in the layout beside what was; the root that follows lists the list that
--- it makes, and the rest is given up then.
+-- The staged sectors are claimed in the layout, beside those that were claimed before. The next root lists the
+-- new list, and the sectors that only the old list used are given up then.
 pub record IsPrepared (root : Root) (entries : List PlacedEntry) (held : List HeldRow) (layout : List Bool) (prepared : Prepared) : Type 0 where
   pub before : List Bool
   pub kept : IsKept root entries held before
@@ -55,11 +56,11 @@ pub record IsPrepared (root : Root) (entries : List PlacedEntry) (held : List He
   pub next : IsNext root (edited prepared.edit entries) catalogues preloads prepared.change.root
   pub moved : IsMoved (used root entries) (staged_sectors prepared.change.staged)
       (used prepared.change.root (edited prepared.edit entries)) (gone_sectors prepared.edit root entries)
-  -- also where holders keep what the entry that goes had
+  -- also if holders keep the sectors of the replaced or removed entry
   pub room : (sectors : ℕ) → root.sectors ≤ sectors + (length (lone_sectors held) + length (gone_entry prepared.edit entries))
       → HasRoom sectors prepared.change.root.list (edited prepared.edit entries)
 
--- A change is prepared over what is kept beside a disk of so many sectors.
+-- A change is prepared on what is kept beside a disk of `sectors` sectors.
 pub record IsReady (sectors : ℕ) (kept : Kept) (prepared : Prepared) : Type 0 where
   pub change : IsPrepared kept.root kept.entries.items kept.held kept.layout prepared
   pub list : CanEditSectors prepared.edit kept.sectors
@@ -70,17 +71,19 @@ pub record IsReady (sectors : ℕ) (kept : Kept) (prepared : Prepared) : Type 0 
   pub listed : kept.sectors.items ≡ entry_sectors kept.entries.items
   pub usable : IsFalse kept.failed
 
--- With these bytes it makes the one state of the other, where this was written before.
+-- With these bytes, the prepared change makes the state `s'` from the state `s`, if the entries `written` were written
+-- before.
 abbrev pub Makes : (now : List Sector) (written : List PlacedEntry) → Kept → Prepared → (bytes : List ℕ) → (s s' : State) → Type 0
 Makes now written kept prepared bytes s s' = IsFollowed Two kept.root kept.entries.items s now written prepared.change
     bytes (entry_sectors (edited prepared.edit kept.entries.items)) (edited prepared.edit kept.entries.items) s'
 
--- the list and the root that it makes
+-- the store has the list and the root that the change makes
 pub record IsMade (old new : Kept) (prepared : Prepared) : Type 0 where
   pub root : new.root ≡ prepared.change.root
   pub entries : new.entries.items ≡ edited prepared.edit old.entries.items
 
--- What preparing a change does, with these refusals: where it refuses all is as it was.
+-- The effect of preparing a change, with refusals that `Refuses` allows. If preparing is refused, nothing changes that
+-- contracts see.
 pub record Prepares (old new : Kept) (Refuses : StoreRefusal → Type 0) (result : Result Prepared StoreRefusal) : Type 0 where
   pub same : ShowsSame old new
   pub ready : IfOk result (IsReady old.root.sectors new)
@@ -94,22 +97,22 @@ abbrev pub done_of : Result Prepared StoreRefusal → Result (Unit {0}) StoreRef
 done_of (Ok prepared) = Ok tt
 done_of (Err refusal) = Err refusal
 
--- the entry of this name is at this position of the list
+-- the entry with this name is at this position of the list
 pub record StandsAt (entries : List PlacedEntry) (name : List ℕ) (position : ℕ) : Type 0 where
   pub inside : position < length entries
   pub named : (d : PlacedEntry) → name_of (slice_index_or entries position d).entry ≡ name
 
--- The entry of a name is taken out: the sectors of the catalogues weren't in use.
+-- The change removes the entry with this name. The sectors of the catalogues weren't in use.
 pub record TakesOut (kept : Kept) (prepared : Prepared) (name : List ℕ) : Type 0 where
   pub position : ℕ
   pub at : StandsAt kept.entries.items name position
-  pub edits : prepared.edit ≡ Out position
+  pub edits : prepared.edit ≡ Remove position
   pub staged : prepared.change.staged ≡ Catalogues (catalogues_of prepared.change.root)
   pub taken : AreTaken (layout_of kept.root.sectors (in_use kept.root kept.entries.items kept.held)) (catalogues_of prepared.change.root)
   pub count : length (catalogues_of prepared.change.root) ≡ catalogues_for (length kept.entries.items - 1)
 
--- Bytes are put: their sectors, the entry's and those of the catalogues of so many libraries weren't
--- in use.
+-- The change puts bytes. Their sectors, the entry's, and those of the catalogues of `libraries` libraries
+-- weren't in use.
 pub record Puts (kept : Kept) (prepared : Prepared) (edit : PlacedEntry → Edit) (libraries : ℕ) (bytes : List ℕ) : Type 0 where
   pub put : PlacedEntry
   pub edits : prepared.edit ≡ edit put

@@ -1,4 +1,4 @@
--- What each part of the reading of a disk does to it, and what it refuses.
+-- The effect of each step of reading a disk, and the refusals of each step.
 use Rattle.std.specs.Prelude.{◌≡◌, ◌⊎◌, List, length}
 use Rattle.sector_disk.specs.Disk.{Sector, sector, DiskFacts, Mixture, LeavesOnly, MayAddSync}
 use Rattle.roots.specs.declared.root.Root.{Root}
@@ -9,8 +9,8 @@ use Rattle.store.specs.declared.refusal.StoreRefusal.TheVariants.{NotFormatted, 
 use Rattle.store.specs.Opening.{HasRootMagic}
 use Rattle.store.specs.Stands.{IsIntact}
 
--- An honest disk was told to sync, and read. A stop at any moment leaves what it could leave before,
--- and reads give what they gave.
+-- A sync was tried on an honest disk, and the disk was read. A stop at any moment leaves what it could leave before,
+-- and reads return what they returned before.
 pub record AreReadsBehindSync (old new : DiskFacts) : Type 0 where
   pub leaves : LeavesOnly old new (Mixture old)
   pub now : new.now ≡ old.now
@@ -23,11 +23,11 @@ pub record RefusesRoot (m : List Sector) (refusal : StoreRefusal) : Type 0 where
   pub formatted : refusal ≡ Damaged → HasRootMagic m
   pub damaged : refusal ≡ Damaged → (root : Root) → IsCurrent (sector m 0) (sector m 1) root → ⊥
 
--- the refusals of what a root lists, on any disk
+-- the refusals of reading what a root lists, on any disk
 abbrev pub IsRefusalOfList : StoreRefusal → Type 0
 IsRefusalOfList refusal = (refusal ≡ Device) ⊎ (refusal ≡ Damaged) ⊎ (refusal ≡ OutOfMemory)
 
--- the refusals of the entries of a root that is current
+-- the refusals of reading the entries of a current root
 pub record RefusesEntries (m : List Sector) (root : Root) (refusal : StoreRefusal) : Type 0 where
   pub may : IsRefusalOfList refusal
   pub damaged : refusal ≡ Damaged → (entries : List PlacedEntry) → IsIntact m root entries → ⊥

@@ -16,32 +16,33 @@ use Rattle.store.specs.declared.holds.HeldRow.{HeldRow}
 use Rattle.store.specs.inside.Claimed.{IsClaimedBeside, IsUsable}
 use Rattle.store.specs.inside.HeldRows.{IsLeft, IsUnheld}
 
--- a root sector, or one of these
+-- `k` is a root sector, or one of these sectors
 abbrev pub IsRootOr : List ℕ → ℕ → Type 0
 IsRootOr places k = (k < root_sectors) ⊎ Contains places k
 
--- these sectors are claimed, beside others, and each of them once
+-- the sectors `gone` are claimed, each once, perhaps beside others
 abbrev pub AreClaimedOnce : List Bool → List ℕ → Type 0
 AreClaimedOnce layout gone = (kept : List ℕ) × ClaimsJust layout (kept ++ gone) × AreDistinct (kept ++ gone) × All (IsUsable (length layout)) gone
 
--- These sectors are unused now, and the others are claimed as they were.
+-- The sectors `gone` are unused now, and all other claims are unchanged.
 pub record IsReleased (old new : List Bool) (gone : List ℕ) : Type 0 where
   pub size : length new ≡ length old
   pub each : (kept : List ℕ) → ClaimsJust old (kept ++ gone) → AreDistinct (kept ++ gone) → ClaimsJust new kept
 
--- The state uses an entry's sectors and those of catalogues no longer. They are unused now, but for
--- the entry's where somebody holds it.
+-- The state no longer uses an entry's sectors and those of catalogues. They are unused now, except
+-- the entry's if somebody holds its byte string.
 abbrev pub IsGivenUp : (held left : List HeldRow) (old new : List Bool) (placed : PlacedEntry) (catalogues : List ℕ) → Type 0
 IsGivenUp held left old new placed catalogues =
     (IsLeft held left placed.at × IsReleased old new catalogues)
     ⊎ (IsUnheld held placed.at × (left ≡ held) × IsReleased old new (sectors_of placed ++ catalogues))
 
--- Catalogues have their places on a disk of so many sectors: behind the roots, and apart.
+-- Catalogues have their places on a disk of `sectors` sectors: after the roots, and apart from each
+-- other.
 pub record HavePlaces (sectors : ℕ) (catalogues : List ℕ) : Type 0 where
   pub inside : All (IsUsable sectors) catalogues
   pub once : AreDistinct catalogues
 
--- An entry, its bytes and catalogues have their places on a disk of so many sectors.
+-- An entry, its bytes and catalogues have their places on a disk of `sectors` sectors.
 pub record HasPlace (sectors : ℕ) (placed : PlacedEntry) (catalogues : List ℕ) : Type 0 where
   pub spelling : EntryHasSpelling placed.entry
   pub on_disk : All (IsOnDisk sectors) (extents_of placed.entry)
@@ -49,8 +50,8 @@ pub record HasPlace (sectors : ℕ) (placed : PlacedEntry) (catalogues : List �
   pub inside : All (IsUsable sectors) (sectors_of placed ++ catalogues)
   pub once : AreDistinct (sectors_of placed ++ catalogues)
 
--- Bytes of a name got room for their entry and for so many catalogues, where so many sectors more
--- stay unused.
+-- Bytes with this name got room for themselves, their entry and `catalogues` catalogues, and at
+-- least `spare` sectors stay unused.
 pub record IsPutTaken (old new : List Bool) (name bytes : List ℕ) (catalogues spare : ℕ) (put : PlacedEntry) (listed : List ℕ) : Type 0 where
   pub taken : IsTaken old (div_ceil (length bytes) sector_bytes) (extents_of put.entry) put.at listed
   pub claimed : IsClaimedBeside old new (sectors_of put ++ listed)

@@ -1,4 +1,4 @@
--- What a store keeps beside its disk, as one thing.
+-- Everything that a store keeps beside its disk.
 use Rattle.std.specs.Prelude.{◌≡◌, ◌+◌, ◌-◌, ℕ, Bool, List, length, IsFalse}
 use Rattle.extents.specs.Extent.{sector_count}
 use Rattle.extents.specs.Layout.{unused_count}
@@ -18,11 +18,11 @@ use Rattle.store.specs.Stands.{entry_sectors}
 use Rattle.store.specs.inside.Kept.{IsKept}
 use Rattle.store.specs.inside.NameIndex.{IsIndex}
 
--- what contracts see of a store with this disk, which keeps this
+-- what contracts see of a store with this disk, which keeps `kept`
 abbrev pub opened : {D : Type 0} → D → Kept → Opened D
 opened disk kept = record { disk = disk; root = kept.root; entries = kept.entries.items; held = kept.held; failed = kept.failed }
 
--- what holds of all that is kept, beside a disk of so many sectors
+-- the data that a store keeps beside a disk of `sectors` sectors are consistent
 abbrev pub IsStored : ℕ → Kept → Type 0
 IsStored sectors kept = IsKept kept.root kept.entries.items kept.held kept.layout
     × IsIndex kept.entries.items kept.index
@@ -30,22 +30,24 @@ IsStored sectors kept = IsKept kept.root kept.entries.items kept.held kept.layou
     × (IsFalse kept.failed → kept.sectors.items ≡ entry_sectors kept.entries.items)
     × (version_of kept.root ≡ Two)
 
--- how many sectors there are for the state: all but those that holders alone use
+-- the number of sectors that the state can use: all except those that only holders use
 abbrev pub sectors_for : Kept → ℕ
 sectors_for kept = kept.root.sectors - length (lone_sectors kept.held)
 
--- how many sectors the longest unused runs have, as many as a byte string may lie in
+-- the number of sectors of the longest unused runs: as many runs as a byte string may have extents
 abbrev pub longest_in : Kept → ℕ
 longest_in kept = sector_count (longest_runs kept.layout)
 
--- Contracts see the same of it.
+-- Contracts see no difference between `old` and `new`: root, entries, held byte strings, and whether a call failed are
+-- the same.
 pub record ShowsSame (old new : Kept) : Type 0 where
   pub root : new.root ≡ old.root
   pub entries : new.entries.items ≡ old.entries.items
   pub held : new.held ≡ old.held
   pub failed : new.failed ≡ old.failed
 
--- What is known of the state, by what is kept.
+-- The generation, the number of libraries, the free sectors and the longest runs of the state agree
+-- with what is kept.
 pub record IsCounted (root : Root) (entries : List PlacedEntry) (held : List HeldRow) (layout : List Bool) (s : State) : Type 0 where
   pub generation : s.generation ≡ root.generation
   pub count : length s.libraries ≡ length entries

@@ -1,4 +1,4 @@
--- What is asked of a registry with the bytes of a file.
+-- Requests to a registry that need the bytes of a file.
 use Rattle.std.specs.Prelude.{ℕ, List}
 use Rattle.file_disk.specs.declared.disk_file.Access.{Access}
 use Rattle.file_disk.specs.declared.disk_file.Access.TheVariants.{Reading, Changes}
@@ -11,25 +11,26 @@ use Rattle.tool_commands.specs.declared.telling.Telling.TheVariants as telling
 use Rattle.tool_commands.specs.declared.with_file.WithFile.{WithFile}
 use Rattle.tool_commands.specs.declared.with_file.WithFile.TheVariants as with
 
--- the request, with these bytes
+-- the request with these bytes
 abbrev pub request_with : WithFile → List ℕ → Request
 request_with with.Replace bytes = replace bytes
 request_with (with.Executable base) bytes = bind bytes base
 
--- what its disk is opened for
+-- how the request's disk is opened
 abbrev pub access_of : WithFile → Access
 access_of with.Replace = Changes
 access_of (with.Executable base) = Reading
 
--- how its reply is told
+-- how the request's reply is written
 abbrev pub telling_of : WithFile → Telling
 telling_of with.Replace = telling.Text
 telling_of (with.Executable base) = telling.Executable
 
--- how it ends
+-- how a request that needs the bytes of a file ends
 abbrev pub AskEndsWith : WithFile → Streams → Status → Type 0
 AskEndsWith asking io status = ReadEnds (λ bytes. AskEnds (request_with asking bytes) (telling_of asking) io status) io status
 
--- how telling of a file's program at a base ends
+-- how a form ends that reports the bindings of a program; the program is a file, and is bound at the
+-- address `base`
 abbrev pub BindingsEndWith : ℕ → Streams → Status → Type 0
 BindingsEndWith base io status = ReadEnds (λ bytes. BindingsAskEnds bytes base io status) io status

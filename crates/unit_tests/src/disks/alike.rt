@@ -1,4 +1,4 @@
-// The same random calls of a disk and of one in memory.
+// The same random calls of a disk and of a disk in memory.
 use crate::disks::random::next;
 use crate::disks::stops::{read, write};
 use sector_disk::{Disk, Memory};
@@ -11,7 +11,8 @@ enum Call {
     Sync,
 }
 
-// One call of both disks: whether they answer the same, and that no write and no sync fails.
+// Makes one call of both disks. Returns whether both answer it in the same way, and neither a write
+// nor a sync fails.
 fn is_alike<D: Disk>(disk: &mut D, memory: &mut Memory, at: u32, call: Call) -> bool {
     match call {
         Call::Read => read(disk, at) == read(memory, at),
@@ -20,7 +21,7 @@ fn is_alike<D: Disk>(disk: &mut D, memory: &mut Memory, at: u32, call: Call) -> 
     }
 }
 
-// The next call: a third are reads, one in fifteen is a sync.
+// Returns the next random call: one in three is a read, and one in fifteen is a sync.
 fn next_call(state: &mut u64) -> Call {
     let content = (next(state) % 251) as u8;
     match next(state) % 30 {
@@ -30,8 +31,8 @@ fn next_call(state: &mut u64) -> Call {
     }
 }
 
-/// Whether so many calls of both disks are answered alike, three in four of them of the sector
-/// behind the last one.
+/// Makes `calls` calls of both disks. About three in four use the sector after the last one used.
+/// Returns whether both disks answer all calls in the same way.
 pub(crate) fn call_both<D: Disk>(disk: &mut D, memory: &mut Memory, calls: u32) -> bool {
     let mut state = 88_172_645_463_325_252;
     let mut at = 0u32;
@@ -48,7 +49,7 @@ pub(crate) fn call_both<D: Disk>(disk: &mut D, memory: &mut Memory, calls: u32) 
     true
 }
 
-/// Whether both disks have as many sectors, which hold the same.
+/// Returns whether both disks have the same number of sectors, with the same contents.
 pub(crate) fn are_same<D: Disk>(disk: &mut D, memory: &mut Memory) -> bool {
     for at in 0..memory.sectors() {
         if read(disk, at) != read(memory, at) {

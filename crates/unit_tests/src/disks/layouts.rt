@@ -1,9 +1,10 @@
-// What a layout gives out and takes back.
+// Which sectors a layout hands out and takes back.
 
 use extents::{Extent, Layout, MOST_EXTENTS, MOST_SECTORS, TakeRefusal};
 use std::alloc::AllocError;
 
-// Whether so many sectors are given as these extents, each with its first sector and its count.
+// Returns whether the layout hands out `need` sectors as the extents `wanted`, each of which has
+// its first sector and its number of sectors.
 fn gives(layout: &mut Layout, need: u32, wanted: &[(u32, u32)]) -> bool {
     let Ok(given) = Layout::take(layout, need) else {
         return false;
@@ -20,7 +21,7 @@ fn gives(layout: &mut Layout, need: u32, wanted: &[(u32, u32)]) -> bool {
     given.len() == wanted.len() && given.is_empty() == wanted.is_empty()
 }
 
-// Claims every second sector, the odd ones, up to the last.
+// Claims the sectors with odd numbers, up to the last sector.
 fn claim_odd(layout: &mut Layout, sectors: u32) {
     for half in 1..sectors / 2 {
         let start = half.saturating_mul(2).saturating_add(1);
@@ -28,7 +29,7 @@ fn claim_odd(layout: &mut Layout, sectors: u32) {
     }
 }
 
-// The sectors 2, 4 .. 64, each by itself.
+// Returns the sectors 2, 4 .. 64, each as an extent.
 fn even_sectors() -> [(u32, u32); MOST_EXTENTS] {
     let mut even = [(2, 1); MOST_EXTENTS];
     for (i, place) in even.iter_mut().enumerate() {
@@ -37,7 +38,7 @@ fn even_sectors() -> [(u32, u32); MOST_EXTENTS] {
     even
 }
 
-// The largest layout, with every second sector claimed.
+// Tests the largest layout, with every second sector claimed.
 #[test]
 fn lays_out_the_largest_scattered_disk(rt: HostRuntime) -> Result<(), AllocError> {
     let mut layout = Layout::new(rt.alloc(), 4_194_304)?;
@@ -50,7 +51,7 @@ fn lays_out_the_largest_scattered_disk(rt: HostRuntime) -> Result<(), AllocError
     Ok(())
 }
 
-// Whether a layout of 8 sectors gives out what was claimed and released.
+// Returns whether a layout of 8 sectors hands out again the sectors that were claimed and released.
 fn gives_again(layout: &mut Layout) -> bool {
     let extent = Extent { start: 3, count: 2 };
     match Layout::claim(layout, extent) {

@@ -1,6 +1,6 @@
-// Numbers that look random, and are the same in every run.
+// Pseudorandom numbers, which are the same in every run.
 
-/// The next number of Knuth's generator of 64 bits, below 2^31.
+/// Returns the next number of Knuth's generator of 64 bits. The number is below 2^31.
 pub(crate) fn next(state: &mut u64) -> u32 {
     *state = state
         .wrapping_mul(6_364_136_223_846_793_005)

@@ -1,15 +1,16 @@
-// What a stop leaves, and which calls a fuse fails. Contents are told by their byte: a sector of
-// the byte 2 alone is content 2.
+// Stops and fuses: the contents that a stop leaves, and the calls that a fuse makes fail. A content
+// is named by its byte: a sector that has only bytes of value 2 has content 2.
 use sector_disk::{CallCount, Disk, DiskFault, Fuse, Liar, Memory, SECTOR_BYTES};
 use std::alloc::Global;
 use std::test::Fail;
 
-/// Fills a sector with a byte: whether there is one and it was written.
+/// Fills sector `at` with bytes of value `content`. Returns whether the sector exists and was
+/// written.
 pub(crate) fn write<D: Disk>(disk: &mut D, at: u32, content: u8) -> bool {
     at < Disk::sectors(disk) && Disk::write(disk, at, &[content; SECTOR_BYTES]).is_ok()
 }
 
-/// The value that all bytes have, if there is one.
+/// Returns the value that all bytes have, if they have the same one.
 pub(crate) fn value_of(bytes: &[u8]) -> Option<u8> {
     let first = bytes.first().copied();
     for byte in bytes {
@@ -20,8 +21,8 @@ pub(crate) fn value_of(bytes: &[u8]) -> Option<u8> {
     first
 }
 
-/// The content of a sector, or None where there is none, where the disk failed, and where its bytes
-/// differ.
+/// Returns the content of sector `at`. Returns `None` if there is no such sector, if the disk
+/// fails, or if the sector's bytes have different values.
 pub(crate) fn read<D: Disk>(disk: &mut D, at: u32) -> Option<u8> {
     let mut sector = [99; SECTOR_BYTES];
     if at >= Disk::sectors(disk) || Disk::read(disk, at, &mut sector).is_err() {
@@ -30,7 +31,7 @@ pub(crate) fn read<D: Disk>(disk: &mut D, at: u32) -> Option<u8> {
     value_of(&sector)
 }
 
-/// Fills each sector with its number modulo 251: whether all were written.
+/// Fills each sector with its number modulo 251. Returns whether all writes succeeded.
 pub(crate) fn fill<D: Disk>(disk: &mut D) -> bool {
     for at in 0..disk.sectors() {
         if !write(disk, at, (at % 251) as u8) {
@@ -40,7 +41,7 @@ pub(crate) fn fill<D: Disk>(disk: &mut D) -> bool {
     true
 }
 
-/// Whether each sector holds its number modulo 251.
+/// Returns whether each sector has its number modulo 251 as its content.
 pub(crate) fn is_filled<D: Disk>(disk: &mut D) -> bool {
     for at in 0..disk.sectors() {
         if read(disk, at) != Some((at % 251) as u8) {
@@ -50,7 +51,8 @@ pub(crate) fn is_filled<D: Disk>(disk: &mut D) -> bool {
     true
 }
 
-// How many choices a stop has for a sector, or 0 where there is none.
+// Returns the number of contents that a stop may leave in a sector, or 0 if there is no such
+// sector.
 fn choices(disk: &Memory, at: u32) -> usize {
     if at < disk.sectors() {
         Memory::choices(disk, at)
@@ -59,12 +61,13 @@ fn choices(disk: &Memory, at: u32) -> usize {
     }
 }
 
-// The disk behind a stop that picks the same number everywhere.
+// Returns the disk after a stop that picks number `pick` for each sector.
 fn stopped(disk: Memory, pick: usize) -> Memory {
     Memory::stop(disk, |_, _| pick)
 }
 
-// What this sector holds after a stop that picks the same number everywhere. Then all is synced.
+// Returns the content of sector `at` after a stop that picks number `pick` for each sector. After
+// the stop everything is synced.
 fn left(disk: &Memory, at: u32, pick: usize) -> Option<u8> {
     let mut stopped = stopped(Memory::copy(disk).ok()?, pick);
     if stopped.sectors() == disk.sectors() && choices(&stopped, at) == 1 {
@@ -74,8 +77,8 @@ fn left(disk: &Memory, at: u32, pick: usize) -> Option<u8> {
     }
 }
 
-// Whether these are the choices for a sector, in their order: each is picked by its number, and by
-// what is one round higher.
+// Returns whether a stop may leave exactly `contents` in a sector, in this order. Picks each
+// content by its number, and by the sum of its number and the number of contents.
 fn leaves(disk: &Memory, at: u32, contents: &[u8]) -> bool {
     for (pick, content) in contents.iter().enumerate() {
         let higher = pick.saturating_add(contents.len());
@@ -106,8 +109,8 @@ fn a_count_of_calls_has_no_bytes(rt: HostRuntime) {
     assert!(rt; size_of::<CallCount>() == 0);
 }
 
-// Writes 1 to sector 0, syncs, writes 2 to it and reads it: whether each call succeeded, and what
-// was read.
+// Writes content 1 to sector 0, syncs, writes content 2 to it, and reads it. Returns whether each
+// call succeeded, and the content that was read.
 fn four_calls<D: Disk>(disk: &mut D) -> ([bool; 4], Option<u8>) {
     let first = write(disk, 0, 1);
     let synced = Disk::sync(disk).is_ok();
@@ -116,8 +119,8 @@ fn four_calls<D: Disk>(disk: &mut D) -> ([bool; 4], Option<u8>) {
     ([first, synced, second, content.is_some()], content)
 }
 
-/// The failing call, whether it fails forever and late; which calls succeed; the content that was
-/// read; what a stop may leave in sector 0 of the inner disk.
+/// The failing call; whether all later calls fail too; whether it fails late; which calls succeed;
+/// the content that was read; and the contents that a stop may leave in sector 0 of the inner disk.
 type Row = (u64, bool, bool, [bool; 4], Option<u8>, &'static [u8]);
 
 const FUSES: [Row; 18] = [
@@ -148,7 +151,7 @@ const FUSES: [Row; 18] = [
     (5, true, true, [true, true, true, true], Some(2), &[1, 2]),
 ];
 
-// Whether a fuse over a disk of two sectors is as its row says.
+// Returns whether a fuse over a disk of two sectors has the results of its row.
 fn is_row(alloc: Global, row: Row) -> bool {
     let (call, forever, late, succeed, content, left_inside) = row;
     let Ok(disk) = Memory::new(alloc, 2) else {
@@ -160,7 +163,7 @@ fn is_row(alloc: Global, row: Row) -> bool {
     two && done == (succeed, content) && leaves(&Fuse::into_inner(fuse), 0, left_inside)
 }
 
-// The first fuse that isn't as its row says.
+// Returns the first fuse that doesn't have the results of its row.
 fn fused_otherwise(alloc: Global) -> Option<(u64, bool, bool)> {
     for row in &FUSES {
         if !is_row(alloc, *row) {

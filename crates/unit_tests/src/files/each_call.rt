@@ -1,5 +1,6 @@
-// Each call that reads a file or binds a program, once by its path and with ample memory. Some of
-// them no crate here makes: they are for those who read files or place objects without the rest.
+// Each call that reads a file or binds a program, made once by its public path, with ample memory.
+// No crate here makes some of these calls: they are for programs that only read files or only place
+// objects.
 
 use crate::files::images::sample;
 use crate::files::searches::library;
@@ -13,14 +14,15 @@ use std::test::Fail;
 
 const BASE: u64 = 0x10000;
 
-/// Whether the first segment of the library is its file.
+/// Returns whether the first segment of the library has the whole file.
 fn has_segment(object: &Object<'_>) -> bool {
     Object::segment_count(object) == 1
         && Object::segment(object, 0).file_size == 432
         && Object::contents(object, 0) == library()
 }
 
-/// Whether its symbol 1 is f, which stands alone in the first of two buckets.
+/// Returns whether symbol 1 of the library is f, and is the only symbol in the first of two
+/// buckets.
 fn has_symbol(object: &Object<'_>) -> bool {
     Object::symbol_count(object) == 4
         && Object::symbol(object, 1).value == 0x1a8
@@ -30,7 +32,7 @@ fn has_symbol(object: &Object<'_>) -> bool {
         && Object::bucket(object, 0) == 1
 }
 
-/// Whether it has its own name, and needs and relocates nothing.
+/// Returns whether the library has its own name, needs no library, and has no relocation.
 fn is_alone(object: &Object<'_>) -> bool {
     Object::soname(object) == Some(b"q".as_slice())
         && !Object::symbolic(object)
@@ -38,13 +40,13 @@ fn is_alone(object: &Object<'_>) -> bool {
         && Object::rela_count(object) == 0
 }
 
-/// A file as an object that is admitted.
+/// Reads and admits a file.
 fn admitted(alloc: Global, file: &[u8]) -> Option<Admitted<'_>> {
     let object = Object::read(file).ok()?;
     Admitted::admit(alloc, object).ok()
 }
 
-/// Whether f is found in it, by one comparison.
+/// Returns whether f is found in the library, and whether the search compares one symbol.
 fn finds(admitted: &Admitted<'_>) -> bool {
     let hashed = Admitted::find_hashed(admitted, b"f", elf_hash(b"f"));
     let wanted = Found {
@@ -66,7 +68,8 @@ fn a_library_is_read_and_searched(rt: HostRuntime) {
     assert!(rt; is_read && finds(&library));
 }
 
-/// Whether an image has a file's first byte at this address, and so has its text.
+/// Returns whether an image has the file's first byte at `address`, and a text that begins with
+/// `front`.
 fn has_file_at(alloc: Global, image: &Image, address: u64, front: &[u8]) -> bool {
     let mut text = Vec::new(alloc);
     Image::byte(image, address) == Some(0x7f)
@@ -76,7 +79,7 @@ fn has_file_at(alloc: Global, image: &Image, address: u64, front: &[u8]) -> bool
 
 const TEXT: &[u8] = b"object 0x0000000000010000 /program\n";
 
-/// Whether a program with one relocation is bound by itself.
+/// Returns whether a program with one relocation is bound without libraries.
 fn is_bound_alone(alloc: Global, file: &[u8]) -> bool {
     let Ok(object) = Object::read(file) else {
         return false;
@@ -95,8 +98,7 @@ fn a_program_is_bound_alone(rt: HostRuntime) -> Result<(), Fail> {
     Ok(())
 }
 
-/// Whether an order is that of a program and the library a, which has no symbol but that of index
-/// 0.
+/// Returns whether `order` has a program and the library a, whose only symbol is number 0.
 fn is_order(order: &Order<'_>) -> bool {
     if Order::count(order) != 2 {
         return false;
@@ -107,7 +109,7 @@ fn is_order(order: &Order<'_>) -> bool {
         && resolve(order, 1, 0) == Ok(Target::Zero)
 }
 
-/// Whether its objects are placed one behind the other, and bound there.
+/// Returns whether the objects of `order` are placed one after the other, and bound there.
 fn is_placed(alloc: Global, order: &Order<'_>) -> bool {
     if Order::count(order) != 2 || !good_base(Order::object(order, 0), BASE) {
         return false;
@@ -122,7 +124,7 @@ fn is_placed(alloc: Global, order: &Order<'_>) -> bool {
     }
 }
 
-/// Whether a program that needs the library a is bound with it.
+/// Returns whether a program that needs the library a is bound with it.
 fn is_bound(alloc: Global, file: &[u8], own: &[u8]) -> bool {
     let Some(program) = admitted(alloc, file) else {
         return false;

@@ -1,5 +1,6 @@
-// What no clause and no case of the program `cases` says: calls that may want memory succeed at
-// their limits, and a writer's failure is told. Rows, bases, values, refusals and texts are cases.
+// Tests of images for facts that no clause and no stored case shows: calls that allocate succeed at
+// their limits, and a writer's failure is reported. The program `cases` tests lines of text, bases,
+// values, refusals and texts.
 
 use image::{Image, bind_alone};
 use samples::put;
@@ -21,8 +22,8 @@ const SAMPLE: &str =
     1800000000000000090000000000000018000000000000000000000000000000000000000000000000000000\
     00000000";
 
-/// Where the sample has the offset of its program headers, their count, and, of its PT_LOAD, the
-/// sizes in the file and in memory; the address of its relocations and their size.
+/// Offsets in the sample: of the offset of its program headers and of their number; of the sizes of
+/// its PT_LOAD in the file and in memory; of the address and the size of its relocations.
 const HEADERS_AT: usize = 0x20;
 
 const HEADER_COUNT_AT: usize = 0x38;
@@ -39,7 +40,7 @@ pub(crate) fn sample(alloc: Global) -> Result<Vec<u8>, Fail> {
     Ok(hex::decode(alloc, SAMPLE)?)
 }
 
-/// Puts the words of an entry behind a file.
+/// Appends the words of an entry to a file.
 fn put_words(file: &mut Vec<u8>, words: &[u64]) -> Result<(), AllocError> {
     for word in words {
         file.extend_from_slice(&word.to_le_bytes())?;
@@ -47,13 +48,13 @@ fn put_words(file: &mut Vec<u8>, words: &[u64]) -> Result<(), AllocError> {
     Ok(())
 }
 
-/// Puts a file's two program headers behind it once more.
+/// Appends a copy of the file's two program headers to it.
 fn put_headers_again(alloc: Global, file: &mut Vec<u8>) -> Result<(), AllocError> {
     let headers = file.as_slice().get(64..176).unwrap_or(&[]).to_vec(alloc)?;
     file.extend_from_slice(&headers)
 }
 
-/// Puts the headers of 60,000 PT_LOADs of the file's first 17 bytes behind a file.
+/// Appends the headers of 60,000 PT_LOADs to a file. Each has the file's first 17 bytes.
 fn put_headers(file: &mut Vec<u8>) -> Result<(), AllocError> {
     for i in 0..60_000u64 {
         let address = 0x1000 + 32 * i;
@@ -64,8 +65,8 @@ fn put_headers(file: &mut Vec<u8>) -> Result<(), AllocError> {
     Ok(())
 }
 
-/// The sample with this size of memory, and with 60,000 PT_LOADs of the file's first 17 bytes
-/// behind its own two program headers, which are at the end.
+/// Returns the sample with a segment of `size` bytes of memory. Its program headers are moved to
+/// its end, and those of 60,000 PT_LOADs with the file's first 17 bytes follow them.
 fn many_segments(alloc: Global, size: u64) -> Result<Vec<u8>, Fail> {
     let mut file = sample(alloc)?;
     put(&mut file, MEMORY_SIZE_AT, &size.to_le_bytes());
@@ -76,14 +77,14 @@ fn many_segments(alloc: Global, size: u64) -> Result<Vec<u8>, Fail> {
     Ok(file)
 }
 
-/// Puts the text of the segment at an address behind a text.
+/// Appends the text of the segment at `address`.
 fn put_segment(text: &mut Vec<u8>, address: u64) -> Result<(), Fail> {
     writeln!(text, "segment {address:#018x} 17 rw-")?;
     text.extend_from_slice(b"7f454c46020101000000000000000000\n03\n")?;
     Ok(())
 }
 
-/// The text of these segments and the end of it.
+/// Returns the text of these segments and the line `end`.
 fn text_of_many(alloc: Global) -> Result<Vec<u8>, Fail> {
     let mut text = Vec::new(alloc);
     for i in 0..60_000u64 {
@@ -93,7 +94,7 @@ fn text_of_many(alloc: Global) -> Result<Vec<u8>, Fail> {
     Ok(text)
 }
 
-/// Puts 20,000 relocations behind a file, the i-th of which writes base + i at 0x188.
+/// Appends 20,000 relocations to a file. Relocation i writes base + i at 0x188.
 fn put_relocations(file: &mut Vec<u8>) -> Result<(), AllocError> {
     for i in 0..20_000u64 {
         put_words(file, &[0x188, 8, i])?;
@@ -101,7 +102,7 @@ fn put_relocations(file: &mut Vec<u8>) -> Result<(), AllocError> {
     Ok(())
 }
 
-/// The sample with these relocations.
+/// Returns the sample with these 20,000 relocations.
 fn many_relocations(alloc: Global) -> Result<Vec<u8>, Fail> {
     let mut file = sample(alloc)?;
     put_relocations(&mut file)?;
@@ -113,7 +114,7 @@ fn many_relocations(alloc: Global) -> Result<Vec<u8>, Fail> {
     Ok(file)
 }
 
-/// The image of a program at 0x10000.
+/// Returns the image of a program at 0x10000.
 fn bound(alloc: Global, file: &[u8]) -> Result<Image, Fail> {
     match bind_alone(alloc, file, 0x10000) {
         Ok(image) => Ok(image),
@@ -121,22 +122,23 @@ fn bound(alloc: Global, file: &[u8]) -> Result<Image, Fail> {
     }
 }
 
-/// The image of the sample with this size of memory.
+/// Returns the image of the sample with 60,000 more segments, whose first segment has `size` bytes
+/// of memory.
 fn image_of_size(alloc: Global, size: u64) -> Result<Image, Fail> {
     let mut file = sample(alloc)?;
     put(&mut file, MEMORY_SIZE_AT, &size.to_le_bytes());
     bound(alloc, &file)
 }
 
-/// The text of an image.
+/// Returns the text of an image.
 fn text_of(alloc: Global, image: &Image) -> Result<Vec<u8>, Fail> {
     let mut text = Vec::new(alloc);
     image.write_text(&mut text)?;
     Ok(text)
 }
 
-/// The first byte of the first of the many segments of an image, the last one of the last, and what
-/// is behind it.
+/// Returns three bytes of an image with many segments: the first byte of the first of them, the
+/// last byte of the last one, and the byte after it.
 fn bytes_of_many(image: &Image) -> [Option<u8>; 3] {
     let last = 0x11000 + 32 * 59_999;
     [
@@ -146,7 +148,8 @@ fn bytes_of_many(image: &Image) -> [Option<u8>; 3] {
     ]
 }
 
-/// Those bytes, with this size of memory; how many bytes the text has, and whether it ends so.
+/// Returns these three bytes for a first segment of `size` bytes of memory, the length of the text,
+/// and whether the text ends with the line `end`.
 fn seen_of_many(
     alloc: Global,
     size: u64,
@@ -158,9 +161,9 @@ fn seen_of_many(
     Ok((bytes_of_many(&image), text.len(), text.ends_with(end)))
 }
 
-// A segment's lines have 70 bytes and the writer gets pieces of 65,536, so that of 60,000 segments
-// the pieces end at every second place of these lines; one more byte of memory in front, three
-// bytes of text, gives the other places.
+// A segment's lines have 70 bytes, and the writer gets pieces of 65,536 bytes. So the pieces of
+// 60,000 segments end at every second offset within these lines. One more byte of memory in the
+// first segment adds three bytes of text, and gives the other offsets.
 #[test]
 fn binds_sixty_thousand_segments(rt: HostRuntime) -> Result<(), Fail> {
     let alloc = rt.alloc();
@@ -175,7 +178,7 @@ fn binds_sixty_thousand_segments(rt: HostRuntime) -> Result<(), Fail> {
     Ok(())
 }
 
-/// The bytes that the last relocation writes.
+/// Returns the bytes that the last relocation has written.
 fn bytes_of_relocations(alloc: Global) -> Result<[Option<u8>; 4], Fail> {
     let file = many_relocations(alloc)?;
     let image = bound(alloc, &file)?;
@@ -190,25 +193,25 @@ fn bytes_of_relocations(alloc: Global) -> Result<[Option<u8>; 4], Fail> {
 #[test]
 fn binds_twenty_thousand_relocations(rt: HostRuntime) -> Result<(), Fail> {
     let bytes = bytes_of_relocations(rt.alloc())?;
-    // The last one writes 0x10000 + 19,999.
+    // The last relocation writes 0x10000 + 19,999.
     assert!(rt; bytes == [Some(0x1f), Some(0x4e), Some(1), Some(0)]);
     Ok(())
 }
 
-/// How long the text of 65,936 bytes of memory is, which has 4,121 lines.
+/// The length of the text of 65,936 bytes of memory, which has 4,121 lines.
 const LENGTH: usize = 35 + 37 + 2 * 65936 + 4121 + 4;
 
-/// Rooms in which that text has no place.
+/// Numbers of bytes that are too few for this text.
 const ROOMS: [usize; 5] = [0, 100, 65536, 65537, LENGTH - 1];
 
-/// Whether a text has a place in so much room.
+/// Returns whether the text of an image fits in `room` bytes.
 fn fits(alloc: Global, image: &Image, room: usize) -> Result<bool, AllocError> {
     let mut held = vec![in alloc; 0u8; room]?;
     let mut out = held.as_mut_slice();
     Ok(image.write_text(&mut out).is_ok())
 }
 
-/// The first of the rooms in which a text has a place.
+/// Returns the first of these numbers of bytes in which the text of an image fits.
 fn first_fitting(alloc: Global, image: &Image) -> Result<Option<usize>, AllocError> {
     for &room in &ROOMS {
         if fits(alloc, image, room)? {
@@ -218,7 +221,7 @@ fn first_fitting(alloc: Global, image: &Image) -> Result<Option<usize>, AllocErr
     Ok(None)
 }
 
-/// How long that text is, and the first of the rooms in which it has a place.
+/// Returns the length of the text, and the first number of bytes in which it fits.
 fn length_and_fitting(alloc: Global) -> Result<(usize, Option<usize>), Fail> {
     let image = image_of_size(alloc, 0x10190)?;
     let length = text_of(alloc, &image)?.len();

@@ -1,4 +1,4 @@
-// The search by chains beside a plain one.
+// The search by chains, compared with a plain search.
 
 use elf_dynamic::Object;
 use hash_check::{AdmitRefusal, Admitted, elf_hash};
@@ -20,10 +20,10 @@ pub(crate) fn library() -> &'static [u8] {
         \0\0\0\0\0\0\0\0\0\0\0\0\0"
 }
 
-/// Where the buckets begin in it; the chain words follow.
+/// The offset of the buckets in the library. The chain words follow them.
 const BUCKETS: usize = 184;
 
-/// Writes the words of the table number `n`: two buckets and four chain words, each from 0 to 4.
+/// Writes the words of table number `n`: two buckets and four chain words, each from 0 to 4.
 fn put_words(file: &mut [u8], n: u32) {
     let mut rest = n;
     for i in 0..6 {
@@ -34,7 +34,7 @@ fn put_words(file: &mut [u8], n: u32) {
     }
 }
 
-/// Whether a symbol is exported, by the numbers of the standard.
+/// Returns whether symbol `i` is exported, computed from the numbers of the standard.
 fn is_exported(object: &Object<'_>, i: u32) -> bool {
     if i == 0 || i >= object.symbol_count() {
         return false;
@@ -46,7 +46,8 @@ fn is_exported(object: &Object<'_>, i: u32) -> bool {
         && (symbol.visibility() == 0 || symbol.visibility() == 3)
 }
 
-/// Whether the walk from a word meets an index, in as many steps as there are symbols.
+/// Returns whether the walk from word `from` reaches `index` within as many steps as there are
+/// symbols.
 fn meets(object: &Object<'_>, from: u32, index: u32) -> bool {
     let count = object.symbol_count();
     let mut at = from;
@@ -62,7 +63,7 @@ fn meets(object: &Object<'_>, from: u32, index: u32) -> bool {
     false
 }
 
-/// Whether the hash table is good, by following each walk for itself.
+/// Returns whether the hash table is good. Follows each walk separately.
 fn is_plainly_good(object: &Object<'_>) -> bool {
     let count = object.symbol_count();
     let buckets = object.bucket_count();
@@ -85,7 +86,7 @@ fn is_plainly_good(object: &Object<'_>) -> bool {
     buckets > 0
 }
 
-/// The symbol that is exported under a name, by looking at every symbol.
+/// Returns the symbol that is exported under `name`. Looks at every symbol.
 fn find_plainly(object: &Object<'_>, name: &[u8]) -> Option<u32> {
     for i in 1..object.symbol_count() {
         if is_exported(object, i) && object.name_of(i) == name {
@@ -95,11 +96,11 @@ fn find_plainly(object: &Object<'_>, name: &[u8]) -> Option<u32> {
     None
 }
 
-/// Names that are exported, and that aren't.
+/// Names that the library exports, and names that it doesn't.
 static NAMES: [&[u8]; 6] = [b"f", b"g", b"u", b"", b"fg", b"f\0g"];
 
-/// Whether each name is found as a plain search finds it, and symbols and the library have their
-/// names.
+/// Returns whether the search finds the same for each name as a plain search, and whether the
+/// symbols and the library have their names.
 fn finds_plainly(admitted: &Admitted<'_>) -> bool {
     for &name in &NAMES {
         if admitted.find(name) != find_plainly(admitted.object(), name) {
@@ -111,7 +112,8 @@ fn finds_plainly(admitted: &Admitted<'_>) -> bool {
         && admitted.library_name() == Ok(b"q".as_slice())
 }
 
-/// Whether a table is admitted, and whether that and each search are as the plain programs say.
+/// Returns whether a table is admitted, and whether admission and each search agree with the plain
+/// programs.
 fn compare(alloc: Global, file: &[u8]) -> (bool, bool) {
     let Ok(object) = Object::read(file) else {
         return (false, false);

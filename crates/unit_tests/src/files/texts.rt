@@ -1,12 +1,12 @@
-// What no clause says: that a writer's fault comes out and that nothing goes to the writer behind
-// one, and how many writes a text takes.
+// Tests of texts for facts that no clause shows: a writer's fault is reported, nothing is written
+// to the writer after a fault, and a text takes a certain number of writes.
 
 use std::alloc::Global;
 use std::io::{self, ErrorKind, Write};
 use std::test::Fail;
 use text_output::{LINE, OutputBuffer, WriteFault, write_name};
 
-/// A writer that takes a number of writes, and fails at the next.
+/// A writer that accepts a number of writes, and fails at each write after them.
 #[derive(Drop)]
 struct Counted {
     held: Vec<u8>,
@@ -40,11 +40,11 @@ fn writer_of(alloc: Global, left: usize) -> Counted {
 
 const BYTES: [u8; 17] = *b"\x00\x01\x09\x0a\x0f\x10\x19\x1a\x7f\x80\x99\x9a\xa0\xf9\xfe\xff0";
 
-/// A segment's line and bytes.
+/// The line of a segment, and the lines of its bytes.
 const SEGMENT: &[u8] =
     b"segment 0x0000000000010000 400 rw-\n0001090a0f10191a7f80999aa0f9feff\n30\n";
 
-/// Puts a segment's line and bytes behind these bytes.
+/// Puts the line and the bytes of a segment after the waiting bytes `waiting`.
 fn put_segment(
     buffer: &mut OutputBuffer<64>,
     out: &mut Counted,
@@ -60,8 +60,8 @@ fn put_segment(
     buffer.send(out)
 }
 
-/// How many bytes go out in three writes at most, and whether they begin with those that wait and
-/// end with the segment's.
+/// Puts a segment after the bytes `waiting`. Returns how many bytes at most three writes have
+/// written, whether they begin with `waiting`, and whether they end with the segment's text.
 fn segment_behind(alloc: Global, waiting: &[u8]) -> Result<(usize, bool, bool), WriteFault> {
     let mut out = writer_of(alloc, 3);
     let mut buffer = OutputBuffer::<64>::new();
@@ -73,8 +73,8 @@ fn segment_behind(alloc: Global, waiting: &[u8]) -> Result<(usize, bool, bool), 
     ))
 }
 
-// A segment's line and bytes behind 0 to 64 waiting bytes, in a buffer of 64: the buffer is full at
-// each place of the line.
+// Puts the line and the bytes of a segment after 0 to 64 waiting bytes, in a buffer of 64 bytes. So
+// the buffer becomes full at each offset of the line.
 #[test]
 fn a_full_buffer_at_each_place_of_a_line(rt: HostRuntime) -> Result<(), Fail> {
     let filler = [b'-'; 65];
@@ -88,10 +88,10 @@ fn a_full_buffer_at_each_place_of_a_line(rt: HostRuntime) -> Result<(), Fail> {
     Ok(())
 }
 
-/// Lengths of names, and how many writes they take.
+/// The lengths of names, and the number of writes that each takes.
 const WRITES: [(usize, usize); 5] = [(0, 1), (1, 1), (240, 1), (LINE / 4, 1), (LINE / 4 + 1, 2)];
 
-/// How many writes a name takes, to a writer that takes so many.
+/// Returns how many writes a name takes. The writer accepts `room` writes.
 fn writes_of_name(alloc: Global, name: &[u8], room: usize) -> Result<usize, WriteFault> {
     let mut out = writer_of(alloc, room);
     write_name(&mut out, name)?;
@@ -109,8 +109,8 @@ fn a_line_goes_out_with_one_write(rt: HostRuntime) -> Result<(), Fail> {
     Ok(())
 }
 
-/// What is told of a writer that fails behind so many writes: whether each of three calls fails,
-/// and how many bytes and calls it gets.
+/// Returns the effects of a writer that accepts `writes` writes: whether each of three calls fails,
+/// and how many bytes and how many calls the writer gets.
 fn failing(alloc: Global, writes: usize) -> ([bool; 3], usize, usize) {
     let mut out = writer_of(alloc, writes);
     let mut buffer = OutputBuffer::<64>::new();
@@ -121,7 +121,7 @@ fn failing(alloc: Global, writes: usize) -> ([bool; 3], usize, usize) {
     ([lines, sent, put], held, out.calls)
 }
 
-// Wherever the writer fails, the call answers so, and nothing goes to the writer behind that.
+// Whichever write fails, the call reports it, and nothing is written to the writer after it.
 #[test]
 fn a_writer_that_fails_gets_nothing_more(rt: HostRuntime) {
     let alloc = rt.alloc();

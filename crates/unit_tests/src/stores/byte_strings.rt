@@ -1,10 +1,10 @@
-// Stores, and byte strings in them.
+// Stores and their byte strings.
 use crate::stores::sectors::memory;
 use sector_disk::{Disk, Memory};
 use std::process::Abort;
 use store::Store;
 
-/// A new store on a disk of so many sectors.
+/// Makes a new store on a disk of `sectors` sectors.
 pub(crate) fn formatted(rt: &(impl Abort + AllocGlobal), sectors: u32) -> Store<Memory> {
     match Store::format(rt.alloc(), memory(rt, sectors)) {
         Ok(store) => store,
@@ -12,7 +12,7 @@ pub(crate) fn formatted(rt: &(impl Abort + AllocGlobal), sectors: u32) -> Store<
     }
 }
 
-/// The store on a disk.
+/// Opens the store on a disk.
 pub(crate) fn opened<D: Disk + Drop>(rt: &(impl Abort + AllocGlobal), disk: D) -> Store<D> {
     match Store::open(rt.alloc(), disk) {
         Ok(store) => store,
@@ -20,7 +20,8 @@ pub(crate) fn opened<D: Disk + Drop>(rt: &(impl Abort + AllocGlobal), disk: D) -
     }
 }
 
-/// Puts bytes under a name of one letter: in the place of those that it has, or behind the others.
+/// Puts bytes under a name of one letter. They replace the byte string with this name, or are added
+/// after all others.
 pub(crate) fn put(rt: &impl Abort, store: &mut Store<Memory>, letter: u8, bytes: &[u8]) {
     assert!(rt; letter > b'/' && letter < 127);
     assert!(rt; bytes.len() >= 64 && bytes.len() <= 16_777_216);

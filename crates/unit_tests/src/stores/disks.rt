@@ -1,4 +1,4 @@
-// Sectors of disks that are written by hand.
+// Sectors that the tests write themselves.
 use crate::stores::sectors::write;
 use roots::{Catalogue, Entry, Root, encode_catalogue, encode_entry, encode_root};
 use sector_disk::Memory;
@@ -10,7 +10,7 @@ pub(crate) fn write_entry(rt: &impl Abort, disk: &mut Memory, at: u32, entry: &E
     write(rt, disk, at, &encode_entry(entry));
 }
 
-/// Writes a catalogue of these entries.
+/// Writes a catalogue that lists the entries in the sectors `entries`.
 pub(crate) fn write_catalogue(rt: &impl Abort, disk: &mut Memory, at: u32, entries: &[u32]) {
     assert!(rt; entries.len() <= 64);
     let catalogue = Catalogue::new(entries);
@@ -18,7 +18,7 @@ pub(crate) fn write_catalogue(rt: &impl Abort, disk: &mut Memory, at: u32, entri
     write(rt, disk, at, &encode_catalogue(&catalogue));
 }
 
-/// Writes a root, in the sector of its generation.
+/// Writes a root to the sector in which a root of its generation belongs.
 pub(crate) fn write_root(rt: &impl Abort, disk: &mut Memory, root: &Root) {
     assert!(rt; root.has_spelling());
     write(rt, disk, (root.generation % 2) as u32, &encode_root(root));

@@ -1,6 +1,6 @@
-// Each call of a store of either version, and of the sectors that have a format, once by its path
-// and with ample memory. Some of them no crate here makes: they are for those who keep byte strings
-// without the rest.
+// Each call of a store of either version and of the sectors with a format, made once by its public
+// path, with ample memory. No crate here makes some of these calls: they are for programs that only
+// keep byte strings.
 use crate::stores::disks::{write_entry, write_root};
 use crate::stores::sectors::memory;
 use crate::stores::seen::given;
@@ -14,7 +14,7 @@ use std::alloc::Global;
 use std::process::Abort;
 use store::{Look, OldStore, Store};
 
-// A disk of version 1 with one byte string, 344 zeros named a, which is a preload.
+// Makes a disk of version 1 with one byte string, 344 zeros named a, which is a preload.
 fn old_disk(rt: &(impl Abort + AllocGlobal)) -> Memory {
     let mut disk = memory(rt, 8);
     let extents = [Extent { start: 2, count: 1 }];
@@ -24,7 +24,7 @@ fn old_disk(rt: &(impl Abort + AllocGlobal)) -> Memory {
     disk
 }
 
-// Whether a store of version 1 tells that byte string.
+// Returns whether a store of version 1 reports that byte string.
 fn tells_old(store: &OldStore<Memory>) -> bool {
     OldStore::count(store) == 1
         && OldStore::name(store, 0) == b"a".as_slice()
@@ -33,12 +33,12 @@ fn tells_old(store: &OldStore<Memory>) -> bool {
         && OldStore::preloads(store) == [0].as_slice()
 }
 
-// Whether it reads it.
+// Returns whether a store of version 1 reads that byte string.
 fn reads_old(alloc: Global, store: &mut OldStore<Memory>) -> bool {
     OldStore::count(store) == 1 && given(OldStore::read_blob(store, alloc, 0)) == Ok((344, Some(0)))
 }
 
-// Whether a store of version 2 tells it.
+// Returns whether a store of version 2 reports that byte string.
 fn tells(store: &Store<Memory>) -> bool {
     Store::count(store) == 1
         && Store::name(store, 0) == b"a".as_slice()
@@ -47,7 +47,7 @@ fn tells(store: &Store<Memory>) -> bool {
         && Store::preloads(store) == [0].as_slice()
 }
 
-// Whether it reads it, and as what is held.
+// Returns whether a store of version 2 reads that byte string, both directly and through a hold.
 fn reads(alloc: Global, store: &mut Store<Memory>) -> bool {
     if Store::count(store) != 1 {
         return false;
@@ -61,7 +61,7 @@ fn reads(alloc: Global, store: &mut Store<Memory>) -> bool {
     read == Ok((344, Some(0))) && held_is == read
 }
 
-// What committing a store of version 1 gives, if that tells and reads what it is to.
+// Commits a store of version 1, if it reports and reads that byte string. Returns the new store.
 fn committed(alloc: Global, old: OldStore<Memory>) -> Option<Store<Memory>> {
     let mut old = old;
     if tells_old(&old) && reads_old(alloc, &mut old) {
@@ -72,7 +72,7 @@ fn committed(alloc: Global, old: OldStore<Memory>) -> Option<Store<Memory>> {
     }
 }
 
-// The store of version 2 that a look at the disk and a commit make.
+// Returns the store of version 2 that `look` and a commit make of a disk of version 1.
 fn looked_and_committed(rt: &(impl Abort + AllocGlobal)) -> Option<Store<Memory>> {
     match Store::look(rt.alloc(), old_disk(rt)) {
         Ok(Look::Old(store)) => committed(rt.alloc(), store),
@@ -81,7 +81,8 @@ fn looked_and_committed(rt: &(impl Abort + AllocGlobal)) -> Option<Store<Memory>
     }
 }
 
-// Whether a store has that byte string and lets itself be changed, and its disk opened.
+// Returns whether a store has that byte string and can be changed, and its disk can be opened
+// again.
 fn is_whole(rt: &(impl Abort + AllocGlobal), store: Store<Memory>) -> bool {
     let mut store = store;
     let has = tells(&store) && reads(rt.alloc(), &mut store);

@@ -1,4 +1,4 @@
-// A look of which each call of the disk fails in turn.
+// Runs of `look` in which each call of the disk fails in turn.
 use crate::stores::byte_strings::{formatted, put};
 use crate::stores::sectors::copy;
 use crate::stores::seen::{Seen, look};
@@ -6,7 +6,7 @@ use sector_disk::{Fuse, Memory};
 use std::process::Abort;
 use store::StoreRefusal;
 
-// A disk with 65 byte strings, which two catalogues list.
+// Makes a disk with 65 byte strings, which two catalogues list.
 fn sixty_five(rt: &(impl Abort + AllocGlobal)) -> Memory {
     let mut store = formatted(rt, 136);
     for letter in b'0'..b'0' + 65 {
@@ -15,7 +15,8 @@ fn sixty_five(rt: &(impl Abort + AllocGlobal)) -> Memory {
     store.into_disk()
 }
 
-// The first call whose failure a look at this disk doesn't answer: 70 are made.
+// Returns the first call of the disk whose failure `look` doesn't report. On this disk, `look`
+// makes 70 calls.
 fn unanswered(rt: &(impl Abort + AllocGlobal), disk: &Memory) -> Option<u64> {
     for call in 1..71 {
         let fuse: Fuse<Memory> = Fuse::new(copy(rt, disk), call, false, false);
@@ -28,7 +29,8 @@ fn unanswered(rt: &(impl Abort + AllocGlobal), disk: &Memory) -> Option<u64> {
 
 #[test]
 fn each_call_of_a_look_may_fail(rt: HostRuntime) {
-    // A sync, two roots, two catalogues and 65 entries: 70 calls, and the next isn't made.
+    // The 70 calls are a sync, and reads of two roots, two catalogues and 65 entries. No further
+    // call is made.
     let disk = sixty_five(&rt);
     let unanswered = unanswered(&rt, &disk);
     let further = look(&rt, Fuse::new(disk, 71, false, false));

@@ -1,4 +1,4 @@
-// What a store tells and reads of a disk that was written by hand.
+// The answers of a store on a disk whose sectors the test writes itself.
 use crate::stores::byte_strings::opened;
 use crate::stores::disks::{write_catalogue, write_entry, write_root};
 use crate::stores::sectors::{memory, write};
@@ -8,9 +8,9 @@ use sector_disk::{Fuse, Memory, SECTOR_BYTES};
 use std::process::Abort;
 use store::{Store, StoreRefusal};
 
-// A disk of 8 sectors, each full of its own number, but for the roots, the entry in sector 4 and
-// the catalogue in 5: a byte string of 1,100 bytes lies in the sectors 6, 2 and 3, and is a
-// preload.
+// Makes a disk of 8 sectors. Each is filled with its own number, except the roots, the entry in
+// sector 4 and the catalogue in sector 5. A byte string of 1,100 bytes is in sectors 6, 2 and 3,
+// and is a preload.
 fn scattered(rt: &(impl Abort + AllocGlobal)) -> Memory {
     let mut disk = memory(rt, 8);
     for at in 2..8 {
@@ -23,13 +23,13 @@ fn scattered(rt: &(impl Abort + AllocGlobal)) -> Memory {
     disk
 }
 
-// The store on that disk, whose sixth call fails: the fifth one of the opening reads the entry, and
-// the next one the first sector.
+// Opens the store on this disk, whose sixth call fails. The fifth call, which is the last one of
+// the opening, reads the entry. The sixth reads the first sector of the byte string.
 fn opened_scattered(rt: &(impl Abort + AllocGlobal)) -> Store<Fuse<Memory>> {
     opened(rt, Fuse::new(scattered(rt), 6, false, false))
 }
 
-// Whether the store tells what the disk has.
+// Returns whether the store reports what the disk has.
 fn tells(store: &Store<Fuse<Memory>>) -> bool {
     store.count() == 1
         && store.name(0) == b"a".as_slice()
@@ -39,10 +39,10 @@ fn tells(store: &Store<Fuse<Memory>>) -> bool {
         && store.preloads() == [0].as_slice()
 }
 
-// Where bytes of the byte string lie, and which.
+// Offsets in the byte string, and the bytes at these offsets.
 const PLACES: [(usize, u8); 6] = [(0, 6), (511, 6), (512, 2), (1023, 2), (1024, 3), (1099, 3)];
 
-// Whether these are its bytes.
+// Returns whether `bytes` are those of the byte string.
 fn are_its(bytes: &[u8]) -> bool {
     for (at, want) in &PLACES {
         if bytes.get(*at) != Some(want) {
@@ -52,7 +52,7 @@ fn are_its(bytes: &[u8]) -> bool {
     bytes.len() == 1100
 }
 
-// Reads the one byte string: the refusal, if it is refused, and else whether its bytes are right.
+// Reads the only byte string. Returns the refusal, or whether the bytes are right.
 fn read(
     rt: &(impl Abort + AllocGlobal),
     store: &mut Store<Fuse<Memory>>,
@@ -67,7 +67,7 @@ fn a_byte_string_is_told_and_read_in_the_order_of_its_extents(rt: HostRuntime) {
     let mut store = opened_scattered(&rt);
     let told = tells(&store);
 
-    // A read that failed doesn't make the store fail.
+    // After a read that failed, the store still reads.
     let first = read(&rt, &mut store);
     let second = read(&rt, &mut store);
     let _ = store.into_disk();

@@ -1,13 +1,13 @@
-// The sectors of a disk, one by one.
+// The sectors of a disk.
 use sector_disk::{Disk, Memory, SECTOR_BYTES};
 use std::process::Abort;
 
-/// A disk of so many sectors of zeros.
+/// Makes a disk of `sectors` sectors of zeros.
 pub(crate) fn memory(rt: &(impl Abort + AllocGlobal), sectors: u32) -> Memory {
     Memory::new(rt.alloc(), sectors).expect(rt, "a disk in memory")
 }
 
-/// A second disk that is the same.
+/// Returns a copy of a disk.
 pub(crate) fn copy(rt: &impl Abort, disk: &Memory) -> Memory {
     disk.copy().expect(rt, "a copy of a disk")
 }

@@ -1,9 +1,9 @@
-// What can be seen of a disk of either version.
+// The answers of `look` for a disk of either version.
 use crate::disks::stops::value_of;
 use sector_disk::Disk;
 use store::{Look, Store, StoreRefusal};
 
-/// What `look` answers: how many byte strings there are in which version.
+/// An answer of `look`: the version of the disk, and its number of byte strings.
 #[derive(Clone, Copy, PartialEq)]
 pub(crate) enum Seen {
     Current(usize),
@@ -11,7 +11,7 @@ pub(crate) enum Seen {
     Refused(StoreRefusal),
 }
 
-/// Looks at a disk.
+/// Returns the answer of `look` for a disk.
 pub(crate) fn look<D: Disk + Drop>(rt: &impl AllocGlobal, disk: D) -> Seen {
     match Store::look(rt.alloc(), disk) {
         Ok(Look::Current(store)) => {
@@ -28,7 +28,7 @@ pub(crate) fn look<D: Disk + Drop>(rt: &impl AllocGlobal, disk: D) -> Seen {
     }
 }
 
-/// What a read gives, the length and the value that all bytes have, or its refusal.
+/// Returns the result of a read: the length and the value that all bytes have, or the refusal.
 pub(crate) fn given(
     read: Result<Vec<u8>, StoreRefusal>,
 ) -> Result<(usize, Option<u8>), StoreRefusal> {

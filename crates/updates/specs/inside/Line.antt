@@ -1,4 +1,4 @@
--- What one line of an update does, and what ends its lines.
+-- The effects of one line of an update, and how a line ends the update.
 use Rattle.std.specs.Prelude.{◌≡◌, ◌≢◌, ℕ, List, Option, Some, None, false}
 use Rattle.std.specs.Io.KnownBytes.{Appends}
 use Rattle.sector_disk.specs.Disk.{DiskFacts}
@@ -23,38 +23,40 @@ module _ {D : Type 0} (facts : D → DiskFacts) where
   abbrev pub IsAccepted : Drafted D → List ℕ → Reply → Drafted D → Type 0
   IsAccepted old line answer new = LineStep facts old line answer new × (is_refusal answer ≡ false)
 
-  -- What a command does that a line asks for, with what the writer holds and what waits behind it, before
-  -- and now: it is answered, or it is refused, which ends the update, and nothing is written.
+  -- The effects of a line's command. `waits` and `now` are the bytes that the writer holds before and
+  -- after, each followed by the buffered text. Either the command is answered, or it is refused, which
+  -- ends the update, and nothing is written.
   abbrev pub AskedEnds : Drafted D → Drafted D → Request → Option (List ℕ) → Option (List ℕ) → Option Ending → Type 0
   AskedEnds old new request waits now None = (answer : Reply) × DraftAnswers facts old request answer new × (is_refusal answer ≡ false)
       × Appends waits now (plan_text answer)
   AskedEnds old new request waits now (Some (Refused (refusal.Refused why))) = DraftAnswers facts old request (reply.Refused why) new × (now ≡ waits)
   AskedEnds old new request waits now (Some ending) = ⊥
 
-  -- it was accepted, and then the writer failed
+  -- the command was accepted, and then the writer failed
   abbrev pub MissesAsked : Drafted D → Drafted D → Request → ScriptFault → Type 0
   MissesAsked old new request fault = (fault ≡ Write) × (answer : Reply) × DraftAnswers facts old request answer new × (is_refusal answer ≡ false)
 
-  -- a whole line ends the update so
+  -- a whole line ends the update in this way
   abbrev pub EndsLine : Drafted D → Drafted D → List ℕ → Ending → Type 0
   EndsLine old new line Commit = (line ≡ commit_line) × (new ≡ old)
   EndsLine old new line (Refused refusal.BadLine) = (line ≢ commit_line) × (request_meaning line ≡ None) × (new ≡ old)
   EndsLine old new line (Refused (refusal.Refused why)) = LineStep facts old line (reply.Refused why) new
   EndsLine old new line (Refused other) = ⊥
 
-  -- What one whole line does, with what the writer holds and what waits behind it, before and now: it
-  -- is answered, or it ends the update, and nothing is written.
+  -- The effects of one whole line. `waits` and `now` are the bytes that the writer holds before and
+  -- after, each followed by the buffered text. Either the line is answered, or it ends the update, and
+  -- nothing is written.
   abbrev pub LineEnds : Drafted D → Drafted D → List ℕ → Option (List ℕ) → Option (List ℕ) → Option Ending → Type 0
   LineEnds old new line waits now None = (answer : Reply) × IsAccepted old line answer new × Appends waits now (plan_text answer)
   LineEnds old new line waits now (Some ending) = EndsLine old new line ending × (now ≡ waits)
 
-  -- the same of one that wasn't answered: for want of memory nothing was done; or it was accepted, and
-  -- then the writer failed
+  -- The effects of a line that wasn't answered. If the writer failed, the line was accepted before.
+  -- Otherwise memory was refused, and nothing was done.
   abbrev pub MissesLine : Drafted D → Drafted D → List ℕ → Option (List ℕ) → Option (List ℕ) → ScriptFault → Type 0
   MissesLine old new line waits now Write = (answer : Reply) × IsAccepted old line answer new
   MissesLine old new line waits now fault = (new ≡ old) × (now ≡ waits)
 
-  -- behind lines that were answered comes what ends them: `commit`, or a refusal
+  -- after the answered lines came what ended them: `commit`, or a refusal
   abbrev pub EndsLines : Option (List ℕ) → List (List ℕ) → Drafted D → Drafted D → Ending → Type 0
   EndsLines unread lines old new Commit = (new ≡ old) × BeginsWith unread lines (ended commit_line)
   EndsLines unread lines old new (Refused why) = IsRefusedAt facts unread lines old new why

@@ -1,4 +1,4 @@
--- How the lines of an update end, with the bytes that are read, the text that is written, and the draft.
+-- How the lines of an update end: the bytes that are read, the text that is written, and the draft.
 use Rattle.std.specs.Prelude.{◌≡◌, ◌≢◌, ℕ, List, Option}
 use Rattle.std.specs.Io.{StopsAt}
 use Rattle.std.specs.Io.KnownBytes.{Appends}
@@ -13,18 +13,20 @@ use Rattle.updates.specs.declared.lines.Ending.{Ending}
 use Rattle.updates.specs.inside.Line.{EndsLines}
 
 module _ {D : Type 0} (facts : D → DiskFacts) where
-  -- Lines were answered, from one draft to another, and then this ended them. Exactly the answers were written.
+  -- Lines were answered and changed the draft, and then `ending` ended them. Exactly the answers were
+  -- written.
   abbrev pub Ended : (unread before now : Option (List ℕ)) → Drafted D → Drafted D → Ending → Type 0
   Ended unread before now old new ending = (lines : List (List ℕ)) × (answers : List Reply) × (mid : Drafted D) × ArePlanned facts old mid lines answers
       × EndsLines facts unread lines mid new ending × Appends before now (plan_texts answers)
 
-  -- Lines were answered, and then a fault came. At most one line more was read, and not answered. Exactly
-  -- the answers were written, unless the output failed.
+  -- Lines were answered, and then a fault came. At most one more line was read, and not answered.
+  -- Exactly the answers were written, unless the output failed.
   abbrev pub Broken : (unread before now : Option (List ℕ)) → Drafted D → Drafted D → ScriptFault → Type 0
   Broken unread before now old new fault = (lines : List (List ℕ)) × (answers : List Reply) × (part : List ℕ) × ArePlanned facts old new lines answers × StopsAt part 10
       × BeginsWith unread lines part × (fault ≢ Write → Appends before now (plan_texts answers))
 
-  -- Lines were answered, and then something ended them, but the output failed before it had all answers.
+  -- Lines were answered, and then `commit` or a refusal ended them, but the output failed before all
+  -- answers were written.
   abbrev pub Unsent : (unread : Option (List ℕ)) → Drafted D → Drafted D → ScriptFault → Type 0
   Unsent unread old new fault = (fault ≡ Write) × (lines : List (List ℕ)) × (answers : List Reply) × (mid : Drafted D) × (ending : Ending)
       × ArePlanned facts old mid lines answers × EndsLines facts unread lines mid new ending

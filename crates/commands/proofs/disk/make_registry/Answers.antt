@@ -6,7 +6,7 @@ use Rattle.commands.specs.Opened.{SystemDisk, IsMade}
 use Rattle.commands.proofs.Asking.{format_made}
 use Rattle.commands.proofs.disk.make_registry.Goals as goal
 
--- what holds anyway
+-- a fact that is true in any case is true if the result is Ok
 anyway : {T E : Type 0} (P : Type 0) (r : Result T E) → P → OnOk r P
 anyway P (Ok t) p = p
 anyway P (Err e) p = tt

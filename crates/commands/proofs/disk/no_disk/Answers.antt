@@ -2,7 +2,7 @@ use Rattle.std.proofs.Common.{refl}
 use Rattle.std.proofs.lemmas.Bool.{false≢true}
 use Rattle.commands.proofs.disk.no_disk.Goals as goal
 
--- a disk without sectors has a bad geometry
+-- a disk without sectors has no valid geometry
 pub returns-in-BadLength : goal.returns-in-BadLength
 returns-in-BadLength c = record { «open» = (0, λ h. false≢true h); format = (0, λ h. false≢true h); upgrade = (0, λ h. false≢true h) }
 

@@ -21,7 +21,8 @@ returns-then-len-gt-MOST_HEADERS-clause-refused c =
     let many : MOST_HEADERS < header_count_of (pieces_of c.args.image.now.segments) = omega (arith, ap length e, c.len.ensures, c.if-len-gt-MOST_HEADERS.true) in
     inl (too-many c.args.image.now c.in_ok-entry.entry c.in_ok-entry.ensures.entry c.in_ok-entry.ensures.called many)
 
--- the object of the first piece that may be written and executed unasked, by what was found
+-- the object of the first piece that may be written and executed without a request is the owner of the
+-- piece that the code found
 unasked : (image : MemoryImage) (segments : List ImageSegment) (pieces : List Loaded) (found : Option Loaded)
     → segments ≡ image.segments → pieces ≡ pieces_of image.segments → found ≡ find (is_unasked segments) pieces
     → first_unasked image ≡ option_map (λ p. owner_among p image.objects image.segments) found
@@ -73,7 +74,7 @@ file_of-requires-clause-contents c =
     subst (λ (ps : List Loaded). All (λ p. length p.contents ≤ MEMORY_LIMIT) ps) (sym e)
     (contents-low 0 (pieces_of segments) (fine-of 0 segments c.segments.ensures.rising))
 
--- what is promised of the file that was made of an image's pieces
+-- the file made of an image's pieces, its headers and its entry is an executable of the segments
 the-file : (segments : List ImageSegment) (entry place : ℕ) (pieces : List Loaded) (file : List ℕ) → pieces ≡ pieces_of segments
     → file ≡ file_with (front_of entry (table_of place pieces)) pieces → AreRising 0 segments → entry ≤ MEMORY_LIMIT
     → header_count_of (pieces_of segments) ≤ MOST_HEADERS → place_of pieces ≡ Some place → Promised segments entry file

@@ -9,7 +9,7 @@ front_of-requires c =
     let same = ap length c.deref.ensures.value in
     omega (arith, counted, long, same, c.requires.count)
 
--- the file header is whole
+-- the file header in the front is complete: the front has at least 64 bytes
 pub invariant_of-result : goal.invariant_of-result
 invariant_of-result c =
     let front = c.in_ok-front.ensures in

@@ -1,4 +1,4 @@
-use Rattle.std.proofs.Common.{codes, sym, subst}
+use Rattle.std.proofs.Common.{sym, subst}
 use Rattle.std.specs.Prelude.{OnOk}
 use Rattle.text_output.specs.Sends.{Sends}
 use Rattle.executable.specs.Outcome.{executable_refusal_text}
@@ -23,8 +23,8 @@ returns-in-WritableCode g c =
     let put = c.put_object-in-WritableCode in
     subst (λ (r : ExecutableRefusal). OnOk put.result (Sends (w c.args.out.now) c.args.line.now (w put.new.out) put.new.line (executable_refusal_text r))) (sym c.in-WritableCode.is) put.ensures
 
-pub returns-in-NoRoom : goal.returns-in-NoRoom
-returns-in-NoRoom g c =
+pub returns-in-NoPages : goal.returns-in-NoPages
+returns-in-NoPages g c =
     let w = g.W.Write.contents in
-    let put = c.put-in-NoRoom in
-    subst (λ (r : ExecutableRefusal). OnOk put.result (Sends (w c.args.out.now) c.args.line.now (w put.new.out) put.new.self (executable_refusal_text r))) (sym c.in-NoRoom.is) put.ensures.ok
+    let put = c.put-in-NoPages in
+    subst (λ (r : ExecutableRefusal). OnOk put.result (Sends (w c.args.out.now) c.args.line.now (w put.new.out) put.new.self (executable_refusal_text r))) (sym c.in-NoPages.is) put.ensures.ok

@@ -8,14 +8,14 @@ use Rattle.executable.specs.Piece.{piece_of, finished, followed, pieces_from}
 use Rattle.executable.specs.inside.Joining.{pieces_after}
 use Rattle.executable.proofs.pieces.add.Goals as goal
 
--- a segment with bytes goes on
+-- the pieces of piece p and a segment with bytes are those made of both, continued with the last of them
 goes-on : (p : Loaded) (s : ImageSegment) (rest : List ImageSegment) → 0 < length s.bytes
     → pieces_from p (s ∷ rest) ≡ (followed p (piece_of s)).done ++ pieces_from (followed p (piece_of s)).last rest
 goes-on p s rest some =
     let e : (length s.bytes == 0) ≡ false = grind (arith, nat_tests) in
     ap (λ (t : Bool). cond t (pieces_from p rest) ((followed p (piece_of s)).done ++ pieces_from (followed p (piece_of s)).last rest)) e
 
--- what is done and what goes on are all pieces
+-- the finished pieces, followed by the pieces that the last one continues with, are all pieces
 all-pieces : {E : Type 0} (r : Result Loaded E) (old new : List Loaded) (p n : Loaded) (last : Option Loaded) (s : ImageSegment)
     → n ≡ piece_of s → last ≡ Some p → 0 < length s.bytes
     → OnOk r (new ≡ old ++ map finished (followed p n).done) → IfOk r (λ q. q ≡ (followed p n).last)

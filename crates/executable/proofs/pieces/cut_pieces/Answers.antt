@@ -9,21 +9,21 @@ use Rattle.executable.proofs.Rising.{Rises, rises}
 use Rattle.executable.proofs.pieces.cut_pieces.Goals as goal
 use Rattle.executable.proofs.pieces.cut_pieces.Goals.{then-len-ne0+in_ok-add, else-len-ne0, in-Some+in_ok-push, in_default}
 
--- a segment at a higher address can be joined to the same piece
+-- if a piece is ready for a segment at one address, it is ready for a segment at a higher one
 ready-higher : (last : Option Loaded) (a b : ℕ) → a ≤ b → IsReady last a → IsReady last b
 ready-higher None a b le h = tt
 ready-higher (Some p) a b le h = (h.0, omega (arith, h.1, le))
 
--- one without bytes has no part in the pieces
+-- a segment without bytes makes no difference to the pieces
 skipped : (last : Option Loaded) (s : ImageSegment) (rest : List ImageSegment) → (length s.bytes == 0) ≡ true → pieces_after last (s ∷ rest) ≡ pieces_after last rest
 skipped None s rest none = rw none refl
 skipped (Some p) s rest none = rw none refl
 
--- the segment that is looked at, and those behind it
+-- the segments that are left are the current one and those after it
 front : (segments : List ImageSegment) (i : ℕ) (s : ImageSegment) → i < length segments → s ≡ get_or segments i s → drop i segments ≡ s ∷ drop (i + 1) segments
 front segments i s lt is = drop_more segments i s lt ∙ ap (λ x. x ∷ drop (i + 1) segments) (sym is)
 
--- what is known of it
+-- if the segments that are left rise, `Rises` is true of the current one
 here : (segments : List ImageSegment) (i from : ℕ) (s : ImageSegment) → i < length segments → s ≡ get_or segments i s → AreRising from (drop i segments)
     → Rises from s (drop (i + 1) segments)
 here segments i from s lt is rising = rises from s (drop (i + 1) segments) (subst (AreRising from) (front segments i s lt is) rising)

@@ -5,7 +5,7 @@ use Rattle.file_disk.proofs.Transfers.{IsWrittenSoFar, written_more, written_few
 use Rattle.file_disk.proofs.transfer.write_all.Goals as goal
 use Rattle.file_disk.proofs.transfer.write_all.Goals.{in-Ok, in-Err+else-ne}
 
--- what is left to be given
+-- the number of sectors that are still to be written
 left_length : (from : List Sector) (done : ℕ) → length (slice_range from done (length from)) ≡ length from - done
 left_length from done = search (rules, places)
 

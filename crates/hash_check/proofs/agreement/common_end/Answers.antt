@@ -3,7 +3,7 @@ use Rattle.std.proofs.lemmas.Bool.{cases_lt}
 use Rattle.std.proofs.lemmas.List.{get_or-reverse, get_or-take, length-reverse, take_more_same}
 use Rattle.hash_check.proofs.agreement.common_end.Goals as goal
 
--- strings that agree in their last n bytes have the same byte at each place among these
+-- strings that have their last n bytes in common have the same byte at each place of these
 same-byte : (a b : List ℕ) (i n : ℕ) → i < n → i < length a → i < length b → take n (reverse a) ≡ take n (reverse b) → get_or a (length a - 1 - i) 0 ≡ get_or b (length b - 1 - i) 0
 same-byte a b i n lt in-a in-b same =
     sym (get_or-reverse a i 0 in-a) ∙ sym (get_or-take n (reverse a) i 0 lt) ∙ ap (λ l. get_or l i 0) same ∙ get_or-take n (reverse b) i 0 lt ∙ get_or-reverse b i 0 in-b

@@ -6,13 +6,13 @@ use Rattle.hash_check.proofs.Holding.{held-on, back-length, room-for, text-read,
 use Rattle.hash_check.proofs.endings.number_ending.Goals as goal
 use Rattle.hash_check.proofs.endings.number_ending.Goals.{After-bytes-length}
 
--- what is read is the text of the number
+-- the bytes that are read are those of name number `number`
 text : (c : After-bytes-length) → c.bytes-length.result.now ≡ nth_text c.args.names.now c.loop-number.number
 text c =
     text-read c.args.names.now c.args.ending c.loop-number.number c.bytes-length.result.now c.index-names-number.result c.requires.ending
     c.loop-number-test.true c.bytes-length.ensures c.index-names-number.is
 
--- and there is a mark for its length
+-- the list of marks has an element for the length of the name
 room : (c : After-bytes-length) → length c.bytes-length.result.now < length c.loop-number.marks
 room c =
     room-for c.args.names.now c.args.ending c.loop-number.number (length c.loop-number.marks) c.bytes-length.result.now

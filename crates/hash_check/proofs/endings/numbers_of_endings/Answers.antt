@@ -11,7 +11,7 @@ use Rattle.hash_check.proofs.Holding.{endings-moved}
 use Rattle.hash_check.proofs.Sorting.{IsSortedBy-from_sort_by}
 use Rattle.hash_check.proofs.endings.numbers_of_endings.Goals as goal
 
--- where nothing was written yet
+-- a list of zeros has no numbers
 none-yet : (n : ℕ) → AreNone (replicate n 0)
 none-yet n = λ k. elim (cases_lt k n) [ inl lt ↦ get_or-replicate n k 0 0 lt | inr past ↦ get_or_past (replicate n 0) k 0 (omega (arith, length-replicate {A = ℕ}, past)) ]
 

@@ -4,7 +4,7 @@ use Rattle.hash_check.specs.inside.Numbered.{behind}
 use Rattle.hash_check.specs.declared.endings.Ending.{Ending}
 use Rattle.hash_check.proofs.numbered.add_endings.Goals as goal
 
--- one more ending
+-- after one more ending was appended, the list has the first i + 1 endings of `xs`, moved by `before`
 one-more : (before : ℕ) (old all new xs : List Ending) (i : ℕ) (e d : Ending) → i < length xs → e ≡ behind before (get_or xs i d)
     → all ≡ old ++ map (behind before) (take i xs) → new ≡ all ++ e ∷ [] → new ≡ old ++ map (behind before) (take (i + 1) xs)
 one-more before old all new xs i e d lt is held pushed =

@@ -9,8 +9,8 @@ use Rattle.hash_check.specs.inside.Numbered.{AreGathered}
 use Rattle.hash_check.proofs.Listing.{numbered}
 use Rattle.hash_check.proofs.numbered.numbered_symbols.Goals as goal
 
-pub give_numbers-requires : goal.give_numbers-requires
-give_numbers-requires c =
+pub set_numbers-requires : goal.set_numbers-requires
+set_numbers-requires c =
     let files : List (List ℕ) = map (λ (o : Bor Admitted). o.now) c.args.objects.now in
     let gathered : AreGathered files (length c.args.objects.now) c.in-Some.gathered.symbols.items c.in-Some.gathered.names.items = rw c.in-Some.is at c.in_ok-gathered.ensures in
     let told : AreNumbers c.deref.result.now c.in-Some-2.numbers.items = rw c.in-Some-2.is at c.in_ok-numbers.ensures in
@@ -27,8 +27,8 @@ give_numbers-requires c =
 pub numbers_of_endings-requires : goal.numbers_of_endings-requires
 numbers_of_endings-requires c = subst (λ (l : List (List ℕ)). AreEndings l c.in_ok-gathered-2.endings.items) (sym c.deref-2.ensures.value) c.in_ok-gathered-2.ensures.endings
 
-pub give_numbers-requires-2 : goal.give_numbers-requires-2
-give_numbers-requires-2 c =
+pub set_numbers-requires-2 : goal.set_numbers-requires-2
+set_numbers-requires-2 c =
     let files : List (List ℕ) = map (λ (o : Bor Admitted). o.now) c.args.objects.now in
     omega (
       arith,
@@ -48,8 +48,8 @@ returns-in-Some-2 c =
     let told = subst (λ o. IfSome o (λ v. AreNumbers c.deref.result.now v.items)) c.in-Some-2.is c.in_ok-numbers.ensures in
     let are : AreNumbers names c.deref-in-Some-2.result.now =
     subst (λ l. AreNumbers l c.deref-in-Some-2.result.now) c.deref.ensures.value (subst (λ (l : List ℕ). AreNumbers c.deref.result.now l) (sym c.deref-in-Some-2.ensures.value) told) in
-    numbered files c.in-Some.gathered.symbols.items c.give_numbers.result.items names c.deref-in-Some-2.result.now
-    (subst (λ n. AreGathered files n c.in-Some.gathered.symbols.items names) (sym count) gathered) are c.give_numbers.ensures.size c.give_numbers.ensures.given
+    numbered files c.in-Some.gathered.symbols.items c.set_numbers.result.items names c.deref-in-Some-2.result.now
+    (subst (λ n. AreGathered files n c.in-Some.gathered.symbols.items names) (sym count) gathered) are c.set_numbers.ensures.size c.set_numbers.ensures.given
 
 pub returns : goal.returns
 returns c =
@@ -58,5 +58,5 @@ returns c =
     let count = length-map c.args.objects.now (λ (o : Bor Admitted). o.now) in
     let are : AreNumbers names c.deref-3.result.now =
     subst (λ l. AreNumbers l c.deref-3.result.now) c.deref-2.ensures.value (subst (λ (l : List ℕ). AreNumbers c.deref-2.result.now l) (sym c.deref-3.ensures.value) c.in_ok-numbers-2.ensures) in
-    numbered files c.in_ok-gathered-2.gathered.symbols.items c.give_numbers-2.result.items names c.deref-3.result.now
-    (subst (λ n. AreGathered files n c.in_ok-gathered-2.gathered.symbols.items names) (sym count) c.in_ok-gathered-2.ensures.gathered) are c.give_numbers-2.ensures.size c.give_numbers-2.ensures.given
+    numbered files c.in_ok-gathered-2.gathered.symbols.items c.set_numbers-2.result.items names c.deref-3.result.now
+    (subst (λ n. AreGathered files n c.in_ok-gathered-2.gathered.symbols.items names) (sym count) c.in_ok-gathered-2.ensures.gathered) are c.set_numbers-2.ensures.size c.set_numbers-2.ensures.given

@@ -6,11 +6,11 @@ use Rattle.std.proofs.lemmas.List.{take_all}
 use Rattle.program_parts.proofs.message.say.Goals as goal
 use Rattle.program_parts.proofs.message.say.Goals.{in-Ok, in-Err}
 
--- what is behind the front
+-- if as many bytes as the rest of a line has are taken from it, they are the whole rest
 rest_of : (line : List ℕ) (g : ℕ) → take (length line - g) (drop g line) ≡ drop g line
 rest_of line g = take_all (length line - g) (drop g line) (omega (arith, length-drop g line))
 
--- a longer front was appended
+-- if a prefix of the line was appended, and then n bytes of the rest, a longer prefix was appended
 longer : (a b c : Option (List ℕ)) (line : List ℕ) (g n g' : ℕ) → g ≤ length line → Appends a b (take g line) → n ≤ length (take (length line - g) (drop g line))
     → Appends b c (take n (take (length line - g) (drop g line))) → g' ≡ g + n → (g' ≤ length line) × Appends a c (take g' line)
 longer a b c line g n g' le front most more is =
@@ -20,7 +20,7 @@ longer a b c line g n g' le front most more is =
       subst (λ (k : ℕ). Appends a c (take k line)) (sym is) (subst (λ (l : List ℕ). Appends a c l) (sym (take-add g n line)) (Appends-trans a b c (take g line) (take n (drop g line)) front more')),
     )
 
--- or none
+-- if a prefix of the line was appended, and then nothing, the same prefix was appended
 as_long : (a b c : Option (List ℕ)) (line : List ℕ) (g g' : ℕ) → g ≤ length line → Appends a b (take g line) → Keeps b c → g' ≡ g → (g' ≤ length line) × Appends a c (take g' line)
 as_long a b c line g g' le front keeps is =
     subst (λ (k : ℕ). (k ≤ length line) × Appends a c (take k line)) (sym is) (le, Appends-kept a b c (take g line) front keeps)

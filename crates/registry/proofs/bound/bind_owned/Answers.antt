@@ -21,7 +21,7 @@ turn c =
     YieldsList-turn (YieldsList-from_vec c.args.files.items h.0 (h.1 ∙ c.args.files.ok.0)) c.loop-file.yielded c.loop-file.file-iterator c.loop-file.yielded_by
     c.next.result c.next.new.self c.in-Some.file c.in-Some.is c.next.ensures.steps
 
--- the object that a file fills in its turn
+-- the object that the next file fills
 next : (c : After-object-in-loop-file) → AreBound (walked_objects c.args.program.now c.args.base c.args.files.items) c.in_ok-objects.objects.items
     → IsTurn c.args.files.items c.loop-file.yielded c.in-Some.file
     → IsNext (walked_objects c.args.program.now c.args.base c.args.files.items) c.loop-file.place c.index-in-loop-file.result.now c.object-in-loop-file.result.now

@@ -13,7 +13,7 @@ returns-then-not-has_magic-clause-spelt c root spells =
 pub returns-then-spells-clause-spelt : goal.returns-then-spells-clause-spelt
 returns-then-spells-clause-spelt c root spells = ap (λ r. Good r) (c.root_fields-root.ensures ∙ root_of-spelt c.args.bytes.now root spells)
 
--- a sector that doesn't spell what its fields say spells no root
+-- a sector that isn't the encoding of its own fields encodes no root
 none : (c : goal.Else-spells) (root : Root) → SpellsRoot c.args.bytes.now root → ⊥
 none c root spells =
     let same : c.root_fields-root.result ≡ root = c.root_fields-root.ensures ∙ root_of-spelt c.args.bytes.now root spells in

@@ -19,7 +19,7 @@ in_range writes start i sectors all lt =
     let left : i < length writes - start = omega (arith, lt, length-take (length writes - start) from) in
     subst (λ write. write.at < sectors) (sym (get_or-take (length writes - start) from i none left ∙ get_or-drop start writes i none)) (all (start + i) none (omega arith))
 
--- a count of the writes from i on, with the first of them in front
+-- the writes from number `i` on are write number `i`, followed by those after it, so the count is the same
 next_counted : (writes : List Written) (i k count : ℕ) → i < length writes → count ≡ length (written_to k (drop i writes)) → count ≡ length (written_to k (get_or writes i none ∷ drop (i + 1) writes))
 next_counted writes i k count lt counted = counted ∙ ap (λ ws. length (written_to k ws)) (drop_more writes i none lt)
 

@@ -13,7 +13,7 @@ use Rattle.store.proofs.change.write_staged.Given as given
 use Rattle.store.proofs.change.write_staged.Goals.{After-as_slice-in-Catalogues, After-as_slice-in-Put-2}
 use Rattle.store.proofs.change.write_staged.Goals as goal
 
--- the places of catalogues alone
+-- if only catalogues are staged, they have their places
 have : (g : given.Over) (c : After-as_slice-in-Catalogues g)
     → HavePlaces (g.D.Disk.facts c.args.disk.now).sectors c.in-Catalogues.catalogues × CanBeCatalogued (length c.in-Catalogues.catalogues) c.args.listed.now
 have g c = subst (λ staged. CanBeStaged (g.D.Disk.facts c.args.disk.now).sectors staged c.args.listed.now) c.in-Catalogues.is c.requires.room
@@ -21,7 +21,7 @@ have g c = subst (λ staged. CanBeStaged (g.D.Disk.facts c.args.disk.now).sector
 list_are : (g : given.Over) (c : After-as_slice-in-Catalogues g) → single_places c.as_slice-in-Catalogues.result.now ≡ c.in-Catalogues.catalogues
 list_are g c = ap single_places c.as_slice-in-Catalogues.ensures ∙ c.set_catalogues.ensures.places ∙ c.as_slice.ensures.value
 
--- those of an entry, its bytes and catalogues
+-- an entry that is put, its bytes and the catalogues have their places
 place : (g : given.Over) (c : After-as_slice-in-Put-2 g)
     → HasPlace (g.D.Disk.facts c.args.disk.now).sectors c.in-Put.put c.in-Put.catalogues × CanBeCatalogued (length c.in-Put.catalogues) c.args.listed.now
 place g c = subst (λ staged. CanBeStaged (g.D.Disk.facts c.args.disk.now).sectors staged c.args.listed.now) c.in-Put.is c.requires.room

@@ -43,3 +43,6 @@ returns-in-Ok-clause-told g c =
       c.in-Ok.ensures.device,
       subst (λ l. TellsOnly (check_status l) (check_text libraries l) io c.tell_findings.result) c.deref.ensures.value (c.tell_findings.ensures libraries (inr (are_listed entries))),
     )
+
+pub returns-in-Err-clause-ends : goal.returns-in-Err-clause-ends
+returns-in-Err-clause-ends g c s at = inr (c.in-Err.ensures.memory s at, (c.say_refusal.ensures.status, refl, c.say_refusal.ensures.said))

@@ -13,7 +13,7 @@ use Rattle.tool_parts.specs.Streams.{Streams, IsUntold, Says, TellsOnly}
 use Rattle.tool_commands.specs.inside.Unread.{unread_line, unread_status}
 use Rattle.tool_commands.proofs.file.run_file.Goals as goal
 
--- why there are no bytes is said
+-- If the bytes can't be returned, the form `file` ends with the reason.
 module _ (old new : DiskFacts) (io : Streams) (status : Status) (none : IsUntold io) where
   unread : (s : State) (name : List ℕ) (u : Unread) → status ≡ unread_status u → Says io (unread_line u)
       → (u ≡ NotInstalled → All (λ library. library.name ≢ name) s.libraries) → (u ≡ Unreadable → old.failures < new.failures) → FileEnds old new s name io status

@@ -11,4 +11,4 @@ pub returns-in-Err : goal.returns-in-Err
 returns-in-Err g c =
     let ends = subst (λ (said : Status). EndsUnopened (question_of c.args.form.now) said (g.O.Write.contents c.args.output.now) (g.O.Write.contents c.end_unopened.new.output) c.end_unopened.result)
     c.not_opened-said.ensures.status c.end_unopened.ensures in
-    inr (c.in-Err.fault, ends, c.not_opened-said.ensures.said)
+    inr (c.in-Err.fault, ends, c.not_opened-said.ensures.said, c.in-Err.ensures)

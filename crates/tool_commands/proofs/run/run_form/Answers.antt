@@ -1,7 +1,7 @@
 use Rattle.std.proofs.Common.{inl, inr, sym, subst}
 use Rattle.program_parts.specs.declared.status.Status.{Status}
 use Rattle.tool_commands.specs.AnyDisk.{FormTells}
-use Rattle.tool_commands.specs.Ends.{EndsUnopened, FormEnds}
+use Rattle.tool_commands.specs.Ends.{EndsUnopened, FormEnds, FormReads}
 use Rattle.tool_commands.specs.Form.{question_of}
 use Rattle.tool_parts.specs.Streams.{Streams}
 use Rattle.tool_commands.proofs.run.run_form.Goals as goal
@@ -25,6 +25,7 @@ returns-in-Ok g c =
       opened = opened;
       read = c.run_opened-status.new.contents;
       only_read = did.read;
+      calls = subst (λ d. FormReads (facts store.disk) (facts d) store.entries (question_of c.args.form.now)) back did.calls;
       back = c.into_disk.ensures;
       ends = λ s at. subst (λ d. FormEnds facts store d s (question_of c.args.form.now) io status) back (did.ends s at);
       told = subst (λ d. FormTells (facts store.disk) (facts d) (question_of c.args.form.now) io status) back did.told;

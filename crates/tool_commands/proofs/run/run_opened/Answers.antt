@@ -1,7 +1,8 @@
 use Rattle.std.proofs.Common.{sym, subst}
 use Rattle.store.proofs.IsReadLemmas.{read_none}
 use Rattle.tool_commands.specs.AnyDisk.{FormTells}
-use Rattle.tool_commands.specs.Ends.{FileEnds, FormEnds}
+use Rattle.sector_disk.proofs.Moments.{exactly_none}
+use Rattle.tool_commands.specs.Ends.{FileEnds, FormEnds, FormReads}
 use Rattle.tool_commands.specs.Form.{question_of}
 use Rattle.tool_parts.specs.Streams.{Streams}
 use Rattle.tool_commands.proofs.run.run_opened.Goals as goal
@@ -109,3 +110,23 @@ returns-in-Dump-clause-told g c =
       errors_after = g.E.Write.contents c.run_dump.new.errors;
     } in
     subst (λ f. FormTells (g.D.Disk.facts c.args.contents.now.disk) (g.D.Disk.facts c.run_dump.new.contents.disk) (question_of f) io c.run_dump.result) (sym c.in-Dump.is) c.run_dump.ensures.told
+
+pub returns-in-Info-clause-calls : goal.returns-in-Info-clause-calls
+returns-in-Info-clause-calls g c =
+    subst (λ f. FormReads (g.D.Disk.facts c.args.contents.now.disk) (g.D.Disk.facts c.args.contents.now.disk) c.args.contents.now.entries (question_of f)) (sym c.in-Info.is) (exactly_none (g.D.Disk.facts c.args.contents.now.disk))
+
+pub returns-in-Check-clause-calls : goal.returns-in-Check-clause-calls
+returns-in-Check-clause-calls g c =
+    subst (λ f. FormReads (g.D.Disk.facts c.args.contents.now.disk) (g.D.Disk.facts c.run_check.new.contents.disk) c.args.contents.now.entries (question_of f)) (sym c.in-Check.is) c.run_check.ensures.calls
+
+pub returns-in-Digest-clause-calls : goal.returns-in-Digest-clause-calls
+returns-in-Digest-clause-calls g c =
+    subst (λ f. FormReads (g.D.Disk.facts c.args.contents.now.disk) (g.D.Disk.facts c.run_digest.new.contents.disk) c.args.contents.now.entries (question_of f)) (sym c.in-Digest.is) c.run_digest.ensures.calls
+
+pub returns-in-File-clause-calls : goal.returns-in-File-clause-calls
+returns-in-File-clause-calls g c =
+    subst (λ f. FormReads (g.D.Disk.facts c.args.contents.now.disk) (g.D.Disk.facts c.run_file.new.contents.disk) c.args.contents.now.entries (question_of f)) (sym c.in-File.is) tt
+
+pub returns-in-Dump-clause-calls : goal.returns-in-Dump-clause-calls
+returns-in-Dump-clause-calls g c =
+    subst (λ f. FormReads (g.D.Disk.facts c.args.contents.now.disk) (g.D.Disk.facts c.run_dump.new.contents.disk) c.args.contents.now.entries (question_of f)) (sym c.in-Dump.is) tt

@@ -9,7 +9,7 @@ use Rattle.tool_commands.specs.declared.sound.Lack.{Lack}
 use Rattle.tool_commands.specs.inside.Lack.{IsLack}
 use Rattle.tool_commands.proofs.sound.sound_file.Goals as goal
 
--- what was tested is the library
+-- The file was tested as the library `l`, which has its name and its bytes.
 module _ (l : Library) (name file : List ℕ) (named : name ≡ l.name) (filed : file ≡ l.bytes) where
   abbrev tested : Library
   tested = record { name = name; bytes = file }

@@ -21,10 +21,11 @@ returns-in-Ok g c =
         c.requires,
         inr (
           (c.in-Ok.ensures.ok s at).are,
+          c.in-Ok.ensures.all_calls s at,
           state-tells s c.args.program.now c.args.base c.in-Ok.found io c.tell_found.result (c.in-Ok.ensures.ok s at) c.tell_found.ensures,
         ),
       );
-      told = inr (inr (c.in-Ok.found, c.tell_found.ensures));
+      told = inr (inr (c.in-Ok.found, c.in-Ok.ensures.calls, c.tell_found.ensures));
     }
 
 pub returns-in-Err : goal.returns-in-Err

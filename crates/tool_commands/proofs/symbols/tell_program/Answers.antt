@@ -25,6 +25,6 @@ returns-in-Err g c =
     let said = subst (λ r. SaysRefusal r io c.say_refused.result) c.from.ensures (c.say_refused.ensures.status, refl, c.say_refused.ensures.said) in
     record {
       read = read_none c.args.registry.now;
-      ends = λ s at. inl (c.in-Err.refusal, c.in-Err.ensures.refused, said);
-      told = inl (c.in-Err.refusal, c.in-Err.ensures.refused, said);
+      ends = λ s at. inl (refl, (c.in-Err.refusal, c.in-Err.ensures.refused, said));
+      told = inl (refl, (c.in-Err.refusal, c.in-Err.ensures.refused, said));
     }

@@ -1,13 +1,13 @@
-// The same calls on a disk over a file and on one in memory.
+// The same calls on a disk over a file and on a disk in memory.
 
 use crate::disks::alike::{are_same, call_both};
 use crate::disks::files::fake::{Fake, Plan, WELL, disk, reopened};
 use crate::disks::stops::{fill, is_filled, read, write};
-use file_disk::{FileDisk, FilePlan, MemoryFile, OpenFault, Turn};
+use file_disk::{CallOutcome, FileDisk, FilePlan, MemoryFile, OpenFault};
 use sector_disk::{Disk, Memory};
 use std::alloc::Global;
 
-// Whether the file, opened again, holds what the disk in memory does.
+// Returns whether the file, after it is opened again, has the same contents as the disk in memory.
 fn holds(alloc: Global, file: Fake, memory: &mut Memory) -> bool {
     match reopened(alloc, file) {
         Some(mut again) => are_same(&mut again, memory),
@@ -15,8 +15,8 @@ fn holds(alloc: Global, file: Fake, memory: &mut Memory) -> bool {
     }
 }
 
-// Whether a disk over a file of such a plan answers so many calls as this one in memory does, and
-// keeps the same.
+// Returns whether a disk over a file with this plan answers `calls` calls as the disk in memory
+// does, and whether the file keeps the same contents.
 fn is_as(alloc: Global, memory: &mut Memory, plan: Plan, calls: u32) -> bool {
     let Some(mut file) = disk(alloc, memory.sectors(), plan) else {
         return false;
@@ -29,7 +29,8 @@ fn is_as(alloc: Global, memory: &mut Memory, plan: Plan, calls: u32) -> bool {
     alike && synced && all_synced && held
 }
 
-// Whether it is as a disk in memory of so many sectors.
+// Returns whether a disk over a file with this plan behaves as a disk in memory of `sectors`
+// sectors does.
 fn is_as_memory(alloc: Global, sectors: u32, plan: Plan, calls: u32) -> bool {
     match Memory::new(alloc, sectors) {
         Ok(mut memory) => is_as(alloc, &mut memory, plan, calls),
@@ -49,8 +50,8 @@ fn the_buffers_give_what_a_disk_in_memory_gives(rt: HostRuntime) {
     assert!(rt; small && large);
 }
 
-// Reads a file of 5,000 sectors, and its first 129 once more: how many calls that takes, if they
-// are as they were filled.
+// Reads a file of 5,000 sectors, and then its first 129 once more. Returns the number of calls of
+// the file, if each sector has the content with which it was filled.
 fn read_all(alloc: Global, file: Fake) -> Option<u64> {
     let mut disk = reopened(alloc, file)?;
     let mut filled = disk.sectors() == 5_000 && is_filled(&mut disk);
@@ -61,15 +62,15 @@ fn read_all(alloc: Global, file: Fake) -> Option<u64> {
     filled.then_some(reads)
 }
 
-// Such a file, which was filled.
+// Makes a file of 5,000 sectors, and fills each with its number modulo 251.
 fn filled(alloc: Global) -> Option<Fake> {
     let mut disk = disk(alloc, 5_000, WELL)?;
     let filled = fill(&mut disk) && disk.sync().is_ok();
     filled.then_some(disk.into_file())
 }
 
-// Fills such a file: how many writes that takes, how many there were when it was synced, how many
-// reads that takes, and then how many to read it all.
+// Fills a file of 5,000 sectors. Returns four numbers: the writes, the writes before the sync, the
+// reads while it was filled, and the reads that reading the whole file takes afterwards.
 fn fill_and_read(alloc: Global) -> Option<[u64; 4]> {
     let file = filled(alloc)?;
     let [writes, synced, reads] = [file.writes, file.synced, file.reads];
@@ -79,12 +80,13 @@ fn fill_and_read(alloc: Global) -> Option<[u64; 4]> {
 
 #[test]
 fn neighbours_go_out_together_and_are_read_together(rt: HostRuntime) {
-    // 19 writes of 128 KiB, one of the rest, and then the sync. Reads of 8, 16, .. 128 sectors,
-    // then 18 of 256, then of the rest; where it goes back one of 128, and one more.
+    // Filling makes 19 writes of 128 KiB and one of the rest, and then the sync. Reading makes
+    // reads of 8, 16, .. 128 sectors, 18 reads of 256, and one of the rest. After the return to the
+    // first sector, it makes one read of 128 sectors, and one more.
     assert!(rt; fill_and_read(rt.alloc()) == Some([20, 20, 0, 26]));
 }
 
-// What sectors 3 and 4 hold when the file is opened again.
+// Returns the contents of sectors 3 and 4 after the file is opened again.
 fn three_and_four(alloc: Global, file: Fake) -> [Option<u8>; 2] {
     match reopened(alloc, file) {
         Some(mut again) => [read(&mut again, 3), read(&mut again, 4)],
@@ -92,8 +94,8 @@ fn three_and_four(alloc: Global, file: Fake) -> [Option<u8>; 2] {
     }
 }
 
-// Writes the sectors 3 and 4, syncs them, and writes 4 anew: what that reads as, if all goes
-// through.
+// Writes sectors 3 and 4, makes a sync, and writes sector 4 again. Returns the content that sector
+// 4 then has, if all calls succeed.
 fn write_and_wait<D: Disk>(disk: &mut D) -> Option<u8> {
     let written = write(disk, 3, 7) && write(disk, 4, 8);
     let synced = disk.sync().is_ok() && write(disk, 4, 9);
@@ -101,7 +103,8 @@ fn write_and_wait<D: Disk>(disk: &mut D) -> Option<u8> {
     if written && synced { waits } else { None }
 }
 
-// What waits then, what the file has in sector 3, and what both hold when it is opened again.
+// Returns the buffered content of sector 4, the file's content of sector 3, and the contents of
+// both after the file is opened again.
 fn waiting_and_kept(alloc: Global) -> Option<[Option<u8>; 4]> {
     let mut first = disk(alloc, 8, WELL)?;
     let waits = write_and_wait(&mut first);
@@ -117,7 +120,8 @@ fn what_is_not_synced_is_lost_and_what_is_stays(rt: HostRuntime) {
     assert!(rt; waiting_and_kept(rt.alloc()) == Some(wanted));
 }
 
-// Sectors of an honest file, the call of it that fails, and how many sectors the disk over it has.
+// The number of sectors of an honest file, the call of it that fails, and the result of making a
+// disk over it: its number of sectors, or the fault.
 const OVER: [(u32, u64, Result<u32, OpenFault>); 5] = [
     (0, 0, Ok(0)),
     (1, 0, Ok(1)),
@@ -126,15 +130,16 @@ const OVER: [(u32, u64, Result<u32, OpenFault>); 5] = [
     (8, 1, Err(OpenFault::CannotOpen)),
 ];
 
-// How many sectors the disk over such a file has.
+// Makes a disk over a file of `sectors` sectors, whose call number `call` fails. Returns the disk's
+// number of sectors.
 fn over(alloc: Global, sectors: u32, call: u64) -> Result<u32, OpenFault> {
-    let turn = Turn {
+    let outcome = CallOutcome {
         most: 0,
         fails: true,
     };
     let plan = FilePlan {
         call,
-        turn,
+        outcome,
         forever: false,
     };
     let file = MemoryFile::new(Memory::new(alloc, sectors)?, plan);
@@ -142,7 +147,7 @@ fn over(alloc: Global, sectors: u32, call: u64) -> Result<u32, OpenFault> {
     Ok(disk.sectors())
 }
 
-// The first line of the table that is answered otherwise.
+// Returns the index of the first line of the table with another result.
 fn over_otherwise(alloc: Global) -> Option<usize> {
     for (line, (sectors, call, answer)) in OVER.iter().enumerate() {
         if over(alloc, *sectors, *call) != *answer {

@@ -6,7 +6,8 @@ use file_disk::FileDisk;
 use sector_disk::Disk;
 use std::alloc::Global;
 
-// Writes, syncs and writes again; then nothing may succeed that fails once.
+// Makes eight calls: writes, syncs, and more writes. Returns which of them succeed. After the first
+// failure, no write and no sync may succeed.
 fn eight_calls(disk: &mut FileDisk<Fake>) -> [bool; 8] {
     [
         write(disk, 1, 11),
@@ -20,12 +21,12 @@ fn eight_calls(disk: &mut FileDisk<Fake>) -> [bool; 8] {
     ]
 }
 
-// What the sectors 1, 2, 3 and 6 hold.
+// Returns the contents of sectors 1, 2, 3 and 6.
 fn four_sectors(disk: &mut FileDisk<Fake>) -> [Option<u8>; 4] {
     [read(disk, 1), read(disk, 2), read(disk, 3), read(disk, 6)]
 }
 
-// Whether these are the first calls, so many, and no other.
+// Returns whether exactly the first `count` calls succeeded.
 fn are_first(done: [bool; 8], count: usize) -> bool {
     for (call, is_done) in done.iter().enumerate() {
         if *is_done != (call < count) {
@@ -35,12 +36,13 @@ fn are_first(done: [bool; 8], count: usize) -> bool {
     true
 }
 
-// Whether a sector that held zeros and was written is old or new.
+// Returns whether a sector that was written over zeros has zeros or the new content.
 fn is_old_or_new(found: Option<u8>, new: u8) -> bool {
     found == Some(0) || found == Some(new)
 }
 
-// Whether the file, opened again, holds each of these sectors old or new, and works.
+// Returns whether each written sector of the file, after it is opened again, has its old or its new
+// content, and whether the file can be written again.
 fn works_again(alloc: Global, file: Fake) -> bool {
     let Some(mut again) = reopened(alloc, file) else {
         return false;
@@ -54,8 +56,9 @@ fn works_again(alloc: Global, file: Fake) -> bool {
         && is_old_or_new(six, 16)
 }
 
-// Whether the calls of the disk fail from this one on where this call of the file fails, and its
-// sectors then read so: none that waits nowhere is read.
+// Makes call number `fails` of the file fail. Returns whether the disk's calls fail from call
+// number `failed` on, and whether its sectors then have `contents`. Only a sector in the buffer can
+// still be read.
 fn fails_so(alloc: Global, fails: u64, failed: usize, contents: [Option<u8>; 4]) -> bool {
     let Some(mut disk) = disk(alloc, 8, Plan { fails, ..WELL }) else {
         return false;
@@ -66,10 +69,12 @@ fn fails_so(alloc: Global, fails: u64, failed: usize, contents: [Option<u8>; 4])
     done && read && again
 }
 
-// After the call of the opening the file's calls are: length and write of sectors 1 and 2; write
-// of 6; length and write of 4, and sync; length and write of 3, and sync; length and sync. Each
-// line has the call that fails; the call of the disk that fails then, counted from 0; and how
-// sectors 1, 2, 3 and 6 read after it: a sector that waited stays readable.
+// After the opening, the calls of the file are: length and write of sectors 1 and 2; write of 6;
+// length and write of 4, and sync; length and write of 3, and sync; length and sync.
+//
+// Each line has the number of the file's call that fails, and the first call of the disk that then
+// fails, counted from 0. The contents of sectors 1, 2, 3 and 6 afterwards follow. A sector in the
+// buffer can still be read.
 const CALLS: [(u64, usize, [Option<u8>; 4]); 12] = [
     (2, 2, [Some(11), Some(12), None, None]),
     (3, 2, [Some(11), Some(12), None, None]),
@@ -85,7 +90,7 @@ const CALLS: [(u64, usize, [Option<u8>; 4]); 12] = [
     (0, 8, [Some(11), Some(12), Some(13), Some(16)]),
 ];
 
-// The first call of the table that fails otherwise.
+// Returns the number of the first failing call in the table that has another effect.
 fn fails_otherwise(alloc: Global) -> Option<u64> {
     for (fails, failed, contents) in &CALLS {
         if !fails_so(alloc, *fails, *failed, *contents) {
@@ -100,16 +105,16 @@ fn a_failure_is_that_of_its_call_and_of_all_later_ones(rt: HostRuntime) {
     assert!(rt; fails_otherwise(rt.alloc()) == None);
 }
 
-// What sector 0 and then this one hold on a disk over such a file, and whether sector 1 is written
-// and synced then.
+// Reads sector 0 and then sector `second` of a disk over a file with this plan. Returns their
+// contents, and whether sector 1 can then be written and synced.
 fn read_and_write(alloc: Global, plan: Plan, second: u32) -> Option<([Option<u8>; 2], bool)> {
     let mut disk = disk(alloc, 8, plan)?;
     let reads = [read(&mut disk, 0), read(&mut disk, second)];
     Some((reads, write(&mut disk, 1, 5) && disk.sync().is_ok()))
 }
 
-// A read that fails halfway gives the sectors before it: the third call of the file reads sector 1,
-// and the fourth fails.
+// A read that fails halfway returns the sectors before the failure. The third call of the file
+// reads sector 1, and the fourth fails.
 #[test]
 fn a_read_that_fails_halfway_gives_what_it_read(rt: HostRuntime) {
     let plan = Plan {

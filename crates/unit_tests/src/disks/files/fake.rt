@@ -1,4 +1,4 @@
-// A file in memory, whose calls are counted, are cut short, are interrupted and fail.
+// A file in memory. Its calls are counted, and can be shortened, interrupted, or made to fail.
 ghost use Rattle.file_disk.specs.SectorFile.{unknown_file};
 ghost use Rattle.std.specs.Prelude.{false};
 
@@ -8,14 +8,14 @@ use std::alloc::Global;
 use std::io;
 use std::io::ErrorKind;
 
-/// What befalls the calls of a file.
+/// The ways in which the calls of a file are disturbed.
 #[derive(Clone, Copy)]
 pub(crate) struct Plan {
-    /// How many sectors a read or a write moves at most.
+    /// The maximum number of sectors that a read or a write transfers.
     pub(crate) most: usize,
     /// Whether a signal interrupts every second read and write.
     pub(crate) interrupts: bool,
-    /// The number of the call that fails, counted from 1, which is the opening's; 0 for none.
+    /// The number of the call that fails, or 0 if none fails. The opening is call number 1.
     pub(crate) fails: u64,
 }
 
@@ -31,14 +31,14 @@ pub(crate) struct Fake {
     plan: Plan,
     pub(crate) reads: u64,
     pub(crate) writes: u64,
-    /// How many writes there had been when it was last synced.
+    /// The number of writes that were made up to the last sync.
     pub(crate) synced: u64,
     turn: bool,
     calls: u64,
 }
 
 impl Fake {
-    /// A file of so many sectors of zeros.
+    /// Makes a file of `sectors` sectors of zeros.
     pub(crate) fn of(alloc: Global, sectors: u32, plan: Plan) -> Option<Fake> {
         Some(Fake {
             sectors: vec![in alloc; [0; SECTOR_BYTES]; sectors as usize].ok()?,
@@ -60,7 +60,8 @@ impl Fake {
         }
     }
 
-    // A read or a write begins: a signal may interrupt it, and it may be the call that fails.
+    // Begins a read or a write. It is interrupted if the plan says so, and fails if it is the
+    // failing call.
     fn begin(&mut self) -> io::Result<()> {
         self.turn = !self.turn;
         if self.plan.interrupts && self.turn {
@@ -70,7 +71,7 @@ impl Fake {
     }
 }
 
-/// Nothing is claimed of it.
+/// A file for tests. Its contracts say nothing about its contents.
 impl SectorFile for Fake {
     ghost is_honest = { false };
 
@@ -82,9 +83,10 @@ impl SectorFile for Fake {
 
     fn count_sectors(&mut self) -> Result<u32, OpenFault> {
         match self.call() {
-            Ok(()) => u32::try_from(self.sectors.len())
-                .ok()
-                .ok_or(OpenFault::BadLength),
+            Ok(()) => match u32::try_from(self.sectors.len()) {
+                Ok(sectors) => Ok(sectors),
+                Err(_) => Err(OpenFault::CannotOpen),
+            },
             Err(_) => Err(OpenFault::CannotOpen),
         }
     }
@@ -116,12 +118,12 @@ impl SectorFile for Fake {
     }
 }
 
-/// The disk over a file that is there.
+/// Opens a disk over an existing file.
 pub(crate) fn reopened(alloc: Global, file: Fake) -> Option<FileDisk<Fake>> {
     FileDisk::over(alloc, file).ok()
 }
 
-/// A disk over a new file of zeros.
+/// Makes a disk over a new file of `sectors` sectors of zeros.
 pub(crate) fn disk(alloc: Global, sectors: u32, plan: Plan) -> Option<FileDisk<Fake>> {
     reopened(alloc, Fake::of(alloc, sectors, plan)?)
 }

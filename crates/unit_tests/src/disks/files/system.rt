@@ -6,18 +6,18 @@ use sector_disk::Disk;
 use std::fs;
 use std::fs::File;
 
-// What opening answers: how many sectors there are.
+// Opens a file. Returns its number of sectors.
 fn sectors(rt: &HostRuntime, path: &str) -> Result<u32, OpenFault> {
     let disk: FileDisk<DiskFile> = FileDisk::open(rt, rt.alloc(), path, Access::Changes)?;
     Ok(disk.sectors())
 }
 
-// A disk of eight sectors over a new file, which gets its name at once, or over one that has as
-// many.
+// Makes a disk of eight sectors over a new file, which has its name from the beginning, or over an
+// existing file of the same size.
 fn make(rt: &HostRuntime, path: &str) -> Result<FileDisk<DiskFile>, OpenFault> {
     let Made { disk, name } = FileDisk::make(rt, rt.alloc(), path, 8)?;
     let is_named = match name {
-        Some(name) => name.give(rt).is_ok(),
+        Some(name) => name.publish(rt).is_ok(),
         None => true,
     };
     if is_named {
@@ -27,13 +27,13 @@ fn make(rt: &HostRuntime, path: &str) -> Result<FileDisk<DiskFile>, OpenFault> {
     }
 }
 
-// Makes a folder anew.
+// Makes an empty folder, and removes an older one.
 fn make_folder(rt: &HostRuntime, path: &str) -> bool {
     let _ = fs::remove_dir_all(rt, path);
     fs::create_dir(rt, path).is_ok()
 }
 
-// Makes a file of so many zeros, or leaves so many bytes of one.
+// Makes a file of `length` zeros, or sets the length of an existing file to `length`.
 fn set_length(rt: &HostRuntime, path: &str, length: u64) -> bool {
     let Ok(file) = File::create(rt, path) else {
         return false;
@@ -41,7 +41,8 @@ fn set_length(rt: &HostRuntime, path: &str, length: u64) -> bool {
     file.set_len(length).is_ok()
 }
 
-// Whether a file has so many bytes, each of sector 1 of this value and the others zero.
+// Returns whether a file has `length` bytes, of which those of sector 1 have the value `content`
+// and all others are zeros.
 fn is_file(rt: &HostRuntime, path: &str, length: usize, content: u8) -> bool {
     let Ok(bytes) = fs::read(rt, path) else {
         return false;
@@ -55,13 +56,15 @@ fn is_file(rt: &HostRuntime, path: &str, length: usize, content: u8) -> bool {
     bytes.len() == length
 }
 
-// Makes a disk of eight sectors of which sector 1 holds fives: whether that succeeds.
+// Makes a disk of eight sectors, and fills sector 1 with the value 5. Returns whether that
+// succeeds.
 fn make_of_five(rt: &HostRuntime, path: &str) -> Result<bool, OpenFault> {
     let mut disk = make(rt, path)?;
     Ok(write(&mut disk, 1, 5) && disk.sync().is_ok())
 }
 
-// Opens such a disk for reading: whether it reads and syncs, and whether it syncs after a write.
+// Opens this disk for reading. Returns whether it can be read and synced and buffers a write, and
+// whether a sync after the write succeeds.
 fn read_and_write(rt: &HostRuntime, path: &str) -> Result<(bool, bool), OpenFault> {
     let mut disk: FileDisk<DiskFile> = FileDisk::open(rt, rt.alloc(), path, Access::Reading)?;
     let reads = disk.sectors() == 8 && disk.sync().is_ok() && read(&mut disk, 1) == Some(5);
@@ -88,8 +91,9 @@ fn a_disk_that_is_opened_for_reading_is_not_written(rt: HostRuntime) {
     assert!(rt; begun && kept && ended && right && closed);
 }
 
-// Makes a disk, writes sector 1, and leaves three sectors of its file and half of one: what the
-// sectors 1 to 4 hold then, and whether a sync and a write succeed; the write waits.
+// Makes a disk, writes sector 1, and truncates the disk's file to three and a half sectors. Returns
+// the contents that sectors 1 to 4 then have, and whether a sync and a write succeed. The first
+// write is still in the buffer.
 fn cut(rt: &HostRuntime, path: &str) -> Result<([Option<u8>; 4], [bool; 2]), OpenFault> {
     let mut disk = make(rt, path)?;
     let begun = write(&mut disk, 1, 5) && set_length(rt, path, 3 * 512 + 256);
@@ -114,8 +118,8 @@ fn a_file_that_was_cut_is_not_written(rt: HostRuntime) {
     assert!(rt; begun && kept && ended && lost);
 }
 
-// What is written to a disk of eight sectors, how many bytes its file then has, and which sector
-// is written next; if none is, the disk is synced.
+// The sectors that are written on a disk of eight sectors, the length in bytes to which its file is
+// then set, and the sector that is written next. If there is no such sector, a sync is next.
 const RESIZED: [(&[u32], u64, Option<u32>); 7] = [
     (&[], 512, None),
     (&[1, 4], 512, None),
@@ -126,8 +130,8 @@ const RESIZED: [(&[u32], u64, Option<u32>); 7] = [
     (&[1], 9 * 512, Some(4)),
 ];
 
-// Makes and syncs a disk, writes these sectors, and gives its file another length: the disk, if all
-// of that was done.
+// Makes and syncs a disk, writes the sectors `before`, and changes the length of its file. Returns
+// the disk, if all of that succeeded.
 fn resized(
     rt: &HostRuntime,
     path: &str,
@@ -143,7 +147,7 @@ fn resized(
     Ok((begun && is_resized).then_some(disk))
 }
 
-// Whether the next call of such a disk fails, and its file has only zeros then.
+// Returns whether the disk's next call fails, and its file then has only zeros.
 fn is_seen(
     rt: &HostRuntime,
     path: &str,
@@ -161,7 +165,7 @@ fn is_seen(
     Ok(!done && is_file(rt, path, length as usize, 0))
 }
 
-// The first case whose next call doesn't fail, or writes into the file.
+// Returns the first case whose next call succeeds, or writes into the file.
 fn unseen(rt: &HostRuntime, folder: &str, path: &str) -> Option<usize> {
     for (case, (before, length, next)) in RESIZED.iter().enumerate() {
         let begun = make_folder(rt, folder);
@@ -180,8 +184,8 @@ fn a_file_that_was_cut_or_grew_is_not_written(rt: HostRuntime) {
     assert!(rt; (case, ended) == (None, true));
 }
 
-// Cuts a file between two writes before a sync, neither of which reaches its end: whether the
-// second write and then the sync succeed.
+// Truncates a file between two writes before a sync, neither of which reaches the file's end.
+// Returns whether the second write and then the sync succeed.
 fn cut_between(rt: &HostRuntime, path: &str) -> Result<(bool, bool), OpenFault> {
     let Some(mut disk) = resized(rt, path, &[1, 4], 512)? else {
         return Ok((false, true));
@@ -198,7 +202,7 @@ fn a_cut_between_two_writes_is_seen_by_the_sync(rt: HostRuntime) {
     assert!(rt; begun && ended && answers == Ok((true, false)));
 }
 
-// What can't be opened, and what can't be made.
+// The paths that can't be opened, and the paths that can't be made.
 const OPENED: [&str; 5] = [
     "/dev/full",
     "/dev/null",
@@ -213,19 +217,22 @@ const MADE: [&str; 3] = [
     "file_disk_test_refused/none/disk",
 ];
 
-// Lengths of files, and how a disk over one is opened.
+// The lengths of files, and the result of opening a disk over each.
 const LENGTHS: [(u64, Result<u32, OpenFault>); 8] = [
     (0, Ok(0)),
-    (511, Err(OpenFault::BadLength)),
+    (511, Err(OpenFault::BadLength(511))),
     (512, Ok(1)),
     (7 * 512, Ok(7)),
-    (8 * 512 + 1, Err(OpenFault::BadLength)),
+    (8 * 512 + 1, Err(OpenFault::BadLength(8 * 512 + 1))),
     (4_194_305 * 512, Ok(4_194_305)),
     (4_294_967_295 * 512, Ok(u32::MAX)),
-    (4_294_967_296 * 512, Err(OpenFault::BadLength)),
+    (
+        4_294_967_296 * 512,
+        Err(OpenFault::BadLength(4_294_967_296 * 512)),
+    ),
 ];
 
-// The first that is opened or made otherwise.
+// Returns the first path that is opened or made with another result.
 fn opened_otherwise(rt: &HostRuntime) -> Option<&'static str> {
     for path in &OPENED {
         if sectors(rt, path) != Err(OpenFault::CannotOpen) {
@@ -240,7 +247,7 @@ fn opened_otherwise(rt: &HostRuntime) -> Option<&'static str> {
     None
 }
 
-// The first length that is answered otherwise.
+// Returns the first length with another result.
 fn measured_otherwise(rt: &HostRuntime, path: &str) -> Option<u64> {
     for (length, answer) in &LENGTHS {
         if !set_length(rt, path, *length) || sectors(rt, path) != *answer {

@@ -7,7 +7,7 @@ use Rattle.updates.specs.inside.Committed.{commit_result}
 use Rattle.updates.proofs.Ended.{all, by_commit, by_fault, by_memory, by_refusal}
 use Rattle.updates.proofs.run.run_opened.Goals as goal
 
--- of the draft that was begun, and of the bytes that the pages have, and so of the registry and of the reader
+-- a fact about the begun draft and the bytes of the pages is a fact about the registry and the reader
 begins : {A B : Type 0} (P : A → B → Type 0) (a a' : A) (b b' : B) → a ≡ a' → b ≡ b' → P a b → P a' b'
 begins P a a' b b' same_a same_b h = subst (P a') same_b (subst (λ x. P x b) same_a h)
 

@@ -7,7 +7,7 @@ use Rattle.contents.proofs.contents.Contents.digest.Goals as goal
 other : {T E : Type 0} (t : T) (e : E) → ◌≡◌ {A = Result T E} (Ok t) (Err e) → ⊥
 other t e h = cc
 
--- an error of a result of another type
+-- if two errors are equal in results of one type, they are equal in results of another type
 again : {T U E : Type 0} (e f : E) → ◌≡◌ {A = Result T E} (Err e) (Err f) → ◌≡◌ {A = Result U E} (Err e) (Err f)
 again {T = T} {U = U} {E = E} e f h =
     let same : e ≡ f = cc in

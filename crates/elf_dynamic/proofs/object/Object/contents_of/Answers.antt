@@ -2,7 +2,8 @@ use Rattle.std.proofs.Common.{◌≡◌, ℕ, ◌+◌, ◌-◌, List, take, drop
 use Rattle.std.proofs.lemmas.Grind.{common_steps}
 use Rattle.elf_dynamic.proofs.object.Object.contents_of.Goals as goal
 
--- a segment's bytes, as far as the file has them
+-- the bytes that the code slices from the file are `size` bytes from `offset`, or those of them that the
+-- file has
 front : (file : List ℕ) (offset size start n : ℕ) → start ≡ min offset (length file) → n ≡ min size (length file - start)
     → take (start + n - start) (drop start file) ≡ take size (drop offset file)
 front file offset size start n s e = grind (arith, common_steps)

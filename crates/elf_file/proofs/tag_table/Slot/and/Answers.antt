@@ -3,7 +3,7 @@ use Rattle.std.proofs.lemmas.Bool.Decides.{nat_tests}
 use Rattle.elf_file.specs.declared.tag_table.Slot.{Slot}
 use Rattle.elf_file.proofs.tag_table.Slot.and.Goals as goal
 
--- the value of the first entry is kept
+-- if the tag was present already, the slot keeps the value of its first entry
 kept : (n value first : ℕ) → n ≢ 0 → first ≡ (if n == 0 then value else first)
 kept n value first h =
     let some : (n == 0) ≡ false = grind (arith, nat_tests) in

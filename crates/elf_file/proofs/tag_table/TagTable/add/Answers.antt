@@ -10,13 +10,13 @@ use Rattle.elf_file.specs.inside.Tags.{place_of, slot_and, slot_more}
 use Rattle.elf_file.specs.declared.tag_table.Slot.{Slot}
 use Rattle.elf_file.proofs.tag_table.TagTable.add.Goals as goal
 
--- the tags in the order of their places
+-- the tags of the table, in the order of their places
 tags : List ℕ
 tags =
     DT_NEEDED ∷ DT_PLTRELSZ ∷ DT_HASH ∷ DT_STRTAB ∷ DT_SYMTAB ∷ DT_RELA ∷ DT_RELASZ ∷ DT_RELAENT ∷ DT_STRSZ ∷ DT_SYMENT
     ∷ DT_SONAME ∷ DT_SYMBOLIC ∷ DT_REL ∷ DT_PLTREL ∷ DT_JMPREL ∷ DT_FLAGS ∷ DT_RELR ∷ DT_VERSYM ∷ DT_VERDEF ∷ DT_VERNEED ∷ []
 
--- the tag of a place
+-- if a tag has the place k, it is element k of this list
 tag_at : (n k : ℕ) → place_of n ≡ Some k → get_or tags k 0 ≡ n
 unfolding tags
 tag_at n k at = grind (arith, nat_tests)
@@ -27,7 +27,7 @@ true-by e n h = grind (arith, nat_tests)
 false-by : (e : Entry) (n : ℕ) → e.tag ≢ n → has_tag n e ≡ false
 false-by e n h = grind (arith, nat_tests)
 
--- the slot of a place after one more entry with its tag
+-- the slot at the place of an entry's tag is right after the entry was added
 same-place : (slots : List Slot) (e : Entry) (n k : ℕ) (v d : Slot) → k < length slots → e.tag ≡ n → v ≡ slot_more e.value (get_or slots k (record { count = 0; value = 0 }))
     → get_or (set slots k v) k d ≡ slot_and n e (get_or slots k d)
 same-place slots e n k v d room is made =
@@ -36,7 +36,7 @@ same-place slots e n k v d room is made =
     ∙ ap (slot_more e.value) (get_or_default slots k (record { count = 0; value = 0 }) d room)
     ∙ sym (ap (λ b. cond b (slot_more e.value (get_or slots k d)) (get_or slots k d)) (true-by e n is))
 
--- the slot of another place
+-- the slot at any other place is right after the entry was added, unchanged
 other-place : (slots : List Slot) (e : Entry) (n j k : ℕ) (v d : Slot) → k ≢ j → e.tag ≢ n → get_or (set slots j v) k d ≡ slot_and n e (get_or slots k d)
 other-place slots e n j k v d other not-it =
     get_or-set_other slots j k v d other ∙ sym (ap (λ b. cond b (slot_more e.value (get_or slots k d)) (get_or slots k d)) (false-by e n not-it))

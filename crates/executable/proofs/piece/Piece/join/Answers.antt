@@ -4,7 +4,7 @@ use Rattle.std.proofs.Common.{ap, arith}
 use Rattle.std.proofs.lemmas.Grind.{common_steps}
 use Rattle.executable.proofs.piece.Piece.join.Goals as goal
 
--- the contents are by lemmas, all else by what was assigned
+-- the new contents follow from lemmas about lists, everything else from the assignments
 pub returns : goal.returns
 returns c =
     let own = c.self.inside in

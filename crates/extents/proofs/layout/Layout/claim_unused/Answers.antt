@@ -50,7 +50,7 @@ cut-requires-clause-room c = λ front back. omega (
       (found (goal.at.cut-requires-clause-room c).After-place_of-place).1 front back,
 )
 
--- the flags are written
+-- cutting the extent out of the runs sets the extent's flags
 written : (c : After-place_of-place) (items : List Extent) → items ≡ cut_at c.place_of-place.result c.args.extent c.self.inside.runs.items
     → flags_of c.self.inside.sectors items ≡ with_flag true c.args.extent c.args.self.now
 written c items is =

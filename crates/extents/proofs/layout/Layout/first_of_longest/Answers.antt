@@ -8,7 +8,7 @@ use Rattle.extents.proofs.UnusedFlags.{unused_runs-flags_of}
 use Rattle.extents.proofs.layout.Layout.first_of_longest.Goals as goal
 use Rattle.extents.proofs.layout.Layout.first_of_longest.Goals.{After-front_of}
 
--- the run is the first of the longest
+-- the run is the first of the longest ones
 first_is : (c : After-front_of) → longest_runs c.args.self.now ≡ c.in-Some.run' ∷ take 31 c.in-Some.ensures.0
 first_is c =
     sym (ap (λ runs. take 32 (longest_first runs)) (c.as_slice.ensures ∙ sym (unused_runs-flags_of c.self.inside.sectors c.self.inside.runs.items c.self.invariant.apart))

@@ -19,7 +19,7 @@ place c = let found = c.place_of-place.ensures in subst (λ runs. IsPlace runs c
 inside : (c : After-place_of-place) → IsInside (flags_of c.self.inside.sectors c.self.inside.runs.items) c.args.extent
 inside c = subst (λ flags. IsInside flags c.args.extent) (sym c.self.view_is) c.requires
 
--- the run that is read, where there is one
+-- the run that is read, if there is one
 abbrev run_at : After-place_of-place → Extent
 run_at c = get_or c.as_slice-runs.result.now c.place_of-place.result nothing
 

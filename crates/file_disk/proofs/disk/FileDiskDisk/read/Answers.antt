@@ -11,8 +11,8 @@ use Rattle.file_disk.proofs.disk.FileDiskDisk.read.Goals as goal
 pub invariant_of-self : goal.invariant_of-self
 invariant_of-self g c =
     let self = c.args.self.now in
-    let b = c.fetch-reply.new.self in
-    let fetched = c.fetch-reply.ensures in
+    let b = c.read-reply.new.self in
+    let fetched = c.read-reply.ensures in
     let holds : IsTrue g.F.SectorFile.is_honest → Holds b self.latest.items self.since.items =
     λ honest. read_on self.buffered b _ _ (holds_old self honest) honest fetched.sectors fetched.waits fetched.failed fetched.over (fetched.still honest) in
     let within : IsTrue g.F.SectorFile.is_honest → StaysWithin (Leaves self.buffered) (g.F.SectorFile.facts self.buffered.file) (g.F.SectorFile.facts b.file) =
@@ -32,8 +32,8 @@ invariant_of-self g c =
 pub returns-clause-honest : goal.returns-clause-honest
 returns-clause-honest g c honest =
     let self = c.args.self.now in
-    let b = c.fetch-reply.new.self in
-    let fetched = c.fetch-reply.ensures in
+    let b = c.read-reply.new.self in
+    let fetched = c.read-reply.ensures in
     let calls = c.end_call.new.self in
     let files = c.and-self.result in
     let past = c.and-self-2.result in
@@ -41,18 +41,18 @@ returns-clause-honest g c honest =
     record {
       past = keeps_past self b files calls self.latest self.since past fetched.sectors c.end_call.ensures.made c.and-self.ensures c.and-self-2.ensures;
       same = unchanged self b files calls self.latest self.since past fetched.sectors c.end_call.ensures.made c.and-self.ensures c.and-self-2.ensures refl refl;
-      ok = on_ok_weaker c.fetch-reply.result (λ given. ⊎_elim
-          (λ waits. self.waits honest c.args.at c.fetch-reply.new.into waits ∙ sym (read_of self c.args.at c.requires))
-          (λ kept. holds.kept c.args.at c.fetch-reply.new.into kept ∙ sym (read_of self c.args.at c.requires))
+      ok = on_ok_weaker c.read-reply.result (λ given. ⊎_elim
+          (λ waits. self.waits honest c.args.at c.read-reply.new.into waits ∙ sym (read_of self c.args.at c.requires))
+          (λ kept. holds.kept c.args.at c.read-reply.new.into kept ∙ sym (read_of self c.args.at c.requires))
           given) fetched.answer;
     }
 
 pub returns-clause-any_moment : goal.returns-clause-any_moment
 returns-clause-any_moment g c honest =
     let self = c.args.self.now in
-    let b = c.fetch-reply.new.self in
+    let b = c.read-reply.new.self in
     record {
       each =
-          covered self b c.and-self.result c.end_call.new.self self.latest self.since c.and-self-2.result c.fetch-reply.ensures.sectors c.end_call.ensures.made c.and-self.ensures c.and-self-2.ensures
-          honest (c.fetch-reply.ensures.still honest).within;
+          covered self b c.and-self.result c.end_call.new.self self.latest self.since c.and-self-2.result c.read-reply.ensures.sectors c.end_call.ensures.made c.and-self.ensures c.and-self-2.ensures
+          honest (c.read-reply.ensures.still honest).within;
     }

@@ -15,9 +15,9 @@ use Rattle.file_disk.proofs.disk.FileDiskDisk.sync.Goals.{then-is_ok, else-is_ok
 pub invariant_of-self : goal.invariant_of-self
 invariant_of-self g c =
     let self = c.args.self.now in
-    let reply = c.settle-reply.result in
-    let b = c.settle-reply.new.self in
-    let settled = c.settle-reply.ensures in
+    let reply = c.sync-reply.result in
+    let b = c.sync-reply.new.self in
+    let settled = c.sync-reply.ensures in
     let holds : IsTrue g.F.SectorFile.is_honest → Holds c.if-is_ok.self.1.0 c.if-is_ok.self.1.1.0.items c.if-is_ok.self.1.1.1.0.items =
     λ honest. elim c.if-is_ok.branch [
       | then-is_ok w ↦
@@ -30,13 +30,13 @@ invariant_of-self g c =
           let err : is_ok reply ≡ false = sym c.is_ok.ensures.value ∙ w.if-is_ok.false in
           subst (λ s. Holds s.1.0 s.1.1.0.items s.1.1.1.0.items) (sym w.self-is)
           (holds_failed self.buffered b _ _ (holds_old self honest) settled.sectors (at_err reply err settled.same) (at_err reply err (settled.err honest)).within
-          (settled.failed ∙ err_is reply err) settled.ahead)
+          (settled.failed ∙ err_is reply err) settled.read_ahead)
     ] in
     let facts = g.F.SectorFile.facts in
     let b_is : c.if-is_ok.self.1.0 ≡ b = elim c.if-is_ok.branch [ then-is_ok w ↦ ap (λ s. s.1.0) w.self-is | else-is_ok w ↦ ap (λ s. s.1.0) w.self-is ] in
     let within : IsTrue g.F.SectorFile.is_honest → StaysWithin (Leaves self.buffered) (facts self.buffered.file) (facts c.if-is_ok.self.1.0.file) =
     λ honest. subst (λ b. StaysWithin (Leaves self.buffered) (facts self.buffered.file) (facts b.file)) (sym b_is)
-    (either_of c.settle-reply.result (λ done. done.within) (λ refused. refused.within) (settled.ok honest) (settled.err honest)) in
+    (either_of c.sync-reply.result (λ done. done.within) (λ refused. refused.within) (settled.ok honest) (settled.err honest)) in
     record {
       counted = ap length c.and-self-2.ensures ∙ length_push self.past.items self.since ∙ ap (λ n. n + 1) self.counted ∙ sym c.end_call.ensures.made;
       shown = λ honest. (holds honest).shown;
@@ -52,9 +52,9 @@ invariant_of-self g c =
 pub returns-clause-honest : goal.returns-clause-honest
 returns-clause-honest g c honest =
     let self = c.args.self.now in
-    let reply = c.settle-reply.result in
-    let b = c.settle-reply.new.self in
-    let settled = c.settle-reply.ensures in
+    let reply = c.sync-reply.result in
+    let b = c.sync-reply.new.self in
+    let settled = c.sync-reply.ensures in
     let calls = c.end_call.new.self in
     let files = c.and-self.result in
     let past = c.and-self-2.result in
@@ -93,12 +93,12 @@ returns-clause-honest g c honest =
 pub returns-clause-any_moment : goal.returns-clause-any_moment
 returns-clause-any_moment g c honest =
     let self = c.args.self.now in
-    let b = c.settle-reply.new.self in
-    let settled = c.settle-reply.ensures in
+    let b = c.sync-reply.new.self in
+    let settled = c.sync-reply.ensures in
     let facts = g.F.SectorFile.facts in
     let b_is : c.if-is_ok.self.1.0 ≡ b = elim c.if-is_ok.branch [ then-is_ok w ↦ ap (λ s. s.1.0) w.self-is | else-is_ok w ↦ ap (λ s. s.1.0) w.self-is ] in
     let within : StaysWithin (Leaves self.buffered) (facts self.buffered.file) (facts b.file) =
-    either_of c.settle-reply.result (λ done. done.within) (λ refused. refused.within) (settled.ok honest) (settled.err honest) in
+    either_of c.sync-reply.result (λ done. done.within) (λ refused. refused.within) (settled.ok honest) (settled.err honest) in
     let stays = subst (λ b. StaysWithin (Leaves self.buffered) (facts self.buffered.file) (facts b.file)) (sym b_is) within in
     record {
       each =

@@ -15,28 +15,28 @@ use Rattle.file_disk.proofs.disk.FileDiskDisk.write.Goals.{then-is_ok, else-is_o
 pub invariant_of-self : goal.invariant_of-self
 invariant_of-self g c =
     let self = c.args.self.now in
-    let reply = c.gather-reply.result in
-    let b = c.gather-reply.new.self in
-    let gathered = c.gather-reply.ensures in
+    let reply = c.write-reply.result in
+    let b = c.write-reply.new.self in
+    let written = c.write-reply.ensures in
     let holds : IsTrue g.F.SectorFile.is_honest → Holds c.if-is_ok.self.1.0 c.if-is_ok.self.1.1.0.items c.if-is_ok.self.1.1.1.0.items =
     λ honest. elim c.if-is_ok.branch [
       | then-is_ok w ↦
           let ok : is_ok reply ≡ true = sym c.is_ok.ensures.value ∙ w.if-is_ok.true in
           let latest_is = w.and-self-then-is_ok.ensures ∙ ap (λ moments. moments ++ b ∷ []) w.new.ensures in
           subst (λ s. Holds s.1.0 s.1.1.0.items s.1.1.1.0.items) (sym w.self-is)
-          (holds_from b _ _ honest (gathered.failed ∙ ok_is reply ok) (g.met.F.SectorFile.holds_now b.file honest) latest_is
+          (holds_from b _ _ honest (written.failed ∙ ok_is reply ok) (g.met.F.SectorFile.holds_now b.file honest) latest_is
           (subst (λ moments. Contains moments b) (sym w.and-self-then-is_ok-2.ensures) (Contains-push self.since.items b)))
       | else-is_ok w ↦
           let err : is_ok reply ≡ false = sym c.is_ok.ensures.value ∙ w.if-is_ok.false in
           subst (λ s. Holds s.1.0 s.1.1.0.items s.1.1.1.0.items) (sym w.self-is)
-          (holds_failed self.buffered b _ _ (holds_old self honest) gathered.sectors (at_err reply err gathered.same) (at_err reply err (gathered.err honest)).within
-          (gathered.failed ∙ err_is reply err) (at_err reply err gathered.kept_err))
+          (holds_failed self.buffered b _ _ (holds_old self honest) written.sectors (at_err reply err written.same) (at_err reply err (written.err honest)).within
+          (written.failed ∙ err_is reply err) (at_err reply err written.kept_err))
     ] in
     let facts = g.F.SectorFile.facts in
     let b_is : c.if-is_ok.self.1.0 ≡ b = elim c.if-is_ok.branch [ then-is_ok w ↦ ap (λ s. s.1.0) w.self-is | else-is_ok w ↦ ap (λ s. s.1.0) w.self-is ] in
     let within : IsTrue g.F.SectorFile.is_honest → StaysWithin (Leaves self.buffered) (facts self.buffered.file) (facts c.if-is_ok.self.1.0.file) =
     λ honest. subst (λ b. StaysWithin (Leaves self.buffered) (facts self.buffered.file) (facts b.file)) (sym b_is)
-    (either_of c.gather-reply.result (λ put. put.within) (λ refused. refused.within) (gathered.ok honest) (gathered.err honest)) in
+    (either_of c.write-reply.result (λ put. put.within) (λ refused. refused.within) (written.ok honest) (written.err honest)) in
     record {
       counted = ap length c.and-self-2.ensures ∙ length_push self.past.items self.since ∙ ap (λ n. n + 1) self.counted ∙ sym c.end_call.ensures.made;
       shown = λ honest. (holds honest).shown;
@@ -52,9 +52,9 @@ invariant_of-self g c =
 pub returns-clause-honest : goal.returns-clause-honest
 returns-clause-honest g c honest =
     let self = c.args.self.now in
-    let reply = c.gather-reply.result in
-    let b = c.gather-reply.new.self in
-    let gathered = c.gather-reply.ensures in
+    let reply = c.write-reply.result in
+    let b = c.write-reply.new.self in
+    let written = c.write-reply.ensures in
     let calls = c.end_call.new.self in
     let files = c.and-self.result in
     let past = c.and-self-2.result in
@@ -65,24 +65,24 @@ returns-clause-honest g c honest =
           let latest = w.and-self-then-is_ok.result in
           let since = w.and-self-then-is_ok-2.result in
           let latest_is = w.and-self-then-is_ok.ensures ∙ ap (λ moments. moments ++ b ∷ []) w.new.ensures in
-          let fine = not_so self.buffered.failed _ (ok_is reply ok) gathered.stays in
-          let put = at_ok reply ok (gathered.ok honest) in
+          let fine = not_so self.buffered.failed _ (ok_is reply ok) written.stays in
+          let put = at_ok reply ok (written.ok honest) in
           let more : GrowsBy (file_facts self) (facts_of b files calls latest since past) c.args.at c.args.from.now =
-          grows self b files calls latest since past gathered.sectors made c.and-self.ensures c.and-self-2.ensures honest fine c.args.at c.args.from.now c.requires put
-          (at_ok reply ok gathered.here) (at_ok reply ok gathered.others) latest_is w.and-self-then-is_ok-2.ensures in
+          grows self b files calls latest since past written.sectors made c.and-self.ensures c.and-self-2.ensures honest fine c.args.at c.args.from.now c.requires put
+          (at_ok reply ok written.here) (at_ok reply ok written.others) latest_is w.and-self-then-is_ok-2.ensures in
           subst (λ s. IsWrite (file_facts self) (facts_of s.1.0 files calls s.1.1.0 s.1.1.1.0 past) c.args.at c.args.from.now reply) (sym w.self-is) (record {
-            past = keeps_past self b files calls latest since past gathered.sectors made c.and-self.ensures c.and-self-2.ensures;
-            ok = ok_of reply (now_set self b files calls latest since past gathered.sectors made c.and-self.ensures c.and-self-2.ensures honest fine c.args.at c.args.from.now c.requires put
-                (at_ok reply ok gathered.here) (at_ok reply ok gathered.others) latest_is w.and-self-then-is_ok-2.ensures);
+            past = keeps_past self b files calls latest since past written.sectors made c.and-self.ensures c.and-self-2.ensures;
+            ok = ok_of reply (now_set self b files calls latest since past written.sectors made c.and-self.ensures c.and-self-2.ensures honest fine c.args.at c.args.from.now c.requires put
+                (at_ok reply ok written.here) (at_ok reply ok written.others) latest_is w.and-self-then-is_ok-2.ensures);
             err = not_err _ reply ok;
             stop = record { each = λ k content. (more.each k content).0 };
             stop_ok = ok_of reply more;
           })
       | else-is_ok w ↦
           let err : is_ok reply ≡ false = sym c.is_ok.ensures.value ∙ w.if-is_ok.false in
-          let same = unchanged self b files calls self.latest self.since past gathered.sectors made c.and-self.ensures c.and-self-2.ensures refl refl in
+          let same = unchanged self b files calls self.latest self.since past written.sectors made c.and-self.ensures c.and-self-2.ensures refl refl in
           subst (λ s. IsWrite (file_facts self) (facts_of s.1.0 files calls s.1.1.0 s.1.1.1.0 past) c.args.at c.args.from.now reply) (sym w.self-is) (record {
-            past = keeps_past self b files calls self.latest self.since past gathered.sectors made c.and-self.ensures c.and-self-2.ensures;
+            past = keeps_past self b files calls self.latest self.since past written.sectors made c.and-self.ensures c.and-self-2.ensures;
             ok = not_ok _ reply err;
             err = err_of reply (inl same.now);
             stop = record { each = λ k content left. inl ((same.stop k content).0 left) };
@@ -93,16 +93,16 @@ returns-clause-honest g c honest =
 pub returns-clause-any_moment : goal.returns-clause-any_moment
 returns-clause-any_moment g c honest =
     let self = c.args.self.now in
-    let b = c.gather-reply.new.self in
-    let gathered = c.gather-reply.ensures in
+    let b = c.write-reply.new.self in
+    let written = c.write-reply.ensures in
     let facts = g.F.SectorFile.facts in
     let b_is : c.if-is_ok.self.1.0 ≡ b = elim c.if-is_ok.branch [ then-is_ok w ↦ ap (λ s. s.1.0) w.self-is | else-is_ok w ↦ ap (λ s. s.1.0) w.self-is ] in
     let within : StaysWithin (Leaves self.buffered) (facts self.buffered.file) (facts b.file) =
-    either_of c.gather-reply.result (λ put. put.within) (λ refused. refused.within) (gathered.ok honest) (gathered.err honest) in
+    either_of c.write-reply.result (λ put. put.within) (λ refused. refused.within) (written.ok honest) (written.err honest) in
     let stays = subst (λ b. StaysWithin (Leaves self.buffered) (facts self.buffered.file) (facts b.file)) (sym b_is) within in
     record {
       each =
           covered self c.if-is_ok.self.1.0 c.and-self.result c.end_call.new.self c.if-is_ok.self.1.1.0 c.if-is_ok.self.1.1.1.0 c.and-self-2.result
-          (ap (λ b. b.sectors) b_is ∙ gathered.sectors) c.end_call.ensures.made c.and-self.ensures c.and-self-2.ensures
+          (ap (λ b. b.sectors) b_is ∙ written.sectors) c.end_call.ensures.made c.and-self.ensures c.and-self-2.ensures
           honest stays;
     }

@@ -13,7 +13,7 @@ pub returns-clause-honest : goal.returns-clause-honest
 returns-clause-honest c honest =
     let old = c.args.self.now in
     let new = c.end_call.new.self in
-    let begun = c.begin_call-turn.ensures in
+    let begun = c.begin_call-outcome.ensures in
     let ended = c.end_call.ensures in
     let still : IsSameMedium (memory_facts old.medium) (memory_facts new.medium) =
     from_to (λ m m'. IsSameMedium (memory_facts m) (memory_facts m')) begun.medium ended.medium c.get.ensures.still in

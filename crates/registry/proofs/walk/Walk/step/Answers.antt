@@ -9,7 +9,7 @@ use Rattle.registry.specs.inside.Walked.{IsAmong, next_place}
 use Rattle.registry.proofs.Sources.{are_names, count_read, offers_read}
 use Rattle.registry.proofs.walk.Walk.step.Goals as goal
 
--- the calls for the file of a place
+-- if two positions are equal, the number of calls for the file is the same
 calls_at : {old new : DiskFacts} (position next : ℕ) → position ≡ next → (entries : List PlacedEntry) (d : PlacedEntry) → AreCallsAtMost (file_sectors (get_or entries position d)) old new
     → AreCallsAtMost (file_sectors (get_or entries next d)) old new
 calls_at {old = old} {new = new} position next is entries d calls = subst (λ k. AreCallsAtMost (file_sectors (get_or entries k d)) old new) is calls

@@ -33,5 +33,5 @@ returns-in-Late-clause-honest g c honest =
     (late_sync self.plan (facts self.inner) (facts c.sync.new.self) past new.past.items _ c.end_call-in-Late.ensures.past refl
     c.sync.ensures.calls.time c.sync.result Failed (c.sync.ensures.honest honest))))
 
-pub returns-in-Late-clause-turn : goal.returns-in-Late-clause-turn
-returns-in-Late-clause-turn g c = search rules
+pub returns-in-Late-clause-outcome : goal.returns-in-Late-clause-outcome
+returns-in-Late-clause-outcome g c = search rules

@@ -147,7 +147,7 @@ invariant_of-self-in-Err c =
           (All-push (NoLater c.push.new.self.items) self.past.items _ (subst (λ ws. All (NoLater ws) self.past.items) same self.no_later) (omega (arith, this, ap length same)));
     }
 
--- how many calls have failed after one more
+-- one more call adds 1 to the number of failed calls if it failed, and otherwise 0
 failures_then : (past past' : List Moment) (moment : Moment) (n : ℕ) → past' ≡ past ++ moment ∷ [] → length (filter (λ (m : Moment). m.failed) (moment ∷ [])) ≡ n
     → length (filter (λ (m : Moment). m.failed) past') ≡ length (filter (λ (m : Moment). m.failed) past) + n
 failures_then past past' moment n is one =

@@ -36,7 +36,7 @@ returns-in_err-hold-clause-none c = λ _. inr (
   ap (λ (rows : BTreeMap ℕ HeldRow). values_of rows.entries) c.get_mut.follows.holds-at-none ∙ c.self.view_is,
 )
 
--- what was read and not written stays
+-- looking up a row without writing to it leaves the table unchanged
 still : (c : goal.After-remove) → (c.get_mut.follows.lender c.in_ok-hold.hold.now).entries ≡ c.self.inside.rows.entries
 still c =
     let row = c.in_ok-hold.hold.now in

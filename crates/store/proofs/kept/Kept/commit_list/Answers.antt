@@ -30,7 +30,7 @@ use Rattle.store.proofs.kept.Kept.commit_list.Given as given
 use Rattle.store.proofs.kept.Kept.commit_list.Goals.{After-root_over-root}
 use Rattle.store.proofs.kept.Kept.commit_list.Goals as goal
 
--- the root that follows
+-- the result of `root_over` is the next root
 root_is : (g : given.Over) (c : After-root_over-root g)
     → c.root_over-root.result ≡ next_root c.args.self.now.root (length c.args.draft.entries.items) c.take_catalogues-taken.result c.args.draft.preloads.items
 root_is g c =
@@ -49,12 +49,12 @@ count_is g c =
 later : (g : given.Over) (c : After-root_over-root g) → c.args.self.now.root.generation + 1 < 2 ^ 64
 later g c = commit_later c.requires.drafting (list_changed c.args.draft.touched c.requires.list)
 
--- the draft is what it lists
+-- the next root lists the draft
 listing : (g : given.Over) (c : After-root_over-root g)
     → IsNext c.args.self.now.root c.args.draft.entries.items c.take_catalogues-taken.result c.args.draft.preloads.items c.root_over-root.result
 listing g c = commit_next c.requires.drafting c.take_catalogues-taken.ensures.claimed (root_is g c) (count_is g c) (later g c)
 
--- what it makes of what stands
+-- the catalogues and the next root turn the current state into the draft's state
 follows : (g : given.Over) (c : After-root_over-root g) (places : List ℕ) → places ≡ c.args.draft.sectors.items → (s d : State)
     → IsDraftedAt g.D.Disk.facts (drafting c.args.disk.now c.args.self.now c.args.draft) s d
     → IsFollowed Two c.args.self.now.root c.args.self.now.entries.items s (g.D.Disk.facts c.args.disk.now).now (staged (drafting c.args.disk.now c.args.self.now c.args.draft))

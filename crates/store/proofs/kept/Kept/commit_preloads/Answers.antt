@@ -20,11 +20,11 @@ use Rattle.store.proofs.kept.Kept.commit_preloads.Given as given
 use Rattle.store.proofs.kept.Kept.commit_preloads.Goals.{After-root_over-root}
 use Rattle.store.proofs.kept.Kept.commit_preloads.Goals as goal
 
--- the draft has the list that stands
+-- the draft has the current list
 same : (g : given.Over) (c : After-root_over-root g) → c.args.draft.now.entries.items ≡ c.args.self.now.entries.items
 same g c = c.requires.drafting.same (preloads_alone c.args.draft.now.touched c.requires.preloads)
 
--- the root that follows
+-- the result of `root_over` is the next root
 root_is : (g : given.Over) (c : After-root_over-root g)
     → c.root_over-root.result ≡ next_root c.args.self.now.root (length c.args.self.now.entries.items) (catalogues_of c.args.self.now.root) c.args.draft.now.preloads.items
 root_is g c =

@@ -5,7 +5,7 @@ use Rattle.states.specs.State.{State}
 use Rattle.store.specs.declared.placed_entry.PlacedEntry.{PlacedEntry}
 use Rattle.store.specs.Stands.{StandsBy, entry_sectors}
 use Rattle.store.specs.inside.Change.{CanBeStaged, IsFollowed, staged_sectors}
-use Rattle.store.specs.inside.Edit.{IsSettled, IsWithin, edited, edited_by, gone_sectors}
+use Rattle.store.specs.inside.Edit.{ReleasesReplaced, IsWithin, edited, edited_by, gone_sectors}
 use Rattle.store.specs.inside.Kept.{HaveSpellings, IsKept}
 use Rattle.store.specs.inside.Prepared.{IsReady, Makes}
 use Rattle.store.specs.inside.Room.{AreClaimedOnce}
@@ -16,17 +16,17 @@ use Rattle.store.proofs.Outcomes.{answers_device, answers_carried_out}
 use Rattle.store.proofs.Preloads.{few_in}
 use Rattle.store.proofs.Preparing.{edited_map, settled_keeps, settled_kept, staged_spelt}
 use Rattle.store.proofs.kept.Kept.make.Given as given
-use Rattle.store.proofs.kept.Kept.make.Goals.{After-list, After-settle}
+use Rattle.store.proofs.kept.Kept.make.Goals.{After-list, After-release_replaced}
 use Rattle.store.proofs.kept.Kept.make.Goals as goal
 
 ready : (g : given.Over) (c : After-list g) → IsReady (g.D.Disk.facts c.args.disk.now).sectors c.args.self.now c.args.prepared.now
 ready g c = c.requires
 
--- the entries once it is made
+-- the entries once the change is made
 abbrev others : (g : given.Over) (c : After-list g) → List PlacedEntry
 others g c = edited c.args.prepared.now.edit c.args.self.now.entries.items
 
--- their sectors are listed
+-- the sectors of these entries are listed
 listed_are : (g : given.Over) (c : After-list g) → c.list.new.sectors.items ≡ entry_sectors (others g c)
 listed_are g c =
     let edit = c.args.prepared.now.edit in
@@ -34,7 +34,7 @@ listed_are g c =
     ∙ ap (edited_by (λ (p : PlacedEntry). p.at) edit) (ready g c).listed
     ∙ edited_map (λ (p : PlacedEntry). p.at) edit c.args.self.now.entries.items
 
--- what is staged follows what stands
+-- the staged sectors, and then the root, turn the current state into the next one
 following : (g : given.Over) (c : After-list g) (listed : List ℕ) → listed ≡ c.list.new.sectors.items → (written : List PlacedEntry) (s s' : State)
     → Makes (g.D.Disk.facts c.args.disk.now).now written c.args.self.now c.args.prepared.now c.args.bytes.now s s'
     → IsFollowed Two c.args.self.now.root c.args.self.now.entries.items s (g.D.Disk.facts c.args.disk.now).now written c.args.prepared.now.change
@@ -96,28 +96,28 @@ pub returns-in-Err-clause-on_any_disk : goal.returns-in-Err-clause-on_any_disk
 returns-in-Err-clause-on_any_disk g c =
     answers_device g.D.Disk.facts c.requires.usable c.from.result c.from.ensures c.in-Err.ensures.calls refl
 
-pub settle-requires-clause-root : goal.settle-requires-clause-root
-settle-requires-clause-root g c = c.requires.change.kept.root_fits
+pub release_replaced-requires-clause-root : goal.release_replaced-requires-clause-root
+release_replaced-requires-clause-root g c = c.requires.change.kept.root_fits
 
-pub settle-requires-clause-spellings : goal.settle-requires-clause-spellings
-settle-requires-clause-spellings g c = subst HaveSpellings (sym c.deref-2.ensures.value) c.requires.change.kept.entries_fit
+pub release_replaced-requires-clause-spellings : goal.release_replaced-requires-clause-spellings
+release_replaced-requires-clause-spellings g c = subst HaveSpellings (sym c.deref-2.ensures.value) c.requires.change.kept.entries_fit
 
-pub settle-requires-clause-within : goal.settle-requires-clause-within
-settle-requires-clause-within g c = subst (λ l. IsWithin c.args.prepared.now.edit (length l)) (sym c.deref-2.ensures.value) c.requires.edit.within
+pub release_replaced-requires-clause-within : goal.release_replaced-requires-clause-within
+release_replaced-requires-clause-within g c = subst (λ l. IsWithin c.args.prepared.now.edit (length l)) (sym c.deref-2.ensures.value) c.requires.edit.within
 
-pub settle-requires-clause-held : goal.settle-requires-clause-held
-settle-requires-clause-held g c =
-    let before = (goal.at.settle-requires-clause-held g c).After-list in
+pub release_replaced-requires-clause-held : goal.release_replaced-requires-clause-held
+release_replaced-requires-clause-held g c =
+    let before = (goal.at.release_replaced-requires-clause-held g c).After-list in
     let is = c.requires.change in
     subst (λ l. AreClaimedOnce c.args.self.now.layout (gone_sectors c.args.prepared.now.edit c.args.self.now.root l)) (sym c.deref-2.ensures.value)
     (moved_held is.kept is.claimed c.args.prepared.now.change.root (others g before) is.moved)
 
--- what it gave up
-settled : (g : given.Over) (c : After-settle g)
-    → IsSettled c.args.prepared.now.edit c.args.self.now.root c.args.self.now.entries.items c.args.self.now.held c.settle.new.held c.args.self.now.layout c.settle.new.layout
+-- what the change gave up is settled
+settled : (g : given.Over) (c : After-release_replaced g)
+    → ReleasesReplaced c.args.prepared.now.edit c.args.self.now.root c.args.self.now.entries.items c.args.self.now.held c.release_replaced.new.held c.args.self.now.layout c.release_replaced.new.layout
 settled g c =
-    subst (λ l. IsSettled c.args.prepared.now.edit c.args.self.now.root l c.args.self.now.held c.settle.new.held c.args.self.now.layout c.settle.new.layout)
-    c.deref-2.ensures.value c.settle.ensures
+    subst (λ l. ReleasesReplaced c.args.prepared.now.edit c.args.self.now.root l c.args.self.now.held c.release_replaced.new.held c.args.self.now.layout c.release_replaced.new.layout)
+    c.deref-2.ensures.value c.release_replaced.ensures
 
 pub enter-requires-clause-edit : goal.enter-requires-clause-edit
 enter-requires-clause-edit g c = c.requires.edit
@@ -140,8 +140,8 @@ returns-clause-stored g c =
     let change = c.args.prepared.now.change in
     let edit = c.args.prepared.now.edit in
     let entries = c.args.self.now.entries.items in (
-      subst (λ l. IsKept change.root l c.settle.new.held c.settle.new.layout) (sym c.enter.ensures.entries)
-          (settled_kept change c.settle.new.layout edit is c.requires.edit.within (settled g at.After-settle)),
+      subst (λ l. IsKept change.root l c.release_replaced.new.held c.release_replaced.new.layout) (sym c.enter.ensures.entries)
+          (settled_kept change c.release_replaced.new.layout edit is c.requires.edit.within (settled g at.After-release_replaced)),
       c.enter.ensures.index,
       c.carry_out-written.ensures.calls.sectors ∙ c.requires.size ∙ sym (ap (λ r. r.sectors) is.next.is_next),
       λ _. listed_are g at.After-list ∙ ap entry_sectors (sym c.enter.ensures.entries),
@@ -176,7 +176,7 @@ returns-clause-written g c honest = c.in_default.ensures.written honest
 pub returns-clause-held : goal.returns-clause-held
 returns-clause-held g c =
     let at = goal.at.returns-clause-held g c in
-    settled_keeps c.args.prepared.now.change c.settle.new.layout c.args.prepared.now.edit c.requires.change c.requires.edit.within (settled g at.After-settle) c.carry_out-written.ensures.others
+    settled_keeps c.args.prepared.now.change c.release_replaced.new.layout c.args.prepared.now.edit c.requires.change c.requires.edit.within (settled g at.After-release_replaced) c.carry_out-written.ensures.others
 
 pub returns-clause-on_any_disk : goal.returns-clause-on_any_disk
 returns-clause-on_any_disk g c =

@@ -8,7 +8,7 @@ use Rattle.store.specs.declared.placed_entry.PlacedEntry.{PlacedEntry}
 use Rattle.store.specs.declared.refusal.StoreRefusal.{StoreRefusal}
 use Rattle.store.specs.declared.refusal.StoreRefusal.TheVariants.{OutOfMemory}
 use Rattle.store.specs.declared.change.Staged.TheVariants.{Put}
-use Rattle.store.specs.declared.edit.Edit.TheVariants.{Behind}
+use Rattle.store.specs.declared.edit.Edit.TheVariants.{Append}
 use Rattle.store.specs.declared.prepared.Prepared.{Prepared}
 use Rattle.store.specs.NameOrder.{IsOrderOf, entry_names}
 use Rattle.store.specs.Stands.{entry_sectors, name_of}
@@ -27,7 +27,7 @@ use Rattle.store.proofs.Refusals.{memory-device, memory-reopen}
 use Rattle.store.proofs.kept.Kept.prepare_new.Goals.{After-reserve_one, After-catalogues, After-next_root-root}
 use Rattle.store.proofs.kept.Kept.prepare_new.Goals as goal
 
--- in other memory all is kept as it was
+-- more memory is reserved, and everything else is kept as it was
 reserved : (c : After-reserve_one) → IsStored c.args.self.now.root.sectors (record {
   root = c.args.self.now.root;
   entries = c.reserve_one.new.entries;
@@ -49,7 +49,7 @@ reserved c =
       c.requires.stored.4,
     )
 
--- how many catalogues list one entry more, and how many more they are
+-- the number of catalogues for one more entry, and how many more these are
 more : (c : After-catalogues) → c.catalogues_for-count.result ≡ catalogues_for (length c.args.self.now.entries.items + 1)
 more c = omega (arith, c.catalogues_for-count.ensures, c.len-libraries.ensures, ap length c.reserve_one.ensures.entries)
 
@@ -59,7 +59,7 @@ rest c =
     ap (λ n. c.catalogues_for-count.result - n)
     (ap length c.catalogues.ensures ∙ catalogues_enough kept.root kept.entries.items kept.held kept.layout c.requires.stored.0 c.requires.stored.4)
 
--- what is put is one more entry
+-- the put adds one entry at the end
 newly : (c : After-next_root-root)
     → IsNew c.args.self.now.root c.args.self.now.entries.items c.args.self.now.held c.args.self.now.layout c.take_put.new.layout
     c.in_ok-room.room.catalogues c.in_ok-room.room.put c.next_root-root.result
@@ -82,7 +82,7 @@ newly c =
     }
 
 abbrev prepared_by : After-next_root-root → Prepared
-prepared_by c = record { change = record { staged = Put c.in_ok-room.room.put c.in_ok-room.room.catalogues; root = c.next_root-root.result }; edit = Behind c.in_ok-room.room.put }
+prepared_by c = record { change = record { staged = Put c.in_ok-room.room.put c.in_ok-room.room.catalogues; root = c.next_root-root.result }; edit = Append c.in_ok-room.room.put }
 
 pub catalogues-requires : goal.catalogues-requires
 catalogues-requires c = c.requires.stored.0.root_fits

@@ -27,7 +27,7 @@ use Rattle.store.proofs.UsedAlone.{no_entry}
 use Rattle.store.proofs.kept.Kept.prepare_over.Goals.{After-next_root-root}
 use Rattle.store.proofs.kept.Kept.prepare_over.Goals as goal
 
--- where the entry of the name stands
+-- the position of the entry with the name is in the list
 there : (c : After-next_root-root) → c.in-Some.position < length c.args.self.now.entries.items
 there c = omega (arith, c.in-Some.ensures.some.0, ap length c.deref.ensures.value)
 
@@ -37,7 +37,7 @@ named c d = subst (λ l. name_of (get_or l c.in-Some.position d).entry ≡ c.arg
 count_is : (c : After-next_root-root) → c.catalogues_for-count.result ≡ catalogues_for (length c.args.self.now.entries.items)
 count_is c = omega (arith, c.catalogues_for-count.ensures, c.len-libraries.ensures)
 
--- what is put stands in its place
+-- the put replaces the entry with the name
 replacing : (c : After-next_root-root)
     → IsReplacement c.args.self.now.root c.args.self.now.entries.items c.args.self.now.held c.args.self.now.layout c.take_put.new.layout c.args.name.now
     c.in-Some.position c.in_ok-room.room.catalogues c.in_ok-room.room.put c.next_root-root.result

@@ -12,7 +12,7 @@ use Rattle.store.proofs.Preparing.{prepares_ready, tested_change}
 use Rattle.store.proofs.kept.Kept.prepare_preloads.Goals.{After-with_preloads}
 use Rattle.store.proofs.kept.Kept.prepare_preloads.Goals as goal
 
--- the next root lists the same entries and the preloads
+-- the next root lists the same entries, and the new preloads
 choosing : (c : After-with_preloads) → IsNext c.args.self.now.root c.args.self.now.entries.items (catalogues_of c.args.self.now.root) c.args.positions.now c.with_preloads.result
 choosing c =
     let kept = c.requires.stored.0 in

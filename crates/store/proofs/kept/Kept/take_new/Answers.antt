@@ -15,7 +15,7 @@ use Rattle.store.proofs.Refusals.{memory-device, memory-reopen}
 use Rattle.store.proofs.kept.Kept.take_new.Goals.{After-spare_for}
 use Rattle.store.proofs.kept.Kept.take_new.Goals as goal
 
--- how many sectors have to stay free
+-- the number of sectors that have to stay unused
 spare_is : (c : After-spare_for)
     → c.spare_for.result + 2 * (c.catalogues_for.result - c.catalogues_for-2.result)
     ≡ spare_of (length (catalogues_of c.args.self.now.root)) (length c.args.draft.now.entries.items) + catalogue_cost (length c.args.draft.now.entries.items)

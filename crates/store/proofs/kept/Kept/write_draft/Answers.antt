@@ -9,7 +9,7 @@ use Rattle.store.proofs.kept.Kept.write_draft.Given as given
 use Rattle.store.proofs.kept.Kept.write_draft.Goals.{After-as_slice}
 use Rattle.store.proofs.kept.Kept.write_draft.Goals as goal
 
--- the entry's sector alone is written by itself
+-- only the entry's sector is written one by one
 are : (g : given.Over) (c : After-as_slice g) → single_places c.as_slice.result.now ≡ c.args.put.now.at ∷ []
 are g c = ap single_places c.as_slice.ensures ∙ c.set_put.ensures.places
 

@@ -8,12 +8,12 @@ use Rattle.store.proofs.name_index.NameIndex.over.Goals as goal
 
 pub returns-in_ok-guesses-clause-own : goal.returns-in_ok-guesses-clause-own
 returns-in_ok-guesses-clause-own c =
-    let rises = subst (Rises (entry_names c.args.entries.now)) c.deref.ensures.value (c.rise.ensures.0 c.if-rise.true) in
+    let rises = subst (Rises (entry_names c.args.entries.now)) c.deref.ensures.value (c.is_sorted.ensures.0 c.if-is_sorted.true) in
     let index = order_from_rises (entry_names c.args.entries.now) c.in_ok-positions.positions.items c.in_ok-positions.ensures rises in
     (index, own_from_order c.args.entries.now c.in_ok-positions.positions.items index)
 
-pub returns-else-rise-clause-twice : goal.returns-else-rise-clause-twice
-returns-else-rise-clause-twice c = λ none own.
+pub returns-else-is_sorted-clause-twice : goal.returns-else-is_sorted-clause-twice
+returns-else-is_sorted-clause-twice c = λ none own.
     let rises = rises_from_own (entry_names c.args.entries.now) c.in_ok-positions.positions.items c.in_ok-positions.ensures (names_from_own c.args.entries.now own) in
-    let found = c.rise.ensures.1 (subst (Rises (entry_names c.args.entries.now)) (sym c.deref.ensures.value) rises) in
-    false≢true (sym c.if-rise.false ∙ found)
+    let found = c.is_sorted.ensures.1 (subst (Rises (entry_names c.args.entries.now)) (sym c.deref.ensures.value) rises) in
+    false≢true (sym c.if-is_sorted.false ∙ found)

@@ -37,10 +37,10 @@ use Rattle.store.specs.inside.Kept.{IsKept}
 use Rattle.store.proofs.Refusals.{end-device, full-device}
 use Rattle.store.proofs.Outcomes.{still, upgrade_ends}
 use Rattle.store.proofs.old_store.OldStore.commit.Given as given
-use Rattle.store.proofs.old_store.OldStore.commit.Goals.{After-free_count, After-next_root-root, After-carry_out, After-beside}
+use Rattle.store.proofs.old_store.OldStore.commit.Goals.{After-free_count, After-next_root-root, After-carry_out, After-into_store}
 use Rattle.store.proofs.old_store.OldStore.commit.Goals as goal
 
--- the next root lists the same entries by the catalogues that were taken
+-- the next root lists the same entries by the catalogues that were claimed
 relisted : (g : given.Over) (c : After-next_root-root g)
     → IsRelist c.self.inside.found.root c.self.inside.found.entries.items [] c.self.inside.found.layout c.take_catalogues-taken.new.layout
     c.take_catalogues-taken.result c.next_root-root.result
@@ -59,7 +59,7 @@ relisted g c =
           ∙ ap (λ l. next_root c.self.inside.found.root (length c.self.inside.found.entries.items) l (listed_preloads c.self.inside.found.root)) c.as_slice.ensures.value;
     }
 
--- and these list the entries' sectors
+-- the catalogues list the entries' sectors
 sectors_are : (g : given.Over) (c : After-next_root-root g) → c.self.inside.found.sectors.items ≡ entry_sectors c.self.inside.found.entries.items
 sectors_are g c = c.self.invariant.0.listed
 
@@ -88,7 +88,7 @@ carry_out-requires-clause-room g c =
           (omega (arith, is.kept.root_fits.sectors)) is.enough next.few next.apart),
     )
 
--- a stop leaves the state from before or the one after
+-- a stop leaves the state before the commit or the state after it
 leaves : (g : given.Over) (c : After-carry_out g) (s : State)
     → IsFollowed One c.self.inside.found.root c.self.inside.found.entries.items s (g.D.Disk.facts c.self.inside.disk).now [] (record { staged = Catalogues c.take_catalogues-taken.result; root = c.next_root-root.result })
     [] c.deref.result.now c.self.inside.found.entries.items (upgraded s)
@@ -108,12 +108,12 @@ returns-in-Err-clause-any_moment g c s at =
 pub returns-in-Ok-clause-any_moment : goal.returns-in-Ok-clause-any_moment
 returns-in-Ok-clause-any_moment g c s at =
     let here = goal.at.returns-in-Ok-clause-any_moment g c in
-    subst (λ d. LeavesOnly (g.D.Disk.facts c.args.self.disk) (g.D.Disk.facts d) (λ m. StandsOld m s ⊎ Stands m (upgraded s))) (sym c.beside.ensures.disk)
+    subst (λ d. LeavesOnly (g.D.Disk.facts c.args.self.disk) (g.D.Disk.facts d) (λ m. StandsOld m s ⊎ Stands m (upgraded s))) (sym c.into_store.ensures.disk)
     (leaves g here.After-carry_out s (following g here.After-next_root-root s [] c.deref.result.now c.deref.ensures.value) at)
 
-pub beside-requires-clause-found : goal.beside-requires-clause-found
-beside-requires-clause-found g c =
-    let here = (goal.at.beside-requires-clause-found g c).After-next_root-root in
+pub into_store-requires-clause-found : goal.into_store-requires-clause-found
+into_store-requires-clause-found g c =
+    let here = (goal.at.into_store-requires-clause-found g c).After-next_root-root in
     let is = relisted g here in
     let mid = c.take_catalogues-taken.new.layout in
     let nothing = released_nothing mid in
@@ -127,12 +127,12 @@ beside-requires-clause-found g c =
       listed = sectors_are g here;
     }
 
-pub beside-requires-clause-sectors : goal.beside-requires-clause-sectors
-beside-requires-clause-sectors g c = c.carry_out.ensures.calls.sectors ∙ c.self.invariant.1 ∙ sym (ap (λ r. r.sectors) c.next_root-root.ensures)
+pub into_store-requires-clause-sectors : goal.into_store-requires-clause-sectors
+into_store-requires-clause-sectors g c = c.carry_out.ensures.calls.sectors ∙ c.self.invariant.1 ∙ sym (ap (λ r. r.sectors) c.next_root-root.ensures)
 
-pub beside-requires-clause-version : goal.beside-requires-clause-version
-beside-requires-clause-version g c =
-    let is = relisted g (goal.at.beside-requires-clause-version g c).After-next_root-root in
+pub into_store-requires-clause-version : goal.into_store-requires-clause-version
+into_store-requires-clause-version g c =
+    let is = relisted g (goal.at.into_store-requires-clause-version g c).After-next_root-root in
     next_version (relist_next is) is.kept.root_fits
 
 pub returns-in-Ok-clause-ok : goal.returns-in-Ok-clause-ok
@@ -146,13 +146,13 @@ returns-in-Ok-clause-ok g c s at_entry =
     (record { version = One; root = c.self.inside.found.root; entries = entries; before = s; written = []; others = entries; after = upgraded s })
     (record { stands = at.stands; followed = following g before s [] c.deref.result.now c.deref.ensures.value }) in
     record {
-      honest = subst (λ d. IsTrue (facts d).honest) (sym c.beside.ensures.disk) (subst IsTrue (sym c.carry_out.ensures.calls.honest) at.honest);
-      usable = c.beside.ensures.usable;
-      stands = λ m mixture. subst (λ r. StandsBy Two m r c.beside.result.entries (upgraded s)) (sym c.beside.ensures.root)
-          (subst (λ l. StandsBy Two m next l (upgraded s)) (sym c.beside.ensures.entries) (done m (subst (λ d. Mixture (facts d) m) c.beside.ensures.disk mixture)));
+      honest = subst (λ d. IsTrue (facts d).honest) (sym c.into_store.ensures.disk) (subst IsTrue (sym c.carry_out.ensures.calls.honest) at.honest);
+      usable = c.into_store.ensures.usable;
+      stands = λ m mixture. subst (λ r. StandsBy Two m r c.into_store.result.entries (upgraded s)) (sym c.into_store.ensures.root)
+          (subst (λ l. StandsBy Two m next l (upgraded s)) (sym c.into_store.ensures.entries) (done m (subst (λ d. Mixture (facts d) m) c.into_store.ensures.disk mixture)));
     }
 
--- a commit is refused by its generation or for want of room, and not otherwise
+-- a commit is refused only because of the generation or for lack of room
 usable_of : (g : given.Over) (c : After-free_count g) (s : State) → IsOldAt g.D.Disk.facts c.args.self s → s.generation ≢ last_generation
 usable_of g c s at_entry is =
     let at = subst (λ store. IsOldAt g.D.Disk.facts store s) (sym c.self.view_is) at_entry in
@@ -204,19 +204,19 @@ returns-in-Ok-clause-placed g c =
     let entries = c.self.inside.found.entries.items in
     let all = subst (λ l. AreTaken (layout_of root.sectors l) (catalogues_of c.next_root-root.result)) (in_use_alone root entries [] refl) (relist_taken is c.take_catalogues-taken.ensures.taken) in
     record {
-      taken = subst (λ store. AreTaken (layout_of store.root.sectors (used store.root store.entries)) (catalogues_of c.beside.result.root)) c.self.view_is
-          (subst (λ r. AreTaken (layout_of root.sectors (used root entries)) (catalogues_of r)) (sym c.beside.ensures.root) all);
-      entries = c.beside.ensures.entries ∙ ap (λ store. store.entries) c.self.view_is;
+      taken = subst (λ store. AreTaken (layout_of store.root.sectors (used store.root store.entries)) (catalogues_of c.into_store.result.root)) c.self.view_is
+          (subst (λ r. AreTaken (layout_of root.sectors (used root entries)) (catalogues_of r)) (sym c.into_store.ensures.root) all);
+      entries = c.into_store.ensures.entries ∙ ap (λ store. store.entries) c.self.view_is;
     }
 
--- where it is refused before it writes, a stop leaves what stood
+-- if the commit is refused before it writes, a stop leaves the state before
 stays : {D : Type 0} (facts : D → DiskFacts) {view store : Opened D} (s : State) → view ≡ store → IsOldAt facts store s
     → LeavesOnly (facts store.disk) (facts view.disk) (λ m. StandsOld m s ⊎ Stands m (upgraded s))
 stays facts {store = store} s is at =
     subst (λ view. LeavesOnly (facts store.disk) (facts view.disk) (λ m. StandsOld m s ⊎ Stands m (upgraded s))) (sym is)
     (at_rest (facts store.disk) (λ m. StandsOld m s ⊎ Stands m (upgraded s)) (λ m mixture. inl (store.root, store.entries, at.stands m mixture)))
 
--- there are no more entries than a root lists itself
+-- the number of entries is at most the number that a root of version 1 lists itself
 few_kept : (root : Root) (entries : List PlacedEntry) (layout : List Bool) → IsKept root entries [] layout → version_of root ≡ One → length entries ≤ most_root_entries
 few_kept root entries layout kept one = omega (arith, kept.counted, few_old root.library_count root.sectors root.list one kept.root_fits.list)
 
@@ -286,16 +286,16 @@ returns-in-Err-clause-calls g c =
     subst (λ store. AreCallsAtMost (catalogues_for (length store.entries) + 3) (g.D.Disk.facts store.disk) (g.D.Disk.facts c.carry_out.new.disk)) c.self.view_is
     (in_row_at_most c.in-Err.ensures.calls (omega (arith, is.enough)))
 
--- how many calls it makes where it is done
-calls_are : (g : given.Over) (c : After-beside g)
-    → AreCallsExactly (catalogues_for (length c.args.self.entries) + 3) (g.D.Disk.facts c.args.self.disk) (g.D.Disk.facts c.beside.result.disk)
+-- the number of calls of a commit that is done
+calls_are : (g : given.Over) (c : After-into_store g)
+    → AreCallsExactly (catalogues_for (length c.args.self.entries) + 3) (g.D.Disk.facts c.args.self.disk) (g.D.Disk.facts c.into_store.result.disk)
 calls_are g c =
     let is = relisted g (goal.at.returns-in-Ok-clause-all_calls g c).After-next_root-root in
     let n : ℕ = catalogues_for (length c.self.inside.found.entries.items) + 3 in
     let all : AreCallsExactly n (g.D.Disk.facts c.self.inside.disk) (g.D.Disk.facts c.carry_out.new.disk) =
     subst (λ n. AreCallsExactly n (g.D.Disk.facts c.self.inside.disk) (g.D.Disk.facts c.carry_out.new.disk)) (omega (arith, is.enough))
     (in_row_exactly c.in-Ok.ensures.calls) in
-    subst (λ d. AreCallsExactly (catalogues_for (length c.args.self.entries) + 3) (g.D.Disk.facts c.args.self.disk) (g.D.Disk.facts d)) (sym c.beside.ensures.disk)
+    subst (λ d. AreCallsExactly (catalogues_for (length c.args.self.entries) + 3) (g.D.Disk.facts c.args.self.disk) (g.D.Disk.facts d)) (sym c.into_store.ensures.disk)
     (subst (λ store. AreCallsExactly (catalogues_for (length store.entries) + 3) (g.D.Disk.facts store.disk) (g.D.Disk.facts c.carry_out.new.disk)) c.self.view_is all)
 
 pub returns-in-Ok-clause-all_calls : goal.returns-in-Ok-clause-all_calls

@@ -35,7 +35,7 @@ invariant_of-result g c =
     )
 
 module _ {D : Type 0} (facts : D → DiskFacts) (disk : D) (e : StoreRefusal) where
-  -- a disk that is refused before any call of it
+  -- if the disk is refused before any call, no store is made
   unmade : (IsTrue (facts disk).honest → HoldsNow (facts disk)) → (e ≡ AlreadyFormatted → ⊥) → IsRefusalOfFormat (facts disk).sectors e
       → Makes Stands facts (IsAt facts) disk (Err (e, disk))
   unmade holds not_formatted may = record {

@@ -14,7 +14,7 @@ use Rattle.store.proofs.store.Store.hold.Given as given
 use Rattle.store.proofs.store.Store.hold.Goals.{In_ok-hold}
 use Rattle.store.proofs.store.Store.hold.Goals as goal
 
--- the store before
+-- the store before the call
 abbrev before : (g : given.Over) (c : In_ok-hold g) → Opened g.row.D.Denot
 before g c = opened c.self.inside.disk c.self.inside.kept
 

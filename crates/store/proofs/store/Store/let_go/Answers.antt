@@ -9,11 +9,11 @@ use Rattle.store.proofs.store.Store.let_go.Given as given
 use Rattle.store.proofs.store.Store.let_go.Goals.{After-let_go}
 use Rattle.store.proofs.store.Store.let_go.Goals as goal
 
--- the store before
+-- the store before the call
 abbrev before : (g : given.Over) (c : After-let_go g) → Opened g.row.D.Denot
 before g c = opened c.self.inside.disk c.self.inside.kept
 
--- by the caller's words for the store and the handle
+-- the effect of `let_go`, in terms of the caller's store and handle
 said : (g : given.Over) (c : After-let_go g) (after : Opened g.row.D.Denot) → LetsHoldGo g.D.Disk.facts (before g c) after c.held.inside.at
     → LetsHoldGo g.D.Disk.facts c.args.self.now after c.args.held
 said g c after done =

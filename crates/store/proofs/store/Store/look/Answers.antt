@@ -74,28 +74,28 @@ returns-in-Two g c =
     let root = c.in-Ok.found.root in
     let items = c.in-Ok.found.entries.items in
     let finds = c.in-Ok.ensures.finds in
-    let beside = c.beside.ensures in
+    let into_store = c.into_store.ensures in
     let two = sym c.version.ensures ∙ c.in-Two.is in
-    let at = λ (honest : IsTrue start.honest). found_at facts c.beside.result c.find_store.new.disk now root items Two beside.disk beside.root beside.entries beside.usable
+    let at = λ (honest : IsTrue start.honest). found_at facts c.into_store.result c.find_store.new.disk now root items Two into_store.disk into_store.root into_store.entries into_store.usable
     (subst IsTrue (sym finds.found.calls.some.honest) honest) (finds.reads honest).now (finds.synced honest) (finds.intact honest) two in
     let never = λ (honest : IsTrue start.honest) (s : State) (stands : StandsOld now s).
     let one = other_version now root (finds.intact honest).current One s stands in absurd (cc (one, two)) in
     record {
-      any_moment = λ honest. subst (λ d. LeavesOnly start (facts d) (Mixture start)) (sym beside.disk) (finds.reads honest).leaves;
-      now = λ honest. ap (λ d. (facts d).now) beside.disk ∙ (finds.reads honest).now;
-      log = λ honest. subst (λ d. MayAddSync start.log (facts d).log) (sym beside.disk) (finds.reads honest).log;
-      stands = λ honest s stands. found_at_state facts c.beside.result c.find_store.new.disk now root items Two s stands (at honest) (finds.intact honest) two;
+      any_moment = λ honest. subst (λ d. LeavesOnly start (facts d) (Mixture start)) (sym into_store.disk) (finds.reads honest).leaves;
+      now = λ honest. ap (λ d. (facts d).now) into_store.disk ∙ (finds.reads honest).now;
+      log = λ honest. subst (λ d. MayAddSync start.log (facts d).log) (sym into_store.disk) (finds.reads honest).log;
+      stands = λ honest s stands. found_at_state facts c.into_store.result c.find_store.new.disk now root items Two s stands (at honest) (finds.intact honest) two;
       stands_old = never;
       ok = λ honest. (state_of now root items, inl ((root, items, record { of_version = two; intact = finds.intact honest; is = refl }), at honest));
       refused = λ honest. tt;
-      unheld = beside.unheld;
-      usable = beside.usable;
+      unheld = into_store.unheld;
+      usable = into_store.usable;
       geometry = search rules;
       refusals = tt;
       device = tt;
       untouched = tt;
-      calls = subst (λ d. AreCallsAtMost (3 + most_catalogues + most_libraries) start (facts d)) (sym beside.disk) finds.found.calls;
-      all_calls = opened_calls facts c.beside.result start c.find_store.new.disk root items beside.disk beside.root beside.entries finds.found.all_calls;
+      calls = subst (λ d. AreCallsAtMost (3 + most_catalogues + most_libraries) start (facts d)) (sym into_store.disk) finds.found.calls;
+      all_calls = opened_calls facts c.into_store.result start c.find_store.new.disk root items into_store.disk into_store.root into_store.entries finds.found.all_calls;
     }
 
 pub returns-in-Err : goal.returns-in-Err

@@ -51,33 +51,33 @@ returns-in-Ok g c =
     let two = c.in-Ok.ensures.version in
     let finds = c.in-Ok.ensures.finds in
     let calls = finds.found.calls.some in
-    let at = λ (honest : IsTrue (facts c.args.disk).honest). found_at facts c.beside.result c.find_current.new.disk now root items Two
-    c.beside.ensures.disk c.beside.ensures.root c.beside.ensures.entries c.beside.ensures.usable
+    let at = λ (honest : IsTrue (facts c.args.disk).honest). found_at facts c.into_store.result c.find_current.new.disk now root items Two
+    c.into_store.ensures.disk c.into_store.ensures.root c.into_store.ensures.entries c.into_store.ensures.usable
     (subst IsTrue (sym calls.honest) honest) (finds.reads honest).now (finds.synced honest) (finds.intact honest) two in
     let held : IsTrue (facts c.args.disk).honest → Stands now (state_of now root items) =
     λ honest. (root, items, record { of_version = two; intact = finds.intact honest; is = refl }) in record {
       opened = record {
-        any_moment = λ honest. subst (λ d. LeavesOnly (facts c.args.disk) (facts d) (Mixture (facts c.args.disk))) (sym c.beside.ensures.disk) (finds.reads honest).leaves;
-        now = λ honest. ap (λ d. (facts d).now) c.beside.ensures.disk ∙ (finds.reads honest).now;
-        log = λ honest. subst (λ d. MayAddSync (facts c.args.disk).log (facts d).log) (sym c.beside.ensures.disk) (finds.reads honest).log;
+        any_moment = λ honest. subst (λ d. LeavesOnly (facts c.args.disk) (facts d) (Mixture (facts c.args.disk))) (sym c.into_store.ensures.disk) (finds.reads honest).leaves;
+        now = λ honest. ap (λ d. (facts d).now) c.into_store.ensures.disk ∙ (finds.reads honest).now;
+        log = λ honest. subst (λ d. MayAddSync (facts c.args.disk).log (facts d).log) (sym c.into_store.ensures.disk) (finds.reads honest).log;
         ok = λ honest. (state_of now root items, held honest, at honest, λ other stands. one_state now Two Two other (state_of now root items) stands (held honest));
-        stands = λ honest s stands. found_at_state facts c.beside.result c.find_current.new.disk now root items Two s stands (at honest) (finds.intact honest) two;
+        stands = λ honest s stands. found_at_state facts c.into_store.result c.find_current.new.disk now root items Two s stands (at honest) (finds.intact honest) two;
         refused = λ _. tt;
       };
       on_any_disk = record {
         ends = record {
           geometry = search rules;
-          usable = c.beside.ensures.usable;
-          unheld = c.beside.ensures.unheld;
+          usable = c.into_store.ensures.usable;
+          unheld = c.into_store.ensures.unheld;
           refusals = tt;
           device = tt;
           untouched = tt;
-          calls = subst (λ d. AreCalls (facts c.args.disk) (facts d)) (sym c.beside.ensures.disk) calls;
+          calls = subst (λ d. AreCalls (facts c.args.disk) (facts d)) (sym c.into_store.ensures.disk) calls;
         };
         old_calls = tt;
       };
-      most_calls = subst (λ d. AreCallsAtMost (3 + most_catalogues + most_libraries) (facts c.args.disk) (facts d)) (sym c.beside.ensures.disk) finds.found.calls;
-      all_calls = opened_calls facts c.beside.result (facts c.args.disk) c.find_current.new.disk root items c.beside.ensures.disk c.beside.ensures.root c.beside.ensures.entries finds.found.all_calls;
+      most_calls = subst (λ d. AreCallsAtMost (3 + most_catalogues + most_libraries) (facts c.args.disk) (facts d)) (sym c.into_store.ensures.disk) finds.found.calls;
+      all_calls = opened_calls facts c.into_store.result (facts c.args.disk) c.find_current.new.disk root items c.into_store.ensures.disk c.into_store.ensures.root c.into_store.ensures.entries finds.found.all_calls;
     }
 
 pub returns-in-Err : goal.returns-in-Err

@@ -16,7 +16,7 @@ use Rattle.store.proofs.store.Store.put_new.Given as given
 use Rattle.store.proofs.store.Store.put_new.Goals.{After-prepare_new}
 use Rattle.store.proofs.store.Store.put_new.Goals as goal
 
--- what is known of the state, by what is kept
+-- the numbers of the state agree with what is kept
 counted : (g : given.Over) (c : After-prepare_new g) (s : State) → IsAt g.D.Disk.facts c.args.self.now s
     → IsCounted c.self.inside.kept.root c.self.inside.kept.entries.items c.self.inside.kept.held c.self.inside.kept.layout s
 counted g c s at = facts_of g.D.Disk.facts g.met.D.Disk.holds_now g.met.D.Disk.whole_sectors c.self.view_is c.self.invariant.0 at

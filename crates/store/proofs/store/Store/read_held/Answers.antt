@@ -12,7 +12,7 @@ use Rattle.store.proofs.store.Store.read_held.Given as given
 use Rattle.store.proofs.store.Store.read_held.Goals.{After-placed}
 use Rattle.store.proofs.store.Store.read_held.Goals as goal
 
--- the store before
+-- the store before the call
 abbrev before : (g : given.Over) (c : After-placed g) → Opened g.row.D.Denot
 before g c = opened c.self.inside.disk c.self.inside.kept
 

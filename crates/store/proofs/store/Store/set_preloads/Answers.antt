@@ -14,7 +14,7 @@ use Rattle.store.proofs.store.Store.set_preloads.Given as given
 use Rattle.store.proofs.store.Store.set_preloads.Goals.{After-prepare_preloads}
 use Rattle.store.proofs.store.Store.set_preloads.Goals as goal
 
--- what is known of the state, by what is kept
+-- the numbers of the state agree with what is kept
 counted : (g : given.Over) (c : After-prepare_preloads g) (s : State) → IsAt g.D.Disk.facts c.args.self.now s
     → IsCounted c.self.inside.kept.root c.self.inside.kept.entries.items c.self.inside.kept.held c.self.inside.kept.layout s
 counted g c s at = facts_of g.D.Disk.facts g.met.D.Disk.holds_now g.met.D.Disk.whole_sectors c.self.view_is c.self.invariant.0 at

@@ -2,7 +2,7 @@ use Rattle.std.proofs.Common.{◌≡◌, ◌≢◌, ◌<◌, All, List, length, 
 use Rattle.std.specs.List.{refill, remove}
 use Rattle.std.proofs.lemmas.List.Edits.{length-remove}
 use Rattle.store.specs.declared.placed_entry.PlacedEntry.{PlacedEntry}
-use Rattle.store.specs.declared.edit.Edit.TheVariants.{Out}
+use Rattle.store.specs.declared.edit.Edit.TheVariants.{Remove}
 use Rattle.store.specs.Draft.{IsDraftedAt, IsDraftedNamed, IsNoPreloadOfDraft}
 use Rattle.store.specs.Opened.{IsAt}
 use Rattle.store.specs.Stands.{entry_sectors, name_of}
@@ -19,14 +19,14 @@ use Rattle.store.proofs.update.Update.delete.Given as given
 use Rattle.store.proofs.update.Update.delete.Goals.{After-index, After-close_up}
 use Rattle.store.proofs.update.Update.delete.Goals as goal
 
--- where the entry of the name stands
+-- the position of the entry with the name is in the list
 there : (g : given.Over) (c : After-index g) → c.in-Some.position < length c.self.inside.draft.entries.items
 there g c = omega (arith, c.in-Some.ensures.some.0, ap length c.deref.ensures.value)
 
 named : (g : given.Over) (c : After-index g) (d : PlacedEntry) → name_of (get_or c.self.inside.draft.entries.items c.in-Some.position d).entry ≡ c.args.name.now
 named g c d = subst (λ (l : List PlacedEntry). name_of (get_or l c.in-Some.position d).entry ≡ c.args.name.now) c.deref.ensures.value (c.in-Some.ensures.some.1 d)
 
--- the preloads are others, and close up
+-- no preload is at the removed position, and the preloads after it move up
 others : (g : given.Over) (c : After-index g) → All (λ position. position ≢ c.in-Some.position) c.self.inside.draft.preloads.items
 others g c = others_named c.self.inside.draft.entries.items c.self.inside.draft.preloads.items c.args.name.now c.in-Some.position
     (subst (λ u. IsNoPreloadOfDraft u c.args.name.now) (sym c.self.view_is) c.requires.no_preload) (named g c)
@@ -59,7 +59,7 @@ invariant_of-self g c =
     (subst (IsStagedIn c.leave.new.self) (sym left) (left_staged is.staged gone c.index.result.now (there g here) c.index.ensures keeps c.leave.ensures.freed))
     (subst (IsDraftList c.self.inside.kept.entries.items) (sym left) (list_less is.list gone (there g here)))
     c.edit.ensures.index
-    (c.edit.ensures.sectors ∙ ap (λ l. remove l gone) is.places ∙ edited_map (λ (p : PlacedEntry). p.at) (Out gone) entries ∙ ap entry_sectors (sym left))
+    (c.edit.ensures.sectors ∙ ap (λ l. remove l gone) is.places ∙ edited_map (λ (p : PlacedEntry). p.at) (Remove gone) entries ∙ ap entry_sectors (sym left))
     (subst (ArePreloads (length c.edit.new.self.entries.items)) (sym (closed g (goal.at.invariant_of-self g c).After-close_up))
     (preloads_closed gone is.preloads (there g here) (omega (arith, ap length left, length-remove entries gone (there g here))) (others g here)))
     (λ _. c.in_ok-test_change.ensures.later)

@@ -3,7 +3,7 @@ use Rattle.std.specs.Int.{div_ceil}
 use Rattle.std.proofs.lemmas.List.{length-append}
 use Rattle.std.proofs.lemmas.Result.{err_from_is_err_and}
 use Rattle.sector_disk.specs.Disk.{sector_bytes}
-use Rattle.store.specs.declared.edit.Edit.TheVariants.{Behind}
+use Rattle.store.specs.declared.edit.Edit.TheVariants.{Append}
 use Rattle.store.specs.declared.placed_entry.PlacedEntry.{PlacedEntry}
 use Rattle.store.specs.Draft.{IsDraftedAt, IsDraftedBehind, IsLine, IsNewToDraft, IsSameDraft}
 use Rattle.store.specs.Stands.{entry_sectors, name_of}
@@ -22,16 +22,16 @@ use Rattle.store.proofs.update.Update.put_new.Given as given
 use Rattle.store.proofs.update.Update.put_new.Goals.{After-take_new, After-write_draft, After-edit}
 use Rattle.store.proofs.update.Update.put_new.Goals as goal
 
--- the draft has more memory, and is else as it was
+-- the draft has more memory, and is otherwise unchanged
 same_draft : (g : given.Over) (c : After-take_new g)
     → IsSameDraft (drafting c.self.inside.disk c.self.inside.kept c.self.inside.draft) (drafting c.self.inside.disk c.take_new.new.self c.take_new.new.draft)
 same_draft g c = record { entries = c.take_new.ensures.entries; preloads = ap (λ v. v.items) c.take_new.ensures.preloads; touched = c.take_new.ensures.touched }
 
--- what stands is kept
+-- the current list is kept
 keeps : (g : given.Over) (c : After-write_draft g) → KeepsList c.self.inside.kept c.write_draft.new.self
 keeps g c = keeps_both (layout_keeps c.self.inside.kept c.take_new.new.self c.in_ok-put.ensures.takes.kept) c.write_draft.ensures.kept
 
--- the entry stands behind the others
+-- the new entry is the last of the draft's entries
 behind : (g : given.Over) (c : After-edit g) → c.edit.new.self.entries.items ≡ c.self.inside.draft.entries.items ++ c.in_ok-put.put ∷ []
 behind g c = c.edit.ensures.entries ∙ ap (λ l. l ++ c.in_ok-put.put ∷ []) c.take_new.ensures.entries
 
@@ -110,7 +110,7 @@ invariant_of-self-2 g c =
     (subst (IsDraftList c.self.inside.kept.entries.items) (sym its) (list_more is.list put taken.fits (put_unlisted is taken) (put_apart is taken)
     (subst (λ name. All (λ (other : PlacedEntry). name_of other.entry ≢ name) entries) (sym taken.its_name) new) c.in_ok-put.ensures.few))
     c.edit.ensures.index
-    (c.edit.ensures.sectors ∙ ap (λ l. l ++ put.at ∷ []) (c.take_new.ensures.sectors ∙ is.places) ∙ edited_map (λ (p : PlacedEntry). p.at) (Behind put) entries ∙ ap entry_sectors (sym its))
+    (c.edit.ensures.sectors ∙ ap (λ l. l ++ put.at ∷ []) (c.take_new.ensures.sectors ∙ is.places) ∙ edited_map (λ (p : PlacedEntry). p.at) (Append put) entries ∙ ap entry_sectors (sym its))
     (subst (ArePreloads (length c.edit.new.self.entries.items)) (sym (still_preloads g here.After-edit))
     (preloads_within is.preloads (omega (arith, ap length its, length-append entries (put ∷ [])))))
     (λ _. c.in_ok-put.ensures.later)

@@ -2,7 +2,7 @@ use Rattle.std.proofs.Common.{ℕ, ◌≡◌, ◌≢◌, ◌<◌, All, IsFalse, 
 use Rattle.std.proofs.lemmas.List.{length-set}
 use Rattle.std.proofs.lemmas.Result.{err_from_is_err_and}
 use Rattle.states.specs.State.{State}
-use Rattle.store.specs.declared.edit.Edit.TheVariants.{Over}
+use Rattle.store.specs.declared.edit.Edit.TheVariants.{Replace}
 use Rattle.store.specs.declared.placed_entry.PlacedEntry.{PlacedEntry}
 use Rattle.store.specs.Draft.{IsDraftedAt, IsDraftedNamed, IsDraftedOver}
 use Rattle.store.specs.Names.{IsName}
@@ -22,7 +22,7 @@ use Rattle.store.proofs.update.Update.put_over.Given as given
 use Rattle.store.proofs.update.Update.put_over.Goals.{After-take_over, After-write_draft, After-index, After-leave}
 use Rattle.store.proofs.update.Update.put_over.Goals as goal
 
--- where the entry of the name stands
+-- the position of the entry with the name is in the list
 there : (g : given.Over) (c : After-take_over g) → c.in-Some.position < length c.self.inside.draft.entries.items
 there g c = omega (arith, c.in-Some.ensures.some.0, ap length c.deref.ensures.value)
 
@@ -36,11 +36,11 @@ counted : (g : given.Over) (c : After-take_over g) (sectors : ℕ) (d : State) �
     → IsDraftCounted c.self.inside.kept c.len-libraries.result sectors d
 counted g c sectors d is = subst (λ n. IsDraftCounted c.self.inside.kept n sectors d) (sym (count_is g c)) is
 
--- what stands is kept by the room and the writes,
+-- the current list is kept by taking room and by the writes
 keeps : (g : given.Over) (c : After-write_draft g) → KeepsList c.self.inside.kept c.write_draft.new.self
 keeps g c = keeps_both (layout_keeps c.self.inside.kept c.take_over.new.self c.in_ok-put.ensures.takes.kept) c.write_draft.ensures.kept
 
--- and by what is freed
+-- the current list is kept by freeing sectors too
 keeps_all : (g : given.Over) (c : After-leave g) → KeepsList c.self.inside.kept c.leave.new.self
 keeps_all g c = keeps_both (keeps_both (layout_keeps c.self.inside.kept c.take_over.new.self c.in_ok-put.ensures.takes.kept) c.write_draft.ensures.kept)
     (layout_keeps c.write_draft.new.self c.leave.new.self c.leave.ensures.kept)
@@ -121,7 +121,7 @@ invariant_of-self-2 g c =
     (over_staged is taken place placed lt c.index.ensures same freed (ap (spare_of (length (catalogues_of kept.root))) (count_is g here.After-take_over))))
     (subst (IsDraftList kept.entries.items) (sym its) (list_set is.list put taken.fits (put_unlisted is taken) (put_apart is taken) place lt (λ d. named g here.After-take_over d ∙ sym taken.its_name)))
     c.edit.ensures.index
-    (c.edit.ensures.sectors ∙ ap (λ l. set l place put.at) is.places ∙ edited_map (λ (p : PlacedEntry). p.at) (Over place put) entries ∙ ap entry_sectors (sym its))
+    (c.edit.ensures.sectors ∙ ap (λ l. set l place put.at) is.places ∙ edited_map (λ (p : PlacedEntry). p.at) (Replace place put) entries ∙ ap entry_sectors (sym its))
     (subst (λ v. ArePreloads (length c.edit.new.self.entries.items) v.items) (sym c.edit.ensures.preloads)
     (preloads_within is.preloads (omega (arith, ap length its, length-set entries place put))))
     (λ _. c.in_ok-put.ensures.later)

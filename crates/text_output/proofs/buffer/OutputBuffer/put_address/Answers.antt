@@ -5,7 +5,7 @@ use Rattle.text_output.specs.Hexadecimal.{address_text}
 use Rattle.text_output.specs.Sends.{Sends, HasRoom, with_text}
 use Rattle.text_output.proofs.buffer.OutputBuffer.put_address.Goals as goal
 
--- what a success says
+-- if a result is a success, the fact that follows from a success is true
 told : {T E : Type 0} (r : Result T E) {P : Type 0} → IsOk r → OnOk r P → P
 told (Ok t) k p = p
 told (Err e) k p = search rules

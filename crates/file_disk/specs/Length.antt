@@ -1,0 +1,13 @@
+-- The length of a disk's file (own).
+use Rattle.std.specs.Prelude.{◌≡◌, ◌<◌, ◌*◌, ◌^◌, ℕ}
+use Rattle.file_disk.specs.declared.open.OpenFault.{OpenFault}
+use Rattle.file_disk.specs.declared.open.OpenFault.TheVariants.{BadLength}
+
+-- `length` is the length in bytes of some disk: that of a whole number of sectors, fewer than 2^32
+abbrev pub IsDiskLength : ℕ → Type 0
+IsDiskLength length = (sectors : ℕ) × (sectors < 2 ^ 32) × (length ≡ 512 * sectors)
+
+-- If the fault is a bad length, no disk has this length.
+abbrev pub IsLengthFault : OpenFault → Type 0
+IsLengthFault (BadLength length) = IsDiskLength length → ⊥
+IsLengthFault fault = Unit {0}

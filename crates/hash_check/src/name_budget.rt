@@ -1,0 +1,42 @@
+// A limit for the number of bytes of names that are read one by one.
+
+ghost use Rattle.std.specs.Prelude.{◌≡◌, ◌≤◌, ◌↔◌, ◌-◌, IsTrue};
+
+use std::marker::Model;
+
+/// The number of bytes of names that may still be read one by one. If none of the names is a tail
+/// of another, they have no more bytes than their string tables. So if names have more than twice
+/// as many bytes, plus 64 KiB, many of them share bytes.
+#[derive(Drop)]
+pub struct NameBudget {
+    left: usize,
+}
+
+impl Model for NameBudget {
+    ghost use Rattle.std.specs.Prelude.{ℕ};
+
+    ghost Value = { ℕ };
+
+    ghost view = { λ r. r.left };
+}
+
+impl NameBudget {
+    /// Makes a budget for the names of string tables that have `size` bytes.
+    pub fn new(size: usize) -> NameBudget
+        ensures { size ≤ result }
+    {
+        let left = size.saturating_mul(2).saturating_add(65_536);
+        NameBudget { left }
+    }
+
+    /// Takes the `length` bytes of a name from the budget, and returns whether the budget had enough
+    /// bytes.
+    pub fn take(&mut self, length: usize) -> bool
+        ensures fits { IsTrue result ↔ length ≤ self.old }
+        ensures left { self.new ≡ self.old - length }
+    {
+        let fits = length <= self.left;
+        self.left = self.left.saturating_sub(length);
+        fits
+    }
+}
