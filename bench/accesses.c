@@ -6,7 +6,7 @@
 #include <stdlib.h>
 #include <time.h>
 
-enum { ACCESSES = 50000000, THREADS = 20000 };
+enum { ACCESSES = 50000000, THREADS = 2000 };
 __thread int counted;
 
 __attribute__((noinline)) static void count(void) {
