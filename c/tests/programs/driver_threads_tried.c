@@ -169,10 +169,10 @@ static void handle(int signal) {
 }
 static void try_signals(void) {
     struct sigaction action = { .sa_handler = handle };
-    struct itimerval often = { { 0, 7 }, { 0, 7 } }, never = { { 0, 0 }, { 0, 0 } };
+    struct itimerval often = { { 0, 50 }, { 0, 50 } }, never = { { 0, 0 }, { 0, 0 } };
     sigaction(SIGALRM, &action, NULL);
     setitimer(ITIMER_REAL, &often, NULL);
-    while (signals < 20000) {
+    while (signals < 5000) {
         make_objects();
         memset(seen, 0, sizeof seen);
         for (current = 0; current < OBJECTS; current++) {
