@@ -3,13 +3,13 @@
 
     python3 bench/bindings.py RLIBREG RLIBREG_TOOL FOLDER [--count 200] [--first FIRST]
 
-The script makes COUNT random programs, from number FIRST on, each with up to 8 libraries made by gcc. Their functions and
-data have few names, so most names are defined several times. There are weak definitions and references, protected ones,
-symbolic objects, references that nothing defines, and up to 3 preloads. The load order, the bindings of all symbols and
-the undefined symbols have to be those of ld.so (LD_TRACE_LOADED_OBJECTS, LD_DEBUG=bindings, LD_WARN). A value has to be
-that of `readelf`. Then up to 3 libraries are removed. The names that each object needs, and those that are missing, have
-to be those that a walk by levels finds in the output of `readelf`. The script prints each difference, and exits with
-status 1 if there is one.
+The script makes COUNT random programs, from number FIRST on, each with up to 8 libraries made by gcc. Their functions
+and data have few names, so most names are defined several times. There are weak definitions and references, protected
+ones, symbolic objects, references to names that no object defines, and up to 3 preloads. The load order, the bindings
+of all symbols and the undefined symbols have to be those of ld.so (LD_TRACE_LOADED_OBJECTS, LD_DEBUG=bindings,
+LD_WARN). A value has to be that of `readelf`. Then up to 3 libraries are removed. The names that each object needs, and
+those that are missing, have to be those that a walk by levels finds in the output of `readelf`. The script prints each
+difference, and exits with status 1 if there is one.
 """
 
 import argparse
@@ -101,7 +101,7 @@ def make(rng, folder):
 
 
 def of_loader(folder, preloads):
-    """Returns the load order, what each object's symbols are bound to, and which of them are undefined, by ld.so."""
+    """Returns what ld.so reports: the load order, the bindings of each object's symbols, and the undefined symbols."""
     words = {'LD_TRACE_LOADED_OBJECTS': '1', 'LD_WARN': '1', 'LD_BIND_NOW': '1', 'LD_DEBUG': 'bindings', 'LD_LIBRARY_PATH': '.'}
     words |= {'LD_PRELOAD': ' '.join(f'./{name}' for name in preloads)} if preloads else {}
     ended = run(LOADER, './program', cwd=folder, env=words)
@@ -142,7 +142,8 @@ def of_tool(text):
 
 
 def symbols_of(path):
-    """Returns the names of an object's relocations, which of them are weak references, and what the object defines."""
+    """Returns the names of an object's relocations, those of them that are weak references, and the definitions of the
+    object."""
     referred = set(re.findall(r'R_X86_64_(?:64|GLOB_DAT|JUMP_SLO?T?)\s+[0-9a-f]+ (\w+)', done('readelf', '-rW', path)))
     weak, values = set(), {}
     for line in done('readelf', '--dyn-syms', '-W', path).splitlines():

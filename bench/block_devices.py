@@ -30,7 +30,7 @@ def insist(act):
 
 @contextlib.contextmanager
 def zram(sectors):
-    """A disk in compressed memory."""
+    """Makes a disk in compressed memory."""
     try:
         number = int((CONTROL / 'hot_add').read_text())
     except OSError as why:
@@ -57,7 +57,7 @@ def reset(device, sectors):
 
 @contextlib.contextmanager
 def part(device, start, sectors):
-    """Partition 1 of a device, at a place, which `move` changes."""
+    """Makes partition 1 of a device. `move` changes its place."""
     path = partition(device, 1, start, sectors)
     try:
         yield path
@@ -77,12 +77,12 @@ def move(device, start, sectors):
 
 
 def linear(sectors, device, start=0):
-    """A row of a table of device mapper: its length, and what it maps."""
+    """Returns a row of a table of device mapper: its length, and the device and place to which it maps."""
     return sectors, f'linear {device} {start}'
 
 
 def table(rows):
-    """The text of a table that has these rows one after the other."""
+    """Returns the text of a table with these rows, one after the other."""
     lines, at = [], 0
     for sectors, target in rows:
         if sectors:
@@ -92,7 +92,8 @@ def table(rows):
 
 
 def with_errors(sectors, device, places, count):
-    """Rows of a device of which `count` sectors from each place on can't be read or written."""
+    """Returns rows that map a device, except that `count` sectors from each of the places on can't be read or
+    written."""
     rows, end = [], 0
     for at in sorted(places):
         rows += [linear(at - end, device, end), (count, 'error')]
@@ -110,7 +111,7 @@ def mapper_is_there():
 
 @contextlib.contextmanager
 def mapped(rows):
-    """A device of device mapper, as the kernel's own node of it."""
+    """Makes a device of device mapper. Yields the node that the kernel has made for it."""
     mapper_is_there()
     name = f'rlibreg-{os.getpid()}-{next(NUMBERS)}'
     system('dmsetup', 'create', '--noudevsync', name, input=table(rows).encode())
@@ -132,12 +133,12 @@ def load(device, rows):
 
 
 def forget(device):
-    """Has the system write what it keeps of a device, and forget it."""
+    """Makes the system write its cached pages of a device, and drop them."""
     system('blockdev', '--flushbufs', device)
 
 
 def forget_file(path):
-    """Has the system forget what it keeps of a file that nobody maps."""
+    """Makes the system drop its cached pages of a file that no process maps."""
     number = os.open(path, os.O_RDONLY)
     try:
         os.fsync(number)
@@ -147,7 +148,7 @@ def forget_file(path):
 
 
 def forget_all():
-    """Has the system write all dirty pages, and forget all that it can read again."""
+    """Makes the system write all dirty pages, and drop all pages that it can read again."""
     os.sync()
     Path('/proc/sys/vm/drop_caches').write_text('3')
 

@@ -3,11 +3,11 @@
 
     python3 bench/c_library.py FOLDER [NUMBER LENGTH]..
 
-FOLDER has librlibreg.so and rlibreg (c/build.sh). For each NUMBER and LENGTH the script makes a disk with NUMBER
+FOLDER has librlibreg.so and rlibreg, made by c/build.sh. For each NUMBER and LENGTH the script makes a disk with NUMBER
 libraries of about LENGTH bytes, and then times the calls that read it: it prints the least of five times for each. The
-program that is bound needs all libraries. The bind is left out if these have more than 64 MiB together. The installation
-of one more library is timed twice: when it is planned, and when the plan is carried out with its syncs. With 2,048
-libraries no further one can be installed.
+program that is bound needs all libraries. The bind is left out if these have more than 64 MiB together. The
+installation of one more library is timed twice: when it is planned, and when the plan is carried out with its syncs.
+With 2,048 libraries no further one can be installed.
 """
 
 import ctypes
@@ -77,7 +77,7 @@ def install_one(it, path, file):
 
 
 class Calls:
-    """The calls over the bytes of a disk, which are mapped."""
+    """The calls over bytes, with the mapped bytes of a disk."""
 
     def __init__(self, it, path):
         self.it, self.answer = it, Answer()

@@ -52,7 +52,7 @@ class Program:
         return ended.output
 
     def unread(self, ended, disk):
-        """Returns whether a run said that the disk can't be read, and nothing else."""
+        """Returns whether a run printed only the message that the disk can't be read."""
         return ended[:3] == (3, b'', f'rlibreg: cannot read {disk}\n'.encode())
 
     held = unread
@@ -61,7 +61,7 @@ class Program:
 class CLibrary(Program):
     """The program over the C library, c/tests/tool.c, which takes the same arguments."""
 
-    # If it was built with the sanitizer of addresses: under strace, it doesn't look for leaks.
+    # For a program with the sanitizer of addresses: under strace, it must not look for leaks.
     name, more = 'C library', {'ASAN_OPTIONS': 'detect_leaks=0'}
 
     def unread(self, ended, disk):
@@ -72,7 +72,7 @@ class CLibrary(Program):
 
 
 class Checks:
-    """Counts what was checked, by kinds. Of each kind that is wrong, it prints the first few."""
+    """Counts what was checked, by kinds. Prints the first few faults of each kind."""
 
     def __init__(self):
         self.looked, self.wrong = collections.Counter(), collections.Counter()
@@ -111,8 +111,8 @@ def shortened(it):
 
 
 def soon(run, most):
-    """Runs a command that changes nothing, and runs it again if it took `most` seconds or more, because a busy machine
-    may stop any process for seconds. Returns how the last run ended, or the first that ended otherwise than the one
+    """Runs a command that changes nothing. Runs it again if it took `most` seconds or more, because a busy machine may
+    stop any process for seconds. Returns how the last run ended, or the first run that ended differently from the run
     before."""
     ended = run()
     for _ in range(ATTEMPTS - 1):
@@ -136,14 +136,14 @@ def held_file(path, how):
 
 
 def emptied(folder):
-    """Empties the folder, or makes it."""
+    """Empties the folder if it exists, and makes it otherwise."""
     shutil.rmtree(folder, ignore_errors=True)
     folder.mkdir(parents=True)
     return folder
 
 
 def looks(path):
-    """Returns what a path names, without opening anything other than a regular file."""
+    """Returns a description of what a path names. Opens only regular files."""
     try:
         found = os.lstat(path)
     except FileNotFoundError:

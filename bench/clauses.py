@@ -1,9 +1,10 @@
 """The public calls of each crate with their clauses, as docs/CLAUSES.md has them, from the text of `src/`.
 
-A call links to its file, and is described by the first sentence of its comment. After it come its clauses. Each group of
-clauses comes after the `//` lines above it. A clause of up to MOST characters, or without a label, is copied as it is; of
-a longer clause only the label is copied. If a clause cites one record, its parts follow in square brackets: the record's
-fields, each group of them with the comment above it. docs/PROOFS.md and docs/DEFINITIONS.md explain the words of a clause.
+A call links to its file, and is described by the first sentence of its comment. After it come its clauses. Each group
+of clauses comes after the `//` lines above it. A clause of up to MOST characters, or without a label, is copied as it
+is; of a longer clause only the label is copied. If a clause cites one record, the record's parts follow in square
+brackets: the record's fields, each group of them with the comment above it. docs/PROOFS.md and docs/DEFINITIONS.md
+explain the words of a clause.
 """
 
 import re
@@ -46,7 +47,8 @@ def described(comment):
 
 @cache
 def cited_by(path):
-    """Returns what the names in a file of code or of definitions refer to, and the file's lines without comments."""
+    """Returns the definitions to which the names in a file of code or of definitions refer, and the file's lines
+    without comments."""
     lines = path.read_text().splitlines()
     return definitions.uses_of(lines), lines
 
@@ -132,7 +134,7 @@ def fields_of(lines, indent, path):
 
 
 def told(parts):
-    """Returns parts in square brackets."""
+    """Returns the text of parts, in square brackets."""
     listed = '; '.join(', '.join(names) + (f': {comment}' if comment else '') for comment, names in parts)
     return f' [{listed}]' if listed else ''
 

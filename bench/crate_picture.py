@@ -11,7 +11,7 @@ WIDTH, BOX, ROW = 1000, (112, 26), 68
 
 
 def crates_and_kinds():
-    """Returns the crates that each crate uses, without those that only test, and the colour of each."""
+    """Returns the crates that each crate uses, and the colour of each crate. Leaves out crates that only test."""
     uses, kinds, head = {}, {}, ''
     for line in CRATES.read_text().splitlines():
         if line.startswith('#'):
@@ -32,7 +32,7 @@ def direct(uses):
 
 
 def collect(name, uses, below):
-    """Notes in `below` all crates that a crate uses, directly or through others."""
+    """Adds to `below` all crates that a crate uses, directly or through others."""
     if name not in below:
         below[name] = set(uses[name]).union(*(collect(it, uses, below) for it in uses[name]))
     return below[name]

@@ -11,12 +11,12 @@ SOURCES = f'deb-src [signed-by={KEYS}] http://deb.debian.org/debian bookworm mai
 
 
 class NotHad(Exception):
-    """Says why a source, or something made of it, isn't available."""
+    """The reason why a source, or something made of it, isn't available."""
 
 
 def own_apt(folder):
-    """Returns the environment of an apt-get that has its state below a folder. It needs neither root nor `deb-src`
-    lines of the system's, and changes nothing there."""
+    """Returns the environment of an apt-get that has its state below a folder. This apt-get needs neither root nor
+    `deb-src` lines of the system, and changes nothing in the system."""
     place = folder / 'apt'
     (place / 'lists').mkdir(parents=True, exist_ok=True)
     (place / 'sources.list').write_text(SOURCES)
@@ -29,7 +29,7 @@ def own_apt(folder):
 
 
 def get(folder, package):
-    """Lets apt-get put a package's source into a folder. apt-get checks Debian's signature."""
+    """Gets a package's source into a folder, by apt-get. apt-get checks Debian's signature."""
     if not shutil.which('apt-get'):
         raise NotHad('there is no apt-get')
     environment = own_apt(folder)
@@ -54,6 +54,6 @@ def unpacked(folder, package, place):
     with tarfile.open(path) as it:
         it.extractall(place / 'whole')
     found = [*(place / 'whole').iterdir()]
-    # Most archives have one folder, which has everything.
+    # Most archives have one folder, with all files in it.
     source = found[0] if len(found) == 1 else place / 'whole'
     return source, path.name.split('_')[1].split('.orig')[0]

@@ -48,7 +48,7 @@ CLAUSES = [
     ('rlibreg_c/upgrade', 'rlibreg_plan_upgrade', 'plan answered left'),
     ('rlibreg_c/update', 'rlibreg_plan_update', 'plan answered left'),
 ]
-# The calls of the headline, among them.
+# The calls that the headline names, among others.
 HEADLINE = [('registry/format', 'format'), ('registry/open', 'open'), ('registry/apply', 'apply'), ('registry/apply', 'run')]
 READING = [
     ('1. Files', 'The bytes of a file: what they say, and when they are refused (gABI chapters 4 and 5).', [
@@ -180,7 +180,7 @@ WORD = re.compile(r"[A-Za-z_][\w']*(?:\.[A-Za-z_][\w']*)*")
 
 
 def section_of(text):
-    """Returns the section of the standard that a comment names, or None."""
+    """Returns the section of a standard that a comment names, or None."""
     for part in STANDARD.findall(text):
         if re.search(r'gABI|elf\(5\)|psABI|ld\.so|^own$', part):
             return part
@@ -188,7 +188,7 @@ def section_of(text):
 
 
 def sentence(text):
-    """Returns a comment without the section that it names."""
+    """Returns a comment without the section of a standard that it names."""
     for part in STANDARD.findall(text):
         if re.search(r'gABI|psABI|ld\.so|^own$', part) or part == 'elf(5)':
             text = text.replace(f' ({part})', '')
@@ -275,7 +275,7 @@ def names_in(text, uses, own, file):
 
 
 def citations(files):
-    """Returns what each definition names, and what each file passes on from others."""
+    """Returns the definitions that each definition names, and those that each file passes on from other files."""
     names, passed = {}, {}
     for crate, _ in CRATES:
         for path in sorted((ROOT / 'crates' / crate / 'specs').glob('*.antt')):

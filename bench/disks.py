@@ -60,7 +60,7 @@ class Bench:
         return [min(row[k] for row in rows) for k in (0, 1)]
 
     def told(self, what, words, start, size, given=b''):
-        """Prints a row: the program, compared with a copy of as many bytes that is synced."""
+        """Prints a row: the program, compared with a synced copy of the same number of bytes."""
         words = [self.program, *words]
         real, used = self.least(words, start, given)
         (self.folder / 'bytes').write_bytes(bytes(range(256)) * (size // 256))

@@ -33,7 +33,8 @@ NAME = re.compile(r'[A-Za-z_][\w]*(?:::[A-Za-z_]\w*)*')
 PATH = re.compile(r'^[\w.{},*-]+(?:/[\w.{},*-]+)+/?$')
 BRACES = re.compile(r'\{([^{}]*)\}')
 OF_THE_ROOT, IN_A_CRATE = ('crates', 'docs', 'bench', 'c', 'python', '.ci'), ('src', 'specs', 'proofs', 'data', 'must-fail')
-# The folder that a build makes, and a path of a crate that stands for many: one of its names is a word in capitals.
+# The folder that a build makes; and the form of a path that represents many paths of a crate, because one of its names
+# is a word in capitals.
 MADE, PATTERN = 'out', re.compile(r'(?:src|specs|proofs|must-fail)/.*\b[A-Z_]{4,}\b')
 
 
@@ -79,7 +80,7 @@ def words_of_the_tree():
 
 
 def expanded(path):
-    """Returns the paths that a path with braces stands for."""
+    """Returns the paths that a path with braces abbreviates."""
     found = BRACES.search(path)
     if not found:
         return [path]
@@ -119,7 +120,7 @@ def unlisted():
 
 
 def faults_of_files():
-    """Yields what is wrong with the lists of files and calls, and with the pictures."""
+    """Yields each fault of the lists of files and calls, and of the pictures."""
     yield from (f'bench/README.md names {name} not once' for name in unlisted())
     yield from (f'{name} has no comment at its head' for name in file_map.page(crates())[1])
     yield from promised.broken()

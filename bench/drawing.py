@@ -25,7 +25,7 @@ def style():
 
 
 class Picture:
-    """A picture of a width and a height in pixels, with a title that is read out where it can't be seen."""
+    """A picture of a width and a height in pixels, with a title for readers who can't see the picture."""
 
     def __init__(self, width, height, title):
         self.width, self.height, self.title, self.parts = width, height, title, []

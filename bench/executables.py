@@ -3,12 +3,12 @@
 
     python3 bench/executables.py RLIBREG RLIBREG_TOOL FOLDER [--count 500] [--kernel VMLINUZ] [--accel tcg]
 
-Each is a program with up to 20 libraries, made by random linkers with random flags at random bases. It ends with the sum
-of the values that its libraries and their data return. In some programs, segments share pages: each page of the program
-has to permit what its segments in this page permit, and there may not be two PT_LOADs if one would be enough. An object
-is refused if one of its pages may be both written and executed, as read from the files. Other programs have 71, 75, 1,167
-and 1,171 program headers, and the last is refused. All of them are started here, and with --kernel also in a guest of
-qemu; a kernel before 6.17 accepts at most 73 headers.
+Each is a program with up to 20 libraries, made by random linkers with random flags at random bases. It ends with the
+sum of the values that its libraries and their data return. In some programs, segments share pages: each page of the
+program has to have the permissions of all its segments, and there may not be two PT_LOADs if one would be enough. An
+object is refused if one of its pages may be both written and executed, as read from the files. Other programs have 71,
+75, 1,167 and 1,171 program headers, and the last is refused. All of them are started here, and with --kernel also in a
+guest of qemu; a kernel before 6.17 accepts at most 73 headers.
 """
 
 import argparse
@@ -89,7 +89,7 @@ def loads(file):
 
 
 def pages(file, base=0):
-    """Returns what each page of a file's segments permits, as p_flags."""
+    """Returns the permissions of each page of a file's segments, as p_flags."""
     permitted = {}
     for flags, _, address, _, size in loads(file):
         if size:
@@ -124,7 +124,8 @@ class Executables:
         done(self.words.rlibreg, 'install', self.disk, self.folder / f'lib{name}.so')
 
     def wanted(self, name, needs):
-        """Returns the message about the first object that has a page which may be both written and executed."""
+        """Returns the expected message, about the first object that has a page which may be both written and
+        executed."""
         if is_both(self.folder / f'{name}.bound'):
             return 'rlibreg-tool: refused WritableCode /program\n'
         both = [need for need in needs if is_both(self.folder / f'lib{need}.so')]
@@ -199,7 +200,7 @@ class Executables:
         self.compare('here', os.uname().release, ended)
 
     def guest(self, kernel, accel):
-        """Starts a guest whose first process starts each of them."""
+        """Starts a guest whose first process starts each of the executables."""
         root = self.folder / 'root'
         for part in ('bin', 'proc'):
             (root / part).mkdir(parents=True, exist_ok=True)

@@ -4,11 +4,11 @@ system call fails, or the program is killed at it. Needs strace.
 
     python3 bench/faults.py PROGRAM FOLDER [--tool RLIBREG_TOOL] [--dynamic DYNAMIC]
 
-After each run the script lists the disk, as a machine that still runs has it, and binds a program from it. Both have to
-be as before the command or as after it, and as after it if the command answered `ok`. So a `format` of a disk that doesn't
-exist leaves none, or a whole registry. The other name under which the disk is made may stay only after a kill, or if it
-can't be removed (`making.py` tries more of this). Finally, every two syncs of a command fail. For each command and each
-kind of fault the script prints how many runs ended in which way.
+After each run the script lists the disk, as the running machine shows it, and binds a program from it. Both results
+have to be those from before the command or those from after it, and those from after it if the command answered `ok`.
+So a `format` of a disk that doesn't exist leaves none, or a whole registry. The other name under which the disk is made
+may stay only after a kill, or if it can't be removed (`making.py` tries more of this). Finally, every two syncs of a
+command fail. For each command and each kind of fault, the script prints the number of runs for each way to end.
 
 Before that, standard streams are closed or fail (`streams.py`), also those of RLIBREG_TOOL. After it, reads and writes
 transfer fewer bytes than the program asked for (`short.py`). Some of these runs need DYNAMIC, a folder that
@@ -72,7 +72,8 @@ class Bench:
         return text
 
     def seen(self):
-        """Returns what the disk holds, as its user sees it; for version 1, also what an upgrade makes of it."""
+        """Returns the contents of the disk, as its user sees them; for version 1, also the contents after an
+        upgrade."""
         listed = self.run(['list', 'disk'])
         if listed[1] == b'refused S12 OldFormat\n':
             self.done('upgrade', 'disk')
@@ -80,13 +81,14 @@ class Bench:
         return listed, self.run(['bind', 'disk', 'program', '0x100000'])
 
     def calls(self, words):
-        """Returns how often each system call is made, in the order in which each is first made."""
+        """Returns the number of times that each system call is made, in the order of their first occurrences."""
         log = self.folder / 'calls'
         self.run(words, ['strace', '-qq', '-o', str(log), '-e', f'trace={CALLS}'])
         return collections.Counter(line.split('(')[0] for line in log.read_text().splitlines() if '(' in line)
 
     def trial(self, words, start):
-        """Tries each fault at each call in turn, from a disk as it was (or from none if there was none)."""
+        """Tries each fault at each call in turn, each time from a copy of the disk `start` (or without a disk if there
+        is none)."""
         self.put(start)
         before = self.seen()
         self.put(start)

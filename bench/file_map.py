@@ -11,7 +11,7 @@ This page is for everyone who looks for a file. It lists the source files with t
 
 In a crate, `src` has the code, and `specs` the definitions that contracts cite. The folder `proofs`, which isn't listed, has a folder for each function with answers of its own, and modules of lemmas; `must-fail` has wrong bodies, each named for its mistake.
 """
-# The folders beside the crates, in the order of the page, and what each one is for.
+# The folders other than the crates, in the order of the page, with the purpose of each.
 FOLDERS = {
     'c': 'the C library over files, the loader, the C parts of the programs, the driver, and what builds and installs all of it',
     'c/system': 'the rule, the units and the hooks that `c/install.sh` installs',

@@ -2,11 +2,12 @@
 # fleet.sh BUILT [RELEASE [CUTS]] tries the section "Fleets" of docs/DEVICES.md with what c/build.sh has
 # put into BUILT: in a Debian (RELEASE is bookworm) in a guest of qemu, with its casync, OSTree and RAUC,
 # and with the commands exactly as the page has them. A server on this machine has four versions of a
-# registry, in each of which one library of 34 KB is new, and counts the bytes that it sends.
+# registry, each with one new library of 34 KB, and counts the bytes that it sends.
 #
 # - Each way brings a device to version 4 from version 3, and from version 1.
-# - Nothing changes after a transfer that breaks, a transfer with a changed bit, one that another key has
-#   signed, and a list after which a program can't be bound. The way goes on afterwards.
+# - Nothing changes after a transfer that breaks, a transfer with a changed bit, a transfer that was
+#   signed by another key, and a list after which a program can't be bound. Afterwards the way still
+#   works.
 # - The power fails CUTS times (3) in each way, over and over: afterwards the device has the version that
 #   it had reached, or the next. The same is tried once more by a list, and the way goes on.
 #
@@ -22,7 +23,8 @@ page=$PWD/docs/DEVICES.md server=
 trap 'ended=$?; [ -z "$guest" ] || kill "$guest" || true; [ -z "$server" ] || kill "$server" || true
     umount "$root/proc" 2> /dev/null || true; rm -rf "$room"; exit $ended' EXIT
 
-# 100 libraries, and three of them once more, whose bytes can't be compressed; a program that needs one.
+# Makes 100 libraries whose bytes can't be compressed, three of them also in a second version, and a
+# program that needs one library.
 libraries() {
     local number name
     mkdir -p "$room/www/libraries" "$room/bytes"
@@ -99,7 +101,7 @@ END
 # rauc_knows: writes RAUC's configuration, with its slots and the program that switches between them.
 rauc_knows() {
     mkdir -p "$root/etc/rauc"
-    rm "$root/usr/share/dbus-1/system-services/de.pengutronix.rauc.service" # else dbus starts it
+    rm "$root/usr/share/dbus-1/system-services/de.pengutronix.rauc.service" # otherwise dbus starts RAUC
     cat > "$root/etc/rauc/system.conf" << 'END'
 [system]
 compatible=device
@@ -132,7 +134,7 @@ made() {
     mv "$root/www" "$room/www"
 }
 
-# at: prints the versions that the guest said it has; a line that a cut has broken counts as none.
+# at: prints the versions that the guest has reported. A line that a cut has broken doesn't count.
 at() {
     sed -n 's/^rlibreg: at \([1-4]\).*/\1/p' "$room/said"
 }

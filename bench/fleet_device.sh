@@ -1,7 +1,8 @@
 #!/bin/bash
 # fleet_device.sh is the first process of fleet.sh's guest. If the kernel's command line has
-# `fleet.way=day`, it goes all ways and ends. If it has one way, it goes that way from version to version
-# until the power fails. /try has a script for each way, the sums of the versions, and two images.
+# `fleet.way=day`, it tries all ways and ends. If `fleet.way` is one way, it updates in that way from
+# version to version until the power fails. /try has a script for each way, the sums of the versions, and
+# two images.
 set -u
 exec 2>&1
 export PATH=/usr/sbin:/usr/bin:/sbin:/bin LC_ALL=C HOME=/var/fleet
@@ -33,7 +34,7 @@ version() {
     done
 }
 
-# forgets NUMBER: removes everything that OSTree has, except this version.
+# forgets NUMBER: removes all versions from OSTree's repository except this one.
 forgets() {
     ostree --repo=$repository refs --list | grep -v ":v$1$" |
         xargs -rn 1 ostree --repo=$repository refs --delete
@@ -44,7 +45,7 @@ forgets() {
 begins() {
     forgets none
     dd if=/try/image-"$2" of=$a conv=fsync status=none
-    rlibreg format $b "$(blockdev --getsz $b)" || [ $? = 1 ] # it has a registry
+    rlibreg format $b "$(blockdev --getsz $b)" || [ $? = 1 ] # the disk has a registry already
     ln -sfn $a /etc/rlibreg/disk
     [ "$1" != ostree ] || runs ostree "$2" || failed "$1 doesn't begin"
     [ "$(version)" = "$2" ] || failed "$1 doesn't begin with $2"
@@ -60,7 +61,8 @@ reaches() {
     [ "$(version)" = 4 ]
 }
 
-# refuses WAY FOLDER: tries what the server has there; the device stays as it is.
+# refuses WAY FOLDER: tries an update from this folder of the server, which has to leave the device as it
+# is.
 refuses() {
     local before
     before=$(readlink /etc/rlibreg/disk)

@@ -16,7 +16,8 @@ of() {
     commands "$page" "$1" "$2" || failed "${page##*/} has no commands that begin with $2"
 }
 
-# debian PACKAGES MODULE..: makes a Debian with these, and with the installed files.
+# debian PACKAGES MODULE..: makes a Debian with these packages and kernel modules, and with the installed
+# files.
 debian() {
     local wanted=udev,initramfs-tools,linux-image-amd64,busybox,zstd,$1
     debootstrap --variant=minbase --include="$wanted" "$release" "$root" > "$room/log" 2>&1 ||
@@ -47,7 +48,7 @@ partitions() {
 # boot [WORD]..: boots with these words at the end of the kernel's command line. The console's lines are
 # in a file.
 boot() {
-    : > "$room/console" # else `begun` may find what the guest before has said
+    : > "$room/console" # otherwise `begun` may find a line of an earlier guest
     qemu-system-x86_64 -accel "${ACCEL:-tcg}" -m 1024 -nographic -no-reboot -kernel "$room/kernel" \
         -initrd "$room/initramfs" -drive "file=$disk,format=raw,if=virtio,cache=writeback" \
         -netdev user,id=net -device virtio-net-pci,netdev=net,romfile= -append \
@@ -66,7 +67,7 @@ begun() {
 power_cut() {
     sleep "$((RANDOM % $1)).$((RANDOM % 10))"
     kill -9 $guest || true
-    wait $guest 2> /dev/null || true # else bash tells that it was killed
+    wait $guest 2> /dev/null || true # otherwise bash prints that the guest was killed
     ended
 }
 
@@ -80,7 +81,7 @@ ended() {
         grep -a '^rlibreg\|^library' > "$room/said" || true
 }
 
-# said LINE..: ends the script unless the console has each of these lines.
+# said LINE..: checks that the console has each of these lines, and otherwise ends the script.
 said() {
     local line
     for line; do grep -aq "$line" "$room/said" || failed "the guest didn't say: $line"; done

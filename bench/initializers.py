@@ -3,11 +3,11 @@
 
     python3 bench/initializers.py FOLDER [GRAPHS [START]]
 
-FOLDER has rlibreg, rlibreg-run, rlibreg-tool and rlibreg-gcc (c/build.sh). Each graph has libraries that need each other
-at random, sometimes in circles, with or without DT_INIT, DT_FINI, arrays, DF_1_INITFIRST and preloads. A program needs
-some of them. Each function writes its name, so all calls and their order are compared. gcc makes the functions, and ld
-links them. For the system's loader the program also needs its C library, after all others: without a C library that loader
-doesn't finalize.
+FOLDER has rlibreg, rlibreg-run, rlibreg-tool and rlibreg-gcc (c/build.sh). Each graph has libraries that need each
+other at random, sometimes in circles, with or without DT_INIT, DT_FINI, arrays, DF_1_INITFIRST and preloads. A program
+needs some of them. Each function prints its name, so the script compares all calls and their order. gcc makes the
+functions, and ld links them. Under the system's loader the program also needs its C library, after all others, because
+without a C library that loader calls no finalizers.
 
 If there is a musl-gcc, the order is also compared with that in a program of rlibreg-gcc: under rlibreg-run, in its file of
 `rlibreg-tool executable`, and under musl's loader, if that is there. In the last two the program itself makes the calls.
@@ -39,7 +39,7 @@ def run(*words, **more):
 
 
 class Graph:
-    """What the objects of a graph need, and how they are linked. Object 0 is the program."""
+    """A graph: the needs of its objects, and how they are linked. Object 0 is the program."""
 
     def __init__(self, choose):
         self.count = choose.choice((2, 3, 4, 5, 6, 8, 12, MOST))
@@ -107,7 +107,7 @@ class Bench:
         return run(self.built / 'rlibreg-run', disk, 'program', cwd=self.folder)
 
     def driven(self):
-        """The orders of a program of rlibreg-gcc, which has the disk of `ours`."""
+        """Returns the orders in a program of rlibreg-gcc, over the disk that `ours` has made."""
         if not self.has_driver:
             return
         yield run(self.built / 'rlibreg-run', 'disk', 'driven', cwd=self.folder)
@@ -117,7 +117,7 @@ class Bench:
         yield run(alone)
 
     def under_musl(self, graph):
-        """The order of that program under musl's loader."""
+        """Returns the order in that program under musl's loader."""
         if self.has_driver and MUSL.exists():
             preloads = ' '.join(name(it) for it in graph.preloads)
             yield run('./driven', cwd=self.folder, env={'LD_LIBRARY_PATH': '.', 'LD_PRELOAD': preloads})

@@ -10,7 +10,7 @@ built=$(cd "$1" && pwd)
 release=${2:-bookworm}
 cd "$(dirname "$0")/.."
 root=$(mktemp -d)
-chmod 755 "$root" # else apt-get's own user can't read there who resolves names
+chmod 755 "$root" # otherwise apt-get's own user can't read the files for the resolution of names
 trap 'loops=$root/tmp/walk/loops; [ ! -f "$loops" ] || xargs -rn 1 losetup -d < "$loops" || true
     umount "$root/proc" "$root/sys" 2> /dev/null || true; rm -rf --one-file-system "$root"' EXIT
 wanted=bzip2,g++,libc6-dev,make,musl-tools,pkg-config,python3,python3-pip,python3-setuptools,python3-venv,python3-wheel
@@ -212,7 +212,7 @@ partitions() {
     rm -rf loops rlibreg_* /dev/loop* /dev/disk /var/cache/rlibreg /etc/rlibreg
 }
 
-# Projects without changes: three by their own commands, and what they do.
+# Projects without changes: builds three by their own commands, and runs them.
 projects() {
     [ -d ../zlib ] || { echo "left out: projects, whose sources can't be had"; return 0; }
     by_table zlib zlib

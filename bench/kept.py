@@ -1,5 +1,5 @@
 #!/usr/bin/env python3
-"""Starts a program from kept images, while its disk changes and both are killed.
+"""Starts a program from kept images while its disk changes. Some of the starts and changes are killed.
 
     python3 bench/kept.py PROGRAMS [SECONDS [FOLDER [loop]]]
 
@@ -40,7 +40,7 @@ void _start(void) {
 
 
 class Versions:
-    """Which versions the disk may have, and where it is."""
+    """The versions that the disk may have, and the disk's place."""
 
     def __init__(self):
         self.guard, self.disk = threading.Lock(), 'disk'
@@ -82,7 +82,7 @@ def change(words, library, folder, versions, choose, until):
         (folder / 'new.so').write_bytes(library.replace(b'000000', b'%06d' % version))
         ended = killed_at_times([*words, 'replace', versions.disk, 'new.so'], choose, 0.1)
         if ended is None:
-            continue # the change may have been made
+            continue # the killed change may have been made
         assert ended[0] == 0 and ended[1] == b'ok\n', ended
         versions.acknowledge(version)
         if choose.random() < 0.2:

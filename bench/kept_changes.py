@@ -1,6 +1,6 @@
 #!/usr/bin/env python3
-"""Makes random changes of registries, devices, programs and folders of images. After each change, a start with `-c` has to
-print and end as the start without it.
+"""Makes random changes of registries, devices, programs and folders of images. After each change, a start with `-c` has
+to have the same output and end as a start without it.
 
     python3 bench/kept_changes.py BUILT FOLDER [--changes N] [--each N] [--first NUMBER] [--loader RLIBREG_RUN] [--kinds KIND..]
 
@@ -116,7 +116,7 @@ class Disk:
         return 'no registry'
 
     def other_place(self):
-        """Changes what is below a device, in kinds of disks that have something there."""
+        """Changes the file or device below a disk, for the kinds of disks that have one."""
         return self.other_bytes()
 
     # Changes of programs.
@@ -410,7 +410,7 @@ def main():
         made = trial.run(given.changes)
     for disk in trial.disks:
         for name in ('kept', 'kept-2'):
-            (disk.folder / name).chmod(0o700) # otherwise the user may not remove what is in it
+            (disk.folder / name).chmod(0o700) # otherwise the user may not remove the files in it
     for kind in {it.kind: None for it in trial.disks}:
         print(f'{kind}: {trial.starts.taken[kind]} images taken, of {2 * trial.checks.looked[kind] // 3} starts that tell')
     print(f'{made} changes')

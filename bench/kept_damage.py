@@ -1,5 +1,6 @@
 #!/usr/bin/env python3
-"""Damages images that `rlibreg-run -c` keeps. A start with `-c` has to print and end as the start without it.
+"""Damages images that `rlibreg-run -c` keeps. A start with `-c` has to have the same output and end as a start without
+it.
 
     python3 bench/kept_damage.py BUILT FOLDER [--loader RLIBREG_RUN] [--step N] [--only PART..]
 

@@ -1,7 +1,8 @@
 #!/usr/bin/env python3
-"""Changes block devices whose images `rlibreg-run -c` keeps. Each later start with `-c` has to print and end as the start
-without it. The script needs root and gcc, and makes the devices itself: loop devices, partitions of them, zram, and
-devices of device mapper. If the kernel lacks a kind of device, its part is left out, and a line reports this.
+"""Changes block devices whose images `rlibreg-run -c` keeps. Each later start with `-c` has to have the same output and
+end as a start without it. The script needs root and gcc, and makes the devices itself: loop devices, partitions of
+them, zram, and devices of device mapper. If the kernel lacks a kind of device, its part is left out, and a line reports
+this.
 
     python3 bench/kept_devices.py BUILT FOLDER [--loader RLIBREG_RUN] [--only PART..]
 
@@ -112,7 +113,7 @@ class Devices:
             for name in ('a', 'b'):
                 for version in range(1, len(VERSIONS)):
                     if name == 'b' and version == 4:
-                        continue # it has no such data
+                        continue # the library has no such data
                     other = self.registries.image([(it, version if it == name else 0) for it, _ in ONE])
                     assert other[:2 * SECTOR] == self.one[:2 * SECTOR] and other != self.one
                     differs = version != BEHIND and (name, version) not in (('b', 1), ('b', 2))
@@ -254,7 +255,7 @@ class Devices:
             self.starts.compared(kind, KEPT, device, PROGRAM)
 
     def refuse_one(self, device, below, place):
-        """Makes a `replace` fail when it writes the roots. The medium then has the old ones."""
+        """Makes a `replace` fail when it writes the roots, so that the medium has the old roots."""
         with open(below, 'r+b') as file, mmap.mmap(file.fileno(), 0) as medium:
             at = medium.find(self.one[:mmap.PAGESIZE])
             assert at >= 0 and at % mmap.PAGESIZE == 0 and medium.find(self.one[:mmap.PAGESIZE], at + 1) < 0

@@ -4,9 +4,10 @@
     python3 bench/libraries.py FOLDER            makes the files, and a list of two cases for each
     python3 bench/libraries.py FOLDER CASES      runs each list by the program CASES, five times, and prints the least time
 
-A list `NAME.txt` has one case, which binds the program and reads one word. `NAME-unbound.txt` has the same at a base that
-is refused once all files are read and admitted, so the difference is load order, placement and relocation. The time that
-`cp` takes for a file with as many bytes as the image is printed beside these times.
+A list `NAME.txt` has one case, which binds the program and reads one word. `NAME-unbound.txt` has the same at a base
+that is refused once all files are read and admitted, so the difference of the two times is that of load order,
+placement and relocation. The time that `cp` takes for a file with as many bytes as the image is printed beside these
+times.
 """
 
 import random
@@ -91,7 +92,7 @@ def chain():
 
 
 def mesh():
-    """Returns 100 libraries, each of which needs all."""
+    """Returns 100 libraries, each of which needs all of them."""
     everyone = [name(i) for i in range(100)]
     return Made(needed=[name(0)], behind=8), [Made(name(i), everyone, behind=8) for i in range(100)]
 

@@ -35,13 +35,13 @@ Ended = collections.namedtuple('Ended', 'status output held log')
 
 
 def clean(content, names=frozenset([DISK])):
-    """Returns a machine that has just started, over a medium with these bytes, or with no file."""
+    """Returns a machine that has just started, whose medium has a file with these bytes, or no file."""
     names = frozenset() if content is None else names
     return Held(content, names, content or b'', names, frozenset())
 
 
 def is_shown_otherwise(held):
-    """Returns whether the medium has other roots than the file shows, and nothing is going to write them there."""
+    """Returns whether the medium has other roots than the file shows, and the pages of the roots aren't dirty."""
     return bool(held.names) and 0 not in held.dirty and held.content[:ROOTS] != held.medium[:ROOTS]
 
 
@@ -123,7 +123,7 @@ class Machine:
         return self.known[key]
 
     def run_here(self, command, how):
-        """Runs a command on what is there."""
+        """Runs a command on the current files and medium."""
         self.runs += 1
         (self.kept / 'log').write_bytes(b'')
         (self.folder / 'lines').write_bytes(b''.join(map(self.line, command[1:])) if command[0] == 'script' else b'')
@@ -164,8 +164,8 @@ def mixtures(held, trials):
 
 
 def found(held, trials):
-    """Yields the machines that may be found after a cut: each name, and the length, is as the medium has it or as it
-    was last."""
+    """Yields the machines that may be found after a cut: each name, and the length, is that of the medium or the latest
+    one."""
     sure, perhaps = held.names & held.named, sorted(held.names ^ held.named)
     for count in range(len(perhaps) + 1):
         for some in itertools.combinations(perhaps, count):

@@ -8,9 +8,9 @@ Afterwards DISK is absent or a whole empty registry, and `format`, run again, ma
 fault before DISK has its name leaves no file. A fault at the sync of the folder, or when the folder is asked whether it
 accepts changes, leaves the whole registry with S1 (Device).
 
-Then come all kinds of things under the name of the file in which a disk is made (`.NAME.rlibreg-new`), also a kill that
-leaves a finished registry under that name; long names; folders that may not be written or are full; file systems without
-hard links; and a DISK that is no file. TOOL is the program of c/tests/tool.c, which has to do the same.
+Then the script tries all kinds of files under the name in which a disk is made (`.NAME.rlibreg-new`), and a kill that
+leaves a finished registry under that name; long names; folders that may not be written or are full; file systems
+without hard links; and a DISK that is no file. TOOL is the program of c/tests/tool.c, which has to do the same.
 """
 
 import argparse
@@ -105,7 +105,7 @@ class Making:
         return ended
 
     def judge(self, call, fault, ended):
-        """Judges what a fault or a kill leaves, and what is answered then."""
+        """Judges the files that a fault or a kill leaves, and the next answer."""
         kind = 'killed' if fault == 'signal=KILL' else f'faults, {fault}'
         told, found = (call.text[:100], ended), self.found()
         self.want(kind, found in (None, self.whole), 'left half:', *told)
@@ -128,7 +128,7 @@ class Making:
         return ended.status == 3 and ended.output in ((S1, b'') if found else (S1, b'')) and (not found or not ended.errors)
 
     def again(self, kind, told):
-        """Runs `format` again, at most twice: it succeeds or says that the disk exists."""
+        """Runs `format` again, at most twice: it has to succeed, or report that the disk exists."""
         for _ in range(2):
             ended = self.by.run(FORMAT)
             if ended.status == 0 or ended.output == S4:
@@ -193,7 +193,7 @@ class Making:
         self.want(kind, self.found() == self.whole and self.names() == list(names), self.names())
 
     def odd_leftovers(self):
-        """Checks that a leftover that isn't a regular file stays as it is, with what it leads to."""
+        """Checks that a leftover that isn't a regular file stays as it is, and so does a file to which it leads."""
         links = [('a link to a file', lambda path: make_link(path, self.folder / 'linked'))]
         for kind, make in [*odd_things(self.folder), *links]:
             self.clear()
@@ -291,7 +291,7 @@ class Making:
         self.study(without_links('EPERM'))
 
     def limits(self):
-        """Tries a file that may not grow: the signal that comes with it kills."""
+        """Tries a limit of the file's length: the signal at the limit kills the program."""
         if not has('prlimit'):
             return self.checks.skip('a limit of file sizes', 'there is no prlimit')
         self.clear()
@@ -341,7 +341,7 @@ class Making:
                 subprocess.run(['umount', '-l', str(self.place)], check=True)
 
     def mount(self, *words):
-        """Mounts it where the disk is made, if that may be done."""
+        """Mounts a file system where the disk is made, if the user may do so."""
         return not os.getuid() and not subprocess.run(['mount', *words, str(self.place)], capture_output=True).returncode
 
     def fill(self):
@@ -385,7 +385,7 @@ class Making:
     # A DISK that is no file.
 
     def odd_disks(self):
-        """Checks that these are answered at once and never opened by the program, and that nothing is made."""
+        """Checks that the program answers at once for such a DISK, never opens it, and makes nothing."""
         (self.folder / 'program').write_bytes(Made().file)
         for kind, make in [*odd_things(self.folder), *linked_things(self.folder), ('a folder', lambda path: path.mkdir())]:
             for words in self.commands():

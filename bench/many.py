@@ -23,8 +23,8 @@ FEW, SMALL = 500, 1024
 
 
 def fill(bench, folder, count, kept):
-    """Makes registries of `count` libraries in a chain. `kept` says after how many libraries a copy is kept, and under
-    which name."""
+    """Makes registries of `count` libraries in a chain. `kept` has the numbers of libraries after which a copy is kept,
+    each with its name."""
     bench.done('format', 'disk', SECTORS)
     done = 0
     for last in sorted(kept):

@@ -53,7 +53,7 @@ FILE_SYSTEMS = {'ext4': ('loop', 'mkfs.ext4', '-q', '-F'), 'xfs': ('loop', 'mkfs
 
 
 class NotHere(Exception):
-    """This machine lacks what a part needs."""
+    """This machine lacks something that a part needs."""
 
 
 def system(*words, **how):
@@ -106,7 +106,7 @@ def zeros(path, sectors):
 
 
 def partition(device, number, start, sectors):
-    """Makes a partition: by a table if the system reads the table, otherwise by asking for it."""
+    """Makes a partition: by a table if the system reads the table, and otherwise by a call of the kernel."""
     path = Path(f'{device}p{number}')
     system('addpart', device, number, start, sectors)
     for _ in range(100):
@@ -117,8 +117,8 @@ def partition(device, number, start, sectors):
 
 
 def are_in_order(calls, changes):
-    """Returns whether a sync comes before everything else, and in a change one directly before each write of a root,
-    and one after it."""
+    """Returns whether a sync comes before all other calls, and whether a change also syncs directly before each write
+    of a root, and after it."""
     made = [call for call in calls if call != 'read']
     roots = [at for at, call in enumerate(made) if call == 'root']
     return calls[:1] == ['sync'] and bool(roots) == changes and made[-1:] == ['sync'] and all(made[at - 1] == 'sync' for at in roots)
@@ -236,7 +236,7 @@ class Media:
         return [(it, self.by.run(it, given if it[0] == 'script' else b'')[:3]) for it in words if it[0] != 'script' or not self.is_library()]
 
     def devices(self):
-        """Compares devices of some sizes with files of the same sizes."""
+        """Compares the answers on devices of some sizes with those on files of the same sizes."""
         for sectors, options in ((64, ()), (65, ()), (100, ()), (64, ('--sector-size', '4096')), (4096, ()), (4194304, ())):
             kind = f'a device of {sectors} sectors' + (' of 4,096 bytes' if options else '')
             plain = zeros(self.folder / 'plain', sectors)
@@ -563,8 +563,8 @@ class Media:
         return disk.read_bytes()[:2 * SECTOR]
 
     def past_memory(self, disk):
-        """Returns the roots that the medium has, wherever the file system puts them. Into memory that wasn't touched
-        btrfs reads its cache."""
+        """Returns the roots that the medium has, wherever the file system puts them. btrfs would read its cache into
+        memory that was never written."""
         with mmap.mmap(-1, PAGE) as page:
             page.write(bytes(PAGE))
             file = os.open(disk, os.O_RDONLY | os.O_DIRECT)
@@ -573,7 +573,7 @@ class Media:
             return page[:2 * SECTOR]
 
     def place_of(self, content):
-        """Returns the one place of some bytes in the image."""
+        """Returns the only place of some bytes in the image."""
         with open(self.image, 'rb') as image, mmap.mmap(image.fileno(), 0, prot=mmap.PROT_READ) as medium:
             at = medium.find(content)
             assert at >= 0 and medium.find(content, at + 1) < 0, f'the roots stand at {at}, and once more'

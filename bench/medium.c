@@ -135,7 +135,7 @@ static bool is_file(int descriptor) {
     return name == THE_DISK || name == THE_NEW;
 }
 
-/* What is known of the file. */
+/* The state of the file. */
 
 static off_t length_of(int descriptor) {
     struct stat facts;

@@ -7,7 +7,7 @@ by rlibreg-run from a kept image.
 The arguments are those of real_programs.py, which builds SQLite. For each way the script prints, in this order:
 
 - the fall of MemAvailable, as the median of several rounds, which is meaningful only on an idle machine;
-- what the system counts for a group of these processes (cgroups, as root);
+- the memory that the system counts for a group of these processes (cgroups, as root);
 - the part of that which the system can't give to others, and by which MemAvailable falls: what the processes have written,
   what is on tmpfs, and what the kernel has for them; also the least of it;
 - the sum of the processes' own memory and of their part of the shared memory (Pss of /proc/PID/smaps_rollup);
@@ -29,8 +29,9 @@ from checks import emptied
 from real_programs import asked_for
 
 SHELLS, ROUNDS = 10, 7
-# A group of the first version of cgroups, or of the second: the file that says how much it has, the words of
-# memory.stat for what stays, and a file with more of that. The system updates the words every two seconds.
+# A group of the first version of cgroups, or of the second: the file with the size of its memory, the words of
+# memory.stat for the memory that can't be freed, and another file with such memory. The system updates the words every
+# two seconds.
 GROUPS = (('/sys/fs/cgroup/memory', 'memory.usage_in_bytes', ('rss', 'shmem'), 'memory.kmem.usage_in_bytes'),
           ('/sys/fs/cgroup', 'memory.current', ('anon', 'shmem', 'kernel'), None))
 TOLD_WITHIN = 2.5

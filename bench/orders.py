@@ -14,14 +14,14 @@ FRONT = 2 << 20
 
 
 class OpenFile:
-    """What was done with an open file so far, through all its descriptors."""
+    """The calls on an open file so far, through all its descriptors."""
 
     def __init__(self, is_made):
         self.descriptors, self.lock, self.synced, self.read, self.written = 1, '', False, False, False
         self.is_made = is_made
-        # Whether the roots were found to be the medium's, or nothing can tell.
+        # Whether the roots were found to be the medium's, or this can't be found out.
         self.agrees = self.is_blind = False
-        # How much was dropped last, and whether the front was gone then.
+        # The length of the last drop, and whether the front was gone after it.
         self.let_go, self.is_gone = 0, False
 
 

@@ -63,5 +63,5 @@ def unknown_calls(text, known):
 
 
 def faults(text, names, known):
-    """Yields what is wrong with a page."""
+    """Yields each fault of a page."""
     yield from sorted({*unnamed_codes(text, names), *unknown_calls(text, known)})

@@ -5,9 +5,10 @@
 # loop device of this machine.
 #
 # - Units and rule are checked by systemd's own checkers, as far as RELEASE has them.
-# - A loop device with direct I/O: what is made on it is, byte for byte, what is made in a file.
-# - Two of these: rlibreg-switch is killed with everything that it has started, at 40 random moments, to
-#   and fro. The link then leads to the old state or to the new one, and the same switch succeeds.
+# - On a loop device with direct I/O, the same commands write the same bytes as to a file.
+# - With two such devices, rlibreg-switch switches to and fro, and is killed with everything that it has
+#   started, at 40 random moments. The link then leads to the old state or to the new one, and the same
+#   switch succeeds.
 # - The node's group and mode; the service that waits, the one that starts, its kept image; the switch;
 #   growing, also after a switch was cut; and the way back to the shorter partition.
 # - A program that the initramfs starts, and a first process, from a registry on a partition.
@@ -222,7 +223,7 @@ prepare
 checkers
 scripts
 partitions 'size=4M, name=rlibreg_a' 'size=8M, name=rlibreg_c' 'size=4M, name=rlibreg_b' \
-    'size=1M, name=rlibreg_hashes' # a byte is changed where the text stands last: in rlibreg_b
+    'size=1M, name=rlibreg_hashes' # later a byte of the text is changed at its last place, which is in rlibreg_b
 boot
 ended
 said 'the node is root:rlibreg 640' '^library libgreeting.so' '^rlibreg: one' '^rlibreg: other' \

@@ -18,7 +18,7 @@ FOLDER = Path(__file__).resolve().parent.parent / 'docs' / 'pictures'
 
 
 def bind():
-    """A program and the libraries of a disk become an image, or a refusal."""
+    """Draws how a program and the libraries of a disk become an image, or a refusal."""
     it = Picture(860, 300, 'rlibreg binds a program with the libraries of a disk: the answer is an image or a refusal')
     it.box(24, 40, 190, 74, 'program file\n`needs libtwo.so`', 'blue')
     it.box(24, 150, 190, 116, '', 'green')
@@ -40,7 +40,8 @@ def bind():
 
 
 def disk():
-    """The sectors of a disk: the current root lists catalogues, these list entries, and these list runs of bytes."""
+    """Draws the sectors of a disk: the current root lists catalogues, these list entries, and these list runs of
+    bytes."""
     it = Picture(860, 330, 'The sectors of a disk: the current root lists catalogues, a catalogue entries, an entry the runs of its file')
     cells = [('0', 'older root,\ngeneration 5', 'plain'), ('1', 'current root,\ngeneration 6', 'blue'), ('2', 'bytes', 'green'), ('3', 'bytes', 'green'),
              ('4', 'entry\nliba.so', 'yellow'), ('5', 'unused', 'plain'), ('6', 'entry\nlibb.so', 'yellow'), ('7', 'catalogue', 'blue'),
@@ -69,7 +70,7 @@ def disk():
 
 
 def bands(it, y, parts):
-    """Draws what a stop leaves: bands of a kind with a text, each from one place to another."""
+    """Draws bands for the states that a stop leaves, each with a kind and a text, from one place to another."""
     for start, end, text, kind in parts:
         it.box(start, y, end - start, 34, text, kind, 2)
 
@@ -83,7 +84,7 @@ def steps(it, y, names):
 
 
 def change():
-    """A change and an update as time lines, with what a stop at each moment leaves."""
+    """Draws a change and an update as time lines, with the state that a stop at each moment leaves."""
     it = Picture(860, 380, 'A change and an update on a time line, and the state that a stop at each moment leaves')
     it.lines(24, 24, 'A change, such as a replacement', size=14)
     steps(it, 88, [(110, 'bytes, entry,\ncatalogues'), (260, 'sync'), (420, 'root of the next\ngeneration'), (580, 'sync'), (690, '`ok`')])
@@ -100,7 +101,7 @@ def change():
 
 
 def medium():
-    """The system's memory and the medium after a failed sync, and what an opening does about it."""
+    """Draws the system's memory and the medium after a failed sync, and how an opening handles the difference."""
     it = Picture(860, 320, 'After a failed sync the system shows a root that the medium does not have; an opening compares them')
     it.lines(134, 34, "system's memory", 'middle', size=14)
     it.box(24, 52, 220, 40, 'root, generation 5')
@@ -122,7 +123,7 @@ def medium():
 
 
 def start():
-    """A start of rlibreg-run with and without a kept image."""
+    """Draws a start of rlibreg-run with and without a kept image."""
     it = Picture(860, 330, 'A start of rlibreg-run: from a kept image if one fits, otherwise by a bind')
     it.box(24, 120, 150, 70, '`rlibreg-run -c`\nDISK PROGRAM', 'blue')
     it.box(230, 100, 190, 110, 'does a kept image fit?\n\nkey, PROGRAM, and for a\ndevice all that it was\nbound from', 'yellow')
@@ -143,7 +144,7 @@ def start():
 
 
 def switch():
-    """The steps of rlibreg-switch, and what a cut at each of them leaves."""
+    """Draws the steps of rlibreg-switch, and the state that a cut at each of them leaves."""
     it = Picture(860, 330, 'rlibreg-switch changes the partition that is not live, and then turns the link to it')
     rows = [('before', 'A, live', 'B, old', 'a'), ('copy A to B', 'A, live', 'B, written', 'a'),
             ('change and check B', 'A, live', 'B, changed', 'a'), ('turn the link', 'A, unchanged', 'B, live', 'b')]

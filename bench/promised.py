@@ -66,14 +66,15 @@ def names_in(crate):
 
 @cache
 def calls_of(crate):
-    """The public functions of a crate's source, `Type::name` for those of a type or trait."""
+    """Returns the public functions of a crate's source, with `Type::name` for those of a type or trait."""
     files = sorted((ROOT / 'crates' / crate / 'src').rglob('*.rt'))
     return {name for path in files for name, *_ in clauses.calls_in(path, exports_of(crate))}
 
 
 @cache
 def tests():
-    """Each file of a crate with tests: its names with the crates that they are brought in from, and its text."""
+    """Yields each file of a crate with tests: its names, each with the crate from which it is brought in, and its
+    text."""
     found = []
     for source in sorted(ROOT.glob('crates/*/src')):
         texts = [COMMENT.sub('', path.read_text()) for path in sorted(source.rglob('*.rt'))]
@@ -83,7 +84,7 @@ def tests():
 
 
 def brought_in(text):
-    """The names that a file's `use` lines bring in, each with its crate."""
+    """Returns the names that a file's `use` lines bring in, each with its crate."""
     return {(crate, name) for crate, several, one in BROUGHT.findall(text) for name in re.findall(r'\w+', several or one)}
 
 
@@ -93,14 +94,14 @@ THROUGH_OTHERS = {'store::Store::delete', 'registry::run_rounds'}
 
 
 def is_tested(promise):
-    """Whether a test calls a promised call by its path."""
+    """Returns whether a test calls a promised call by its path."""
     crate, name = promise.split('::', 1)
     call = re.compile(rf'(?<![\w.:]){name}\(')
     return any((crate, name.split('::')[0]) in names and call.search(text) for names, text in tests())
 
 
 def is_call(promise):
-    """Whether a promised name is a function."""
+    """Returns whether a promised name is a function."""
     crate, name = promise.split('::', 1)
     return name in calls_of(exports_of(crate).get(name.split('::')[0], crate))
 
@@ -113,7 +114,7 @@ def is_exported(promise):
 
 
 def broken():
-    """Yields what is wrong with the list or with the sources, one line each."""
+    """Yields a line for each fault of the list or of the sources."""
     names = promised()
     for name in sorted(set(names)):
         if names.count(name) > 1:

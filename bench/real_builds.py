@@ -21,7 +21,7 @@ def program_of_the_page(start):
 
 
 class NotBuilt(Exception):
-    """Says how a build failed."""
+    """The reason why a build failed."""
 
 
 def run(*words, cwd=None):
@@ -97,7 +97,7 @@ def sqlite(folder, archives):
     source = build.source(archives, 'sqlite3')
     run('./configure', '--disable-tcl', '--disable-readline', cwd=source)
     run('make', f'-j{min(2, os.cpu_count())}', 'sqlite3.c', 'shell.c', cwd=source)
-    extensions = '-DSQLITE_OMIT_LOAD_EXTENSION' # otherwise it asks for dlopen
+    extensions = '-DSQLITE_OMIT_LOAD_EXTENSION' # otherwise SQLite needs dlopen
     build.library('libsqlite3.so', build.compiled([source / 'sqlite3.c'], extensions))
     build.program('sqlite3', build.compiled([source / 'shell.c'], extensions))
     return build

@@ -30,7 +30,7 @@ ENVIRONMENT = {'PATH': '/usr/bin:/bin', 'HOME': '/', 'LC_ALL': 'C', 'TZ': 'UTC'}
 WAIT = 300
 
 Ended = collections.namedtuple('Ended', 'status output errors')
-# How a program is started: its file, and the words before it.
+# How a program is started: its file, and the words that come before the file.
 Variant = collections.namedtuple('Variant', 'name file before')
 
 

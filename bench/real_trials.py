@@ -25,8 +25,8 @@ int main(int number, char **words) {
 """
 # A start of a program: its arguments, its input, and the expected status.
 Step = collections.namedtuple('Step', 'words given status', defaults=(b'', 0))
-# What is tried of a program: the files that it finds, its starts, and a test of its results. The test gets the status
-# and output of each start, the files that are left, and their folder.
+# The trial of a program: the files that it finds, its starts, and a test of its results. The test gets the status and
+# output of each start, the files that are left, and their folder.
 Trial = collections.namedtuple('Trial', 'program files steps is_right')
 
 
@@ -81,7 +81,7 @@ def sqlite_trials(_):
 
 
 def right(*_):
-    """Wants nothing but the results of the static program."""
+    """Accepts any results, which only have to be those of the static program."""
     return True
 
 
@@ -204,7 +204,7 @@ def is_compiler_right(ended, place, preprocessed, compiled):
 
 def tcc_trials(it):
     place = it.place['static']
-    # 02: a statically linked tcc doesn't do what that test wants either.
+    # 02: a statically linked tcc doesn't pass that test either.
     preprocessed, compiled = (
         {path.stem: path.with_suffix('.expect').read_bytes().split()
          for path in sorted((place / 'tests').glob(pattern)) if path.stem != '02'}

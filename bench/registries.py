@@ -1,6 +1,6 @@
-"""The registry that the bytes of a disk hold, by docs/FORMATS.md, and what commands make of it, for the other scripts here.
-Whether a file is a library isn't tested: its name is given with its bytes. It knows only the refusals that are possible on
-a disk with room for all libraries."""
+"""The registry that the bytes of a disk hold, by docs/FORMATS.md, and the results of commands on it. For the other
+scripts here. Whether a file is a library isn't tested: its name is given with its bytes. It knows only the refusals
+that are possible on a disk with room for all libraries."""
 
 import collections
 import struct

@@ -1,17 +1,17 @@
 #!/usr/bin/env python3
-"""Puts another file in the place of a disk while the program `rlibreg`, or `update`, `replace` or `remove` of `rlibreg-tool`,
-changes it, as a process could that takes no lock: a change that nobody would see is never answered `ok`. Some parts need
-strace, root or loop devices, and say so if they are left out.
+"""Puts another file in the place of a disk while the program `rlibreg`, or `update`, `replace` or `remove` of
+`rlibreg-tool`, changes it, as a process without the lock could: a change that nobody would see must never be answered
+`ok`. Some parts need strace, root or loop devices, and say so if they are left out.
 
     python3 bench/replaced.py PROGRAM FOLDER [--tool RLIBREG_TOOL]
 
 In a `script`, and in an `update`, the disk is replaced, moved or removed between two lines: the next change answers S1
-(Device), and the one after it S2 (Reopen). For each changing command, the program stops after each of its syncs while that
-is done: the answer is S1, or that the disk can't be read, and the file that was put there keeps its bytes. The old file
-holds the registry from before the change or from after it. A change is `ok` if the path names the same file again, if the
-path is that of an open file (/dev/fd/N), or if `format` makes the disk; `list` and `bind` don't notice the replacement.
-DISK is given as a path from the folder or from the root, as a link, and as the node of a device, in whose place another
-node of the same device may be put.
+(Device), and the one after it S2 (Reopen). Each changing command is stopped after each of its syncs, and the disk is
+replaced, moved or removed: the answer is S1, or that the disk can't be read, and the file that was put there keeps its
+bytes. The old file holds the registry from before the change or from after it. A change is `ok` if the path names the
+same file again, if the path is that of an open file (/dev/fd/N), or if `format` makes the disk; `list` and `bind` don't
+notice the replacement. DISK is given as a path from the folder or from the root, as a link, and as the node of a
+device, in whose place another node of the same device may be put.
 """
 
 import argparse
@@ -82,7 +82,7 @@ def lead_elsewhere(folder):
 
 
 def lead_there(folder):
-    """Makes it lead to the disk by another path."""
+    """Makes the link lead to the disk by another path."""
     os.symlink(folder / 'disk', folder / 'next')
     os.rename(folder / 'next', folder / 'link')
 
@@ -291,7 +291,7 @@ class Replaced:
         self.clear()
 
     def devices(self):
-        """Puts another node in the place of a device's node."""
+        """Replaces a device's node by another node."""
         with contextlib.ExitStack() as stack:
             try:
                 devices = [stack.enter_context(loop(self.files / f'image-{i}', self.one)) for i in range(2)]

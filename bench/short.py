@@ -36,9 +36,9 @@ Plain = collections.namedtuple('Plain', 'start ended content states')
 
 
 def is_unanswered(words, ended, plain):
-    """Returns whether a failed run said S1 (Device) where a whole run says `ok` or its text. An `update` says it on
-    standard error before the first line, and after its answers to lines that were planned. A run that a signal ends
-    says nothing more."""
+    """Returns whether a failed run printed S1 (Device) in place of `ok` or the text of a complete run. An `update`
+    prints S1 on standard error before the first line, and after its answers to lines that were planned. A run that a
+    signal ends prints nothing more."""
     status, output = ended
     said = output.removesuffix(S1)
     if words[0] == 'update':
@@ -55,14 +55,14 @@ class Short:
         self.wrong = 0
 
     def found(self):
-        """Returns the disk's bytes, and what they hold."""
+        """Returns the disk's bytes, and its contents."""
         content = self.bench.disk.read_bytes() if self.bench.disk.exists() else None
         if content not in self.known:
             self.known[content] = self.bench.seen()
         return content, self.known[content]
 
     def plain(self, words, start):
-        """Returns how the command ends if no call is short, and what the disk holds before and after it."""
+        """Returns how the command ends if no call is short, and the disk's contents before and after it."""
         self.bench.put(start)
         before = self.found()[1]
         self.bench.put(start)
@@ -114,7 +114,7 @@ class Short:
                         self.judge('a limit of the size, by a signal', words, plain, limit, XFSZ)
 
     def by_library(self, library, words, plain, calls):
-        """Tries calls that do transfer a part."""
+        """Tries calls that really transfer a part."""
         for name, sizes in MOST_BYTES.items():
             wrapped = ['env', f'LD_PRELOAD={library}', f'SHORT_CALL={name}']
             for size in sizes:

@@ -1,7 +1,7 @@
 #!/usr/bin/env python3
-"""Times how Lua starts: linked statically; as the executable of its image, if rlibreg-tool makes one; by the system's loader,
-if lua5.4 is installed; from a registry of its own libraries; from a kept image of it; and from registries that have 330 MB
-of other libraries, few or many.
+"""Times how Lua starts: linked statically; as the executable of its image, if rlibreg-tool makes one; by the system's
+loader, if lua5.4 is installed; from a registry with only Lua's libraries; from a kept image of that; and from
+registries that have 330 MB of other libraries, few or many.
 
     python3 bench/start.py PROGRAMS FOLDER [--sources SOURCES]
 

@@ -26,8 +26,8 @@ class Streams:
     """The streams of the program `rlibreg`."""
 
     NAME, BAD_LINE = 'rlibreg', b'bad command line'
-    UNWRITTEN = b''  # what is said if the output fails
-    # The command that reads lines, with lines, how many reads these take, and the status if no lines come.
+    UNWRITTEN = b''  # the message if the output fails
+    # The command that reads lines, with lines, how many reads these lines take, and the status if there are no lines.
     READER, LINES, READS, NO_LINES = 'script', b'preload b a\nlist\n', 2, 0
 
     def __init__(self, program, folder, one, two, old):
@@ -148,7 +148,7 @@ class Streams:
                     words = self.commands(form % opened['disk'], number)[at]
                     passed = tuple(opened.values())
                     plain = self.run(words, passed=passed)
-                    # The folder of such a name can't be synced, so `format` makes nothing.
+                    # The folder of a name such as /dev/fd/N can't be synced, so `format` makes nothing.
                     holds = words[0] == 'format' or (plain.status, plain.output, plain.disk) == (after.status, after.output, after.disk)
                     self.check('numbers of files', ordinary, start, plain, holds, before, after.disk)
                     self.closed_streams('numbers of files, closed', words, start, plain, passed=passed)
@@ -162,9 +162,9 @@ class Streams:
             file.truncate()
 
     def the_disk(self):
-        """Tries a stream that leads to the disk itself: nothing is written, and only a message on another stream is
-        said. Standard input is checked only for `script` and `update`; to every other command, a disk that standard
-        input leads to is a disk like any other."""
+        """Tries a stream that leads to the disk itself: nothing is written, except a message on another stream.
+        Standard input is checked only for `script` and `update`; to every other command, a disk that standard input
+        leads to is a disk like any other."""
         contents = {'a registry': self.starts['a registry'], 'zeros': self.starts['zeros'], 'an empty file': b'', '24 bytes': bytes(24)}
         for (start, content), stream in itertools.product(contents.items(), NAMES):
             for name, more in itertools.product(('disk', 'link', NAMES[stream], f'/proc/self/fd/{stream}', f'/dev/fd/{stream}'), (0, os.O_APPEND)):
@@ -178,7 +178,7 @@ class Streams:
                     self.check(f'the disk behind {NAMES[stream]}', words, start, ended, holds, content, content)
 
     def behind(self, stream, words, content, more):
-        """Runs the command with a stream that leads to the disk, which has the name `link` too."""
+        """Runs the command with a stream that leads to the disk, which also has the name `link`."""
         self.put(content)
         link = self.folder / 'link'
         os.link(self.disk, link)
@@ -189,8 +189,8 @@ class Streams:
         return ended
 
     def behind_input(self, name, words, start, content, more):
-        """Checks that standard input makes no difference. If the disk's name is that of the stream, `format` makes
-        nothing, because its folder can't be synced."""
+        """Checks that a standard input which is the disk makes no difference. If the disk's name is that of the stream,
+        `format` makes nothing, because its folder can't be synced."""
         self.put(content)
         plain = self.run([words[0], 'disk', *words[2:]])
         ended = self.behind(INPUT, words, content, more)
@@ -210,7 +210,7 @@ class Streams:
                 self.check('FILE on standard input', ordinary, 'a registry', ended, ended == plain, before, plain.disk)
 
     def odd(self):
-        """Tries streams of other kinds, with the expected ends."""
+        """Tries streams of other kinds, each with the expected result."""
         for kind, stream, statuses, made in kinds(self.LINES, self.NO_LINES):
             for start, words in itertools.product(self.starts, self.odd_commands()):
                 plain, before = self.plain(words, start), self.start_of(words, start)

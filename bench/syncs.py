@@ -11,11 +11,11 @@ sync or a cut at each of its steps. After all of these comes a power cut, after 
 each sector of these pages, or doesn't have it. If the medium is left with other roots than those that are shown, the script
 also tries that somebody has them mapped, or that no read gets past memory.
 
-The failing command has to be answered S1 (Device) or status 3. The disk has to hold what was acknowledged, or that with the
-one command that wasn't. It must never be damaged, and from an opening on it has to hold what that opening has shown. The
-script has its own record of the states (`registries.py`), and reads the medium by itself. The calls in between have an
-order: lock, sync, the roots compared with the medium's, the first read; all writes before the sync, and the sync before the
-reply; the lock until the last sync.
+The failing command has to end with S1 (Device) or with status 3. The disk has to hold what was acknowledged, or that
+with the one command that wasn't. It must never be damaged, and from an opening on it has to hold what that opening has
+shown. The script has its own record of the states (`registries.py`), and reads the medium by itself. The calls in
+between have an order: lock, sync, the roots compared with the medium's, the first read; all writes before the sync, and
+the sync before the reply; the lock until the last sync.
 
 It prints a line for each command, and exits with status 1 if something is wrong. --all tries more mixtures, parts and
 chains of faults. --body NAME makes the body NAME of `bodies.c` make other calls than PROGRAM does: then something has to be
@@ -76,7 +76,7 @@ def unanswered(state, replies):
 
 
 class Book:
-    """This script's own record of the states that commands make."""
+    """This script's own computation of the states to which commands lead."""
 
     def __init__(self, files):
         self.files, self.image = files, image(BASE, PROGRAM, LIBRARIES['a.so'][1], 'a')
@@ -101,8 +101,8 @@ class Book:
         return replies, int(any(reply.startswith(b'refused') for reply, _ in replies))
 
     def after(self, state, command, ended):
-        """Returns the states that may be there after a run that ended in this way from a state; none if it can't have
-        ended so."""
+        """Returns the states that are possible after a run from a state that ended in this way. Returns none if the run
+        can't have ended in this way."""
         replies, status = self.answers(state, command)
         text, number = ended.output, 0
         while number < len(replies) and text.startswith(replies[number][0]) and (text or ended.status == status):
@@ -155,7 +155,8 @@ class Bench:
                 self.wrong(fault, what)
 
     def run(self, way, command, what, **how):
-        """Makes a run, which has to end as it may. Returns the way on from there, or None if it ended otherwise."""
+        """Makes a run, which has to end in a permitted way. Returns the way on from there, or None if the run ended in
+        another way."""
         ended = self.machine.run(way.held, command, **how)
         allowed = frozenset().union(*(self.book.after(state, command, ended) for state in way.allowed))
         self.judged += 1

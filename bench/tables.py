@@ -4,7 +4,7 @@
     python3 bench/tables.py FOLDER               makes the files
     python3 bench/tables.py FOLDER PROGRAM ..    runs the programs in turn on each file
 
-A run is `image FILE 0x1`: a good file is refused too, with B2 (BadBase), but only once it is admitted, so no image is
+A run is `image FILE 0x1`: a valid file is refused too, with B2 (BadBase), but only after its admission, so no image is
 made. The script prints the least user + system time of seven runs of each program, in milliseconds.
 """
 

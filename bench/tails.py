@@ -26,7 +26,7 @@ def string(length, kind):
 
 def made(strings, symbols, soname=b'', needed=(), tags=()):
     """Returns an object of symbols (pairs of where the name begins in its strings, and EXPORT or ASKED). Its exports
-    are in one bucket, and a relocation names each symbol that is asked for."""
+    are in one bucket, and a relocation names each symbol marked ASKED."""
     own, places = b'\0', []
     for name in [soname, *needed]:
         places.append(len(own))
@@ -77,15 +77,15 @@ def of_one_library(n):
 
 
 def of_a_symbolic_library(n):
-    """Returns a symbolic library that exports n tails of one string, and asks for n tails of another, which the
-    program exports."""
+    """Returns a symbolic library that exports n tails of one string, and whose relocations name n tails of another
+    string, which the program exports."""
     own, other = string(50 * n, 1), string(50 * n, 2)
     symbols = tails(n, EXPORT) + tails(n, ASKED, len(own) + 1)
     return made(other, tails(n, EXPORT), needed=[b'a']), [made(own + b'\0' + other, symbols, b'a', tags=[SYMBOLIC])]
 
 
 def least(folder, programs):
-    """Returns the least time of each program; all of them have to write the same."""
+    """Returns the least time of each program. All programs have to print the same text."""
     for at, program in enumerate(programs):
         disk = folder / f'disk-{at}'
         disk.unlink(missing_ok=True)

@@ -5,8 +5,8 @@ library.
     python3 bench/together.py PROGRAM FOLDER [--clib TOOL] [--rounds N]
 
 TOOL is the program of c/tests/tool.c, built as c/tests/run.sh builds it. Every change that was answered `ok` has to be
-there at the end. Everything else has to be answered that the disk is locked: a change by PROGRAM after two seconds, and
-everything else at once. A `list` has to show a state between those before and after it.
+present at the end. All other commands have to report that the disk is locked: a change by PROGRAM after two seconds,
+and any other command at once. A `list` has to show a state between those before and after it.
 
 The rounds are: installs; the same, each repeated until it is done; all commands; both programs; lists beside one writer; a
 file that is put in another's place (mv); and two and twelve `format`s of one name. Before them come a disk that another
@@ -146,7 +146,8 @@ class Rounds:
         return [(by, words, by.end(process, given)) for by, words, given, process in begun]
 
     def judge(self, kind, before, answers, others=False):
-        """Compares the end of a round with its answers. If no others hold the disk, one of the runs has to get it."""
+        """Compares the end of a round with its answers. If no other process has locked the disk, one of the runs has to
+        succeed."""
         wanted = State(before)
         for by, words, ended in answers:
             if words[0] in ('install', 'replace', 'remove', 'preload', 'script') and ended.output[:3] == b'ok\n':
@@ -187,7 +188,7 @@ class Rounds:
             self.round('12 installs', self.empty, [(self.program, ['install', 'disk', library(i, 0)], b'') for i in range(COUNT)])
 
     def until_done(self):
-        """Repeats each command until the disk isn't locked for it: then all libraries are there."""
+        """Repeats each command until the disk isn't locked for it. Then all libraries have to be installed."""
         kind = '12 installs, each until it is done'
         for _ in range(self.count):
             self.put(self.empty)
@@ -221,7 +222,7 @@ class Rounds:
             self.round('all commands', self.three, asked)
 
     def beside(self):
-        """Runs half of them by the C library."""
+        """Runs half of the commands by the C library."""
         for turn in range(self.count):
             asked = [(by, ['install', 'disk', library(i, 0)], b'') for i, by in zip(range(3, 11), [self.program, self.tool] * 4)]
             for i, by in enumerate((self.program, self.tool)):

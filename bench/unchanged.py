@@ -29,12 +29,12 @@ YAML = ('run-parser', 'run-scanner', 'run-loader', 'run-emitter', 'run-dumper', 
 # xz's tests.
 XZ = ('bcj_exact_size', 'block_header', 'check', 'filter_flags', 'hardware', 'index', 'index_hash',
       'lzip_decoder', 'memlimit', 'stream_flags', 'vli')
-# Those of libsodium's tests that end soon, each after its subject.
+# The tests of libsodium that take little time, each named after its subject.
 SODIUM = ('aead_aes256gcm', 'aead_xchacha20poly1305', 'auth', 'box', 'chacha20', 'core_ristretto255',
           'ed25519_convert', 'generichash', 'hash', 'kdf', 'kx', 'misuse', 'onetimeauth', 'randombytes',
           'scalarmult', 'secretbox', 'secretstream', 'shorthash', 'sign', 'sodium_core', 'sodium_utils',
           'sodium_utils2', 'sodium_utils3', 'sodium_version', 'stream')
-# Some of mbedTLS's tests that hold at each date: certificates of ssl and x509parse have expired.
+# Some tests of mbedTLS that pass on any date; in those of ssl and x509parse, certificates have expired.
 TLS = ('aes.ecb', 'base64', 'bignum.misc', 'ccm', 'error', 'gcm.aes128_en', 'md', 'pem', 'rsa', 'version',
        'x509write')
 # tcc without dlopen, which compiles for musl.

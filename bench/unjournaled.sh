@@ -1,7 +1,7 @@
 #!/bin/sh
-# Tries what GUIDE says of a `format` that is answered S1 (Device) on file systems without a journal: they
-# are mounted again, the `format` is run again, and everything that is answered `ok` from then on stays
-# through a power cut.
+# Tests the advice of GUIDE about a `format` that is answered S1 (Device) on file systems without a
+# journal. The file system is mounted again, and the `format` is run again. From then on, everything that
+# is answered `ok` has to survive a power cut.
 #
 #     bench/unjournaled.sh PROGRAM FOLDER [LIBRARY [FS..]]
 #
@@ -56,7 +56,7 @@ down() {
     rm -f image copy
 }
 
-# Runs a `format` whose sync of this number fails, and prints its answer.
+# Runs a `format` one of whose syncs fails, by its number, and prints its answer.
 failing_format() {
     rm -f trace
     strace -e trace=fsync -e "inject=fsync:delay_enter=${DELAY:-2000000}:when=$1" -o trace \
@@ -83,7 +83,7 @@ after_a_cut() {
     losetup -d "$other"
 }
 
-# one FS SYNC WAY: tries a `format` whose sync of this number fails. Returns whether there is such a sync.
+# one FS SYNC WAY: tries a `format` whose sync number SYNC fails. Succeeds if there is such a sync.
 one() {
     up "$1" || return 1
     first=$(failing_format "$2")

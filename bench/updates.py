@@ -36,7 +36,7 @@ Ending = collections.namedtuple('Ending', 'output status state generation')
 
 
 class Files:
-    """Libraries and programs, and what is known of each."""
+    """Libraries and programs, with the facts about each."""
 
     def __init__(self):
         self.known = {}
@@ -68,7 +68,7 @@ def cost(data):
 
 
 class Draft:
-    """What the lines of an update have planned so far, beside the current state."""
+    """The changes that the lines of an update have planned so far, besides the current state."""
 
     def __init__(self, stands, known):
         self.stands = self.state = stands
@@ -95,7 +95,8 @@ class Draft:
         return b'planned\n'
 
     def refused_first(self, command, words):
-        """Returns the refusals C1, C5 (RepeatedPreload) and C6 (TooManyPreloads), which CHANGES doesn't have."""
+        """Returns the refusal of a command by C1, C5 (RepeatedPreload) or C6 (TooManyPreloads), which CHANGES doesn't
+        have."""
         if command in ('install', 'replace') and words[0] is None:
             return b'refused C1 E2 BadMagic\n', None
         if command == 'preload' and len(words) > 16:
@@ -302,8 +303,8 @@ class Bench:
 
 
 def mixtures(unsynced, choose):
-    """Returns which of the writes that no sync followed a disk may have: all choices if they are few, otherwise some
-    of them."""
+    """Returns the choices of unsynced writes that a disk may have after a cut: all choices if they are few, and
+    otherwise some of them."""
     if len(unsynced) <= 6:
         return itertools.chain.from_iterable(itertools.combinations(unsynced, k) for k in range(len(unsynced) + 1))
     return [[], unsynced, *([it for it in unsynced if choose.random() < 0.5] for _ in range(30))]

@@ -1,13 +1,13 @@
 #!/usr/bin/env bash
 # build.sh [COMPILER [FOLDER]] builds the C library, the loader and the programs: FOLDER gets
 # librlibreg.a, librlibreg.so, rlibreg.h, rlibreg-run, rlibreg, rlibreg-tool, and rlibreg-gcc with its
-# parts. COMPILER is `llvm` or `rattle`, the toolchain's own; FOLDER is c/out.
+# parts. COMPILER is `llvm` or `rattle`, the toolchain's own. FOLDER is c/out by default.
 #
-# CC is the compiler of C: gcc, or another one for Linux on x86-64, such as musl-gcc. What it makes
-# are static PIEs, or PIEs where there is no static C library, or where DYNAMIC is set.
+# CC is the compiler of C: gcc, or another one for Linux on x86-64, such as musl-gcc. It makes static
+# PIEs. If there is no static C library, or if DYNAMIC is set, it makes PIEs that need a loader.
 #
-# The crates rlibreg_c, rlibreg and rlibreg_tool are proved first, and the crates below them, unless
-# their proofs are kept.
+# First the crates rlibreg_c, rlibreg and rlibreg_tool, and the crates below them, are proved, except
+# those whose proofs are kept.
 set -eu
 cd "$(dirname "$0")/.."
 compiler=${1:-llvm}
@@ -24,18 +24,19 @@ flags='-std=c11 -O2 -g -fPIC -Wall -Wextra -Wpedantic -Werror'
 hardened='-fstack-protector-strong -Wl,-z,relro,-z,now'
 mkdir -p "$folder"
 folder=$(cd "$folder" && pwd)
-# musl-gcc has no headers of the kernel: they come behind its own.
+# musl-gcc has no headers of the kernel, so they are searched after its own headers.
 echo '#include <linux/loop.h>' | $cc -E -x c - > /dev/null 2>&1 ||
     flags="$flags -idirafter /usr/include -idirafter /usr/include/$($cc -print-multiarch)"
 
-# makes_static WORD..: whether a program that is linked so is a PIE that needs no loader.
+# makes_static WORD..: succeeds if a program that is linked with these words is a PIE that needs no
+# loader.
 makes_static() {
     local made
     echo 'int main(void) { return 0; }' | $cc -fPIC -x c - -x none "$@" -o "$folder/probe" 2> /dev/null &&
         made=$(readelf -hlW "$folder/probe" && rm "$folder/probe") &&
         [[ $made == *'DYN ('* && $made != *INTERP* ]]
 }
-# How programs are linked. Debian's musl-gcc is given what a static PIE begins with.
+# How programs are linked. Debian's musl-gcc needs the start files of a static PIE as arguments.
 begins=$($cc '-###' -pie -x c /dev/null 2>&1 | tr ' "' '\n\n' | sed -n 's/Scrt1\.o$//p')
 linking=-pie kind=dynamic
 for way in -static-pie "-static -nostartfiles -Wl,-pie,--no-dynamic-linker,-z,text \
@@ -50,7 +51,7 @@ if [ -z "${RLIBREG_C:-}" ]; then
 fi
 cp "$RLIBREG_C" "$folder/proved.a"
 
-# The C over them, and what gives the proved calls their memory.
+# The C code over the proved calls, and the functions by which the proved calls get memory.
 parts='file disk_file process streams place new_disk names turn front status'
 for part in $parts; do
     $cc $flags -c -o "$folder/rlibreg_$part.o" "c/rlibreg_$part.c"
@@ -68,16 +69,17 @@ END
     rm proved.a $(printf 'rlibreg_%s.o ' $parts)
 )
 cp c/rlibreg.h "$folder/"
-# linked STATUS STREAM MESSAGE NAME WORD..: links a program that, if it is refused the memory to begin
-# with, prints a message to a standard stream and exits with a status.
+# linked STATUS STREAM MESSAGE NAME WORD..: links a program. If the program is refused memory at its
+# start, it prints MESSAGE to the standard stream STREAM, and exits with STATUS.
 linked() {
     $cc $flags $hardened $linking -DOUT_OF_MEMORY="$1" -DSTREAM="$2" -DMESSAGE="\"$3\\n\"" \
         -Wl,-e,rlibreg_entry -o "$folder/$4" c/rlibreg_entry.c c/rlibreg_stack.c "${@:5}"
 }
 
-# What the loader does before its C library is set up: it may call nothing of it, and have no address
-# in its data, since nothing is relocated. A start takes as long as it touches pages: so its constants
-# are in its code, headers and code in one segment, and where `.bss` begins none is filled up.
+# The part of the loader that runs before its C library is set up. It may not call that library, and may
+# have no address in its data, because nothing is relocated. A start takes longer with each page that it
+# touches. So constants are in the code, headers and code are in one segment, and the page in which
+# `.bss` begins isn't filled with zeros.
 early='early kernel words key kept kept_file compare folder start debugger'
 alone='-fPIE -ffreestanding -fno-stack-protector -fno-tree-loop-distribute-patterns'
 (
@@ -103,9 +105,9 @@ linked 126 2 'rlibreg-run: memory: Cannot allocate memory' rlibreg-run -DSTARTS_
     "$folder/early.o" "$folder/librlibreg.a"
 rm "$folder/early.o" "$folder/filled.ld"
 
-# program NAME STREAM MESSAGE OBJECT CRATE WORD..: a program, with what its language can't ask of the
-# system. OBJECT is what `rt run` links; if it is empty, `rt run` makes it by a run with the words.
-# STREAM and MESSAGE are as for `linked`.
+# program NAME STREAM MESSAGE OBJECT CRATE WORD..: links a program, with the calls of the system that its
+# language lacks. OBJECT is the object that `rt run` links; if it is empty, a run of `rt run` with the
+# words makes the object. STREAM and MESSAGE are as for `linked`.
 program() {
     local name=$1 stream=$2 message=$3 object=$4 crate=$5
     shift 5
@@ -118,7 +120,7 @@ program() {
         c/rlibreg_program_{lock,sync}.c "$object" "$kit/c/libos_c.a" \
         "$kit/c/liblibc_c.a" -lm
 }
-# A refusal of a command belongs on standard output, one of the tool on standard error.
+# A refusal of a command goes to standard output, and a refusal of the tool to standard error.
 refusal='refused S11 OutOfMemory'
 program rlibreg 1 "$refusal" "${RLIBREG_O:-}" rlibreg image data/minimal.so 0x10000
 program rlibreg-tool 2 "rlibreg-tool: $refusal" "${RLIBREG_TOOL_O:-}" rlibreg_tool info data/disk

@@ -1,6 +1,6 @@
 #!/usr/bin/env bash
 # example.sh [FOLDER] makes a library and a program with gcc, installs the library in a new registry by
-# the updater of docs/C.md, and runs the program by rlibreg-run. It shows what it does. Run build.sh
+# the updater of docs/C.md, and runs the program by rlibreg-run. It prints each step. Run build.sh
 # first, which puts the C library into FOLDER, or into c/out.
 set -eu
 cd "$(dirname "$0")/.."

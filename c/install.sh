@@ -2,12 +2,12 @@
 # install.sh PREFIX [FOLDER]     installs what build.sh has put into FOLDER (c/out) below PREFIX
 # install.sh --remove LIST       removes what is in LIST: PREFIX/share/rlibreg/installed
 #
-# DESTDIR stands before every path, and LIST is one with it or without. PYTHONDIR is where the Python
-# module goes; without it that is the folder below PREFIX/lib in which python3 looks for modules, or
+# DESTDIR is put before every path; LIST may begin with it or not. PYTHONDIR is the folder for the Python
+# module; without it, this is the folder below PREFIX/lib in which python3 looks for modules, or
 # PREFIX/share/rlibreg. Both are absolute.
 #
-# A file gets its name once it is whole, and the list is written before, so this can be run again
-# at any time. What an earlier run installed stays in the list.
+# The list is written first, and a file gets its name only when it is whole, so the script can be run
+# again at any time. Files that an earlier run installed stay in the list.
 set -eu
 export LC_ALL=C
 umask 022
@@ -21,13 +21,14 @@ refuse() {
     exit 1
 }
 
-# add MODE SOURCE FILE: adds a file to those that are installed. The mode `link` makes a link to SOURCE.
+# add MODE SOURCE FILE: adds a file to the list of files to install. The mode `link` makes a link to
+# SOURCE.
 add() {
     [ "$1" = link ] || [ -f "$2" ] || refuse "$2 doesn't exist: run c/build.sh first"
     modes+=("$1") sources+=("$2") files+=("$3")
 }
 
-# put MODE SOURCE FILE: under another name first.
+# put MODE SOURCE FILE: installs a file, under another name first.
 put() {
     local new=$root${3%/*}/.${3##*/}.new
     install -d "$root${3%/*}"
@@ -46,8 +47,8 @@ print(next(it for it in site.getsitepackages() if it.startswith(sys.argv[1] + "/
         2> /dev/null || echo "$1/share/rlibreg"
 }
 
-# make_files PREFIX ROOM: what has PREFIX or the version in it, and the manual pages. In a unit `%%`
-# stands for `%`.
+# make_files PREFIX ROOM: makes the files that contain PREFIX or the version, and the manual pages. In a
+# unit, `%%` means `%`.
 make_files() {
     local file prefix
     sed "s|@PREFIX@|$1|; s|@VERSION@|$version|" "$here/rlibreg.pc.in" > "$2/rlibreg.pc"
@@ -59,7 +60,7 @@ make_files() {
     "$here/manual.sh" "$2" "$1/share/doc/rlibreg"
 }
 
-# add_all PREFIX FOLDER ROOM: everything that is installed, but the list.
+# add_all PREFIX FOLDER ROOM: adds all files to install, except the list.
 add_all() {
     local shared=librlibreg.so page name
     add 755 "$2/rlibreg" "$1/bin/rlibreg"
@@ -107,7 +108,7 @@ add_all() {
     done
 }
 
-# The folders, with a `/` behind them, that aren't there yet.
+# The folders that don't exist yet, with a `/` at the end.
 missing_folders() {
     local folder
     for folder in "${files[@]%/*}"; do
@@ -118,7 +119,7 @@ missing_folders() {
     done
 }
 
-# write_list LIST TO: with what is in it already.
+# write_list LIST TO: writes the list, including the lines that LIST already has.
 write_list() {
     echo "$mark" > "$2"
     {
@@ -149,7 +150,7 @@ install_all() {
     trap "rm -rf '$room'" EXIT
     make_files "$prefix" "$room"
     : > "$room/installed"
-    add 644 "$room/installed" "$list" # the first, so that what is behind it can be removed
+    add 644 "$room/installed" "$list" # the first file, so that all files after it can be removed
     add_all "$prefix" "$built" "$room"
     write_list "$list" "$room/installed"
     for at in "${!files[@]}"; do put "${modes[at]}" "${sources[at]}" "${files[at]}"; done
@@ -158,7 +159,8 @@ install_all() {
     [ -n "$root" ] || echo 'ldconfig, as root, has programs find the shared library'
 }
 
-# remove_file FILE LIST: with what python3 has made of it; unless it is the list, which goes last.
+# remove_file FILE LIST: removes a file and the files that python3 has made from it. Leaves the list,
+# which is removed last.
 remove_file() {
     local folder=${1%/*} name=${1##*/}
     [ ! "$1" -ef "$2" ] || return 0
@@ -170,15 +172,15 @@ remove_file() {
     esac
 }
 
-# Removes the files of a list, the list, and then the folders that were made for them, if nothing else is
-# in them, from the deepest on.
+# Removes the files of a list, then the list, and then the folders that were made for them, the deepest
+# first. Folders with other files stay.
 remove_all() {
     local lines path list=$root${1#"$root"} own=0
     [ -f "$list" ] || refuse "the list $list doesn't exist"
     [ "$(head -n 1 "$list")" = "$mark" ] || refuse "$list isn't a list that this script wrote"
     mapfile -t lines <<< "$(sort -r "$list")"
     for path in "${lines[@]}"; do
-        [ ! "$root$path" -ef "$list" ] || own=1 # it names itself, if DESTDIR is the right one
+        [ ! "$root$path" -ef "$list" ] || own=1 # the list names itself, if DESTDIR is correct
     done
     [ $own = 1 ] || refuse "$list was written with another DESTDIR"
     for path in "${lines[@]}"; do

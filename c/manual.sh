@@ -19,8 +19,9 @@ if ! command -v pandoc > /dev/null; then
 fi
 
 # page NAME SECTION WHAT: makes a manual page from the Markdown on standard input, whose sections begin
-# with `##`. A link to a document that has a manual page becomes the name of that page, and any other link
-# the document's name. Words aren't hyphenated and lines aren't justified, so that they can be searched.
+# with `##`. A link to a document that has a manual page becomes the name of that page; any other link
+# becomes the document's name. Words aren't hyphenated and lines aren't justified, so that the text can be
+# searched.
 page() {
     {
         printf '# %s(%s)\n\n## Name\n\n%s - %s\n\n' "$1" "$2" "$1" "$3"
@@ -56,7 +57,7 @@ section C rlibreg-run | page rlibreg-run 1 'starts a program with the libraries 
 section LINKING rlibreg-gcc | page rlibreg-gcc 1 'compiles and links what a registry takes'
 section DEVICES rlibreg-switch | page rlibreg-switch 1 'changes a registry by way of a second disk'
 
-# The other sections of C.md.
+# The other sections of docs/C.md.
 {
     cat << 'END'
 ## Synopsis

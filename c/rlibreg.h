@@ -7,7 +7,7 @@
  * result is an image.
  *
  * docs/COMMANDS.md has the rules of both, every refusal by its number, and the limits. docs/C.md
- * has two whole programs, and says what is proved of this library.
+ * has two whole programs, and describes what is proved of this library.
  *
  * EXAMPLE
  *
@@ -51,8 +51,9 @@
  *   over a file do this, and so does the program `rlibreg`. If the disk is locked, the program ends
  *   with status 3, but a change tries for two seconds first.
  * - So a caller needs no lock of its own. A process that locks the disk around the program (`flock
- *   DISK rlibreg ..`) locks the program out. To do several things in one go, lock another file, as
- *   all other processes then have to do too (`flock DISK.lock rlibreg ..`).
+ *   DISK rlibreg ..`) locks the program out. To make several calls without others in between, lock
+ *   another file (`flock DISK.lock rlibreg ..`). All other processes then have to lock that file
+ *   too.
  * - A change that waits gets its turn, even if loaders come one after the other. A process that
  *   opens the disk to read gives way to it, for two seconds at most. A reader is never refused
  *   because it gives way, but only because of the lock. The change marks the disk by an open file's
@@ -67,15 +68,15 @@
  *   the disk stays locked as long as the child keeps the file open.
  * - Each call checks the file's length. Before and after a change, the call also checks that the
  *   path still names the file, or the same block device. If one of these has changed, the call
- *   returns S1 (RLIBREG_DEVICE), with errno ESTALE, or with the errno that says why the path can't
- *   be checked. So a call doesn't return 0 for a change that nobody would see.
+ *   returns S1 (RLIBREG_DEVICE), with errno ESTALE, or with an errno for the reason why the path
+ *   can't be checked. So a call never returns 0 for a change that nobody would see.
  *
  * FAILED WRITES
  *
  * - After a failed write, Linux treats the pages as written, and shows them to every reader. So an
  *   opening syncs the file. Then it compares the registry's two roots, the sectors that lead to the
  *   current state, as the system shows them and as the medium has them. It reads the medium past
- *   the system's memory. If they differ, the system is made to forget its own. This fails if a
+ *   the system's memory. If they differ, the library makes the system drop its own. This fails if a
  *   process without the lock has the roots mapped. Then an opening for changes writes the shown
  *   roots to the medium, and an opening for reading is refused with RLIBREG_SYSTEM and EIO. Locked
  *   memory (mlockall) makes no difference.
@@ -87,19 +88,19 @@
  *
  * - Nothing that a process prints ever goes into a disk. If one of the descriptors 0, 1 and 2 isn't
  *   open, /dev/null is opened there, for reading only, before any file is opened, and stays open.
- *   Otherwise the disk would get that number. (If another thread closes it just then, the disk has
- *   the number for a moment, and is then moved.)
- * - A disk that is the file behind 0, 1 or 2, open for writing, is refused when it is opened and at
- *   each change: RLIBREG_SYSTEM, with errno ETXTBSY. A process that prints before it opens the disk
- *   asks rlibreg_stream_of.
+ *   Otherwise the disk would get that number. (If another thread closes such a descriptor at that
+ *   moment, the disk gets its number for a short time, and then another one.)
+ * - A disk that is also open for writing as 0, 1 or 2 is refused when it is opened and at each
+ *   change: RLIBREG_SYSTEM, with errno ETXTBSY. A process that prints before it opens the disk has
+ *   to call rlibreg_stream_of first.
  *
  * MEDIA
  *
  * - The two roots lie in one block of 4,096 bytes. A medium that ruins a block of that size while
  *   it writes the block can lose both.
  * - There is no checksum. A byte that changed on the medium within a library's code isn't detected,
- *   not by rlibreg_check either. To detect it, compare the digests of the installed files with
- *   those of rlibreg_digest.
+ *   not by rlibreg_check either. To detect such a byte, compare the digests of the installed files
+ *   with those of rlibreg_digest.
  * - A sector that the medium can't read ends the process by SIGBUS, in each call over a file,
  *   because the file is mapped. So does a file that is shortened during a call, and, except in
  *   rlibreg_format, a hole that is read on a full tmpfs. A process that has to survive this reads
@@ -121,10 +122,10 @@
  *
  * THREADS AND MEMORY
  *
- * - A bound image is memory, not a process: nothing of the library runs what is in it. A caller
- *   that maps the image calls the program's DT_PREINIT_ARRAY, and then the libraries'
- *   initializers (DT_INIT, DT_INIT_ARRAY), before its entry, as rlibreg-run does. The dynamic
- *   sections of the objects have them.
+ * - A bound image is memory, not a process: no call of the library runs code of the image. A caller
+ *   that maps the image calls the program's DT_PREINIT_ARRAY, and then the libraries' initializers
+ *   (DT_INIT, DT_INIT_ARRAY), before its entry, as rlibreg-run does. The dynamic sections of the
+ *   objects list these functions.
  * - Several threads may make calls at the same time, on different struct rlibreg. Only one thread
  *   at a time uses one struct. A signal handler makes no calls. Nor, in a process of several
  *   threads, does a child between fork and exec. A thread that makes calls needs 512 KiB of stack.
@@ -140,8 +141,7 @@
  *   makes no calls.
  * - malloc, realloc and free are the program's, of one allocator. malloc and realloc have to align
  *   a block to each power of two up to 16 that divides its size. Each block is freed before the
- *   call ends, except those for which the second layer says who frees them.
- */
+ *   call ends, except the blocks for which the description of a call names who frees them. */
 #ifndef RLIBREG_H
 #define RLIBREG_H
 
@@ -171,15 +171,15 @@ uint32_t rlibreg_version(void);
 
 /* ---- Statuses
  *
- * Each call returns a status. 0 means that it did what it is for. 1 to 9 are the library's own. A
- * greater one is a refusal of docs/COMMANDS.md: its number, and 100 more for B (of a bind), 200
- * more for C (of a command) or 300 more for S (of the disk). For example, 103 means B3 (Missing).
- * From 401 on a status says why a bound program has no executable file; docs/TOOL.md has more on
- * these. rlibreg_status_name returns the name. */
+ * Each call returns a status. 0 means that the call succeeded. 1 to 9 are the library's own. A
+ * greater status is a refusal of docs/COMMANDS.md: the number of the refusal, plus 100 for B (of a
+ * bind), 200 for C (of a command) or 300 for S (of the disk). For example, 103 means B3 (Missing).
+ * A status from 401 on is the reason why a bound program has no executable file (docs/TOOL.md).
+ * rlibreg_status_name returns the name of a status. */
 enum {
     RLIBREG_DONE = 0,
     RLIBREG_BUFFER_TOO_SMALL = 1, /* a buffer is too small: the answer has the sizes */
-    RLIBREG_BAD_ARGUMENT = 2,     /* an argument isn't as the call requires it */
+    RLIBREG_BAD_ARGUMENT = 2,     /* an argument isn't what the call requires */
     RLIBREG_SYSTEM = 3,           /* a file can't be opened, locked, synced, made or mapped: errno */
     RLIBREG_LOCKED = 4,           /* another process, or this one, has locked the file */
     RLIBREG_READ_ONLY = 5,        /* the file wasn't opened for changes, as this call requires */
@@ -215,7 +215,7 @@ enum {
     RLIBREG_PRE_INITIALIZERS = 403, /* the program has pre-initializers, which nobody would run */
     RLIBREG_INITIALIZERS = 404,     /* a library has initializers; the text names it */
     RLIBREG_FINALIZERS = 405,       /* a library has finalizers; the text names it */
-    /* 406 was OutOfOrder, which no image ever was. It isn't used again. */
+    /* 406 was OutOfOrder, a status that no call ever returned. The number isn't used again. */
     RLIBREG_TOO_MANY_HEADERS = 407, /* there are more segments than the kernel takes */
     RLIBREG_WRITABLE_CODE = 408,    /* an object's memory could be written and executed */
     RLIBREG_NO_PAGES = 409          /* no pages are free for the headers */
@@ -225,14 +225,15 @@ enum {
  * "unknown". The text is never freed. */
 const char *rlibreg_status_name(uint32_t status);
 
-/* Returns the name of the test of a file that refuses it, such as "E1 TooShort". NUMBER is the
- * test's number, as the answer's `file_refusal` has it. For a number that no test has the call
- * returns "unknown". The text is never freed. */
+/* Returns the name of a test that refuses files, such as "E1 TooShort". NUMBER is the test's
+ * number, which the answer's `file_refusal` has. For a number that no test has the call returns
+ * "unknown". The text is never freed. */
 const char *rlibreg_file_refusal_name(uint32_t number);
 
 /* ---- What calls return */
 
-/* The answer of a call. It is written in every case. A field that the call doesn't mention is 0. */
+/* The answer of a call, which writes it in every case. A field that the description of the call
+ * doesn't mention is 0. */
 typedef struct rlibreg_answer {
     uint32_t status;       /* the status, as the call returns it */
     uint32_t file_refusal; /* if the status is B1 or C1: n of the first test En that refuses */
@@ -337,32 +338,32 @@ RLIBREG_SAME(sizeof(size_t) == 8 && sizeof(void *) == 8);
 
 /* ---- Layer 1: bytes
  *
- * The caller owes the following, and no call checks it. A pointer has as many bytes (or segments,
- * objects, entries) after it as the length or the room that follows it says. Nobody changes memory
- * that a call only reads, until the call returns. Memory that a call writes overlaps nothing else
- * that the call is given. A pointer may be null if its length is 0. Nothing else is owed: whatever
- * the bytes are, each call returns, with a status.
+ * The caller has to guarantee the following, and no call checks it. A pointer leads to as many
+ * bytes (or segments, objects, entries) as the next argument, a length or a room, has. Nobody
+ * changes memory that a call only reads, until the call returns. Memory that a call writes overlaps
+ * no other argument of the call. A pointer may be null if its length is 0. The caller has to
+ * guarantee nothing else: whatever the bytes are, each call returns a status.
  *
  * The caller owns all memory. A call keeps no pointer and returns none, so there is nothing to
  * free.
  *
  * DISK has the DISK_LENGTH bytes of the disk's sectors, as the medium has them after a sync.
- * (FAILED WRITES says what Linux does after a sync that failed.) A length that isn't that of whole
- * sectors is refused with S6 (BadGeometry).
+ * (FAILED WRITES describes what Linux does after a sync that failed.) A length that isn't a
+ * multiple of 512 is refused with S6 (BadGeometry).
  *
- * Lengths are in bytes. So are the rooms of bytes, names, texts and plans. The rooms of objects,
- * segments, entries and findings are numbers of them.
+ * Lengths are numbers of bytes. So are the rooms for bytes, names, texts and plans. The rooms for
+ * objects, segments, entries and findings are numbers of these.
  *
  * TEXT receives the line or the reply that the program `rlibreg` prints in the same case: "ok\n", a
  * listing, or a refusal with its number and its names, such as "refused B3 Missing libtwo.so
  * libone.so\n". No byte 0 follows it. The answer's `text` is the length of the whole text. If
  * TEXT_ROOM is less, the buffer has the beginning, and the status is the same. The text is empty if
- * the result has a place of its own: an image, bindings (also with B3 and B5), a file, a digest,
+ * the result goes into another buffer: an image, bindings (also with B3 and B5), a file, a digest,
  * information or findings. With the statuses 1 to 9, which the program doesn't know, it is empty
  * too.
  *
- * If memory is refused, the call returns S11 (OutOfMemory), and nothing was done. No call returns
- * S1 (Device).
+ * If memory is refused, the call returns S11 (OutOfMemory), and has done nothing. No call of this
+ * layer returns S1 (Device).
  *
  * If another buffer is too small, the call returns RLIBREG_BUFFER_TOO_SMALL. Then the contents of
  * the call's buffers are unspecified, and the answer has the sizes that are needed: call again with
@@ -385,7 +386,7 @@ uint32_t rlibreg_bind(const uint8_t *disk, size_t disk_length, const uint8_t *pr
                       uint8_t *bytes, size_t bytes_room, char *text, size_t text_room,
                       rlibreg_answer *answer);
 
-/* Says what the symbols of a program and of the libraries that it needs are bound to. PROGRAM has
+/* Lists what the symbols of a program and of the libraries that it needs are bound to. PROGRAM has
  * the PROGRAM_LENGTH bytes of the program's file, and BASE is the address at which it is bound. The
  * status is the one that rlibreg_bind returns for this PROGRAM and BASE.
  *
@@ -414,7 +415,7 @@ uint32_t rlibreg_bindings(const uint8_t *disk, size_t disk_length, const uint8_t
  * If the image has no such file, the status is the first of these that applies: RLIBREG_NO_ENTRY,
  * RLIBREG_STATIC_PIE, RLIBREG_PRE_INITIALIZERS, RLIBREG_INITIALIZERS, RLIBREG_FINALIZERS,
  * RLIBREG_TOO_MANY_HEADERS, RLIBREG_WRITABLE_CODE or RLIBREG_NO_PAGES. The third to the fifth of
- * them don't apply if the program says by a note that it calls these functions itself
+ * them don't apply if the program declares by a note that it calls these functions itself
  * (rlibreg-tool(1)). TEXT then has the line of `rlibreg-tool executable`.
  *
  * Refusals: B1 to B5; S3, S5, S6, S11, S12. */
@@ -439,8 +440,8 @@ uint32_t rlibreg_list(const uint8_t *disk, size_t disk_length, rlibreg_entry *en
  * the library's name, without a byte 0 after them.
  *
  * With the status 0, BYTES has the answer's `bytes` bytes of the file. Only this file is read: it
- * doesn't matter if another library's file is damaged. It isn't tested whether the bytes still are
- * those of a library.
+ * doesn't matter if another library's file is damaged. The call doesn't test whether the bytes are
+ * still those of a library.
  *
  * Refusals: C3; S3, S5, S6, S11, S12. */
 uint32_t rlibreg_file(const uint8_t *disk, size_t disk_length, const char *name, size_t name_length,
@@ -512,8 +513,8 @@ uint32_t rlibreg_check(const uint8_t *disk, size_t disk_length, rlibreg_finding 
  * With another status there is nothing to carry out. */
 #define RLIBREG_SYNC 0xffffffffu
 
-/* Plans an empty registry, on a disk where none was ever made. If a root sector looks like that of
- * a registry, the status is S4 (AlreadyFormatted). Refusals: S4, S6, S11. */
+/* Plans to make an empty registry, on a disk on which none was ever made. If a root sector looks
+ * like that of a registry, the status is S4 (AlreadyFormatted). Refusals: S4, S6, S11. */
 uint32_t rlibreg_plan_format(const uint8_t *disk, size_t disk_length, uint8_t *plan,
                              size_t plan_room, char *text, size_t text_room,
                              rlibreg_answer *answer);
@@ -538,8 +539,8 @@ uint32_t rlibreg_plan_replace(const uint8_t *disk, size_t disk_length, const uin
                               size_t text_room, rlibreg_answer *answer);
 
 /* Plans to remove a library. NAME has the NAME_LENGTH bytes of its name, without a byte 0 after
- * them. It isn't tested whether programs need the library. Refusals: C3, C4, S10; S3, S5, S6, S11,
- * S12. */
+ * them. The call doesn't test whether programs need the library. Refusals: C3, C4, S10; S3, S5, S6,
+ * S11, S12. */
 uint32_t rlibreg_plan_remove(const uint8_t *disk, size_t disk_length, const char *name,
                              size_t name_length, uint8_t *plan, size_t plan_room, char *text,
                              size_t text_room, rlibreg_answer *answer);
@@ -555,7 +556,7 @@ uint32_t rlibreg_plan_preload(const uint8_t *disk, size_t disk_length, const cha
 /* Plans an update: several changes in one plan, which makes all of them or none. CHANGES has
  * CHANGES_COUNT changes, which are planned in their order. BYTES has the BYTES_LENGTH bytes of all
  * of them: each change has its bytes at its place there, in the form in which the plan of a single
- * change has them. Each change is tested over the state that the changes before it lead to.
+ * change has them. Each change is tested against the state to which the changes before it lead.
  *
  * The update is one change of the registry. Without changes the plan writes nothing. The sectors of
  * a library that is installed now become unused only after the update, so there has to be room for
@@ -580,8 +581,8 @@ uint32_t rlibreg_plan_update(const uint8_t *disk, size_t disk_length,
  * rlibreg_close it holds the lock of its file, and a map of it. So keep it open for as long as the
  * calls take, and no longer.
  *
- * A child of fork can only close what its parent opened. Every other call of such a struct returns
- * RLIBREG_BAD_ARGUMENT there.
+ * A child of fork can only close a struct whose file its parent opened. Every other call of such a
+ * struct returns RLIBREG_BAD_ARGUMENT in the child.
  *
  * After a change has failed with S1 (Device), the struct answers every call with S2 (Reopen). Close
  * it, and open the file again: the file then holds the registry from before the change or the one
@@ -611,17 +612,17 @@ const rlibreg_answer *rlibreg_last_answer(const rlibreg *registry);
  * RLIBREG_SYSTEM nor S1 (Device), the result is 0. */
 int rlibreg_errno(const rlibreg *registry);
 
-/* How a file is opened. Without any of these it is opened for reading only, with a lock that other
- * readers share, and without waiting for the lock. A sum of them changes that. */
+/* How a file is opened. Without these flags the file is opened for reading only, with a lock that
+ * other readers share, and the call doesn't wait for the lock. A sum of the flags changes that. */
 enum {
     RLIBREG_READ_WRITE = 1, /* for changes too: the lock is exclusive */
     RLIBREG_WAIT = 2        /* if the file is locked, wait (rlibreg_set_wait_limit) */
 };
 
-/* Sets how long the following calls wait that are given RLIBREG_WAIT. Each waits up to
- * MILLISECONDS, by CLOCK_MONOTONIC, whatever signals come, and then returns RLIBREG_LOCKED. If
- * MILLISECONDS is less than 0, a call waits without end, but a signal whose handler doesn't have
- * SA_RESTART (sigaction(2)) ends the wait. A new struct has this setting. A call waits for other
+/* Sets how long later calls with the flag RLIBREG_WAIT wait. Each waits up to MILLISECONDS, by
+ * CLOCK_MONOTONIC, whatever signals come, and then returns RLIBREG_LOCKED. If MILLISECONDS is less
+ * than 0, a call waits without end, but a signal whose handler doesn't have SA_RESTART
+ * (sigaction(2)) ends the wait. A new struct has this last setting. A call waits for other
  * processes, and for other threads of this one. */
 void rlibreg_set_wait_limit(rlibreg *registry, int milliseconds);
 
@@ -630,19 +631,20 @@ void rlibreg_set_wait_limit(rlibreg *registry, int milliseconds);
  * the result is 2, the caller can't report it on standard error. */
 int rlibreg_stream_of(const char *path);
 
-/* Opens the file of a registry, locks and syncs it, and maps what the medium has of it. PATH names
- * a regular file or a block device. FLAGS is 0 or a sum of RLIBREG_READ_WRITE and RLIBREG_WAIT. The
+/* Opens the file of a registry, locks it, syncs it, and maps it as the medium has it. PATH names a
+ * regular file or a block device. FLAGS is 0 or a sum of RLIBREG_READ_WRITE and RLIBREG_WAIT. The
  * call doesn't test what the file holds: the calls after it do.
  *
  * It returns 0 if the file is open, and otherwise one of these:
  *
- * - RLIBREG_LOCKED: another struct, of this process or another, has locked the file, and
- *   RLIBREG_WAIT isn't given or its limit is over. With RLIBREG_WAIT the call returns this at once
- *   if this thread would wait for itself: for a struct that it used last, or for a thread that
- *   waits for one. It also returns this if the path named another file each of 16 times.
- * - RLIBREG_SYSTEM: a call of the system failed, and errno says why. EINTR: a signal ended a wait
- *   without limit. EINVAL: the path is neither a regular file nor a block device. EBUSY: a block
- *   device is in use. ETXTBSY: the file is a standard stream that may be written.
+ * - RLIBREG_LOCKED: another struct, of this process or another, has locked the file, and either
+ *   FLAGS lacks RLIBREG_WAIT or the wait has reached its limit. With RLIBREG_WAIT the call returns
+ *   this at once if this thread would wait for itself: for a struct that it used last, or for a
+ *   thread that waits for such a struct. It also returns this if the path named another file each
+ *   of 16 times.
+ * - RLIBREG_SYSTEM: a call of the system failed, and errno has the reason. EINTR: a signal ended a
+ *   wait without limit. EINVAL: the path is neither a regular file nor a block device. EBUSY: a
+ *   block device is in use. ETXTBSY: the file is a standard stream that may be written.
  * - RLIBREG_BAD_ARGUMENT: the struct already has a file. */
 uint32_t rlibreg_open(rlibreg *registry, const char *path, unsigned flags);
 
@@ -671,25 +673,25 @@ uint32_t rlibreg_open(rlibreg *registry, const char *path, unsigned flags);
  * - The other statuses are the same as rlibreg_open and rlibreg_plan_format return.
  *
  * Refusals: S1 if a write or a sync of the plan fails, if the sync of the folder fails after the
- * file has its name, or if the other name can't be removed; errno says why. On a file that existed,
- * a registry may or may not have been made. A new file doesn't exist, or is whole if it already has
- * its name. On a file system without a journal (vfat, exfat, ext2), mount the file system again
- * before you use the path again: otherwise S4, and changes that are done, may be those of a name
- * that a power cut takes away. */
+ * file has its name, or if the other name can't be removed; errno has the reason. On a file that
+ * existed, a registry may or may not have been made. A new file doesn't exist, or is whole if it
+ * already has its name. On a file system without a journal (vfat, exfat, ext2), mount the file
+ * system again before you use the path again. Otherwise the path may have a name that a power cut
+ * takes away: then neither S4 nor a completed change can be relied on. */
 uint32_t rlibreg_format(rlibreg *registry, const char *path, uint32_t sectors, unsigned flags);
 
 /* ---- Layer 2: changes
  *
  * Each of these calls makes one change of the registry. When it returns 0, the change was planned,
  * carried out and synced. A refusal of the plan leaves everything as it was. S1 (Device) means that
- * a write or a sync failed, or that the path no longer names the file (LOCKS); errno says why. The
- * change may or may not have been made, and the struct then answers S2 (Reopen).
+ * a write or a sync failed, or that the path no longer names the file (LOCKS); errno has the
+ * reason. The change may or may not have been made, and the struct then answers S2 (Reopen).
  *
  * RLIBREG_READ_ONLY means that the file wasn't opened with RLIBREG_READ_WRITE. RLIBREG_SYSTEM with
  * ETXTBSY means that the file has become a standard stream that may be written; nothing was done.
  * RLIBREG_BAD_ARGUMENT means that the parent of this process opened the file.
  *
- * Memory that a call is given stays the caller's. */
+ * Memory whose address the caller passes stays the caller's. */
 
 /* Turns a registry of version 1 into one of version 2. Refusals: those of the plan; S1, S2. */
 uint32_t rlibreg_upgrade(rlibreg *registry);
@@ -720,11 +722,11 @@ uint32_t rlibreg_update(rlibreg *registry, const rlibreg_change *changes, size_t
 /* ---- Layer 2: reading
  *
  * These calls change nothing, so the file may be open for reading only. They return S1 (Device) if
- * the file's length isn't as it was, and S2 (Reopen) after an S1 of this struct.
- * RLIBREG_BAD_ARGUMENT means that the parent of this process opened the file. */
+ * the file's length has changed, and S2 (Reopen) after an S1 of this struct. RLIBREG_BAD_ARGUMENT
+ * means that the parent of this process opened the file. */
 
 /* Lists the libraries and the preloads, as rlibreg_list does. LISTING is written in every case. The
- * caller frees what it has with rlibreg_listing_free. Other refusals: S1, S2. */
+ * caller frees its buffers with rlibreg_listing_free. Other refusals: S1, S2. */
 typedef struct rlibreg_listing {
     uint64_t generation; /* number of changes since the registry was formatted */
     size_t libraries;    /* number of libraries: entries 0 to libraries - 1 */
@@ -735,7 +737,8 @@ typedef struct rlibreg_listing {
 
 uint32_t rlibreg_get_listing(rlibreg *registry, rlibreg_listing *listing);
 
-/* Frees what a listing has, and empties it. It may be called again for the same listing. */
+/* Frees the buffers of a listing, and empties the listing. The call may be repeated for the same
+ * listing. */
 void rlibreg_listing_free(rlibreg_listing *listing);
 
 /* Returns a library's bytes, as rlibreg_file does. NAME ends with a byte 0. With the status 0,
@@ -753,7 +756,7 @@ uint32_t rlibreg_get_digest(rlibreg *registry, const char *name,
 uint32_t rlibreg_get_info(rlibreg *registry, rlibreg_information *information);
 
 /* Tests each library's file, as rlibreg_check does. FINDINGS is written in every case. The caller
- * frees what it has with rlibreg_findings_free. Other refusals: S1, S2. */
+ * frees its buffers with rlibreg_findings_free. Other refusals: S1, S2. */
 typedef struct rlibreg_findings {
     size_t count; /* number of libraries */
     rlibreg_finding *findings;
@@ -762,11 +765,12 @@ typedef struct rlibreg_findings {
 
 uint32_t rlibreg_check_libraries(rlibreg *registry, rlibreg_findings *findings);
 
-/* Frees what findings have, and empties them. It may be called again for the same findings. */
+/* Frees the buffers of findings, and empties the findings. The call may be repeated for the same
+ * findings. */
 void rlibreg_findings_free(rlibreg_findings *findings);
 
 /* Binds a program, as rlibreg_bind does. PROGRAM has the LENGTH bytes of the program's file, and
- * BASE is the address. IMAGE is written in every case. The caller frees what it has with
+ * BASE is the address. IMAGE is written in every case. The caller frees its buffers with
  * rlibreg_image_free. Other refusals: S1, S2. */
 typedef struct rlibreg_image {
     size_t count;        /* number of segments */
@@ -779,31 +783,32 @@ typedef struct rlibreg_image {
 uint32_t rlibreg_bind_program(rlibreg *registry, const void *program, size_t length, uint64_t base,
                               rlibreg_image *image);
 
-/* Frees what an image has, and empties it. It may be called again for the same image. */
+/* Frees the buffers of an image, and empties the image. The call may be repeated for the same
+ * image. */
 void rlibreg_image_free(rlibreg_image *image);
 
-/* Binds a program over the state after an update, and writes nothing. The result is the image that
- * rlibreg_bind_program would return after an update of these changes. So it is known before the
- * update whether the program will be bound. PROGRAM has the PROGRAM_LENGTH bytes of the program's
- * file, and BASE is the address. CHANGES, COUNT, BYTES and LENGTH are those of rlibreg_update. The
- * file may be open for reading only. IMAGE is written in every case, and is freed with
- * rlibreg_image_free.
+/* Binds a program against the state after an update, and writes nothing. The result is the image
+ * that rlibreg_bind_program would return after an update of these changes. So the caller knows
+ * before the update whether the program can be bound afterwards. PROGRAM has the PROGRAM_LENGTH
+ * bytes of the program's file, and BASE is the address. CHANGES, COUNT, BYTES and LENGTH are those
+ * of rlibreg_update. The file may be open for reading only. IMAGE is written in every case, and is
+ * freed with rlibreg_image_free.
  *
  * If a change is refused, the call returns its refusal, and rlibreg_last_answer has in `count` the
  * number of changes before it. If the bind is refused, `count` is 0.
  *
  * The call maps the file once more, privately, and carries the plan out in that memory. It
  * allocates memory for the plan, for the pages that are written, and for the image. It needs memory
- * for the whole disk if the process locks its memory (mlockall), or if the system counts what the
- * process may have (RLIMIT_AS, RLIMIT_DATA, vm.overcommit_memory 2). If that memory isn't given,
- * the call returns S11 (OutOfMemory), which says nothing of the update.
+ * for the whole disk if the process locks its memory (mlockall), or if the system limits the memory
+ * of the process (RLIMIT_AS, RLIMIT_DATA, vm.overcommit_memory 2). If that memory is refused, the
+ * call returns S11 (OutOfMemory), and the update itself may still succeed.
  *
  * Refusals: B1 to B5; C1 to C6, S7 to S10; S1, S2, S3, S5, S6, S11, S12. */
 uint32_t rlibreg_preview_bind(rlibreg *registry, const rlibreg_change *changes, size_t count,
                               const void *bytes, size_t length, const void *program,
                               size_t program_length, uint64_t base, rlibreg_image *image);
 
-/* Says what symbols are bound to, as rlibreg_bindings does. PROGRAM has the LENGTH bytes of the
+/* Lists what symbols are bound to, as rlibreg_bindings does. PROGRAM has the LENGTH bytes of the
  * program's file, and BASE is the address. With the statuses 0, B3 and B5, *BINDINGS is a text of
  * *BYTES bytes, followed by a byte 0, which the caller frees with free. With every other status
  * *BYTES is 0, and *BINDINGS is null. Both are written in every case. Other refusals: S1, S2. */

@@ -63,8 +63,8 @@ static int excludes(const struct disk_file *one, const struct disk_file *other) 
            (one->is_alone || other->is_alone);
 }
 
-/* Returns a file whose lock `thread` waits for, or null. In one search, which has the number
- * `search`, it returns each file only once. */
+/* Returns a file whose lock `thread` waits for, or null. Within the search number `search`, returns
+ * each file only once. */
 static struct disk_file *waiting(uint64_t thread, unsigned search) {
     struct disk_file *it = enlisted;
     while (it && !(it->is_waiting && it->thread == thread && it->search != search)) it = it->next;
@@ -73,7 +73,7 @@ static struct disk_file *waiting(uint64_t thread, unsigned search) {
 }
 
 /* Returns whether a wait for the lock of `wanted` is a wait for `thread`: either `thread` has the
- * lock, or the thread that has it waits for `thread` in turn. */
+ * lock, or the thread that has the lock waits for `thread` in turn. */
 static int waits_for(const struct disk_file *wanted, uint64_t thread, unsigned search) {
     for (struct disk_file *it = enlisted; it; it = it->next) {
         if (it->is_waiting || !excludes(wanted, it)) continue;
@@ -146,7 +146,7 @@ static void strike(struct disk_file *it) {
 
 static int open_flags(unsigned flags) {
     int access = flags & RLIBREG_READ_WRITE ? O_RDWR : O_RDONLY;
-    return access | O_CLOEXEC | O_NOCTTY | O_NONBLOCK; /* opening a pipe doesn't wait */
+    return access | O_CLOEXEC | O_NOCTTY | O_NONBLOCK; /* the opening of a pipe doesn't wait */
 }
 
 int rlibreg_flock(int fd, int kind) {
@@ -154,8 +154,8 @@ int rlibreg_flock(int fd, int kind) {
 }
 
 /* Locks a file. Returns 0, or -1 with errno. The system's udev locks a device for a moment after
- * each writer has closed it. So a change to a device tries for a moment, even if it isn't to
- * wait. */
+ * each writer has closed it. So a change to a device tries for a moment, even without
+ * RLIBREG_WAIT. */
 static int lock(const struct disk_file *it, int is_device, unsigned flags) {
     int64_t until = flags & RLIBREG_WAIT ? it->until : 0;
     if (!(flags & RLIBREG_READ_WRITE)) return rlibreg_lock_shared(it->fd, until);
@@ -194,8 +194,8 @@ static int is_still_there(const char *path, const struct stat *locked) {
 }
 
 /* Opens a device once more for a change, exclusively. The system refuses this if the device is
- * mounted, or in use in another way. The lock is taken before, so users of the registry don't
- * refuse each other here. Returns a status. */
+ * mounted, or in use in another way. The caller has the lock already, so two users of the registry
+ * never meet here. Returns a status. */
 static uint32_t claim(struct disk_file *it, const char *path, unsigned flags,
                       const struct stat *locked) {
     struct stat found;
@@ -203,8 +203,8 @@ static uint32_t claim(struct disk_file *it, const char *path, unsigned flags,
     if (!(flags & RLIBREG_READ_WRITE) || !S_ISBLK(locked->st_mode)) return RLIBREG_DONE;
     it->claim = rlibreg_open_apart(AT_FDCWD, path, open_flags(flags) | O_EXCL);
     if (it->claim < 0 || fstat(it->claim, &found)) return RLIBREG_SYSTEM;
-    ioctl(it->claim, BLKROGET, &is_read_only); /* a read-only device can be opened for writing,
-                                                * but not written */
+    ioctl(it->claim, BLKROGET, &is_read_only); /* a read-only device can be opened for writing, but
+                                                * can't be written */
     if (!S_ISBLK(found.st_mode) || found.st_rdev != locked->st_rdev) return RLIBREG_LOCKED;
     errno = EROFS;
     return is_read_only ? RLIBREG_SYSTEM : RLIBREG_DONE;

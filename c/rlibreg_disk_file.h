@@ -42,8 +42,8 @@ enum { MOST_TRIES = 16 };
 int rlibreg_open_apart(int folder, const char *path, int flags);
 
 /* Returns the number of a standard stream that may be written and is the file `file`, with errno
- * ETXTBSY, or that the system doesn't report on. If there are several, returns the last. Returns -1
- * if there is none. */
+ * ETXTBSY, or of a stream about which the system reports nothing. If there are several such
+ * streams, returns the last. Returns -1 if there is none. */
 int rlibreg_stream_of_file(const struct stat *file);
 
 /* Opens and locks the file of `path`, and maps its bytes as the medium has them. Returns a
@@ -54,17 +54,19 @@ uint32_t rlibreg_disk_file_open(struct disk_file *it, const char *path, unsigned
 uint32_t rlibreg_disk_file_map(struct disk_file *it, unsigned flags);
 
 /* Checks whether the medium has the roots that the system shows (rlibreg_front.c). Called after a
- * successful sync of an opening, and before any map. If the medium doesn't have them, makes the
- * system forget them. If that fails, and the file is open for changes, writes them to the medium
- * and calls `sync`. Returns 0, or -1 with errno, which is EIO if the two still differ. */
+ * successful sync of an opening, and before any map. If the medium doesn't have these roots, makes
+ * the system drop them. If that fails, and the file is open for changes, writes the shown roots to
+ * the medium and calls `sync`. Returns 0, or -1 with errno, which is EIO if the medium still has
+ * other roots. */
 int rlibreg_meet_front(int fd, int (*sync)(int));
 
 /* Locks a file that is open, and puts it into the list of the locks of this process. Returns a
- * status: RLIBREG_LOCKED, with RLIBREG_WAIT too, if this thread would wait for itself, and
+ * status. This is RLIBREG_LOCKED, even with RLIBREG_WAIT, if this thread would wait for itself, and
  * RLIBREG_SYSTEM with ENOMEM if forks can't be watched. */
 uint32_t rlibreg_disk_file_lock(struct disk_file *it, const struct stat *found, unsigned flags);
 
-/* Puts a file that is locked exclusively into that list. Returns a status, as the call above. */
+/* Puts a file that is locked exclusively into the list of the locks of this process. Returns a
+ * status, as rlibreg_disk_file_lock does. */
 uint32_t rlibreg_disk_file_enlist(struct disk_file *it, const struct stat *found);
 
 /* Records that the calling thread uses the file. */
@@ -96,14 +98,14 @@ void rlibreg_place_end(struct place *it);
 
 /* rlibreg_has_length returns whether a file still has the length with which it was mapped.
  * rlibreg_is_in_place returns whether, in addition, the path still names the file. If the result is
- * 0, errno says why: ESTALE if the length or the file has changed. */
+ * 0, errno has the reason: ESTALE if the length or the file has changed. */
 int rlibreg_has_length(const struct disk_file *file);
 int rlibreg_is_in_place(const struct place *it, const struct disk_file *file);
 
 /* ---- Making the file of a disk (rlibreg_new_disk.c)
  *
  * The file is made under another name in the same folder. A process that gives a file this name, or
- * removes the name, has the lock of that file. */
+ * removes the name, has locked that file. */
 
 struct new_disk {
     int folder;               /* folder in which the disk is made, or -1 */
@@ -133,19 +135,20 @@ int rlibreg_sync_folder(const char *path);
  * name it. */
 int rlibreg_is_same_file(const struct stat *one, const struct stat *other);
 
-/* Reads which file `path` names, relative to `folder`; if it is empty, `folder` is the file. Sets
- * the type, the numbers of the file and of its file system, and the number of a device
- * (rlibreg_names.c). Returns 0, or -1 with errno. The file's times aren't read: from Linux 6.13 on,
- * the write after such a call changes the file's times, and the next sync has to write these. On
- * ext4 that takes up to a third of a change. */
+/* Finds out which file `path` names, relative to `folder`; if `path` is empty, `folder` is the
+ * file. Sets in `found` the type, the numbers of the file and of its file system, and the number of
+ * a device (rlibreg_names.c). Returns 0, or -1 with errno. The file's times aren't read: from Linux
+ * 6.13 on, the write after such a call changes the file's times, and the next sync has to write
+ * these. On ext4 that takes up to a third of a change. */
 int rlibreg_which_file(int folder, const char *path, struct stat *found);
 
-/* Returns whether `path`, relative to `folder`, names the file `file`. If it doesn't, errno says
- * why: ESTALE if it names another file (rlibreg_names.c). */
+/* Returns whether `path`, relative to `folder`, names the file `file`. If it doesn't, errno has the
+ * reason: ESTALE if it names another file (rlibreg_names.c). */
 int rlibreg_path_names(int folder, const char *path, const struct stat *file);
 
 /* Checks, after a successful sync of a folder, whether its names are on the medium
- * (rlibreg_names.c). Returns 0, also if this can't be found out, or -1 with errno. */
+ * (rlibreg_names.c). Returns -1 with errno if the names aren't on the medium, and otherwise 0, also
+ * if this can't be found out. */
 int rlibreg_names_last(int folder);
 
 #endif

@@ -30,11 +30,11 @@ struct rlibreg {
 
 /* ---- Cancellation
  *
- * A thread isn't cancelled within a call that opens, changes or closes a file. Otherwise it would
- * keep the lock. After a part of a change nobody could go on: the current root is written last, and
- * nobody would know whether the medium has it. */
+ * A thread isn't cancelled within a call that opens, changes or closes a file. Otherwise the lock
+ * would stay. After a part of a change nobody could go on: the current root is written last, and
+ * nobody would know whether the medium has this root. */
 
-/* Begins a call: disables cancellation. Returns the state before, for end_call. */
+/* Begins a call: disables cancellation. Returns the former state of cancellation, for end_call. */
 static int begin_call(void) {
     int before;
     pthread_setcancelstate(PTHREAD_CANCEL_DISABLE, &before);
@@ -47,7 +47,7 @@ static void end_call(int before) {
 
 /* ---- Answers */
 
-/* Makes the answer of a call, with `status` and `text`, without the calls over bytes. Returns
+/* Sets the answer of a call that made no call over bytes, with `status` and `text`. Returns
  * `status`. */
 static uint32_t say(rlibreg *it, uint32_t status, const char *text) {
     it->answer = (rlibreg_answer){ .status = status, .text = strlen(text) };
@@ -65,8 +65,8 @@ static uint32_t say_memory(rlibreg *it) {
 }
 
 /* Ends the text of the last call with a byte 0. If the text was cut, makes the buffer larger and
- * returns 1: the call has to be made again. Without memory for a larger buffer the text stays
- * cut. */
+ * returns 1: the call has to be made again. If there is no memory for a larger buffer, the text
+ * stays cut. */
 static int text_was_cut(rlibreg *it) {
     size_t whole = it->answer.text;
     if (whole < it->text_room) {
@@ -80,8 +80,8 @@ static int text_was_cut(rlibreg *it) {
     }
     it->text = larger;
     it->text_room = whole + 1;
-    free(before); /* the last step: a child that another thread forks just then can close the
-                   * struct */
+    free(before); /* the last step, so that a child that another thread forks at this moment can
+                   * close the struct */
     return 1;
 }
 
@@ -207,8 +207,9 @@ static int write_all(int fd, const uint8_t *from, size_t length, off_t at) {
 }
 
 /* Writes the sector of the step at the front of a plan. The same write includes the sectors of the
- * following steps, as long as each follows the sector before it: their bytes are moved together for
- * that. Returns the number of bytes that these steps have in the plan, or 0 if the write fails. */
+ * following steps, as long as each sector follows the one before it. For that, the bytes of the
+ * sectors are moved together. Returns the number of bytes that these steps take in the plan, or 0
+ * if the write fails. */
 static size_t write_run(int fd, uint8_t *plan, size_t length) {
     uint32_t first = number_at(plan), next = first + 1;
     size_t at = STEP_NUMBER + SECTOR, bytes = SECTOR;
@@ -220,9 +221,9 @@ static size_t write_run(int fd, uint8_t *plan, size_t length) {
     return write_all(fd, plan + STEP_NUMBER, bytes, (off_t)first * SECTOR) ? 0 : at;
 }
 
-/* Makes the writes and syncs of a plan in their order, up to the first that fails. Returns 0, or -1
- * with errno. Checks the file's length before each step: a write past the end of a shortened file
- * would hide that it was shortened. The plan must not be used again. */
+/* Makes the writes and syncs of a plan in their order, until one fails. Returns 0, or -1 with
+ * errno. Checks the file's length before each step: a write past the end of a shortened file would
+ * hide that it was shortened. The plan must not be used again. */
 static int carry_out(const struct disk_file *file, uint8_t *plan, size_t length) {
     for (size_t at = 0; at < length;) {
         size_t done = STEP_NUMBER;
@@ -285,8 +286,8 @@ static uint32_t plan_preload(rlibreg *it, const void *asked, size_t length, uint
                                 it->text, it->text_room, &it->answer);
 }
 
-/* Plans a change, with as large a buffer as it needs. Returns a status. The caller frees the plan,
- * which is null if the status isn't 0. */
+/* Plans a change, in a buffer that is as large as the plan needs. Returns a status. The caller
+ * frees the plan, which is null if the status isn't 0. */
 static uint32_t make_plan(rlibreg *it, plan_call *call, const void *asked, size_t length,
                           uint8_t **plan) {
     size_t room = (length / SECTOR + 1 + SMALL_PLAN) * (STEP_NUMBER + SECTOR);
@@ -385,8 +386,8 @@ static uint32_t plan_update(rlibreg *it, const void *asked, size_t length, uint8
                                &it->answer);
 }
 
-/* Returns the most bytes that an update writes, beyond those for which each plan has room: for each
- * change its bytes, the rest of their last sector, and an entry. */
+/* Returns the maximum number of bytes that an update writes besides those for which each plan has
+ * room. For each change, these are its bytes, the rest of their last sector, and an entry. */
 static size_t written_by(const struct update *it) {
     return it->length + it->count * 2 * SECTOR;
 }
@@ -518,18 +519,19 @@ struct asked {
     uint64_t base;
 };
 
-/* A call that puts the result of a request into the buffer `out` of `room` bytes. */
+/* A call that writes the result of a request to the buffer `out` of `room` bytes. */
 typedef uint32_t give_call(rlibreg *it, const struct asked *what, void *out, size_t room);
 
-/* Frees a block except for its first `bytes` bytes. Returns its address, which may have changed. */
+/* Frees all of a block except its first `bytes` bytes. Returns the address of the block, which may
+ * have changed. */
 static void *fitting(void *block, size_t bytes) {
     void *it = realloc(block, bytes ? bytes : 1);
     return it ? it : block;
 }
 
 /* Makes a request, whose result is never empty. Returns a status, and the result in `bytes`,
- * followed by a byte 0. The first buffer has room for `first` bytes. If that much memory is
- * refused, it has room for a small file. */
+ * followed by a byte 0. The first buffer has room for `first` bytes or, if that much memory is
+ * refused, for a small file. */
 static uint32_t give(rlibreg *it, give_call *call, struct asked what, size_t first, void **bytes,
                      size_t *length) {
     *bytes = NULL;
@@ -651,8 +653,8 @@ struct room {
     size_t objects, segments, bytes;
 };
 
-/* Asks the system for large pages if there is much room: they are faster if most of it is used. The
- * beginning gets none, so that a small image needs little memory. */
+/* Asks the system for large pages if there is much room: they are faster if most of the room is
+ * used. The beginning gets no large pages, so that a small image needs little memory. */
 static void ask_for_large_pages(uint8_t *bytes, size_t room) {
     const uintptr_t large = 2 << 20, small_image = 4 << 20, much = 32 << 20;
     uintptr_t from = ((uintptr_t)bytes + small_image) / large * large;

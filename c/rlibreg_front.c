@@ -24,26 +24,26 @@
 #include <linux/stat.h>
 #endif
 
-/* The system keeps a file in memory in pieces of a page to 2 MiB. It drops a piece only if all of
- * it lies in the range to drop. A read past the system's memory is a block of 4,096 bytes, because
- * there are devices with sectors of this size. */
+/* The system keeps a file in memory in pieces of one page to 2 MiB. It drops a piece only if all of
+ * the piece lies in the range to drop. A read past the system's memory reads a block of 4,096
+ * bytes, because there are devices with sectors of this size. */
 enum { SECTOR = 512, ROOTS = 2 * SECTOR, BLOCK = 4096, GREATEST_PIECE = 2 << 20 };
 
-/* The most times that the system is made to forget the roots, if other processes use them. The
+/* The maximum number of tries to make the system drop the roots, if other processes use them. The
  * tries are five milliseconds apart. */
 enum { FORGET_TRIES = 40 };
 
 enum comparison {
     EQUAL,
     DIFFERENT,
-    UNKNOWN, /* reads past the system's memory fail, or return some memory's bytes too */
+    UNKNOWN, /* reads past the system's memory fail, or also return bytes of some memory */
     FAILED   /* errno says why */
 };
 
 struct front {
     int fd, flags;
-    int is_blind; /* whether reads past the system's memory succeed, but still return some
-                   * memory's bytes */
+    int is_blind; /* whether reads past the system's memory succeed, but still return bytes of some
+                   * memory */
     alignas(BLOCK) uint8_t kept[BLOCK];   /* first block, as the system shows it */
     alignas(BLOCK) uint8_t medium[BLOCK]; /* first block, as it is read past the system's memory */
 };
@@ -62,10 +62,10 @@ static int is_encoded(int fd) {
            found.stx_attributes & encoded;
 }
 
-/* Reads the first block past the system's memory, through the file's own descriptor. So it needs
- * neither the file's path, which may name another file by now, nor /proc. Writes to the buffer
- * first: into pages that were never written, btrfs reads from its memory. Returns EQUAL if the
- * roots were read. */
+/* Reads the first block past the system's memory, through the file's own descriptor. So the read
+ * needs neither the file's path, which may name another file by now, nor /proc. Writes to the
+ * buffer first, because btrfs fills pages that were never written from its memory. Returns EQUAL if
+ * the roots were read. */
 static enum comparison read_medium(struct front *it) {
     memset(it->medium, 0, BLOCK);
     if (fcntl(it->fd, F_SETFL, it->flags | O_DIRECT)) return UNKNOWN;
@@ -86,14 +86,14 @@ static enum comparison compare(struct front *it) {
     return is == EQUAL && it->is_blind ? UNKNOWN : is;
 }
 
-/* Returns whether the system may keep the first page of a map. mincore reports that it does if the
- * user neither owns the file nor may write it. */
+/* Returns whether the system may keep the first page of a map. If the user neither owns the file
+ * nor may write it, mincore always reports the page as kept. */
 static int may_be_kept(void *map) {
     unsigned char kept;
     return map == MAP_FAILED || mincore(map, 1, &kept) || kept & 1;
 }
 
-/* Makes the system forget a growing part of the file's front, until its first page is gone. The map
+/* Makes the system drop a growing part of the file's front, until the first page is gone. The map
  * allows no access, so it holds no page, even in a process that locks its memory. */
 static void forget(int fd) {
     void *map = mmap(NULL, 1, PROT_NONE, MAP_SHARED, fd, 0);
@@ -104,8 +104,8 @@ static void forget(int fd) {
     if (map != MAP_FAILED) munmap(map, 1);
 }
 
-/* Makes the system forget roots that the medium doesn't have, until it shows those of the medium.
- * Returns the result of the last comparison. */
+/* Makes the system drop roots that the medium doesn't have, until the system shows the roots of the
+ * medium. Returns the result of the last comparison. */
 static enum comparison forget_and_compare(struct front *it) {
     const struct timespec moment = { .tv_nsec = 5 * 1000 * 1000 };
     enum comparison is = DIFFERENT;
@@ -121,9 +121,9 @@ static int is_root(const uint8_t *sector) {
     return !memcmp(sector, "RLIBREG1", 8) || !memcmp(sector, "RLIBREG2", 8);
 }
 
-/* Writes the roots that the system shows to the medium, and compares again. All that these roots
- * name was synced successfully before they were written. Nothing changes a device that can only be
- * read (EPERM) without the system's knowledge. */
+/* Writes the roots that the system shows to the medium, and compares again. Everything that these
+ * roots name was synced successfully before they were written. A device that can only be read
+ * (EPERM) needs no such write, because nothing changes it without the system's knowledge. */
 static enum comparison take_kept(struct front *it, enum comparison is, int (*sync)(int)) {
     if (!is_root(it->kept) && !is_root(it->kept + SECTOR)) return is;
     ssize_t length = pwrite(it->fd, it->kept, ROOTS, 0);

@@ -13,14 +13,15 @@ int __real_main(int argc, char **argv, char **environment);
 int __wrap_main(int argc, char **argv, char **environment);
 
 #ifndef __GLIBC__
-/* The program's language calls statx, which musl before 1.2.5 doesn't have. */
+/* The runtime of the program's language calls statx, which musl before 1.2.5 doesn't have. */
 int statx(int folder, const char *path, int flags, unsigned mask, void *found);
 
 int statx(int folder, const char *path, int flags, unsigned mask, void *found) {
     return (int)syscall(SYS_statx, folder, path, flags, mask, found);
 }
 
-/* The program's language keeps the arguments in an initializer, to which only glibc passes them. */
+/* The runtime of the program's language reads the arguments in an initializer, but only glibc
+ * passes them to initializers. */
 typedef void initializer(int argc, char **argv, char **environment);
 extern initializer *__init_array_start[], *__init_array_end[];
 

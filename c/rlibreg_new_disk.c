@@ -54,14 +54,14 @@ static int look_at(const struct new_disk *it, const char *name, struct stat *fou
     return fstatat(it->folder, name, found, AT_SYMLINK_NOFOLLOW);
 }
 
-/* Returns whether the other name is that of the open file `fd`. */
+/* Returns whether the open file `fd` has the other name. */
 static int is_other_of(const struct new_disk *it, int fd) {
     struct stat named, opened;
     return !look_at(it, it->other, &named) && !fstat(fd, &opened) && S_ISREG(named.st_mode) &&
            named.st_dev == opened.st_dev && named.st_ino == opened.st_ino;
 }
 
-/* Removes the other name if it is that of the file `fd`. Returns 0, or -1 with errno. */
+/* Removes the other name if the file `fd` has it. Returns 0, or -1 with errno. */
 static int take_other(const struct new_disk *it, int fd) {
     return is_other_of(it, fd) ? unlinkat(it->folder, it->other, 0) : 0;
 }
@@ -93,8 +93,8 @@ static uint32_t take_leftover(const struct new_disk *it, unsigned flags, int64_t
     return status;
 }
 
-/* Locks a file that was just made. Closes it if another process took it for a file that was left,
- * or if it can't be locked. Returns a status. */
+/* Locks a file that was just made. Closes the file if it can't be locked, or if another process
+ * took it for a leftover file and locked it. Returns a status. */
 static uint32_t lock_made(const struct new_disk *it, int *fd) {
     uint32_t status = lock_alone(*fd);
     if (!status && is_other_of(it, *fd)) return RLIBREG_DONE;

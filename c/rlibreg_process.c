@@ -1,13 +1,13 @@
 /* Finds out which process this is.
  *
- * The process number alone doesn't show it: process 1 of a container that makes another process
- * namespace and forks has a child that is process 1, too. So each process also draws a number, when
- * it is first asked for one, and a child has to draw another. Three things make sure of that,
- * because each of them misses some children:
+ * The process number isn't enough: process 1 of a container that makes another process namespace
+ * and forks has a child that is process 1, too. So each process also draws a random number when it
+ * first needs one, and a child has to draw another. Three things make sure of that, because each of
+ * them misses some children:
  *
  * - The kernel fills the page of the drawn number with zeros in a child (MADV_WIPEONFORK). It does
- *   so for clone(2) as well, which runs no handlers, but not before Linux 4.14, and an emulator may
- *   only say that it does.
+ *   so for clone(2) as well, which runs no handlers. But Linux before 4.14 doesn't do so, and an
+ *   emulator may accept the request without doing so.
  * - The handler of fork calls rlibreg_process_end in the child (rlibreg_disk_file.c).
  * - The process number is compared, too.
  *
@@ -23,8 +23,8 @@
 
 #define PAGE 4096
 
-/* The number that this process drew, or 0. It has a page of its own, which the program's file has
- * no bytes for: only such a page is filled with zeros. */
+/* The number that this process drew, or 0. The number has a page of its own, which has no bytes in
+ * the program's file: only such a page is filled with zeros. */
 static union {
     alignas(PAGE) _Atomic uint64_t number;
     uint8_t page[PAGE];
@@ -41,7 +41,8 @@ static uint64_t draw(void) {
 }
 
 void rlibreg_process_begin(void) {
-    madvise(&drawn, sizeof drawn, MADV_WIPEONFORK); /* the other two see most children without it */
+    madvise(&drawn, sizeof drawn, MADV_WIPEONFORK); /* without this page, the other two measures
+                                                     * still detect most children */
 }
 
 void rlibreg_process_end(void) {

@@ -1,11 +1,11 @@
-/* Finds out which process opened a disk, and whether it is this one. Nothing here is for users. */
+/* Finds out whether the process that opened a disk is this process. Nothing here is for users. */
 #ifndef RLIBREG_PROCESS_H
 #define RLIBREG_PROCESS_H
 
 #include <stdint.h>
 #include <sys/types.h>
 
-/* A process. Its number is 0 if it is none. */
+/* A process. If the number is 0, it is no process. */
 struct process {
     pid_t number;
     uint64_t drawn; /* differs from that of each process from which this one descends */

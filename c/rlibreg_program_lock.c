@@ -1,5 +1,5 @@
-/* Locks a disk for the programs, in place of their language's flock, over which build.sh links it.
- * rlibreg_disk_file.c does the same for the calls over a file. */
+/* Locks a disk for the programs. build.sh links this in place of the flock that their language
+ * calls. rlibreg_disk_file.c does the same for the calls over a file. */
 #define _GNU_SOURCE
 #include "rlibreg_turn.h"
 
@@ -26,8 +26,8 @@ int rlibreg_take_early_fault(void) {
 }
 
 /* Locks a file exclusively. Returns 0, or -1 with errno. A program opens its disk once, so all its
- * tries for the lock together end after two seconds. The language itself tries again for the lock
- * of a device, and EBUSY ends that. */
+ * tries for the lock together end after two seconds. The language itself repeats a call for the
+ * lock of a device, and EBUSY ends these repetitions. */
 static int lock_alone(int fd) {
     static int64_t until;
     struct stat found;
@@ -37,8 +37,8 @@ static int lock_alone(int fd) {
     return -1;
 }
 
-/* Locks a file in place of flock. A file that is open only for reading, and is to be locked
- * exclusively, is one that a `format` may have left: there is nothing to wait for. */
+/* Locks a file in place of flock. If a file that is open only for reading is to be locked
+ * exclusively, a `format` may have left the file, and the call doesn't wait. */
 int __wrap_flock(int fd, int kind) {
     if (kind == (LOCK_SH | LOCK_NB)) {
         if (rlibreg_write_out(fd)) early_fault = errno;

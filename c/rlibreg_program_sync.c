@@ -1,6 +1,6 @@
-/* Opens, writes and syncs a disk for the programs, in place of their language's open, pwrite and
- * fsync, over which build.sh links it. rlibreg_disk_file.c does the same for the calls over a
- * file. */
+/* Opens, writes and syncs a disk for the programs. build.sh links this in place of the open,
+ * pwrite and fsync that their language calls. rlibreg_disk_file.c does the same for the calls
+ * over a file. */
 #define _GNU_SOURCE
 #include "rlibreg_disk_file.h"
 #include "rlibreg_turn.h"
@@ -36,12 +36,12 @@ static struct {
 /* Records the disk and its path, if it was opened for changes. Returns 0, or -1 if the system
  * doesn't report which file it is. */
 static int keep_path(int fd, const char *path, int flags) {
-    if (fd == changed.fd) changed.fd = -1; /* the number is another file's now */
+    if (fd == changed.fd) changed.fd = -1; /* another file has the number now */
     if ((flags & O_ACCMODE) == O_RDONLY || flags & O_CREAT) return 0;
     if (fstat(fd, &changed.file)) return -1;
     changed.fd = fd;
     changed.written = NOTHING;
-    strcpy(changed.path, path); /* the system opens no path that is longer */
+    strcpy(changed.path, path); /* the system opens no longer path */
     return 0;
 }
 
@@ -78,9 +78,9 @@ ssize_t __wrap_pwrite(int fd, const void *bytes, size_t length, off_t at) {
 }
 
 /* Checks, after a sync of the disk that is open for changes, that its path still names it. If it
- * doesn't, nobody will see what was written, and the sync fails. No check is made if only other
- * sectors than the roots were written: they become part of the registry with a root, and the sync
- * after that root checks. */
+ * doesn't, nobody will see what was written, and the sync fails. No check is made if no root was
+ * written: other sectors become part of the registry only with a root, and the sync after that root
+ * checks the path. */
 static int sync_changed(void) {
     enum written written = changed.written;
     changed.written = NOTHING;

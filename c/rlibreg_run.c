@@ -44,8 +44,8 @@ static _Noreturn void bad_words(void) {
     exit(BAD_WORDS);
 }
 
-/* Reads the arguments. Returns the index of DISK. If the program's output would go into DISK,
- * starts nothing, and prints no message that would go there. */
+/* Reads the arguments. Returns the index of DISK. If the program's output would go into DISK, ends
+ * the process, and prints no message that would go into DISK. */
 static int read_words(struct program *it, struct keeping *keeping, int argc, char **argv) {
     int next, are_good = read_options(it, keeping, argc, argv, &next);
     int stream = next < argc ? rlibreg_stream_of(argv[next]) : -1;
@@ -64,12 +64,12 @@ static void say(const struct keeping *it, const char *what, int error) {
     fprintf(stderr, "rlibreg-run: %s: %s\n", it->path, what ? what : strerror(error));
 }
 
-/* Handles SIGBUS. The disk is mapped: the signal comes if a sector can't be read, or the file was
- * shortened. */
+/* Handles SIGBUS. Because the disk is mapped, this signal comes if a sector can't be read, or if
+ * the file was shortened. */
 static void cannot_read(int signal) {
     static const char what[] = "rlibreg-run: the disk can't be read\n";
     (void)signal;
-    if (write(STDERR_FILENO, what, sizeof what - 1) < 0) errno = 0; /* there is nobody to tell */
+    if (write(STDERR_FILENO, what, sizeof what - 1) < 0) errno = 0; /* nobody can be informed */
     _exit(FAILED);
 }
 
@@ -106,7 +106,8 @@ static void let_bytes_go(rlibreg_image *it) {
     it->segments = NULL;
 }
 
-/* Binds the program. Keeps the image, if that is wanted, before any code of the program runs. */
+/* Binds the program. If the user has asked for it, keeps the image, before any code of the program
+ * runs. */
 static void bind_program(struct program *it, struct keeping *keeping, const char *disk) {
     read_program(it);
     load(it, keeping, disk);

@@ -10,7 +10,7 @@
 enum {
     REFUSED = 125,  /* the bind is refused, or its image is one that the loader doesn't start */
     FAILED = 126,   /* a file can't be read, or needed memory is refused */
-    BAD_WORDS = 127 /* the arguments have a form that the loader doesn't take */
+    BAD_WORDS = 127 /* the arguments have a form that the loader doesn't accept */
 };
 
 #define PAGE ((uint64_t)4096)
@@ -41,8 +41,8 @@ struct program {
     int is_early;              /* whether the loader's C library isn't set up yet */
 };
 
-/* End the process with a message. fail ends it with FAILED and prints what errno says; give_up ends
- * it with `status` and prints `why`. */
+/* End the process with a message. fail ends it with FAILED and prints the text of errno; give_up
+ * ends it with `status` and prints `why`. */
 _Noreturn void fail(const char *what);
 _Noreturn void give_up(int status, const char *what, const char *why);
 
@@ -54,8 +54,8 @@ void open_program(struct program *it);
 void read_program(struct program *it);
 
 /* Returns the unit of the program in bytes: its base has to be a multiple of the unit. Before the
- * program is bound its bytes may be anything. Then the result is good only for binding the program,
- * which finds what is wrong with the bytes. */
+ * program is bound, its file may have any bytes. Until then the result is good only for binding the
+ * program: the bind finds what is wrong with the bytes. */
 uint64_t unit_of(const struct program *it);
 
 /* ---- Memory (rlibreg_run_image.c, rlibreg_run_base.c) */
@@ -65,11 +65,11 @@ uint64_t unit_of(const struct program *it);
 void map_program(struct program *it, rlibreg *registry, const char *disk);
 void protect_program(const struct program *it);
 
-/* Asks the system to provide pages at once that are about to be written. Providing them one by one
- * takes longer than writing the bytes. */
+/* Asks the system to provide all pages together that are about to be written. To provide them one
+ * by one takes longer than to write the bytes. */
 void expect_bytes(uint64_t from, uint64_t length);
 
-/* The pages that nothing writes once the object is relocated, from the address `from` up to
+/* The pages that are no longer written once the object is relocated, from the address `from` up to
  * `to`. */
 struct pages {
     uint64_t from, to;
@@ -77,8 +77,8 @@ struct pages {
 
 /* An object of a program, for an action on its pages. each_pages calls the action for the pages of
  * all objects, in the order of their addresses, with the permissions `how` that the pages are to
- * have. A page that several segments share comes once for each of them, with the permissions of
- * that segment and those before it. */
+ * have. For a page that several segments share, the action is called once for each of them, with
+ * the permissions of that segment and of those before it. */
 struct part {
     const struct program *program;
     const rlibreg_object *object;
@@ -88,15 +88,15 @@ struct part {
 typedef void page_action(const struct part *part, uint64_t from, uint64_t to, int how);
 void each_pages(const struct program *program, page_action *action, void *context);
 
-/* The loader tries at most MOST_BASES bases if it chooses the base itself, and the end of an image
- * isn't to be above END_OF_BASES. base_of_try returns the base of try number `number`. */
+/* If the loader chooses the base itself, it tries at most MOST_BASES bases, and the image has to
+ * end at or below END_OF_BASES. base_of_try returns the base of try number `number`. */
 enum { MOST_BASES = 16 };
 #define END_OF_BASES ((uint64_t)1 << 46)
 uint64_t base_of_try(const struct program *it, int number);
 
 /* ---- The objects of the image, read from the bytes of their segments (rlibreg_run_objects.c) */
 
-/* Returns the name of an object in a message. */
+/* Returns the name of an object for a message. */
 const char *name_of(const struct program *it, const rlibreg_object *object);
 
 /* Returns whether an address lies in memory of the object that may be executed. */
@@ -108,16 +108,16 @@ const uint8_t *memory_at(const rlibreg_image *image, const rlibreg_object *objec
                          uint64_t *length);
 
 /* Reads program header number `number` of an object into `one`. Returns whether the object's memory
- * has it. */
+ * has that header. */
 int header_at(const rlibreg_image *image, const rlibreg_object *object, size_t number,
               Elf64_Phdr *one);
 
-/* Returns the pages of an object that nothing writes once it is relocated. */
+/* Returns the pages of an object that are no longer written once the object is relocated. */
 struct pages fixed_pages(const rlibreg_image *image, const rlibreg_object *object);
 
-/* A dynamic section up to its DT_NULL. dynamic_of returns that of an object, and entry_at its entry
- * number `number`. has_tag returns whether an entry has the tag `tag`, with the value of the last
- * such entry in `value`. */
+/* A dynamic section up to its DT_NULL. dynamic_of returns the dynamic section of an object, and
+ * entry_at its entry number `number`. has_tag returns whether an entry has the tag `tag`, with the
+ * value of the last such entry in `value`. */
 struct dynamic {
     const uint8_t *bytes;
     size_t count;
@@ -139,7 +139,7 @@ void find_calls(struct program *it);
 
 /* room_of_list returns the size in bytes of the list of objects that a debugger reads.
  * tell_debugger makes the list in `room` and shows it to the debugger. The list and the program's
- * path have to stay where they are. If the path is null, it does nothing. */
+ * path have to stay at their addresses. If the path is null, tell_debugger does nothing. */
 size_t room_of_list(const struct program *it);
 void tell_debugger(const struct program *it, void *room, char *path);
 

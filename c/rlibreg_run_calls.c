@@ -82,9 +82,9 @@ static void add_finalizers(struct program *it, size_t number) {
 }
 
 /* Returns the number of the library that is initialized before everything else, because of its
- * DF_1_INITFIRST. If several have this flag, it is the last of them in load order, as with glibc.
- * The library is finalized in its usual place. Returns 0, which is the program, if there is
- * none. */
+ * DF_1_INITFIRST. If several libraries have this flag, returns the last of them in load order, as
+ * glibc does. The library is finalized in its usual place. If no library has the flag, returns 0,
+ * which is the number of the program. */
 static size_t first_of_all(const struct program *it) {
     for (size_t i = it->image.object_count; i-- > 1;) {
         uint64_t flags;

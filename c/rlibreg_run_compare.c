@@ -13,7 +13,7 @@ enum { AT_ONCE = 16 << 10 };
 #define MADV_POPULATE_READ 22
 #endif
 
-/* A read ends before the bytes that can't be read, and the next read says why. */
+/* A read ends before the bytes that can't be read, and the next read returns the error. */
 int read_exactly(int fd, void *to, uint64_t length, uint64_t at) {
     int64_t count = 1;
     for (uint64_t done = 0; done < length && count > 0; done += (uint64_t)count) {
@@ -25,9 +25,9 @@ int read_exactly(int fd, void *to, uint64_t length, uint64_t at) {
 
 /* ---- The image's pages */
 
-/* Reads a map of the kept file that begins at the offset `from` in it. So an error is found here,
- * and doesn't end the process by a signal later. A kernel before 5.14 can't be asked for that: then
- * the bytes are read from the file once more. */
+/* Reads all pages of a map of the kept file, which begins at the offset `from` of the file. So an
+ * error is found here, and doesn't end the process by a signal later. A kernel before 5.14 has no
+ * such call: then the bytes are read from the file once more. */
 static int read_map(uint64_t map, uint64_t length, int kept, uint64_t from) {
     uint8_t bytes[AT_ONCE];
     int error = kernel_advise(map, length, MADV_POPULATE_READ);
@@ -66,9 +66,9 @@ struct window {
     _Alignas(CACHE_LINE) uint8_t bytes[AT_ONCE];
 };
 
-/* Moves a window to the offset `at`, unless it already has that byte. Reads nothing from the offset
- * `end` on. A window that isn't the last of a row ends where a page of the file ends, so no page is
- * read in two parts. */
+/* Moves a window to the offset `at`, unless the window already has that byte. Reads nothing at or
+ * after the offset `end`. A window that isn't the last of a row ends where a page of the file ends,
+ * so no page is read in two parts. */
 static int move_window(struct window *it, uint64_t at, uint64_t end) {
     if (it->from <= at && at < it->to) return 0;
     uint64_t most = at / PAGE * PAGE + AT_ONCE;
@@ -92,8 +92,8 @@ static void begin_comparison(struct comparison *it, int source, int kept,
     it->end_of_others = place_of_pages(counts);
 }
 
-/* Compares the front of a stretch, as much of it as the windows have, and removes it from the
- * stretch. */
+/* Compares the front of a stretch, as far as the windows have its bytes, and removes that front
+ * from the stretch. */
 static int compare_front(struct comparison *it, struct stretch *one) {
     uint64_t step = one->length;
     const uint8_t *kept = (const void *)one->address;

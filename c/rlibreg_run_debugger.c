@@ -1,5 +1,5 @@
-/* Shows a debugger where the program and its libraries are. The debugger finds the list of objects
- * through the dynamic section of the process's file, which is the loader's (link.h). */
+/* Shows a debugger the addresses of the program and its libraries. The debugger finds the list of
+ * objects through the dynamic section of the process's file, which is the loader's (link.h). */
 #define _GNU_SOURCE
 #include "rlibreg_run_kernel.h"
 #include "rlibreg_run.h"
@@ -23,7 +23,7 @@ size_t room_of_list(const struct program *it) {
 }
 
 /* A debugger sets a breakpoint at this address, and reads the list when the breakpoint is reached.
- * It finds the function by its name if nothing has begun yet. */
+ * If nothing has run yet, the debugger finds the function by its name. */
 __attribute__((noinline)) void r_debug_state(void);
 void r_debug_state(void) {
     __asm__ volatile("");
@@ -35,8 +35,8 @@ static void tell_state(struct r_debug *list, int state) {
     if (list->r_brk != (ElfW(Addr))r_debug_state) ((void (*)(void))list->r_brk)();
 }
 
-/* Writes to a page without changing it. A page that is read first, and written later, makes two
- * page faults; this makes one. */
+/* Writes to a page without changing it. If a page is read first and written later, there are two
+ * page faults; with this call there is one. */
 static void expect_write(void *at) {
     __asm__ volatile("lock orb $0, %0" : "+m"(*(uint8_t *)at) : : "cc");
 }

@@ -8,8 +8,9 @@
 
 #include <fcntl.h>
 
-/* If the stack may be STACK bytes long, and what is put there takes at most LITTLE bytes, nobody
- * has to check that it can grow: the kernel has made it 128 KiB longer than the arguments need. */
+/* If the stack may be STACK bytes long, and the data to put there takes at most LITTLE bytes, no
+ * check is needed whether the stack can grow: the kernel has made it 128 KiB longer than the
+ * arguments need. */
 enum { STACK = 512 << 10, LITTLE = 16 << 10 };
 
 static size_t pointers_in(char **words, char **environment) {

@@ -2,7 +2,7 @@
 #ifndef RLIBREG_RUN_EARLY_H
 #define RLIBREG_RUN_EARLY_H
 
-/* Starts the program from its kept image. Returns if that isn't possible: then nothing has
+/* Starts the program from its kept image. Returns only if that isn't possible, and then nothing has
  * changed. */
 void rlibreg_run_early(int argc, char **argv);
 

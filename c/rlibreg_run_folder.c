@@ -10,9 +10,9 @@
 
 /* ---- Owners */
 
-/* Returns whether a file belongs to root or to the user. In a user namespace, an owner that has no
- * number there is shown as another user. So the kernel is asked too: only the owner of a file may
- * have it read without a change to its access time. */
+/* Returns whether a file belongs to root or to the user. In a user namespace, an owner without a
+ * number in that namespace is shown as another user. So the kernel is asked too: it permits only
+ * the owner of a file to read the file without a change to its access time. */
 static int is_owner(const struct keeping *it, int fd, const struct stat *file) {
     return !file->st_uid || (file->st_uid == it->user && !kernel_set_flags(fd, O_NOATIME));
 }

@@ -94,7 +94,8 @@ static void act(page_action *action, const struct part *part, uint64_t from, uin
     if (end < to) action(part, end, to, how);
 }
 
-/* Goes through the pages of an object, with the permissions of the segments in them. */
+/* Calls an action for the pages of an object, with the permissions of the segments in these
+ * pages. */
 static void each_pages_of(const struct part *part, page_action *action) {
     uint64_t last = 0; /* address of the last page of the segments before */
     int shared = 0;    /* permissions that these segments give that page */
@@ -178,15 +179,15 @@ static int is_low(const rlibreg_image *image) {
     return last->address + last->length <= END_OF_BASES;
 }
 
-/* Returns whether the program has an entry in its own code. A 0 in its file means that it has
- * none. */
+/* Returns whether the program has an entry in its own code. A 0 in the file's e_entry means that
+ * the program has no entry. */
 static int has_entry(const struct program *it) {
     return it->object.entry != it->base && is_code(&it->image, it->image.objects, it->object.entry);
 }
 
 /* Binds the program at a base, and maps the pages of the image. Returns whether the pages were free
- * and, if the loader chose the base, low enough. If they weren't, errno says which of the two it
- * was, and another base may do. */
+ * and, if the loader chose the base, low enough. If they weren't, errno shows which of the two
+ * conditions failed, and another base may succeed. */
 static int bind_at(struct program *it, rlibreg *registry, const char *disk) {
     uint32_t status =
         rlibreg_image_in(registry, it->bytes, it->length, it->base, &it->image, FIRST_ROOM);

@@ -34,7 +34,8 @@ static struct piece *last_of(struct pieces *it) {
     return it->count ? &it->at[it->count - 1] : NULL;
 }
 
-/* Adds pages after all others. They become part of the last piece, if they are like its pages. */
+/* Adds pages after all others. They become part of the last piece, if they have the same kind and
+ * permissions as its pages. */
 static void add_pages(struct pieces *it, uint64_t address, uint64_t length, int is_zero, int how) {
     struct piece *last = last_of(it);
     if (last && last->address + last->length == address && last->how == (uint64_t)how &&
@@ -52,8 +53,8 @@ static int is_zero_page(uint64_t address) {
     return !memcmp((const void *)address, zeros, PAGE);
 }
 
-/* Adds pages to the pieces. A page that two segments share comes once for each of them, the last
- * time with the permissions of both. */
+/* Adds pages to the pieces. For a page that two segments share, this is called once for each of
+ * them, the last time with the permissions of both. */
 static void find_pieces(const struct part *part, uint64_t from, uint64_t to, int how) {
     struct pieces *it = part->context;
     struct piece *last = last_of(it);
@@ -143,8 +144,8 @@ static void *make_beginning(const struct keeping *it, const struct program *prog
 
 /* ---- The file */
 
-/* Returns whether this process may write a file of `length` bytes. A signal ends a process that
- * writes a longer file than it may. */
+/* Returns whether this process may write a file of `length` bytes. If a process writes a longer
+ * file than it may, a signal ends the process. */
 static int may_be_so_long(uint64_t length) {
     struct rlimit limit;
     return !getrlimit(RLIMIT_FSIZE, &limit) && length <= limit.rlim_cur;
@@ -190,8 +191,9 @@ void keep(struct keeping *it, const struct program *program, const char *disk) {
     free_sources(&it->sources);
 }
 
-/* Maps pages from the file in place of those that only this process has. They are mapped elsewhere
- * first, to see whether that works. If it doesn't, the process keeps its own pages. */
+/* Maps pages from the file in place of those that only this process has. The pages are mapped at
+ * another address first, to find out whether that succeeds. If it fails, the process keeps its own
+ * pages. */
 static void share(const struct piece *it, int fd) {
     if (!it->from) return;
     void *map = mmap(NULL, it->length, (int)it->how, MAP_PRIVATE, fd, (off_t)it->from);

@@ -8,7 +8,7 @@
 #include <fcntl.h>
 #include <sys/mman.h>
 
-/* Length in bytes up to which a beginning needs no map of its own. */
+/* Maximum length in bytes of a beginning that needs no map of its own. */
 enum { USUAL = 8 << 10 };
 
 void say_more(const struct keeping *it, const char *what) {
@@ -47,7 +47,7 @@ static int read_beginning(int kept, uint64_t length, struct kept_file *file) {
     return other || check_of(file->head) == head.check ? other : IS_OTHER;
 }
 
-/* Returns whether the beginning of a file is that of the image with the key `key`. */
+/* Returns whether a file is the image with the key `key`. */
 static int is_of_key(const struct kept_file *it, const struct key *key) {
     uint64_t compared = key->program.kind == OF_BYTES ? key->program.length : 0;
     return is_same_key(&it->head->key, key) && it->head->counts.program == compared && is_whole(it);
@@ -98,8 +98,8 @@ static void take_objects(struct program *program, const struct kept_file *it) {
         (struct calls){ .at = it->calls + counts->initializers, .count = counts->finalizers };
 }
 
-/* Reports why an image isn't taken. Removes an image that can't be read: it would be in the way of
- * each start. */
+/* Reports why an image isn't taken. Removes an image that can't be read, because it would delay
+ * each later start. */
 static void leave(const struct keeping *it, int other) {
     if (other == IS_OTHER) {
         say_more(it, "the image there is another one");
@@ -149,7 +149,8 @@ static int is_of(const struct stat *file, const struct state *disk) {
     return file->st_dev == disk->device && file->st_ino == disk->number;
 }
 
-/* Returns whether output to a standard stream may go into a disk, or that can't be found out. */
+/* Returns whether output to a standard stream may go into a disk, or whether this can't be found
+ * out. */
 static int is_stream(const struct state *disk) {
     struct stat found;
     for (int number = 0; number < STREAMS; number++) {

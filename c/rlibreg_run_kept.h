@@ -15,8 +15,8 @@ enum { ROOTS = 1024, MOST_COMPARED = 2 << 20 };
 
 /* The identity of an open file or of a device, and the state of its bytes. */
 enum {
-    OF_FILE = 1, /* a file whose times say when it was changed */
-    OF_DEVICE,   /* a device: nothing says when it was changed */
+    OF_FILE = 1, /* a file whose times show when it was changed */
+    OF_DEVICE,   /* a device: nothing shows when it was changed */
     OF_BYTES,    /* the program, of which the key has only the length: its bytes are compared */
     OF_MEMORY    /* a file on tmpfs: a write through a shared map leaves its times as they are */
 };
@@ -44,20 +44,20 @@ struct key {
 };
 
 /* state_of reads the state of an open file. The others read the parts of the key: of the loader, of
- * the disk with the boot, and of the program with its options. They return 0, or -1 if they find
- * that an image can't be kept. */
+ * the disk with the boot, and of the program with its options. They return 0, or -1 if an image
+ * can't be kept. */
 int state_of(int fd, struct state *it);
 int key_of_loader(struct key *key);
 int key_of_disk(int fd, struct key *key);
 int key_of_program(const struct program *program, struct key *key);
 int is_same_key(const struct key *one, const struct key *other);
 
-/* Returns whether a disk may change while its state `disk` stays the same. Then everything that an
- * image was bound from is compared at each start. */
+/* Returns whether a disk may change although its state `disk` stays the same. In that case, each
+ * start compares everything that an image was bound from. */
 int is_compared(const struct state *disk);
 
-/* Returns whether the next change is sure to give the file another state. The times of a file have
- * the grain of a clock tick. */
+/* Returns whether the next change will certainly give the file another state. Two changes within
+ * one clock tick leave the same times. */
 int is_settled(const struct state *it);
 
 /* ---- The file of an image (rlibreg_run_kept_file.c) */
@@ -129,7 +129,7 @@ struct kept_file {
 uint64_t place_of_others(const struct counts *counts);
 uint64_t place_of_pages(const struct counts *counts);
 
-/* Returns the parts of a beginning. The head says how many there are of each. */
+/* Returns the parts of a beginning, whose head has the number of each. */
 struct kept_file parts_of(void *beginning);
 
 /* Returns the piece that has an address, or null. It is the last piece that begins at the address
@@ -140,7 +140,7 @@ const struct piece *piece_with(const struct piece *first, size_t count, uint64_t
 uint64_t check_of(const struct head *head);
 
 /* is_head returns whether a head has this form, and fits a file of `length` bytes. is_whole returns
- * whether the beginning is as it has to be. A file is used only if both hold. */
+ * whether the beginning is valid. A file is used only if both are true. */
 int is_head(const struct head *head, uint64_t length);
 int is_whole(const struct kept_file *it);
 
@@ -163,7 +163,8 @@ struct sources {
 };
 
 /* Copies what the program's image was bound from. The disk is locked and has the key `key`. Returns
- * 0. If the bytes can't be read, or aren't all, returns -1, and there is nothing to free. */
+ * 0. If the bytes can't be read, or the image depends on others, returns -1, and there is nothing
+ *    to free. */
 int take_sources(struct sources *it, const struct program *program, int disk, const struct key *key);
 void free_sources(struct sources *it);
 
@@ -192,8 +193,9 @@ struct keeping {
  * or an error, less than 0. */
 int open_folder(struct keeping *it);
 
-/* Opens the image of this name. It has to meet the conditions of the folder, and must have no other
- * name. Returns its descriptor, with its length in `length`, or an error, less than 0. */
+/* Opens the image with this name. The file has to meet the same conditions as the folder, and must
+ * have no other name. Returns its descriptor, with its length in `length`, or an error, less than
+ * 0. */
 int open_kept(const struct keeping *it, const char *name, uint64_t *length);
 
 /* give_name sets the name of the image. Images that replace each other have the same name.
@@ -208,7 +210,7 @@ void close_folder(struct keeping *it);
 /* ---- The arguments (rlibreg_run_words.c) */
 
 /* Reads all arguments before DISK, and sets `next` to the index of DISK. Returns whether the
- * arguments have the form that they have to have. */
+ * arguments have a valid form. */
 int read_options(struct program *it, struct keeping *keeping, int argc, char **argv, int *next);
 
 /* ---- The files of the folder (rlibreg_run_named.c) */
@@ -227,8 +229,8 @@ void drop_older(const struct keeping *it, const struct head *head);
  * (rlibreg_run_rights.c). */
 int may_all_read(const char *path, int fd);
 
-/* Returns a number made of the options and the real paths of the program and the disk. It shows
- * which images replace each other. */
+/* Returns a number made of the options and the real paths of the program and the disk. Images with
+ * the same number replace each other. */
 uint64_t number_of_paths(const struct keeping *it, const struct program *program, const char *disk);
 
 /* ---- Making the file of an image (rlibreg_run_stretches.c) */
@@ -264,12 +266,12 @@ int write_kept(int fd, const struct keeping *it, const struct program *program,
 
 /* ---- Comparing (rlibreg_run_compare.c)
  *
- * These return 0 if what is read is what was kept, and IS_OTHER if it isn't. If the kept file can't
- * be read, they return an error, less than 0. */
+ * These functions return 0 if the bytes are those that were kept, and IS_OTHER if they aren't. If
+ * the kept file can't be read, they return an error, less than 0. */
 
 enum { IS_OTHER = 1 };
 
-/* Reads `length` bytes of a file from the offset `at` on, all of them. */
+/* Reads exactly `length` bytes of a file, from the offset `at` on. */
 int read_exactly(int fd, void *to, uint64_t length, uint64_t at);
 
 /* Compares everything that an image was bound from. The image's pieces are mapped. */
@@ -277,13 +279,13 @@ int compare_image(const struct program *program, int disk, int kept, const struc
 
 /* ---- Taking (rlibreg_run_kept.c) and keeping (rlibreg_run_keep.c) */
 
-/* Print to standard error, if the user wants that. */
+/* Print to standard error, if the user has asked for that (-v). */
 void say_more(const struct keeping *it, const char *what);
 void say_error(const struct keeping *it, int error);
 
-/* Maps the image that is kept for a program and a disk, with all that its start needs. Returns
- * whether there was one that fits; if there wasn't, nothing is mapped. The folder stays open, if it
- * could be opened. */
+/* Maps the image that is kept for a program and a disk, with everything that a start needs. Returns
+ * whether there was a matching image; if there wasn't, nothing is mapped. If the folder could be
+ * opened, it stays open. */
 int take_kept(struct keeping *it, struct program *program, const char *disk);
 
 /* Decide whether an image of the program may be kept for a disk. The disk is open and locked.

@@ -33,8 +33,8 @@ struct kept_file parts_of(void *beginning) {
 /* Eight bytes of any type. */
 typedef uint64_t __attribute__((may_alias)) eight;
 
-/* Mixes eight bytes into a number. Different bytes make different results, and so do different
- * numbers before. */
+/* Mixes eight bytes into a number. Different bytes lead to different results, and so do different
+ * values of `number`. */
 static uint64_t with_eight(uint64_t number, uint64_t bytes) {
     number = (number ^ bytes) * 0x9e3779b97f4a7c15;
     return number ^ number >> 32;
@@ -119,7 +119,7 @@ static int are_whole(const struct kept_file *it) {
     return at == it->head->counts.program;
 }
 
-/* Returns whether the stretches are as they have to be. A disk that isn't compared has none. */
+/* Returns whether the stretches are valid. A disk that isn't compared has no stretches. */
 static int are_stretches(const struct kept_file *it) {
     const struct counts *counts = &it->head->counts;
     const struct state *disk = &it->head->key.disk;

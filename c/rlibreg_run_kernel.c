@@ -150,8 +150,8 @@ void *memset(void *to, int byte, size_t length) {
 typedef uint64_t __attribute__((may_alias, aligned(1))) piece;
 
 /* Returns the number of equal bytes at the front, in multiples of what the processor compares at
- * once. The second bytes are requested early: most often they are a map of a file, which this
- * process hasn't read before, while the first bytes have just been read. */
+ * once. The bytes at `other` are requested early: most often they are a map of a file, which this
+ * process hasn't read before, while the bytes at `one` have just been read. */
 static size_t equal_at_once(const uint8_t *one, const uint8_t *other, size_t length) {
     enum { PIECES = 8, AHEAD = 1024 };
     const size_t step = PIECES * sizeof(piece);

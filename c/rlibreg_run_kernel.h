@@ -13,8 +13,8 @@
 struct statfs;
 struct statx;
 
-/* gcc also calls these by itself, so they have C's names. A C library chooses its own versions by
- * the processor while it is set up. */
+/* gcc inserts calls of these functions, so they have C's names. A C library chooses its own
+ * versions for the processor only while it is set up. */
 void *memcpy(void *to, const void *from, size_t length) __asm__("rlibreg_kernel_copy");
 void *memset(void *to, int byte, size_t length) __asm__("rlibreg_kernel_fill");
 int memcmp(const void *one, const void *other, size_t length) __asm__("rlibreg_kernel_compare");
@@ -30,10 +30,11 @@ int kernel_fstat(int fd, struct stat *found);
 int kernel_statx(int fd, unsigned wanted, struct statx *found);
 int kernel_fstatfs(int fd, struct statfs *found);
 int kernel_ioctl(int fd, unsigned long request, void *argument);
-int kernel_may_execute(int fd); /* 0 if the user may */
+int kernel_may_execute(int fd); /* returns 0 if the user may execute the file */
 int64_t kernel_end(int fd);     /* length of a file or a device in bytes */
 int64_t kernel_read(int fd, void *to, size_t length, uint64_t at);
-int64_t kernel_folder(char *to, size_t room); /* the current folder; its length with the byte 0 */
+int64_t kernel_folder(char *to, size_t room); /* writes the path of the current folder; returns its
+                                               * length with the byte 0 */
 int64_t kernel_map(uint64_t at, uint64_t length, int how, int kind, int fd, uint64_t from);
 int kernel_unmap(uint64_t at, uint64_t length);
 int kernel_advise(uint64_t at, uint64_t length, int how);

@@ -24,9 +24,10 @@ enum { SETTLED = 2 };
 
 enum { TMPFS = 0x01021994 };
 
-/* Reads on what file system a file is. Sets the kind of its state, and an id that most often
+/* Finds out on what file system a file is. Sets the kind of its state, and an id that most often
  * changes when another file system takes the place of this one. Returns -1 if the file's number and
- * times say little about its bytes: over a network, behind another process, and on FAT. */
+ * times show little about its bytes: over a network, on a file system that another process serves,
+ * and on FAT. */
 static int see_file_system(int fd, struct state *it) {
     static const uint32_t with_times[] = { 0xef53, /* ext2 to ext4 */ 0x58465342, /* xfs */
                                            0x9123683e, /* btrfs */ 0xf2f52010 /* f2fs */ };
@@ -78,7 +79,8 @@ int state_of(int fd, struct state *it) {
 
 /* ---- The key */
 
-/* Puts the build's id into the key, if a note has it. Returns 0, or -1 if it doesn't. */
+/* Copies the build's id into the key, if a note has the id. Returns 0, or -1 if the note doesn't
+ * have it. */
 static int put_build(const char *note, uint64_t length, struct key *key) {
     Elf64_Nhdr it;
     static const char owner[] = ELF_NOTE_GNU;

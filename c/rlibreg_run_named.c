@@ -36,7 +36,7 @@ int make_file(const struct keeping *it) {
     return -1;
 }
 
-/* Gives a file its name. Returns 0, or -1 with errno. To name a file by its descriptor alone, a
+/* Gives a file its name. Returns 0, or -1 with errno. To name a file by only its descriptor, a
  * process needs some rights, or Linux 6.10 or later. */
 static int link_file(const struct keeping *it, int fd) {
     char path[32];
@@ -69,8 +69,8 @@ static int is_of(const struct head *it, const uint8_t *build) {
     return !memcmp(it->key.build, build, BUILD);
 }
 
-/* Returns whether a kept image has an older key than `than`, or is replaced by it, as their paths
- * show. */
+/* Returns whether a kept image has an older key than `than`, or whether `than` replaces it because
+ * both have the same paths. */
 static int is_older(const struct head *it, const struct head *than) {
     const struct state *disk = &it->key.disk, *own = &than->key.disk;
     if (memcmp(it->key.boot, than->key.boot, sizeof it->key.boot)) return 1;

@@ -75,7 +75,8 @@ static void enter(struct walk *walk, size_t number) {
     if (has_tag(&it->dynamic, DT_STRTAB, &it->strings)) it->strings += object->base;
 }
 
-/* Goes to the next entry of the library that was entered last, or leaves that library. */
+/* Makes one step of the walk: goes to the next entry of the library that was entered last, or
+ * leaves that library. */
 static void step(struct walk *walk) {
     struct entered *last = &walk->path[walk->depth - 1];
     if (last->next == last->dynamic.count) {

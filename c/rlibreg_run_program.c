@@ -11,15 +11,15 @@
 
 enum { MOST = (16 << 20) + 1 }; /* a file of this many bytes or more is refused */
 
-/* Returns whether the user may execute a file, as the kernel decides it for a program. Nobody may
- * on a file system that is mounted without this right. A kernel before 5.8 can't be asked about a
- * descriptor. */
+/* Returns whether the user may execute a file, as the kernel decides it for a program. No user may
+ * execute a file on a file system that is mounted without this right. A kernel before 5.8 can't be
+ * asked about a descriptor. */
 static int may_execute(int fd, const char *path) {
     if (!faccessat(fd, "", X_OK, AT_EACCESS | AT_EMPTY_PATH)) return 1;
     return errno != EACCES && !faccessat(AT_FDCWD, path, X_OK, AT_EACCESS);
 }
 
-/* A file that isn't regular may have no end, or none yet, so the loader doesn't wait for it. */
+/* A file that isn't regular may never end, so the loader refuses it and doesn't wait. */
 void open_program(struct program *it) {
     it->fd = open(it->path, O_RDONLY | O_CLOEXEC | O_NOCTTY | O_NONBLOCK);
     if (it->fd < 0 || fstat(it->fd, &it->found)) fail(it->path);

@@ -22,8 +22,8 @@ static int names(const char *path, int fd) {
            named.st_ino == open.st_ino;
 }
 
-/* Returns whether the group and others may search each folder of a real path. Cuts the path as it
- * goes. */
+/* Returns whether the group and others may search each folder of a real path. Shortens the path in
+ * the process. */
 static int is_within_reach(char *path) {
     char *end;
     while ((end = strrchr(path, '/')) && end > path) {

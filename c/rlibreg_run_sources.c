@@ -12,7 +12,7 @@
 
 enum { SECTOR = 512 };
 
-/* Offsets of the fields that are used here, and the most that a counting field may say. */
+/* Offsets of the fields that are used here, and the maximum number of catalogues. */
 enum { ROOT_GENERATION = 8, ROOT_COUNT = 56, ROOT_LIST = 64, MOST_CATALOGUES = 32 };
 enum { CATALOGUE_COUNT = 4, CATALOGUE_LIST = 16, MOST_ENTRIES = 64 };
 enum { ENTRY_LENGTH = 4, ENTRY_NAME_LENGTH = 8, ENTRY_COUNT = 10, ENTRY_NAME = 16, ENTRY_LIST = 256 };
@@ -27,9 +27,9 @@ static uint64_t number_at(const uint8_t *at, int bytes) {
 
 /* ---- Copying */
 
-/* Copies bytes of the disk. Returns 0 or -1. The pages of the copy can't be written before bytes
- * are put there, so the other pages take no memory, even if the system promises only memory that it
- * has. */
+/* Copies bytes of the disk. Returns 0 or -1. A page of the copy becomes writable only when bytes
+ * are copied to it. So the other pages take no memory, even if the system promises only memory that
+ * it has. */
 static int copy_bytes(struct sources *it, int disk, uint64_t at, uint64_t length) {
     uint64_t page = at / PAGE * PAGE, end = at + length;
     if (mprotect(it->copy + page, end - page, PROT_READ | PROT_WRITE)) return -1;

@@ -1,5 +1,5 @@
-/* Makes the program's stack, calls what is called before the program is entered, and jumps to the
- * program's entry. */
+/* Makes the program's stack, calls the libraries' initializers, and jumps to the program's
+ * entry. */
 #define _GNU_SOURCE
 #include "rlibreg_run_kernel.h"
 #include "rlibreg_run.h"
@@ -18,9 +18,9 @@ static size_t words_in(char **list) {
 /* ---- The auxiliary vector */
 
 /* Returns the auxiliary vector that the kernel gave this process. It follows the environment. If
- * AT_SECURE is set, the start of this process's C library takes variables out of the environment.
- * Then there is one more null before the vector for each of them. The vector itself doesn't begin
- * with a null. */
+ * AT_SECURE is set, this process's C library has removed variables from the environment at its
+ * start. Then there is one more null before the vector for each removed variable. The vector itself
+ * doesn't begin with a null. */
 static const Elf64_auxv_t *vector_behind(char **environment) {
     while (*environment) environment++;
     while (!*environment) environment++;
@@ -40,8 +40,8 @@ uint64_t auxiliary_value(char **kernels, uint64_t number) {
     return it->a_type == AT_NULL ? 0 : it->a_un.a_val;
 }
 
-/* Returns an entry as the program is to see it. If the kernel's entry is about this loader, the
- * result is about the program. */
+/* Returns an entry of the vector for the program. If the kernel's entry describes this loader, the
+ * result describes the program. */
 static Elf64_auxv_t entry_for(const struct program *it, Elf64_auxv_t entry) {
     switch (entry.a_type) {
     case AT_PHDR:
@@ -87,8 +87,8 @@ static void call_initializers(const struct program *it, uint64_t *stack) {
 }
 
 /* Sets up the thread's block as a C library would. Code that is compiled with -fstack-protector
- * looks there for its secret, in libraries and in a program without a C library of its own. As in
- * other loaders, the secret is taken from the kernel's random bytes, and its lowest byte is a
+ * looks for its secret in this block, in libraries and in a program without a C library of its own.
+ * As in other loaders, the secret is taken from the kernel's random bytes, and its lowest byte is a
  * zero. */
 enum { OWN = 0, SECRET = 5, THREAD = 8 }; /* indexes of its words, and their number */
 static void take_thread(uint64_t *block, const uint64_t *random) {
@@ -107,7 +107,7 @@ static void take_name(const char *path) {
     kernel_take_name(name);
 }
 
-/* Puts onto the stack what the kernel puts onto the stack of a program that it enters. */
+/* Fills the stack with the data that the kernel puts onto the stack of a program. */
 static void fill_stack(const struct program *it, uint64_t *at, char **words, char **environment,
                        const Elf64_auxv_t *vector) {
     size_t argc = words_in(words), variables = words_in(environment), entries = entries_in(vector);
@@ -133,13 +133,13 @@ static void *room_for(size_t bytes) {
 static int64_t read_folder(const struct program *it, char *to, size_t room) {
     if (*it->path == '/') return 0;
     int64_t length = kernel_folder(to, room); /* with the byte 0 at the end */
-    if (length > 0 && *to != '/') return -ENOENT; /* the root doesn't lead to that folder */
+    if (length > 0 && *to != '/') return -ENOENT; /* the folder can't be reached from the root */
     if (length > 0) to[length - 1] = '/';
     return length;
 }
 
 /* Returns a copy of the program's path, made absolute, or null if the system doesn't report the
- * current folder. The copy is in `room` if it is short enough. /proc/self/fd has the path of the
+ * current folder. If the copy is short enough, it is in `room`. /proc/self/fd has the path of the
  * open file too, but reading it takes longer than everything else that is done here. */
 static char *path_of(const struct program *it, char *room, size_t length) {
     size_t own = strlen(it->path) + 1;

@@ -1,5 +1,5 @@
-/* Finds the bytes by which a kept image is compared, of the program's file and of the disk. Most of
- * them are equal to pages of the image, which the kept file has only once. */
+/* Finds the bytes of the program's file and of the disk with which a kept image is compared. Most
+ * of these bytes are equal to pages of the image, which the kept file has only once. */
 #define _GNU_SOURCE
 #include "rlibreg_run_kept.h"
 
@@ -33,7 +33,7 @@ static uint64_t page_of(const struct program *program, size_t object, uint64_t o
 
 /* ---- Finding the stretches */
 
-/* Returns whether a stretch continues the last one of the same list. */
+/* Returns whether a stretch continues the last stretch of the same list. */
 static int goes_on(const struct stretches *it, const struct stretch *one,
                    const struct pieces *pieces) {
     if (it->count == it->first) return 0;

@@ -3,15 +3,15 @@
 #include "rlibreg_run_kernel.h"
 #include "rlibreg_run_kept.h"
 
-/* Returns the value of a digit, or 16 if it is none. */
+/* Returns the value of a digit, or 16 if `letter` is no digit. */
 static unsigned digit_of(char letter) {
     if ('0' <= letter && letter <= '9') return (unsigned)(letter - '0');
     if ('a' <= letter && letter <= 'f') return (unsigned)(letter - 'a' + 10);
     return 'A' <= letter && letter <= 'F' ? (unsigned)(letter - 'A' + 10) : 16;
 }
 
-/* Reads a base from digits, which are decimal or, after 0x, hexadecimal. Returns whether there are
- * digits, and nothing else, and the base fits into 64 bits. */
+/* Reads a base from digits, which are decimal or, after 0x, hexadecimal. Returns whether the word
+ * consists of digits only, and the base fits into 64 bits. */
 static int read_base(const char *word, uint64_t *base) {
     unsigned radix = word[0] == '0' && word[1] == 'x' ? 16 : 10;
     if (radix == 16) word += 2;
@@ -24,7 +24,7 @@ static int read_base(const char *word, uint64_t *base) {
     return 1;
 }
 
-/* Sets an option that has a value. Returns whether the value is good. */
+/* Sets an option that has a value. Returns whether the value is valid. */
 static int take_value(struct program *it, struct keeping *keeping, char letter, const char *value) {
     if (!value) return 0;
     if (letter == 'c') {
@@ -36,8 +36,8 @@ static int take_value(struct program *it, struct keeping *keeping, char letter, 
 }
 
 /* Reads the options of the first word, which may be several. A value is the rest of the word, or
- * the next word. Returns whether the options are good, and sets `taken` to the number of words that
- * they take. */
+ * the next word. Returns whether the options are valid, and sets `taken` to the number of words
+ * that they take. */
 static int read_word(struct program *it, struct keeping *keeping, char **words, int *taken) {
     int are_good = 1;
     *taken = 1;

@@ -1,5 +1,5 @@
-/* Writes the file of an image from its beginning to its end, in few calls. A file system keeps what
- * one call writes in few large pages, and a start maps, reads and unmaps these faster. */
+/* Writes the file of an image from its beginning to its end, in few calls. A file system keeps the
+ * bytes of one call in few large pages, and a start maps, reads and unmaps these faster. */
 #define _GNU_SOURCE
 #include "rlibreg_run_kept.h"
 
@@ -45,7 +45,7 @@ static void put(struct output *it, const void *bytes, uint64_t length) {
     it->parts[it->count++] = (struct iovec){ .iov_base = (void *)bytes, .iov_len = length };
 }
 
-/* Puts the stretches that are in no page of the image. They are part of `bytes`. */
+/* Adds the stretches that are in no page of the image to the output. They are part of `bytes`. */
 static void put_others(struct output *it, const struct stretch *one, uint64_t count,
                        const uint8_t *bytes) {
     for (const struct stretch *end = one + count; one < end; one++)

@@ -4,7 +4,7 @@
 
 #include <stddef.h>
 
-/* What a process does if its stack can't grow: it prints `message` to the standard stream `stream`,
+/* The end of a process whose stack can't grow: it prints `message` to the standard stream `stream`,
  * and exits with `status`. */
 struct refused_stack {
     int status, stream;
@@ -12,7 +12,8 @@ struct refused_stack {
 };
 
 /* Makes the stack of the first thread larger by `bytes` bytes. If that is refused, ends the process
- * as `refused` says: otherwise the kernel would kill it later, when it needs the stack. */
+ * as `refused` describes. Otherwise the kernel would kill the process later, when it needs the
+ * stack. */
 void rlibreg_grow_stack(size_t bytes, struct refused_stack refused);
 
 /* Returns whether a standard stream is a file that one of the arguments names. That file may be the

@@ -24,13 +24,13 @@ static int fill_streams(void) {
         while (fcntl(number, F_GETFD) < 0) {
             int fd = errno == EBADF ? open_nothing() : -1;
             if (fd < 0) return -1;
-            if (fd >= STREAMS) close(fd); /* another thread has filled it */
+            if (fd >= STREAMS) close(fd); /* another thread has opened the stream */
         }
     return 0;
 }
 
-/* Moves a file that was opened as a stream, because another thread had closed that stream
- * meanwhile. Returns its new descriptor, or -1 with errno. */
+/* Moves a file to a higher descriptor. The file was opened as a stream, because another thread had
+ * closed that stream. Returns its new descriptor, or -1 with errno. */
 static int move_up(int stream) {
     int fd = fcntl(stream, F_DUPFD_CLOEXEC, STREAMS), nothing = open_nothing();
     if (nothing < 0 || dup2(nothing, stream) < 0) close(stream);

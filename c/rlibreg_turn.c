@@ -43,8 +43,8 @@ static int over_mark(int fd, int command, enum mark which, struct flock *it) {
     return fcntl(fd, command, it);
 }
 
-/* Sets a mark that no other open file has set, or, with F_OFD_SETLKW, waits until that is so.
- * Returns 0, or -1 with errno. Only a process that may write the file can set a mark. */
+/* Sets a mark if no other open file has set it. With F_OFD_SETLKW, waits until no other open file
+ * has it. Returns 0, or -1 with errno. Only a process that may write the file can set a mark. */
 static int set(int fd, int command, enum mark which) {
     struct flock it = { .l_type = F_WRLCK, .l_len = 1 };
     return over_mark(fd, command, which, &it);
@@ -80,7 +80,7 @@ static int has_marks(int fd) {
 
 /* ---- The lock */
 
-/* Returns whether a lock was refused that may be free later. */
+/* Returns whether a refused lock may be free later. */
 static int may_be_had(void) {
     return errno == EWOULDBLOCK || errno == EINTR;
 }
@@ -96,8 +96,9 @@ static int try_until(int fd, int kind, int64_t until) {
     return 0;
 }
 
-/* Gives way, until the moment `until`, to a process that waits for the file's readers to end.
- * Nobody has to give way to a process that has the exclusive lock. Returns whether it gave way. */
+/* Gives way, until the moment `until`, to a process that waits for the file's readers to end. A
+ * process that already has the exclusive lock isn't waited for. Returns whether the caller gave
+ * way. */
 static int give_way(int fd, int64_t until) {
     int gave_way = 0;
     for (; is_set(fd, WAITS) && !is_set(fd, CHANGES) && now() < until; gave_way = 1) nap(until);
@@ -107,13 +108,13 @@ static int give_way(int fd, int64_t until) {
 int rlibreg_lock_shared(int fd, int64_t until) {
     int64_t end = rlibreg_moment_in(RLIBREG_A_TURN);
     if (until && until < end) end = until;
-    if (has_marks(fd) && give_way(fd, end) && !until) until = end; /* giving way doesn't get it
-                                                                    * refused */
+    if (has_marks(fd) && give_way(fd, end) && !until) until = end; /* a reader that gave way isn't
+                                                                    * refused at once */
     return try_until(fd, LOCK_SH, until);
 }
 
-/* Waits for the exclusive lock: if the file can be marked, first after the processes that wait for
- * it already, then for those that have it. Returns 0, or -1 with errno. */
+/* Waits for the exclusive lock. If the file can be marked, waits first for the processes that
+ * already wait for the lock, and then for those that have it. Returns 0, or -1 with errno. */
 static int queue(int fd) {
     if (set(fd, F_OFD_SETLK, WAITS) && errno == EAGAIN && is_set(fd, WAITS) &&
         set(fd, F_OFD_SETLKW, WAITS) && errno == EINTR)

@@ -14,7 +14,7 @@
 /* Moments are nanoseconds of CLOCK_MONOTONIC. */
 #define RLIBREG_NO_END INT64_MAX
 
-/* Number of milliseconds for which a reader gives way. A change that isn't to wait tries for the
+/* Number of milliseconds for which a reader gives way. A change that doesn't wait tries for the
  * lock just as long, if others may have it for a moment. */
 enum { RLIBREG_A_TURN = 2000 };
 
@@ -30,14 +30,14 @@ int rlibreg_lock_shared(int fd, int64_t until);
 int rlibreg_lock_alone(int fd, int64_t until);
 void rlibreg_unlock(int fd);
 
-/* Asks the system to write the pages of a file that wait to be written, and waits for that. A
- * reader does so before it locks the file: then its sync under the lock takes only a moment.
- * Returns 0, or -1 with errno if a write failed. The system reports that only once, so the caller
- * takes it for a failed sync. */
+/* Asks the system to write the dirty pages of a file, and waits for that. A reader calls this
+ * before it locks the file, so that its sync under the lock takes only a moment. Returns 0, or -1
+ * with errno if a write failed. The system reports that only once, so the caller takes it for a
+ * failed sync. */
 int rlibreg_write_out(int fd);
 
-/* Returns the errno of the program's rlibreg_write_out if that failed, only once; otherwise 0
- * (rlibreg_program_lock.c). */
+/* Returns the errno of the program's rlibreg_write_out if that failed, but only once, and otherwise
+ * 0 (rlibreg_program_lock.c). */
 int rlibreg_take_early_fault(void);
 
 /* Calls flock(2). The library and the programs have definitions of their own. */

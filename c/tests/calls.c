@@ -1,6 +1,6 @@
 /* calls LIBRARY OTHER PROGRAM NAME DIGEST makes the calls over bytes with buffers of every size,
- * with damaged bytes, and with none. PROGRAM needs LIBRARY, which has the SONAME NAME; OTHER has
- * the same SONAME. DIGEST is the digest that sha256sum prints for LIBRARY. */
+ * with damaged bytes, and with no bytes. PROGRAM needs LIBRARY, which has the SONAME NAME; OTHER
+ * has the same SONAME. DIGEST is the digest that sha256sum prints for LIBRARY. */
 #include "../rlibreg.h"
 
 #include <stdio.h>
@@ -64,7 +64,8 @@ static void carry_out(const uint8_t *plan, uint64_t length) {
 }
 
 struct call {
-    char what; /* f, u, i, r or d: the plan call of this kind; otherwise that for preloads */
+    char what; /* kind of the plan call: f, u, i, r or d; any other letter is the call for
+                * preloads */
     const void *asked;
     size_t length;
 };
@@ -138,7 +139,7 @@ static void try_refusal(struct call it, uint32_t wanted, const char *line) {
     }
 }
 
-/* Tries names in a row. A byte 0 follows each of them, and the empty name is one that no library
+/* Tries several names, each followed by a byte 0. One of them is the empty name, which no library
  * has. */
 static void try_names(const char *name) {
     char names[600] = { 0 };
@@ -234,7 +235,7 @@ static void try_no_file(const char *name, size_t length) {
     }
 }
 
-/* Asks for names that no library has and that aren't well formed, or are like the name of a
+/* Asks for names that no library has: malformed names, and names that resemble the name of a
  * library. */
 static void try_no_files(const char *name) {
     char names[1000];
@@ -274,7 +275,7 @@ static void try_nothing_told(size_t length, uint32_t wanted, const char *line) {
     check_guard(it, 0);
 }
 
-/* An image, and the room that its buffers have. */
+/* An image, and the sizes of its buffers. */
 struct image {
     rlibreg_object *objects;
     rlibreg_segment *segments;
@@ -288,7 +289,7 @@ static uint32_t bind_into(struct file program, struct image it, rlibreg_answer *
                         answer);
 }
 
-/* Checks an image with one library, which needs nothing. */
+/* Checks an image that has one library, which needs no other. */
 static void check_image(struct image it, const rlibreg_answer *answer, const char *library) {
     uint64_t at = 0, segment = 0;
     const char *names[] = { "/program", library };
@@ -351,7 +352,7 @@ static void try_image(struct file program, const char *library) {
             }
 }
 
-/* ---- Bindings and an executable file: one call for each */
+/* ---- Bindings and executable files, which have one call each */
 
 static uint32_t give(char what, struct file program, uint64_t base, void *bytes, size_t room,
                      char *text, size_t text_room, rlibreg_answer *answer) {
@@ -379,8 +380,8 @@ static void try_given(char what, struct file program, uint32_t wanted, const voi
     }
 }
 
-/* Checks that a call returns nothing: the buffer stays unchanged, and the text reports the reason,
- * with buffers of every size for the text. */
+/* Checks, with buffers of every size for the text, that a call returns nothing: the buffer stays
+ * unchanged, and the text has the reason. */
 static void try_not_given(char what, struct file program, uint64_t base, uint32_t wanted,
                           const char *line) {
     for (size_t room = 0; room <= strlen(line) + 1; room++) {
@@ -402,7 +403,8 @@ static void try_none_given(struct file program, uint64_t base, uint32_t wanted, 
     try_not_given('x', program, base, wanted, line);
 }
 
-/* Without its library a program has no executable, and its bindings report the missing name. */
+/* Checks that without its library a program has no executable, and that its bindings report the
+ * missing name. */
 static void try_lacking(struct file program, const char *library) {
     char missing[600], said[2000];
     snprintf(missing, sizeof missing, "refused B3 Missing /program %s\n", library);
@@ -412,7 +414,8 @@ static void try_lacking(struct file program, const char *library) {
     try_not_given('x', program, 0x10000, RLIBREG_MISSING, missing);
 }
 
-/* With its library a program has bindings. No relocation names a symbol of this library. */
+/* Checks the bindings of a program with its library. No relocation names a symbol of this
+ * library. */
 static void try_bindings(struct file program, const char *library) {
     char said[2000];
     const char *form = "object 0x%016x /program\nneeds %s\nobject 0x%016x %s\nend\n";
@@ -420,7 +423,8 @@ static void try_bindings(struct file program, const char *library) {
     try_given('b', program, RLIBREG_DONE, said, (size_t)length, 0);
 }
 
-/* Returns the same program with an entry, at its second byte, in memory that may be executed. */
+/* Returns a copy of a program that has an entry, at its second byte, in memory that may be
+ * executed. */
 static struct file with_entry(struct file program) {
     struct file it = { malloc(program.length), program.length };
     WANT(it.bytes && program.length > 64 + 56);
@@ -430,8 +434,8 @@ static struct file with_entry(struct file program) {
     return it;
 }
 
-/* The file of a program is of the type ET_EXEC, with the program's entry, and with as many headers
- * as the answer counts. */
+/* Checks the executable file of a program: it has the type ET_EXEC, the program's entry, and as
+ * many headers as the answer counts. */
 static void try_executable(struct file program) {
     static uint8_t bytes[ROOM];
     rlibreg_answer answer;

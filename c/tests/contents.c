@@ -1,6 +1,6 @@
 /* contents LIBRARY NAME reads the bytes and digests of libraries, and the information on the whole
- * registry, from disks in the folder where it is run. LIBRARY has the SONAME NAME, of one byte. It
- * stays a library if the SONAME is changed, and if bytes follow it. */
+ * registry, from disks in the folder where it is run. LIBRARY has the SONAME NAME, of one byte. The
+ * file stays a library if the SONAME is changed, and if bytes are added at its end. */
 #define _POSIX_C_SOURCE 200809L
 #include "watched.h"
 
@@ -119,8 +119,9 @@ static int put_byte(long at, int byte) {
     return before;
 }
 
-/* A damaged library is returned as it is, and everything else can still be returned. Its data are
- * in sector 2, its entry in 3, and the catalogue in 4. Those of another library follow. */
+/* Checks that a damaged library is returned as it is, and that everything else can still be
+ * returned. The data of the library are in sector 2, its entry in 3, and the catalogue in 4. The
+ * sectors of another library follow. */
 static void try_damaged(void) {
     unsigned char damaged[SECTOR];
     rlibreg_listing listing;
@@ -143,7 +144,7 @@ static void try_damaged(void) {
     rlibreg_close(it);
 
     put_byte(2 * SECTOR, library[0]);
-    put_byte(3 * SECTOR, 0); /* the entry: then nothing is returned */
+    put_byte(3 * SECTOR, 0); /* the entry: after this, no call returns anything */
     it = opened();
     want_no_file(it, "b", RLIBREG_DAMAGED, "refused S5 Damaged\n");
     WANT(rlibreg_get_info(it, &told) == RLIBREG_DAMAGED && !memcmp(&told, &before, sizeof told));
@@ -164,8 +165,8 @@ static int is_too_large(rlibreg *it, uint32_t status, size_t length) {
     return status == RLIBREG_FULL || status == RLIBREG_FRAGMENTED;
 }
 
-/* Checks that the information agrees with the listing, and that a library of a new name can be
- * installed up to the largest length, and not above it. */
+/* Checks that the information agrees with the listing. Also checks that a library with a new name
+ * can be installed up to the largest length, but not above it. */
 static void try_told(rlibreg *it, uint64_t sectors) {
     rlibreg_information told, after;
     rlibreg_listing listing;
@@ -185,7 +186,7 @@ static void try_told(rlibreg *it, uint64_t sectors) {
     WANT(after.largest == told.largest || told.unused_runs > 32);
 }
 
-/* Tries disks of each size from the smallest on, empty and with a library. */
+/* Tries disks of each size from the smallest on, without a library and with one. */
 static void try_sizes(void) {
     for (uint32_t sectors = 8; sectors < 40; sectors++) {
         rlibreg *it = formatted(sectors);

@@ -1,13 +1,14 @@
 /* cuts PROGRAM NAME DISK BASE_PROGRAM CHANGE [FILE|NAME].. cuts the plan of a change at each
- * prefix, and opens every disk that a power cut may leave then, by the library and by the program
- * `rlibreg`. After the CHANGE `update` there are several changes, with a word `,` between each two.
+ * prefix, and opens every disk that a power cut may leave at that point, by the library and by the
+ * program `rlibreg`. The CHANGE `update` is followed by several changes, with a word `,` between
+ * each two.
  *
  * Each sector that was written since the last sync has its old content, or any that was written to
  * it. A disk that is left has to be, as a whole, the one from before the change or the one after
- * it. This is judged by its listing, with the generation, and by the image of a program that is
- * bound against it. `rlibreg` has to print for the disk what it prints for one of these two. As a
- * control, the plan is tried without the sync before its last write: then a disk has to be left
- * that is neither. */
+ * it. The test judges this by the listing, with the generation, and by the image of a program that
+ * is bound against the disk. `rlibreg` has to print for the disk what it prints for one of these
+ * two. As a control, the test tries the plan without the sync before its last write: then some disk
+ * has to be neither of the two. */
 #define _GNU_SOURCE
 #include "../rlibreg.h"
 
@@ -159,8 +160,8 @@ static void try_disk(struct cuts *it, const uint8_t *disk) {
     free(seen.printed);
 }
 
-/* Tries the disks that the steps from `from` up to `to` may leave. Each sector that they write has
- * its content so far, or any of theirs. */
+/* Tries the disks that the steps from `from` up to `to` may leave. Each sector that these steps
+ * write has its content from before, or any that they write to it. */
 static void try_mixtures(struct cuts *it, uint8_t *disk, size_t from, size_t to) {
     while (from < to && !it->steps->content[from]) from++;
     if (from == to) {
@@ -175,7 +176,7 @@ static void try_mixtures(struct cuts *it, uint8_t *disk, size_t from, size_t to)
     memcpy(sector, kept, SECTOR);
 }
 
-/* Cuts the steps at each prefix. */
+/* Cuts the steps at each prefix, and tries all disks that the cuts may leave. */
 static void try_prefixes(struct cuts *it, const uint8_t *disk) {
     uint8_t *synced = malloc(it->files->length);
     memcpy(synced, disk, it->files->length);
@@ -199,8 +200,8 @@ static void free_tried(struct cuts *it) {
     it->count = it->old = it->new = it->neither = 0;
 }
 
-/* Returns the steps without the sync before the last write, or none if nothing is written before
- * that sync. */
+/* Returns the steps without the sync before the last write. Returns no steps if nothing is written
+ * before that sync. */
 static struct steps without_sync(const struct steps *steps) {
     struct steps it = *steps;
     size_t last = it.count, writes = 0;

@@ -1,12 +1,12 @@
 # Cuts each change on small disks at each step (cuts.c).
 
-# cut_change CHANGE [WORD]..: cuts a change of the disk `disk`, which then gets the change.
+# cut_change CHANGE [WORD]..: cuts a change of the disk `disk`, and then makes the change on the disk.
 cut_change() {
     ./cuts "$rlibreg" left disk "$data/program-1.so" "$@"
     ./tool "$1" disk "${@:2}" > /dev/null
 }
 
-# Free sectors that hold anything, so that no old content equals a new one.
+# Free sectors get arbitrary bytes, so that no old content equals a new one.
 yes rlibreg 2> /dev/null | head -c $((24 * 512)) > disk || true
 ./cuts "$rlibreg" left disk "$data/program-1.so" format
 ./tool format disk 24 > /dev/null

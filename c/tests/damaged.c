@@ -1,6 +1,6 @@
 /* damaged DISK PROGRAM binds a program, and damages the bytes of its image in many ways. The loader
- * has to find the functions to call and the fixed pages, or to refuse. It must read nothing outside
- * the image: the sanitizers would detect that. */
+ * has to find the functions to call and the fixed pages, or to refuse the program. It must read
+ * nothing outside the image; the sanitizers would detect such a read. */
 #include "../rlibreg_run.h"
 
 #include <setjmp.h>
@@ -12,7 +12,7 @@ enum { ROUNDS = 20000, ROOM = 1 << 16 };
 
 static jmp_buf back;
 
-/* A refusal ends the loader, but not this test. */
+/* Replaces the loader's function: a refusal ends the loader, but not this test. */
 void give_up(int status, const char *what, const char *why) {
     if (status != REFUSED || !strlen(what) || !strlen(why)) abort();
     longjmp(back, 1);
@@ -23,7 +23,7 @@ void fail(const char *what) {
     abort();
 }
 
-/* The loader doesn't free the memory that it has when it ends. */
+/* Turns off the search for leaks: the loader doesn't free all its memory before it ends. */
 const char *__asan_default_options(void);
 const char *__asan_default_options(void) {
     return "detect_leaks=0";

@@ -44,7 +44,7 @@ want 'a change after a moment' 'ok
 = 0' "$(ended ./tool install "$device" "$data/strong.so")"
 wait
 
-# A device that may only be read.
+# A read-only device.
 trap 'blockdev --setrw "$device"; losetup -d "$device"' EXIT
 blockdev --setro "$device"
 want 'a list of what may only be read' 'library b 376

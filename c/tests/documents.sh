@@ -38,12 +38,12 @@ compare
 [ $count -gt 10 ] || { echo "docs/C.md has only $count commands" >&2; exit 1; }
 echo "documents: two programs and $count commands of docs/C.md: as written"
 
-# The example of rlibreg.h, over the disk that these commands have left.
+# The example of rlibreg.h runs on the disk that these commands have left.
 sed -n '/^ \* EXAMPLE$/,/^ \* LAYERS$/s/^ \*     //p' "$here/../rlibreg.h" > example.c
 gcc $checked -o example example.c "$built/librlibreg.a"
 want 'the example of rlibreg.h' libone.so "$(./example)"
 
-# Plugins and disks that the host can't read.
+# The host reports plugins and disks that it can't read.
 truncate -s $((8192 * 512 + 1)) long
 for file in none . long; do
     case $file in
@@ -64,7 +64,8 @@ want 'a host that waits' '' "$(cat waited)"
 let_go
 want 'after it has waited' 100 "$(cat waited)"
 
-# The two programs are killed at each system call, and run again; also an updater beside another.
+# The two programs are killed at each system call, and run again. Two updaters also run at the same
+# time.
 gcc $flags -o killed "$here/killed.c"
 status=0
 ./killed 0 true 2> lost || status=$?

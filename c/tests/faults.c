@@ -1,9 +1,9 @@
 /* faults LIBRARY OTHER PROGRAM NAME OLD makes every change of a disk, in the folder where it is
  * run. It makes each call of the system fail, from the opening of the disk to its closing. It also
- * ends the process at each of them, and makes each growth of memory fail. Then the disk has to be
- * the old one or the new one, as the answer says. LIBRARY and OTHER have the SONAME NAME and
- * different lengths. PROGRAM needs it. OLD is a disk of version 1. The test is linked with --wrap
- * of malloc, calloc and realloc, besides the watched calls. */
+ * ends the process at each of them, and makes each growth of memory fail. Afterwards the disk has
+ * to be the old one or the new one, in agreement with the answer. LIBRARY and OTHER have the SONAME
+ * NAME and different lengths. PROGRAM needs it. OLD is a disk of version 1. The test is linked with
+ * --wrap of malloc, calloc and realloc, besides the watched calls. */
 #define _GNU_SOURCE
 #include "watched.h"
 
@@ -62,7 +62,7 @@ static void put(const char *bytes, size_t length, off_t whole) {
     WANT(!close(fd));
 }
 
-/* Returns the content of the disk: its listing, or the refusal of one. */
+/* Returns the content of the disk: its listing, or the refusal of the listing. */
 static const char *state(void) {
     static char text[4096];
     rlibreg_listing listing;
@@ -188,7 +188,7 @@ static uint32_t get_executable(rlibreg *it, uint64_t base, void **bytes, size_t 
     return rlibreg_get_executable(it, program.bytes, program.length, base, bytes, length);
 }
 
-/* After S1 (Device) a struct refuses every call with S2 (Reopen). */
+/* Checks that a struct, after S1 (Device), refuses every call with S2 (Reopen). */
 static void want_reopen(rlibreg *it, const struct change *change) {
     char *text;
     rlibreg_listing listing;
@@ -260,7 +260,8 @@ static int is_right(const struct change *change, const struct outcome *it) {
     if (change->opens) /* making.c knows more about each */
         return !it->status || ((it->status == RLIBREG_SYSTEM || it->status == RLIBREG_DEVICE) &&
                                (it->why == EIO || it->why == EAGAIN));
-    if (has_failed("stat")) /* the path is opened again, or may name another file */
+    if (has_failed("stat")) /* the path is opened again, or is reported as the name of another
+                             * file */
         return !it->status || (it->why == EIO && it->status == RLIBREG_DEVICE && !it->opened);
     if (has_failed("fstat") && it->status == RLIBREG_DEVICE) /* of the disk, to compare it with
                                                               * its path */
@@ -387,7 +388,7 @@ static void find_usual(const struct change *change, uint32_t usual[LOOKS]) {
 }
 
 /* Makes each growth of memory fail, from the creation of the struct on. Checks that nothing was
- * done, and that everything can go on. */
+ * done, and that later calls succeed. */
 static long try_memory(const struct change *change) {
     uint32_t usual[LOOKS] = { 0 };
     if (!change->opens) find_usual(change, usual);

@@ -1,7 +1,7 @@
 /* findings LIBRARY NAME OLD checks the libraries of disks, over a file in the folder where it is
  * run, and over the bytes of the file. LIBRARY has the SONAME NAME, of one byte, and stays a
  * library if the SONAME is changed. OLD is a disk of version 1. The finding on a damaged file has
- * to be what an installation says about the file. */
+ * to be the same as the result of an installation of that file. */
 #include "watched.h"
 
 #include <unistd.h>
@@ -94,7 +94,8 @@ static void want_findings(const uint32_t *wanted) {
     rlibreg_close(it);
 }
 
-/* Returns what an installation reports about this file, if a library of this name is installed. */
+/* Returns the finding that an installation of this file leads to, if a library of this name is
+ * installed. */
 static uint32_t installation_says(const uint8_t *file, char name) {
     static uint8_t alone[sizeof disk], plan[ROOM];
     rlibreg_answer answer;
@@ -146,7 +147,7 @@ static void try_damaged_files(void) {
     printf("findings: %u kinds, each as an installation says it\n", kinds);
 }
 
-/* Damages every set of libraries, among them the first, the last, and all. */
+/* Damages each set of libraries, including none of them and all of them. */
 static void try_several(void) {
     uint8_t kept[sizeof disk];
     memcpy(kept, disk, sizeof disk);
@@ -250,7 +251,8 @@ static void try_rooms(void) {
 
 /* ---- Without a registry */
 
-/* Checks bytes without a registry: the answer has only the reason, and only its line is written. */
+/* Checks bytes without a registry: the answer has only the reason, and the call writes only the
+ * line with this reason. */
 static void want_refused(const uint8_t *bytes, size_t size, uint32_t status, const char *line) {
     for (size_t room = 0; room <= strlen(line) + 1; room++) {
         rlibreg_answer answer, wanted = { .status = status, .text = strlen(line) };

@@ -28,7 +28,7 @@ static rlibreg *opened(unsigned flags) {
     return it;
 }
 
-/* Makes a child that does something with a struct of its parent, and then waits until it is killed.
+/* Makes a child that calls `does` with a struct of its parent, and then waits until it is killed.
  * Returns the child's process number. */
 static pid_t child_that(void (*does)(rlibreg *), rlibreg *it) {
     int done[2];
@@ -85,8 +85,8 @@ static void call_all(rlibreg *it) {
     WANT(rlibreg_last_answer(it)->status == bad && !rlibreg_text(it)[0]);
 }
 
-/* Closes the struct in a child, which affects only the child. Then the child can open a disk as
- * every process can. */
+/* Closes the struct in a child, and checks that this affects only the child. Then the child can
+ * open a disk like any process. */
 static void close_it(rlibreg *it) {
     rlibreg_close(it);
     it = rlibreg_create();
@@ -127,7 +127,7 @@ static void disk_of(int generation, char *path) {
     snprintf(path, 16, "disk-%u", (unsigned)generation % 10);
 }
 
-/* If a child waits for a disk that its parent has locked, the wait ends by its limit, and not at
+/* Checks that a child's wait for a disk that its parent has locked ends at its limit, and not at
  * once. */
 static void wait_for_parent(const char *path) {
     struct timespec begun, ended;
@@ -159,14 +159,14 @@ static void open_own(struct way way, rlibreg **opened, int generation) {
     WANT(!is_held(path) && !unlink(path));
 }
 
-/* A signal doesn't end process 1 if it has no handler for that signal. */
+/* Handles a signal: without a handler, the signal doesn't end process 1. */
 static void end_late(int number) {
     (void)number;
     _exit(1);
 }
 
-/* Each generation can only close the disks that the generations before it opened. This releases no
- * lock. */
+/* Checks that each generation can only close the disks that the generations before it opened, and
+ * that this releases no lock. */
 static void try_generations(struct way way, rlibreg **opened, int generation) {
     char path[16];
     WANT(!way.flags || getpid() == 1);
@@ -199,8 +199,8 @@ static int in_generations(struct way way, int wipes_nothing) {
     return 1;
 }
 
-/* A handler and the kernel see each fork, the kernel sees each call of clone, and the process
- * number distinguishes most children. */
+/* Tries generations with each way to notice a child: a handler and the kernel notice each fork, the
+ * kernel notices each call of clone, and the process number distinguishes most children. */
 static void try_all_generations(void) {
     const struct way by_fork = { 0, CLONE_NEWPID }, by_call = { 1, CLONE_NEWPID };
     WANT(in_generations((struct way){ 1, 0 }, 1) && in_generations((struct way){ 0, 0 }, 0));
@@ -210,7 +210,8 @@ static void try_all_generations(void) {
         printf("skipped: children with their parent's process number (%s)\n", strerror(errno));
 }
 
-/* If there is no memory to watch forks, no disk is opened. Later, when there is memory, it is. */
+/* Checks that no disk is opened while there is no memory to watch forks, and that a disk is opened
+ * later, when there is memory. */
 static void try_unwatched(void) {
     fflush(stdout);
     pid_t child = fork();

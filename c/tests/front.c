@@ -1,6 +1,6 @@
 /* front opens disks in the folder where it is run. The calls of the system are watched, and report
- * other roots on the medium than the system shows. The test checks what the system is made to
- * forget, what is written to the medium, and what is refused. */
+ * other roots on the medium than the system shows. The test checks what the library makes the
+ * system drop, what it writes to the medium, and what it refuses. */
 #define _GNU_SOURCE
 #include "watched.h"
 
@@ -44,15 +44,15 @@ static void write_at(const char *path, const void *from, size_t length, off_t at
 }
 
 /* Watches, with roots that differ: the first (1), the second (2) or both (3). The system keeps its
- * own roots the first `keeps` times that it is to forget them. */
+ * own roots at the first `keeps` requests to drop them. */
 static void watch_differing(int differ, int keeps) {
     watch();
     watched.differ = differ;
     watched.keeps = keeps;
 }
 
-/* The system is made to forget more and more, until it reports that the front is gone. Then it is
- * made to do so again. */
+/* Checks that the library makes the system drop more and more, until the system reports that the
+ * front is gone. Then does the same again. */
 static void try_forgetting(void) {
     const int often[] = { 0, 1, 9, 10, 25 };
     for (size_t i = 0; i < sizeof often / sizeof *often; i++) {
@@ -68,8 +68,8 @@ static void try_forgetting(void) {
     WANT(!opens("disk", READ_WRITE) && !made("forget") && !made("write"));
 }
 
-/* The system keeps the front. An opening for reading is refused, and an opening for changes writes
- * the front to the medium. */
+/* Tries a system that keeps the front: an opening for reading is refused, and an opening for
+ * changes writes the front to the medium. */
 static void try_staying(void) {
     for (int differ = 1; differ <= 3; differ++) {
         watch_differing(differ, FOR_EVER);
@@ -100,7 +100,7 @@ static void try_staying(void) {
     WANT(fails_by(opens("disk", READ_WRITE), EIO));
 }
 
-/* Only a root is written to the medium, of either version. */
+/* Checks that only a root, of either version, is written to the medium. */
 static void try_roots(void) {
     static const char zeros[BLOCK];
     const char *magics[] = { "RLIBREG1", "RLIBREG2", "RLIBREG3", "rlibreg2" };
@@ -122,8 +122,9 @@ static void try_roots(void) {
     WANT(!unlink("other"));
 }
 
-/* The medium can't be read past the system's memory, or such a read returns some memory's bytes.
- * The system is made to forget the front, and an opening for changes writes it to the medium. */
+/* Tries a medium that can't be read past the system's memory, or for which such a read returns
+ * bytes of some memory. The library makes the system drop the front, and an opening for changes
+ * writes the front to the medium. */
 static void want_unknown(void (*prepare)(int), int way) {
     prepare(way);
     WANT(!opens("disk", 0) && made("forget asked ") && !made("write") && count("forget ") == 1);
@@ -179,7 +180,8 @@ static void try_unknown(void) {
     WANT(fails_by(opens("disk", 0), EIO));
 }
 
-/* Reads that fail or are short, and an open file that keeps reading past the system's memory. */
+/* Tries reads that fail or are short, and an open file that goes on reading past the system's
+ * memory. */
 static void try_failing(void) {
     const int kinds[] = { EIO, EINTR, ENODATA };
     const char *words[] = { "read", "read-past", "no-more-past" };

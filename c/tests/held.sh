@@ -23,7 +23,7 @@ let_go
 want 'a change after it' 'ok
 = 0' "$(ended ./tool install disk "$data/strong.so")"
 
-# The program takes the same lock; its changes try for two seconds.
+# The program takes the same lock as the library. Its changes try for two seconds.
 shut_out='rlibreg: cannot read disk
 = 3'
 # tries TENTHS TENTHS COMMAND..: checks that a command gives up after this many tenths of a second at
@@ -88,7 +88,7 @@ let_go
 want 'after it has waited for that' ok "$(cat waited)"
 want 'what that left' new "$(ls -A | grep new)"
 
-# A process that waits finds the file that was put in the other's place.
+# A process that waits for a disk finds the new file after the disk was replaced.
 held_by ./tool hold list disk
 ./tool wait install disk "$data/strong.so" > waited 9>&- &
 sleep 0.1

@@ -1,6 +1,6 @@
-# Tests what rlibreg-run calls before a program, and what it has called at the program's end. The expected
-# orders are written by hand from what needs what; bench/initializers.py compares many with those of the
-# system's loader.
+# Tests which functions rlibreg-run calls before a program starts, and which are called at the program's
+# end. The expected orders are written by hand from the needs of the libraries; bench/initializers.py
+# compares many orders with those of the system's loader.
 
 programs=$here/programs
 compile='command gcc -O1 -fPIC -nostdlib -fno-stack-protector -fno-asynchronous-unwind-tables'
@@ -8,8 +8,8 @@ compile="$compile -Wl,--hash-style=sysv"
 rm -f disk many
 ./tool format disk 512 > /dev/null
 
-# library NAME NEEDED..: makes a library of stage.c, which needs NEEDED; for a circle, these are made
-# before. It is also linked as `asks` says.
+# library NAME NEEDED..: makes a library of stage.c, which needs NEEDED; for a circle, the needed
+# libraries are made first. It is linked with the words in `asks` too.
 library() {
     local name=$1 flags=-Wl,-init,first,-fini,last,--no-as-needed
     shift
@@ -42,8 +42,8 @@ want 'preloads' "before 3 ./stages$(printf ' %s' {c,b,a}-{first,early,late}) ent
     "$(./rlibreg-run disk ./stages two words)"
 ./tool preload disk > /dev/null
 
-# The last library in load order that asks to come first comes before what it needs, and before what the
-# program has called before everything else. It is finalized in its usual place.
+# The last library in load order with the flag DF_1_INITFIRST comes before the libraries that it needs,
+# and before the program's pre-initializers. It is finalized in its usual place.
 for name in f g; do asks=-Wl,-z,initfirst library $name a; done
 library h f
 for name in f g h; do ./tool install disk lib$name.so > /dev/null; done
@@ -126,7 +126,8 @@ number_at changed $(($(readelf -lW stages | awk '$1 == "DYNAMIC" {print $2}') + 
 want 'a half of an address' "rlibreg-run: ./changed: DT_PREINIT_ARRAY $half
 = 125" "$(ended ./rlibreg-run disk ./changed)"
 
-# A constructor with a name that another library also exports is the other library's, and is refused.
+# If another library exports the name of a constructor too, the constructor's address lies in that
+# library, and the loader refuses the program.
 for name in d e; do
     echo 'void setup(void) {} void (*call)(void) __attribute__((section(".init_array"))) = setup;' |
         $compile -shared -Wl,-soname,lib$name.so -o lib$name.so -x c -

@@ -1,5 +1,5 @@
-# Tests install.sh, into an empty folder and away again. In between it tests a program that is built with
-# pkg-config only, and the other installed files.
+# Tests an installation by install.sh into an empty folder, and the removal. In between it tests a
+# program that is built with pkg-config only, and the other installed files.
 
 install=$here/../install.sh
 target=$PWD/target

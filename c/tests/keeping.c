@@ -1,8 +1,8 @@
 /* The calls of the system by which an image is kept. They have a clock that is ten seconds ahead,
  * so that no file was changed just now. They are linked into the loader with --wrap. Call number
  * DIE ends the process as a kill does, before it is made. Call number FAIL fails. Among the reads
- * by which an image is looked for, read number READ fails. If OLD is set, the kernel can't be asked
- * to read pages, and if UNREAD is set, it can't read them. */
+ * by which an image is looked for, read number READ fails. If OLD is set, the kernel lacks the call
+ * to read pages, and if UNREAD is set, that call fails. */
 #define _GNU_SOURCE
 #include <errno.h>
 #include <fcntl.h>
@@ -64,10 +64,10 @@ WRAPPED(int, fchmod, int fd, mode_t mode) {
     return fails() ? -1 : __real_fchmod(fd, mode);
 }
 
-static int is_synced; /* whether it was synced since it was last written */
+static int is_synced; /* whether the file was synced since it was last written */
 
-/* Writes at most `most` bytes, which is the number in SHORT. Every second call is interrupted
- * instead. */
+/* Writes at most `most` bytes, which is the number in SHORT. Every second call writes nothing, as
+ * if a signal interrupted it. */
 static ssize_t write_some(int fd, const struct iovec *parts, size_t most) {
     static int calls;
     errno = EINTR;

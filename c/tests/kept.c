@@ -40,7 +40,7 @@ static void try_each_byte(void) {
         other = key;
     }
     WANT(sizeof key == BUILD + sizeof key.boot + ROOTS + 2 * sizeof key.disk +
-                           3 * sizeof(uint64_t)); /* without gaps */
+                           3 * sizeof(uint64_t)); /* the fields have no gaps between them */
     WANT(sizeof key.disk == 11 * sizeof(uint64_t));
 }
 
@@ -66,7 +66,7 @@ static void put(const char *path, const void *bytes, size_t length, off_t at) {
     close(fd);
 }
 
-/* The times of a file advance by ticks. */
+/* Waits for a clock tick, because the times of a file advance by ticks. */
 static void wait_a_tick(void) {
     nanosleep(&(struct timespec){ .tv_nsec = 20000000 }, NULL);
 }
@@ -88,7 +88,8 @@ static void try_disk(const char *path) {
     WANT((int64_t)key.disk.changed[1] == found.st_ctim.tv_nsec);
 
     wait_a_tick();
-    put(path, bytes + ROOTS, 1, ROOTS); /* after the roots, and the same byte as before */
+    put(path, bytes + ROOTS, 1, ROOTS); /* writes the byte after the roots again, with the same
+                                         * value */
     const struct timespec times[] = { found.st_atim, found.st_mtim };
     WANT(!utimensat(AT_FDCWD, path, times, 0));
     other = key_of(path);
@@ -211,8 +212,8 @@ static uint64_t sound_file(uint8_t *bytes, size_t room) {
     return head.length;
 }
 
-/* Returns whether a file would be used. Finds this as the loader does, in memory that ends where
- * the beginning does. */
+/* Returns whether a file would be used. Checks the file as the loader does, in memory that ends
+ * where the beginning ends. */
 static int is_used(const uint8_t *bytes, uint64_t length) {
     struct head head;
     if (length < sizeof head) return 0;
@@ -314,8 +315,8 @@ static void try_changes(const uint8_t *sound, uint64_t length) {
     free(bytes);
 }
 
-/* Each changed byte of a beginning changes its check, unless the byte is part of the form or of the
- * check. */
+/* Checks that each changed byte of a beginning changes its check, unless the byte is part of the
+ * form or of the check. */
 static void try_check(const uint8_t *sound, uint64_t length) {
     uint8_t *bytes = malloc(length);
     WANT(bytes);

@@ -20,7 +20,8 @@ rm -f disk
 disk_of disk
 mkdir -m 700 kept
 
-# start WHAT SAID WANTED WORD..: checks what is said of the image, then what is printed, and the status.
+# start WHAT SAID WANTED WORD..: checks the message about the image (SAID), and then the output and the
+# status (WANTED).
 start() {
     want "$1" "$(printf '%s\n' "$2" | sed 's/^/rlibreg-run: kept: /')
 $3" "$(ended ${by:-./run-kept} -v -c kept "${@:4}")"
@@ -49,7 +50,7 @@ want 'binds where an image is taken' "$said" "$(BINDS=1 ended ./run-kept -c kept
 # shared.
 open_of() {
     held_by "$@" /dev/stdin
-    until grep -q '^list$' held.out; do sleep 0.01; done # it has opened all that it opens
+    until grep -q '^list$' held.out; do sleep 0.01; done # it has opened all its files
     ls /proc/$!/fd | wc -l
     grep -cE '^([0-3][0-9a-f]{11}|[0-9a-f]{8,11})-[0-9a-f]+ ...s' /proc/$!/maps || true
     let_go
@@ -59,7 +60,7 @@ for run in ./run-taken "./run-kept -c kept" "./run-kept -c kept" "$built/rlibreg
     want "what a program has by $run" "$usual" "$(open_of $run disk ./place)"
 done
 rm kept/*
-# shared: prints how many maps of an image are of its file.
+# shared: prints how many maps of an image are maps of its file.
 shared() {
     ./run-kept -c kept disk ./place | grep -cE '^([0-3][0-9a-f]{11}|[0-9a-f]{8,11})-.*/kept/'
 }
@@ -68,7 +69,8 @@ kept_by_it=$(shared)
 want 'maps of the file in the next start' "$kept_by_it" "$(shared)"
 rm kept/*
 
-# What is read-only stays so in the start that keeps the image too, which has its pages from the file.
+# Read-only pages also stay read-only in the start that keeps the image, and shares its pages with the
+# file.
 $compile -pie -Wl,-e,_start,-z,relro -o walls "$programs/walls.c"
 for said_of_it in "$none$keeps" "$taken" "$taken"; do
     start 'pages that are fixed' "$said_of_it" 'before
@@ -227,7 +229,8 @@ nothing 'a file for a folder' 'Not a directory'
 rm kept
 mv moved kept
 
-# Who may read an image: everybody, if everybody may read the disk and the program, and reach both.
+# The users who may read an image: all users, if all of them may read the disk and the program, and reach
+# both.
 chmod 755 kept
 chmod a+r disk chain
 mkdir -m 755 within_reach
@@ -318,14 +321,14 @@ for at in 13 16 24 55 56 91 96 608 1119 1120; do
     replaced "another byte $at" "$other"
 done
 
-# A changed byte of the first page is noticed. Every 61st byte is tried.
+# The loader notices a changed byte of the first page. The test changes every 61st byte.
 for ((at = 5; at < 4096; at += 61)); do
     another_byte "$image" $at
     start "another byte $at" "$other$keeps" "$changed" disk ./chain
 done
 
-# Another build of the loader, which may bind otherwise, beside the first; a third build; and one that
-# doesn't say which build it is.
+# A second build of the loader, which may bind differently, together with the first; a third build; and a
+# build without an id.
 by=./run-kept-other start 'another build' "$none$keeps" "$changed" disk ./chain
 for _ in 1 2; do
     start 'the image of the first build' "$taken" "$changed" disk ./chain
@@ -345,7 +348,7 @@ by=./run-kept-none nothing 'a loader that tells of no build' "$untold"
 want 'what it keeps' '' "$(ls -A kept)"
 start 'an image behind it' "$none$keeps" "$changed" disk ./chain
 
-# Addresses that are in use.
+# An image whose addresses are in use.
 pieces=$(./run-taken disk place | low | wc -l)
 ./run-kept -c kept disk place > lost
 cp -r kept copies
@@ -413,7 +416,7 @@ images 'another boot' 2
 want "a file that is none of the loader's" user "$(cat kept/0123456789abcdef)"
 rm kept/*
 
-# No image is kept if a file was changed just now: the file of a disk, or of a long program.
+# No image is kept if the file of the disk, or of a long program, was changed just now.
 $compile -pie -Wl,-e,_start -o long "$programs/place.c" -x c - <<< 'char more[3 << 20] = "more";'
 now() {
     ./rlibreg-run -v -c kept disk "./$1" 2>&1 > lost | sed 's/^rlibreg-run: kept: //'
@@ -449,8 +452,8 @@ $none" "$(now long)"
 $other" "$(now long)"
 fi
 
-# The loader as it is built: in the usual case it uses the image before its C library is set up, which
-# would have a heap; and in all other cases once the library is set up.
+# The loader as it is built: in the usual case it uses the image before its C library, which would have a
+# heap, is set up; in all other cases it uses the image afterwards.
 run="$built/rlibreg-run -c kept"
 heap() {
     "$@" | grep -c heap || true
@@ -473,7 +476,7 @@ done
 want 'a disk that it writes' 'rlibreg-run: disk: Text file busy
 = 126' "$($run disk ./chain 2>&1 >> disk || echo "= $?")"
 
-# Kills, and failures, at each call by which an image is kept.
+# Each call by which an image is kept fails, or the process is killed there.
 for how in DIE FAIL; do
     for call in {1..40}; do
         rm -f kept/*
@@ -485,7 +488,7 @@ for how in DIE FAIL; do
     [ "$call" -gt 4 ] && [ "$call" -lt 40 ] || { echo "$how: $call calls" >&2; exit 1; }
     images "$how" 1
 done
-# age: makes the image look like one of another boot.
+# age: makes the image look like an image of another boot.
 age() {
     printf x | dd of="$(echo kept/*)" bs=1 seek=56 conv=notrunc 2> lost
 }

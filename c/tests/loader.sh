@@ -14,7 +14,7 @@ library() {
     $compile -fuse-ld="$2" -shared -Wl,-soname,"$1" -o "$1" "$programs/${1:3:-3}.c" "${@:3}"
 }
 
-# runs WHAT WANTED PROGRAM WORD..: runs a program under rlibreg-run, and if it can also under glibc's
+# runs WHAT WANTED PROGRAM WORD..: runs a program under rlibreg-run and, if possible, under glibc's
 # loader.
 runs() {
     want "$linker: $1" "$2" "$(SEE=me ended ./rlibreg-run disk "${@:3}")"

@@ -107,7 +107,7 @@ static void try_order(void) {
 }
 
 /* Checks that calls which failed left no disk or a whole one, and that a registry can be made
- * then. */
+ * afterwards. */
 static void want_none_or_whole(uint32_t status) {
     int was_made = is_there(DISK);
     if (was_made) generation_of(DISK);
@@ -135,7 +135,7 @@ static long try_faults(int why) {
         int in_plan = has_failed("write") || has_failed("sync") || has_failed("length");
         int has_name = has_failed("unlink") || has_failed("sync-folder") ||
                        (has_failed("names") && why == EIO);
-        if (status) WANT(told == why || told == EAGAIN); /* of the last check before the file
+        if (status) WANT(told == why || told == EAGAIN); /* errno of the last check before the file
                                                           * gets its name */
         if (status) WANT(has_name || in_plan || status == RLIBREG_SYSTEM);
         if (has_name) WANT(status == RLIBREG_DEVICE);
@@ -161,8 +161,8 @@ static void try_two_faults(long calls) {
     }
 }
 
-/* The process ends at each call. The disk that it left may be moved elsewhere before the next one
- * is made. */
+/* Ends the process at each call. If `is_moved`, moves the disk that it left before the next one is
+ * made. */
 static void try_ends(long calls, int is_moved) {
     for (long n = 0; n < calls; n++) {
         int status;
@@ -277,7 +277,7 @@ static void try_raced(const char *before, int why, int rename_why) {
 
 static int thefts;
 
-/* Another process takes the name for a leftover, and removes it. */
+/* Acts like another process that takes the name for a leftover, and removes the name. */
 static void steal(const char *word) {
     if (!strcmp(word, "lock-alone") && thefts-- > 0) WANT(!unlink(OTHER));
 }
@@ -298,8 +298,7 @@ static void try_stolen(void) {
 
 /* ---- Files that have the other name */
 
-/* Tries a regular file that no process has locked: its name is removed, and the file stays as it
- * is. */
+/* Tries a regular file that no process has locked: its name is removed, and its bytes stay. */
 static void try_left(const char *bytes, size_t length) {
     char found[8192];
     put("kept", bytes, length);
@@ -398,7 +397,7 @@ static void try_faults_in_place(void) {
         if (n >= watched.calls) break;
         if (status) WANT(told == EIO && (status == RLIBREG_SYSTEM || status == RLIBREG_DEVICE));
         WANT(here("disk "));
-        status = format(0); /* again: the registry was made, or is made now */
+        status = format(0); /* a second try: the registry was made before, or is made now */
         WANT(!status || status == RLIBREG_ALREADY_FORMATTED);
         generation_of(DISK);
     }

@@ -1,5 +1,6 @@
 # Tests the manual pages on a terminal of 80 columns: each refusal is on one line with its number and its
-# name, each call has a page with its declaration and its statuses, and every page that is named is made.
+# name, each call has a page with its declaration and its statuses, and every page to which another page
+# refers is made.
 
 for tool in python3 man; do
     if ! command -v $tool > /dev/null; then
@@ -16,7 +17,8 @@ for page in manual/*.[13]; do
     want "what man says of $page" '' "$(cat told)"
 done
 
-# shown PAGE NAME..: checks that each begins a line of the page, by itself or with more after it.
+# shown PAGE NAME..: checks that each NAME begins a line of the page, with or without more words after
+# it.
 count=0
 shown() {
     local page=$1 name
@@ -39,7 +41,7 @@ if [ -f manual/rlibreg.1 ]; then
     done
 fi
 
-# Calls, as they are declared.
+# The calls, compared with their declarations.
 want 'lines that are too long' '' "$(cat manual/rlibreg.h.3.shown manual/rlibreg_*.shown | grep -E '.{81}')"
 calls=0
 while read -r declaration; do
@@ -55,7 +57,7 @@ for name in $(grep -ohE '\brlibreg[a-z_.]*\(3\)' manual/rlibreg*.3.shown | sed '
     [ -f "manual/$name" ] || [ ! -f manual/rlibreg.1 ] || { echo "a page names $name" >&2; exit 1; }
 done
 
-# What is said of all calls, under its heads, and the example as the header has it.
+# The page about all calls: its heads, and the example, which has to be that of the header.
 for head in EXAMPLE LAYERS LOCKS 'FAILED WRITES' 'STANDARD STREAMS' MEDIA 'THREADS AND MEMORY'; do
     grep -qx "$head" manual/rlibreg.h.3.shown || { echo "rlibreg.h.3 has no head '$head'" >&2; exit 1; }
 done

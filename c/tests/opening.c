@@ -1,6 +1,6 @@
 /* opening LIBRARY NAME opens disks in the folder where it is run, with the calls of the system
  * watched. It checks the order of the calls, locks, files that are replaced meanwhile, syncs that a
- * file system doesn't have, and block devices, for which regular files are used. LIBRARY has the
+ * file system doesn't support, and block devices, for which regular files are used. LIBRARY has the
  * SONAME NAME. */
 #define _GNU_SOURCE
 #include "watched.h"
@@ -70,7 +70,8 @@ static void try_order(void) {
     }
 }
 
-/* Each call of an opening fails. The error is reported, and nothing stays open. */
+/* Makes each call of an opening fail. Checks that the error is reported, and that nothing stays
+ * open. */
 static void try_faults(unsigned flags) {
     for (long n = 0;; n++) {
         watch();
@@ -126,7 +127,7 @@ static void try_locks(void) {
     }
 }
 
-/* A process doesn't wait for a lock that it has: it would wait for itself. */
+/* Checks that a thread doesn't wait for its own lock, because it would wait for itself. */
 static void try_own_locks(void) {
     WANT(!link("disk", "second"));
     for (unsigned first = 0; first <= READ_WRITE; first++) {
@@ -262,8 +263,8 @@ static void try_devices(void) {
     WANT(!is_held("disk"));
 }
 
-/* Returns how many milliseconds pass until a lock is taken or given up. Others have the lock for
- * `times` tries. */
+/* Returns how many milliseconds pass until an opening gets a lock or gives up. The lock isn't free
+ * for the first `times` tries. */
 static long waits(unsigned flags, int limit, const char *lock, long times, uint32_t wanted) {
     rlibreg *it = rlibreg_create();
     WANT(it);
@@ -292,7 +293,7 @@ static void try_held_devices(void) {
     WANT(waits(READ_WRITE, -1, "lock-alone", 1, RLIBREG_LOCKED) == 0); /* a regular file */
 }
 
-/* A wait ends when its limit is over, even if signals interrupt the calls of the system. */
+/* Checks that a wait ends at its limit, even if signals interrupt the calls of the system. */
 static void try_limits(void) {
     const int limits[] = { 0, 1, 30, 5000 };
     for (size_t i = 0; i < 4; i++) {

@@ -83,7 +83,7 @@ static long writes_of(const char *log) {
     return count;
 }
 
-/* The file is altered before a change of the registry: nothing is written. */
+/* Alters the file before a change of the registry, and checks that nothing is written. */
 static void try_before(void) {
     for (int i = 0; i < ALL; i++) {
         prepare();
@@ -97,7 +97,7 @@ static void try_before(void) {
     }
 }
 
-/* The file is altered at one of the calls of a change, even at its last sync. */
+/* Number of writes and syncs that a change makes before the one at which the file is altered. */
 static long due;
 static void (*doing)(void);
 
@@ -129,8 +129,8 @@ static long try_meanwhile(void) {
     return tries;
 }
 
-/* Reads the disk by call number `number`. If the file was shortened, nothing is read through the
- * map. */
+/* Reads the disk by call number `number`. If the file was shortened, the call must read nothing
+ * through the map. */
 static uint32_t look_by(rlibreg *it, int number) {
     const rlibreg_change install = { RLIBREG_INSTALL, 0, library_length };
     rlibreg_listing listing;
@@ -169,8 +169,8 @@ static void try_looks(void) {
     }
 }
 
-/* A path leads from the folder where it was given, even if the process enters another folder
- * then. */
+/* Checks that a relative path leads from the folder that was current when the disk was opened, even
+ * if the process enters another folder later. */
 static void try_paths(void) {
     char whole[PATH_MAX + 8];
     prepare();

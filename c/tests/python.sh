@@ -1,6 +1,7 @@
-# Tests the Python module: its types, the stored cases that it has calls for, what these can't say, and
-# the page docs/PYTHON.md, whose commands and lines of Python have to print the lines below them. It also
-# tests the module's wheel, and the module's message if its library isn't there.
+# Tests the Python module: its types, the stored cases for which it has calls, properties that no stored
+# case can express, and the page docs/PYTHON.md, whose commands and lines of Python have to print the
+# lines below them. It also tests the module's wheel, and the module's message if its library isn't
+# there.
 
 if [ -n "$musl" ] || ! command -v python3 > /dev/null; then
     echo 'skipped: the Python module, which needs python3, and a library with its C library'

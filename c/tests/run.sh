@@ -1,9 +1,9 @@
 #!/usr/bin/env bash
-# run.sh FOLDER RLIBREG [OBJECTS] tries the C library that build.sh has put into FOLDER, beside the
-# program RLIBREG. It compiles the C side again for that, with the sanitizers of addresses and of
-# undefined behaviour, which check only the C code. A later run with the same folder OBJECTS, with the
-# proved calls as another compiler has made them, uses that C again. CC is as for build.sh: with musl-gcc
-# there is no sanitizer, undefined behaviour ends a test, and Python and gdb are left out.
+# run.sh FOLDER RLIBREG [OBJECTS] tests the C library that build.sh has put into FOLDER, together with
+# the program RLIBREG. For that, it compiles the C side again, with the sanitizers of addresses and of
+# undefined behaviour, which check only the C code. A later run with the same folder OBJECTS, but with
+# proved calls that another compiler has made, uses these C objects again. CC is as for build.sh: with
+# musl-gcc there is no sanitizer, undefined behaviour ends a test, and Python and gdb are left out.
 set -eu
 here=$(cd "$(dirname "$0")" && pwd)
 built=$(cd "$1" && pwd)
@@ -26,7 +26,8 @@ musl=
 gcc -E -dM -include stdio.h -x c /dev/null | grep -q __GLIBC__ || musl=yes
 flags="-std=c11 -g -Wall -Wextra -Wpedantic -Werror -I$built"
 sanitizers='-fno-sanitize-recover=all -fsanitize=undefined'
-# has_sanitizer NAME: whether a program that is compiled with it runs; otherwise prints why not.
+# has_sanitizer NAME: succeeds if a program that is compiled with the sanitizer runs. Otherwise prints
+# the reason.
 has_sanitizer() {
     gcc -fsanitize="$1" -x c -o "$room/probe" - <<< 'int main(void) { return 0; }' && "$room/probe"
 }
@@ -36,7 +37,7 @@ else
     sanitizers="$sanitizers -fsanitize-undefined-trap-on-error"
     checked="$flags -O1 $sanitizers"
 fi
-# error_text NUMBER: prints the text of the C library.
+# error_text NUMBER: prints the C library's text for an errno.
 error_text() {
     printf '#include <stdio.h>\n#include <string.h>\nint main(void) { return puts(strerror(%d)) < 0; }\n' "$1" |
         gcc -x c -o "$room/probe" -
@@ -44,7 +45,7 @@ error_text() {
 }
 wraps=-Wl,--wrap=malloc,--wrap=calloc,--wrap=realloc
 objects=$(realpath -m "${3:-$room/objects}")
-# compiled NAME FLAGS FILE..: compiles objects of C files, in a folder of that name.
+# compiled NAME FLAGS FILE..: compiles C files to objects in the folder NAME.
 compiled() {
     [ ! -d "$objects/$1" ] || return 0
     mkdir -p "$objects/$1"
@@ -75,8 +76,9 @@ taking=-Wl,--wrap=mmap,--wrap=kernel_map,--wrap=rlibreg_bind
 gcc $loader -o "$room/run-taken" $taking "$here/taken.c" "$objects"/loader/*.o \
     "$built/librlibreg.a"
 gcc $flags -o "$room/within" "$here/within.c"
-# The loader as it keeps images, also for each start of the loader's tests. The first says that it is the
-# built one. The others are the same except for that: one has an id of another build, and one has none.
+# The loader that keeps images without a wait, also for each start of the loader's tests. The first has
+# the id of the build. The others are the same, except that one has the id of another build, and one has
+# no id.
 keeping=$taking$(printf ',--wrap=%s' kernel_clock kernel_read kernel_advise openat fchmod writev fdatasync \
     linkat unlinkat)
 build_id=0x$(readelf -nW "$built/rlibreg-run" | sed -n 's/.*Build ID: //p')
@@ -110,8 +112,8 @@ alone place "$data/strong.so" b
 alone front
 alone making "$data/strong.so" b
 alone turns
-# Threads with the sanitizer of threads, if there is one; only once, because the threads are those of the
-# C side.
+# The threads, with the sanitizer of threads, if there is one. This runs only once, because only the C
+# side has threads.
 if [ -d "$objects/threads" ]; then
     :
 elif mkdir "$objects/threads" && has_sanitizer thread 2> lost; then
@@ -135,7 +137,8 @@ for part in cuts same held devices full loader starting initializers kept docume
     (. "$here/$part.sh")
 done
 (. "$here/twice.sh")
-# Images in a folder on a disk, where OBJECTS is; only once, because they are those of the C side.
+# Images in the folder OBJECTS, which may be on a disk. This runs only once, because only the C side
+# keeps images.
 case $(stat -f -c %T "$objects") in
     ext2/ext3 | xfs | btrfs | f2fs)
         if mkdir "$objects/disk" 2> lost; then
@@ -150,5 +153,5 @@ esac
 for part in shared installed manual python driver constructors; do
     (. "$here/$part.sh")
 done
-# The switch of two disks; only once, because no compiler makes it.
+# The switch of two disks. This runs only once, because it is a script.
 if mkdir "$objects/switch" 2> lost; then (. "$here/switch.sh"); fi

@@ -1,10 +1,11 @@
 # Runs the program and the library, each on a disk of its own, and compares what both print, their
-# statuses, and every byte of the two disks after each command. If an answer has a test of a file, it has
-# to be the test of its text, by number and name.
+# statuses, and every byte of the two disks after each command. If an answer has the number of a test of
+# a file, it has to be the number and the name of the test in the answer's text.
 
 count=0
 
-# both COMMAND [WORD]..: runs it on the disks `theirs` and `ours`.
+# both COMMAND [WORD]..: runs a command by the program on the disk `theirs`, and by the library on
+# `ours`.
 both() {
     local theirs ours test=
     theirs=$("$rlibreg" "$1" theirs "${@:2}" && echo '= 0' || echo "= $?")

@@ -1,4 +1,4 @@
-# Tests the shared library: what it exports, how it is linked, and a program that is linked with it. The
+# Tests the shared library: its exports, how it is linked, and a program that is linked with it. The
 # names of the tests of a file are those of the stored cases, which name every test.
 
 shared=$built/librlibreg.so

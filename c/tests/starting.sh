@@ -1,5 +1,5 @@
-# Tests what rlibreg-run does before a program runs: its arguments, files, places and permissions, and
-# what it reports about the program. The programs are those of gcc's usual linker.
+# Tests what rlibreg-run does before a program runs: its arguments, files, addresses and permissions, and
+# its reports about the program. The programs are those of gcc's usual linker.
 
 programs=$here/programs
 compile='command gcc -g -O1 -fPIC -nostdlib -fno-stack-protector -fno-asynchronous-unwind-tables'
@@ -70,7 +70,7 @@ for kibibytes in {1000..2000..8} {2500..30000..1500}; do
 done
 want 'a start that had too little memory before' yes "$few"
 
-# A file that may not be executed.
+# A file that the user may not execute.
 cp words unfit
 chmod a-x unfit
 want 'a program that may not be executed' 'rlibreg-run: ./unfit: Permission denied
@@ -119,7 +119,7 @@ found=$(./rlibreg-run disk zeros /proc/self/statm | tail -1 | cut -d ' ' -f 2)
 [ "$found" -lt 4096 ] || { echo "60 MiB of zeros: $found pages" >&2; exit 1; }
 want 'binds for 60 MiB' bind "$(BINDS=1 ./run-taken disk zeros 2>&1 > lost)"
 
-# An entry in the memory of a library.
+# A program whose entry lies in the memory of a library.
 at=$("$rlibreg" bind disk chain 0x100000 | awk '/^object/ {library = / libtwo/} library && /r-x/ {print $2; exit}')
 cp chain strayed
 for shift in 0 8 16 24 32 40 48 56; do
@@ -131,7 +131,7 @@ want 'an entry in a library' 'rlibreg-run: strayed: it has no entry
 want 'the base 0' 'rlibreg-run: memory at the base: Operation not permitted
 = 126' "$(ended ./rlibreg-run -b 0 disk ./words)"
 
-# A C library, which isn't in a registry.
+# A program that needs a C library, which isn't in a registry.
 for name in libc.so libc.so.6 libc.musl-x86_64.so.1; do
     $compile -shared -Wl,-soname,$name -o $name "$programs/one.c"
     $compile -pie -Wl,-e,_start,--no-as-needed -o needs-c "$programs/words.c" $name
@@ -213,7 +213,7 @@ case $found in
 = 126' "$found" ;;
 esac
 
-# What the system and a debugger get to know.
+# What the system and a debugger find out about the program.
 cp place a-program-of-a-long-name
 want 'the name' place "$(./rlibreg-run disk ./place | head -1)"
 want 'a long name' a-program-of-a- "$(./rlibreg-run disk a-program-of-a-long-name | head -1)"

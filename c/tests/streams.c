@@ -71,7 +71,7 @@ static void try_closed(void) {
     }
 }
 
-/* Another thread closes a stream just before a call of this word. */
+/* Word of the call just before which another thread closes a stream. */
 static const char *closing;
 static int closed;
 
@@ -95,7 +95,8 @@ static void try_closed_meanwhile(const char *word, int makes) {
     }
 }
 
-/* The disk is also open as a stream: before it is opened, or only afterwards. */
+/* Tries a disk that is also open as a stream, either before the registry is opened or only
+ * afterwards. */
 static void try_the_disk(int how, int may_be_written) {
     for (int i = 0; i < STREAMS; i++) {
         rlibreg_listing listing;

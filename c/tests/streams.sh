@@ -35,7 +35,7 @@ except rlibreg.SystemFault:
 os._exit(0)
 EOF
 export LD_LIBRARY_PATH=$built
-# A name that doesn't fit into the buffer of stdio is written as soon as it is printed.
+# A name that is longer than the buffer of stdio is written as soon as it is printed.
 long=$(printf './%.0s' $(seq 2040))libone.so
 uses=("./updater disk $long" './updater disk plugin' './updater disk none' './host disk plugin 1'
     './host disk none 1' './rlibreg-run disk ./greet' './rlibreg-run disk none'
@@ -44,7 +44,8 @@ if [ -z "$musl" ] && command -v python3 > /dev/null; then
     uses+=("python3 -B closes.py $here/../../python closes" "python3 -B closes.py $here/../../python stays")
 fi
 
-# with HOW COMMAND..: runs it with streams that are closed, or that lead to the disk. Returns the status.
+# with HOW COMMAND..: runs a command with streams that are closed, or that lead to the disk. Returns its
+# status.
 with() (
     for stream in $1; do eval "exec $stream"; done
     status=0
@@ -84,8 +85,8 @@ want 'it reads the disk' 'greeting
 = 7' "$(ended ./rlibreg-run disk ./greet < disk | sed -n '1p; $p')"
 cmp disk before.disk
 
-# A filter of system calls that refuses fcntl: nobody can know whether a stream is open, so each opening
-# of the disk fails, and none waits.
+# A filter of system calls refuses fcntl. Then no process can find out whether a stream is open, so each
+# opening of the disk fails, without a wait.
 gcc $flags -o filtered "$here/filtered.c"
 refused=0
 if ./filtered 1 true 2> told; then

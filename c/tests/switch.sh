@@ -1,6 +1,7 @@
-# Tests rlibreg-switch over two files: refusals, two at once, signals, and cuts at each step. The script
-# and each of its commands are killed before and after each command, and in a model the power fails there.
-# In the model the medium has only what was synced of a disk and of the link, or also any part of the rest.
+# Tests rlibreg-switch over two files: refusals, two switches at once, signals, and cuts at each step. The
+# script and each of its commands are killed before and after each command, and in a model the power fails
+# there. In the model the medium has the synced bytes of a disk and the synced link, and none or any part of
+# the rest.
 
 mkdir switch
 cd switch
@@ -21,7 +22,7 @@ old=$(digest "$data/strong.so")
 new=$(digest "$data/protected.so")
 both=$(digest "$data/protected.so" "$data/long.so")
 
-# Here the script lies beside the programs, and may get less time to wait.
+# The copy of the script here lies beside the programs, and its wait may be shorter.
 mkdir bin steps start
 sed 's/^readonly patience=10 /readonly patience=${PATIENCE:-10} /' "$here/../rlibreg-switch" > bin/rlibreg-switch
 want 'its patience' 1 "$(grep -c '^readonly patience=${PATIENCE:-10} ' bin/rlibreg-switch)"
@@ -153,8 +154,8 @@ ok
 = 0' "$(ended change --bind "$data/program-1.so" one two < first)"
 leads 'after that' two "$new"
 
-# Other lengths, to and fro; and a switch to a disk as it is. A copy that is cut leaves no registry, so that
-# switch refuses it.
+# Other lengths, to and fro; and a switch to a disk without a new copy. A copy that is cut leaves no
+# registry, so such a switch refuses the disk.
 start
 "$rlibreg" format large 128 > said
 want 'growing' 'planned
@@ -221,7 +222,7 @@ locked 'a reader of the other one' "rlibreg-switch: $PWD/two can't be changed: i
 cmp two start/two
 leads 'after these' one "$old"
 
-# Signals; and a kill of only the script, whose command goes on.
+# Signals; and a kill of the script only, after which its command goes on.
 for signal in HUP:129 INT:130 TERM:143 KILL:137; do
     start
     setsid env --default-signal=HUP,INT,TERM bin/rlibreg-switch --link disk one two \
@@ -272,7 +273,7 @@ if [ "$CUT" = "half:$number" ] && [ "$name" = dd ]; then
     kill -9 0
 elif [ "$CUT" = "half:$number" ]; then
     for made; do :; done
-    rm -f "$made" # as an ln that first removes the old link
+    rm -f "$made" # like an ln that first removes the old link
     kill -9 0
 fi
 status=0

@@ -1,10 +1,10 @@
-/* Maps at places that others have taken, and a bind that reports itself if BINDS is set. They are
+/* Maps at addresses that are in use, and a bind that reports itself if BINDS is set. They are
  * linked into the loader with --wrap=mmap, --wrap=kernel_map and --wrap=rlibreg_bind. Of the maps
- * that ask for a place, the first FREE get it, the next TAKEN find it taken, and the others get it
- * again. If ELSEWHERE is set, those that find it taken get another place, as from a kernel before
- * 4.17. The file CUT is shortened after each map of a file, and the file CUT_LATE before a bind.
- * After each bind the bytes of the file RAW are written over the file `disk`, as by a process that
- * takes no lock. */
+ * that request an address, the first FREE get it, the next TAKEN find it in use, and the others get
+ * it again. If ELSEWHERE is set, the maps that find it in use get another address, as from a kernel
+ * before 4.17. The file CUT is shortened after each map of a file, and the file CUT_LATE before a
+ * bind. After each bind, the bytes of the file RAW are written over the file `disk`, as a process
+ * would do that takes no lock. */
 #define _GNU_SOURCE
 #include "../rlibreg.h"
 #include "../rlibreg_run_kernel.h"
@@ -36,7 +36,7 @@ static long number_of(const char *variable) {
     return getenv(variable) ? atol(getenv(variable)) : 0;
 }
 
-/* Returns whether this map finds its place taken. */
+/* Returns whether this map finds its address in use. */
 static int is_taken(int kind) {
     static long calls;
     if (!(kind & MAP_FIXED_NOREPLACE)) return 0;

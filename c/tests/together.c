@@ -84,7 +84,7 @@ static void want_done(uint64_t steps) {
     carry_out();
 }
 
-/* Checks that one of the changes is refused, after `before` others. */
+/* Checks that the change after the first `before` changes is refused with `status` and `line`. */
 static void want_refused(uint32_t status, uint64_t before, const char *line) {
     memset(out, GUARDED, sizeof out);
     WANT(ask(ROOM) == status && answer.status == status && answer.count == before);
@@ -165,7 +165,7 @@ static void try_done(void) {
     want_done(3);
 }
 
-/* Tries refusals at each place. The disk has the library a, which is a preload. */
+/* Tries a refusal of each change of an update. The disk has the library a, which is a preload. */
 static void try_refusals(void) {
     begin();
     add(RLIBREG_REMOVE, "a", 1);
@@ -193,7 +193,7 @@ static void try_refusals(void) {
 
 static void try_bad_arguments(void) {
     begin();
-    add(RLIBREG_REMOVE, "none", 4); /* which would be refused */
+    add(RLIBREG_REMOVE, "none", 4); /* this change would be refused */
     want_bad(0, 0, 1);
     want_bad(5, 0, 1);
     want_bad(UINT64_MAX, 0, 1);

@@ -1,6 +1,7 @@
-/* tool COMMAND DISK [WORD].. does over a file what the program `rlibreg` does with the same
- * arguments, and prints the same. It also exits with the program's status, except for statuses that
- * only the library has: then with 9. With `wait` before COMMAND it waits for a locked disk. */
+/* tool COMMAND DISK [WORD].. makes the calls over a file that correspond to a command of the
+ * program `rlibreg`, and prints the same as the program. It exits with the program's status, or
+ * with 9 for a status that only the library has. With `wait` before COMMAND it waits for a locked
+ * disk. */
 #include "../rlibreg.h"
 
 #include <errno.h>

@@ -41,7 +41,7 @@ static void sleep_for(double time) {
     while (seconds() < end) usleep(1000);
 }
 
-/* Returns a struct after an opening that has to return `wanted`. */
+/* Opens a disk, which has to return `wanted`. Returns the struct. */
 static rlibreg *opens(const char *path, unsigned flags, int limit, uint32_t wanted) {
     rlibreg *it = rlibreg_create();
     WANT(it);
@@ -50,7 +50,7 @@ static rlibreg *opens(const char *path, unsigned flags, int limit, uint32_t want
     return it;
 }
 
-/* Returns how many seconds an opening takes that has to return `wanted`. */
+/* Opens a disk, which has to return `wanted`. Returns how many seconds this takes. */
 static double time_of(const char *path, unsigned flags, int limit, uint32_t wanted) {
     double began = seconds();
     rlibreg *it = opens(path, flags, limit, wanted);
@@ -106,7 +106,7 @@ static void read_always(void) {
     }
 }
 
-/* Returns whether there is always a reader. */
+/* Returns whether readers have the disk locked most of the time. */
 static int are_steady(void) {
     int fd = open("disk", O_RDWR | O_CLOEXEC), times = 0;
     for (int i = 0; i < 40; i++) {
@@ -129,7 +129,7 @@ static void try_steady(void) {
     for (int i = 0; i < 6; i++) {
         long before = shared->reads;
         double took = time_of("disk", READ_WRITE | WAIT, i % 2 ? 5000 : NO_LIMIT, RLIBREG_DONE);
-        WANT(took < 1.5); /* less than the most for which readers give way */
+        WANT(took < 1.5); /* less than the maximum time for which readers give way */
         while (shared->reads < before + READERS) usleep(1000);
     }
     shared->is_over = 1;
@@ -157,8 +157,8 @@ static int is_marked(void) {
     return it.l_type == F_WRLCK;
 }
 
-/* A reader that gives way isn't refused when the change has its turn. While one change has the lock
- * and another waits, a reader doesn't give way: it is refused at once. */
+/* Checks that a reader that gives way isn't refused when the change has its turn. While one change
+ * has the lock and another waits, a reader doesn't give way: it is refused at once. */
 static void try_giving_way(void) {
     shared->waits = 0;
     rlibreg *reader = opens("disk", 0, NO_LIMIT, RLIBREG_DONE);
@@ -214,7 +214,7 @@ static void try_kills(void) {
         shared->waits = shared->is_over = 0;
         pid_t writer = child_that(all[i]);
         while (shared->waits < (all[i] == wait_and_fork ? 2 : 1) || !is_marked()) usleep(1000);
-        if (i == 0) { /* the reader gives way, and isn't refused for that */
+        if (i == 0) { /* the reader gives way, and isn't refused afterwards */
             double took = time_of("disk", 0, NO_LIMIT, RLIBREG_DONE);
             WANT(took >= 1.99 && took < 10);
             took = time_of("disk", WAIT, 100, RLIBREG_DONE);
@@ -234,7 +234,7 @@ static void ignore(int signal) {
     (void)signal;
 }
 
-/* Makes a thousand signals come each second, or no more at all. */
+/* Begins to send a thousand signals a second, or ends that. */
 static void have_signals(int come, int flags) {
     struct sigaction how = { .sa_handler = ignore, .sa_flags = flags };
     struct itimerval each = { { 0, come ? 1000 : 0 }, { 0, come ? 1000 : 0 } };
@@ -270,8 +270,8 @@ static void try_limits(void) {
     }
 }
 
-/* A process that may only read the disk locks the bytes of the marks. A change does without the
- * marks. */
+/* Tries a process that may only read the disk, and locks the bytes of the marks: a change goes on
+ * without the marks. */
 static void try_malice(void) {
     int fd = open("disk", O_RDONLY | O_CLOEXEC);
     struct flock all = { .l_type = F_RDLCK, .l_start = (off_t)1 << 61 };
@@ -289,8 +289,8 @@ static void try_malice(void) {
 
 static _Atomic int inside, turns_had;
 
-/* Opens the disk again and again. A thread that has the exclusive lock has to be the only one with
- * a lock. */
+/* Opens the disk again and again. Checks that no other thread has a lock while a thread has the
+ * exclusive lock. */
 static void *take_turns(void *number) {
     unsigned flags = (size_t)number % 4 ? READ_WRITE : 0;
     for (int i = 0; i < 12; i++) {
@@ -306,7 +306,7 @@ static void *take_turns(void *number) {
     return NULL;
 }
 
-/* Each thread gets its turns, also while children are forked. */
+/* Checks that each thread gets its turns, even while children are forked. */
 static void try_threads(size_t count) {
     pthread_t threads[32];
     turns_had = 0;
@@ -344,7 +344,8 @@ static void *close_handed(void *unused) {
     return unused;
 }
 
-/* A thread that would wait for itself is refused at once. It does wait for others. */
+/* Checks that a thread that would wait for itself is refused at once, and that a thread waits for
+ * others. */
 static void try_circle(void) {
     pthread_t thread;
     turns_had = 0;
@@ -383,7 +384,7 @@ static void *call_while_cancelled(void *unused) {
     return NULL;
 }
 
-/* A cancelled thread ends its calls before it ends. */
+/* Checks that a cancelled thread completes its call before it ends. */
 static void try_cancel(void) {
     pthread_t thread;
     void *ended;

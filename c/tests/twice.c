@@ -1,8 +1,8 @@
 /* Starts rlibreg-run as the tests of the loader do, with images that are kept. For each start, an
  * image is kept first, if possible. Then the image is used twice, the second time by the loader as
  * it is built. The output of the first two starts is dropped, except the lines about the image. RUN
- * is the loader that keeps images at once, BUILT is the other, FOLDER has the images, and SAID gets
- * the lines. */
+ * is the loader that keeps images without a wait, BUILT is the loader as it is built, FOLDER has
+ * the images, and the file SAID gets the lines about the image. */
 #define _GNU_SOURCE
 #include <fcntl.h>
 #include <stdlib.h>

@@ -110,8 +110,8 @@ static int are_same(const rlibreg_image *one, const rlibreg_image *other_one) {
            !memcmp(one->bytes, other_one->bytes, all);
 }
 
-/* A bind before an update returns what a bind after it returns, even if the disk is open only for
- * reading. Nothing changes the disk before the update. */
+/* Checks that a preview of a bind returns the same as a bind after the update, even if the disk is
+ * open only for reading, and that the preview doesn't change the disk. */
 static void want_bound(uint32_t status) {
     rlibreg_image tried, shared, found;
     read_disk(before);
@@ -174,7 +174,7 @@ static void try_binds(void) {
     rlibreg_close(it);
 }
 
-/* Without a change nothing is written. */
+/* Checks that an update without changes writes nothing. */
 static void try_nothing(void) {
     rlibreg *it = formatted(SECTORS);
     read_disk(before);
@@ -237,7 +237,8 @@ static uint32_t replace(rlibreg *it) {
     return rlibreg_replace(it, other.bytes, other.length);
 }
 
-/* However many changes an update has, it makes the same number of syncs, and one generation. */
+/* Checks that an update makes the same number of syncs, and one generation, however many changes it
+ * has. */
 static void try_many(void) {
     char wanted[64];
     rlibreg *it = formatted(SECTORS);
@@ -269,7 +270,7 @@ static void try_the_greatest(void) {
 
 /* ---- Memory */
 
-/* Checks that a bind before an update finds no memory. The update itself does. */
+/* Checks that a preview of a bind is refused memory, and that the update itself isn't. */
 static void want_no_memory(rlibreg *it) {
     rlibreg_image image;
     WANT(image_after(it, &image) == RLIBREG_OUT_OF_MEMORY && !image.bytes && !image.count);
@@ -320,8 +321,8 @@ static int lock_memory(void) {
     return mlockall(MCL_FUTURE);
 }
 
-/* With so little memory, a bind before the update succeeds on a small disk, and fails on a long
- * one. */
+/* Checks that, with so little memory, a preview of a bind succeeds on a small disk, and fails on a
+ * long one. */
 static void bind_and_update(rlibreg *it, uint32_t sectors) {
     rlibreg_image image;
     if (sectors != SECTORS) {

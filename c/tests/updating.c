@@ -22,7 +22,7 @@ static char *library;
 static const char *name;
 
 /* Runs the updater in a process of its own, which ends at call number `end`. Returns its status,
- * and whether it ended there. */
+ * and sets `has_ended` to whether the process ended at that call. */
 static int updater(long end, int *has_ended) {
     enum { ENDED = 77 };
     int status;
@@ -57,7 +57,7 @@ static void put(const char *path, const char *bytes, size_t length, off_t whole)
     WANT(!close(fd));
 }
 
-/* Leave the files that may exist before. */
+/* Make the files that may exist before the updater runs. */
 static void leave_nothing(void) {
 }
 
@@ -92,7 +92,7 @@ static long try_ends(void (*leave)(void)) {
     }
 }
 
-/* A file that may belong to somebody is left as it is. */
+/* Checks that a file that may have another purpose stays as it is. */
 static void try_others(const char *bytes, size_t length, off_t whole) {
     static char found[LENGTH + 1];
     int has_ended;
@@ -124,7 +124,8 @@ static void *update(void *unused) {
     return unused;
 }
 
-/* Each thread succeeds: it waits for the others, including the one that makes the disk. */
+/* Checks that each thread succeeds: it waits for the others, including the one that makes the
+ * disk. */
 static void try_threads(void (*leave)(void)) {
     int status;
     leave();

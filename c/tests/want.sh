@@ -1,4 +1,4 @@
-# Compares what a test found with what it wants.
+# Functions of the tests. `want` compares a result with the expected one.
 
 # want WHAT WANTED FOUND
 want() {
@@ -16,7 +16,7 @@ ended() {
 }
 
 # held_by HOLDER..: runs a process that locks a disk until let_go, which ends its standard input. The
-# process gets a line, so that a script has something to answer.
+# process gets a line, so that a script has a command to answer.
 held_by() {
     mkfifo ends
     "$@" < ends > held.out &

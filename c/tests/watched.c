@@ -1,4 +1,5 @@
-/* The watched calls. Each is logged. It fails if a test says so, and otherwise it is made. */
+/* The watched calls. Each call is logged. It fails if the test has requested that, and otherwise it
+ * is made. */
 #define _GNU_SOURCE
 #include "watched.h"
 
@@ -96,7 +97,7 @@ WRAPPED(int, openat, int folder, const char *path, int flags, ...) {
     va_start(more, flags);
     mode_t mode = flags & O_CREAT ? va_arg(more, mode_t) : 0;
     va_end(more);
-    /* without O_CREAT, O_EXCL is only for devices */
+    /* O_EXCL without O_CREAT is meaningful only for devices */
     int true_flags = flags & O_CREAT ? flags : flags & ~O_EXCL;
     return fails(word_of_open(flags), 0) ? -1 : __real_openat(folder, path, true_flags, mode);
 }
@@ -123,7 +124,7 @@ WRAPPED(off_t, lseek, int fd, off_t at, int whence) {
     return fails("length", 1) ? -1 : __real_lseek(fd, at, whence);
 }
 
-/* No time passes, but the clock goes on. */
+/* Returns at once, but advances the clock. */
 WRAPPED(int, nanosleep, const struct timespec *asked, struct timespec *left) {
     if (!watched.is_on) return __real_nanosleep(asked, left);
     WANT(asked->tv_sec == 0 && asked->tv_nsec > 0 && asked->tv_nsec <= 5000000);
@@ -150,7 +151,8 @@ static const char *word_of_mark(const struct flock *it) {
 }
 
 WRAPPED(int, sync_file_range, int fd, off_t from, off_t length, unsigned how) {
-    if (watched.is_on) WANT(!from && !length && how == 7); /* the whole file, and waited for */
+    if (watched.is_on) WANT(!from && !length && how == 7); /* the request is for the whole file,
+                                                            * with a wait */
     return fails("early", 0) ? -1 : __real_sync_file_range(fd, from, length, how);
 }
 
@@ -177,7 +179,7 @@ WRAPPED(int, fstatvfs, int fd, struct statvfs *found) {
     return 0;
 }
 
-/* A folder never has the attribute. */
+/* The attribute never exists on a folder. */
 WRAPPED(int, fremovexattr, int fd, const char *attribute) {
     struct stat found;
     WANT(!__real_fstat(fd, &found) && S_ISDIR(found.st_mode) && !strncmp(attribute, "user.", 5));
@@ -292,7 +294,7 @@ WRAPPED(int, ftruncate, int fd, off_t length) {
     return fails("cut", 0) ? -1 : __real_ftruncate(fd, length);
 }
 
-/* A write that fails has written a part, and so has one at which the process ends. */
+/* A write that fails has written a part, and so has a write at which the process ends. */
 WRAPPED(ssize_t, pwrite, int fd, const void *from, size_t length, off_t at) {
     watched.is_dirty = 1;
     watched.wrote = length;
@@ -308,7 +310,7 @@ WRAPPED(ssize_t, pwrite, int fd, const void *from, size_t length, off_t at) {
 }
 
 WRAPPED(int, linkat, int from, const char *old, int to, const char *new, int flags) {
-    WANT(!watched.is_on || !watched.is_dirty); /* only what is on the medium is given a name */
+    WANT(!watched.is_on || !watched.is_dirty); /* only a file that is on the medium gets a name */
     return fails("link", 0) ? -1 : __real_linkat(from, old, to, new, flags);
 }
 

@@ -26,33 +26,34 @@ struct watched {
     char log[8192];           /* word of each call, except those that only look, followed by a
                                * blank */
     long calls;               /* number of calls, including those that only look */
-    long first, second;       /* numbers of two calls that fail, counted from 0; or -1 */
+    long first, second;       /* numbers of two calls that fail, counted from 0; -1 for none */
     int why;                  /* errno with which they fail */
-    char failed[32];          /* word of the one of these that failed last */
-    long end;                 /* number of the call before which the process ends; or -1 */
+    char failed[32];          /* word of the call that failed last */
+    long end;                 /* number of the call before which the process ends; -1 for none */
     int end_status;           /* exit status of the process then */
     const char *refused;      /* word of calls that fail */
     const char *refused_too;  /* another word of calls that fail */
     int because, because_too; /* errno with which the calls of each word fail */
     long times;               /* number of calls of the first word that fail */
     dev_t device;             /* block device that a regular file is reported to be; or 0 */
-    int least;                /* least descriptor for which this is reported; if not set, not for
-                               * streams */
+    int least;                /* least descriptor for which a device is reported; at first 3, so not
+                               * for streams */
     int differ;               /* roots that are reported to differ on the medium: 1, 2, or 3 for
                                * both */
-    int keeps;                /* how many times the system keeps the front when it is to forget
+    int keeps;                /* number of requests to drop the front at which the system keeps
                                * it */
-    int is_stuck;             /* whether the medium doesn't take what the system shows either */
-    int is_gone;              /* whether the front was forgotten */
+    int is_stuck;             /* whether writes of the shown roots don't reach the medium either */
+    int is_gone;              /* whether the system has dropped the front */
     int is_past;              /* whether reads go past the system's memory */
-    off_t forgotten;          /* number of bytes of the front that were to be forgotten last */
-    ssize_t past_length;      /* most bytes that such a read returns, or 0 */
+    off_t forgotten;          /* number of bytes of the front in the last request to drop them */
+    ssize_t past_length;      /* maximum number of bytes that such a read returns; 0 for no limit */
     int is_encrypted;         /* whether a file is reported to be encrypted */
-    int loop;                 /* a device is reported to be a loop over memory, 1, or past it, 2 */
-    size_t wrote;             /* number of bytes that were to be written last */
+    int loop;                 /* a device is reported to be a loop device: 1 through memory, 2 past
+                               * it */
+    size_t wrote;             /* number of bytes of the last write */
     long system;              /* type of the file system that is reported; or 0 */
     int is_read_only;         /* whether it is reported to be mounted read-only */
-    int64_t slept;            /* number of nanoseconds that were to pass */
+    int64_t slept;            /* number of nanoseconds of all requested sleeps */
     int is_short;             /* whether each write does less than it is asked to */
     int is_dirty;             /* whether a file was written or shortened since the last sync */
     int wipes_nothing;        /* whether the kernel refuses MADV_WIPEONFORK */

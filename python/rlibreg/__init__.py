@@ -4,8 +4,8 @@
         registry.install(Path('libone.so'))
         image = registry.bind(Path('program'), 1 << 40)
 
-It calls librlibreg.so by ctypes. docs/PYTHON.md has a walk, and rlibreg.h what each call does, its
-caveats and its refusals.
+It calls librlibreg.so by ctypes. docs/PYTHON.md introduces the module. rlibreg.h describes what
+each call does, its limits and its refusals.
 """
 
 from __future__ import annotations
@@ -36,7 +36,7 @@ Content = Union[bytes, bytearray, memoryview, str, 'os.PathLike[str]', 'os.PathL
 Wait = Union[bool, float]
 Put = Literal['installed', 'replaced', 'unchanged']
 
-_MOST = 1 << 24  # the maximum length of a file that isn't refused for its length
+_MOST = 1 << 24  # the maximum length of a file; a longer one is refused
 _DUMPED = 1 << 15  # the maximum number of a library's bytes in one piece of a dump
 
 
@@ -84,7 +84,7 @@ class Status(enum.IntEnum):
 
 
 class Permissions(enum.IntFlag):
-    """What the memory of a segment permits."""
+    """The permissions of a segment's memory."""
 
     EXECUTE = 1
     WRITE = 2
@@ -121,7 +121,7 @@ class Info(NamedTuple):
 
 
 class Finding(NamedTuple):
-    """What was found of an installed library, in the words of rlibreg-tool."""
+    """A finding on an installed library, in the words of rlibreg-tool."""
 
     number: int  # 0 if sound; n of the first test En that refuses its file; else 100
     name: str  # 'Sound'; the name of a test, such as 'E2 BadMagic'; or 'OtherName'
@@ -172,19 +172,19 @@ class BoundObject(NamedTuple):
     """An object, the libraries that it needs, and the bindings of its symbols."""
 
     name: str  # a library's SONAME; the program's is '/program'
-    base: int | None  # None if a name is missing: then no object has a place
+    base: int | None  # None if a name is missing, because then no object has an address
     needs: list[str]
-    missing: list[str]  # those of the needed libraries that aren't installed (B3)
+    missing: list[str]  # the needed libraries that aren't installed (B3)
     bindings: list[Binding]
 
 
 class Bindings(NamedTuple):
-    """What the symbols of a program and its libraries are bound to, object by object in load
-    order. If names are missing, it has the objects that were found."""
+    """The bindings of the symbols of a program and its libraries, object by object in load order.
+    If names are missing, only the objects that were found."""
 
     status: Status  # the status of a bind: DONE, MISSING or UNDEFINED
     objects: list[BoundObject]
-    text: str  # as rlibreg-tool prints it
+    text: str  # the text that rlibreg-tool prints
 
 
 # ---- Errors
@@ -206,9 +206,10 @@ class Error(Exception):
 
 
 class Refusal(Error):
-    """The registry refuses, by a number that the program's manual explains (B1 to B5, C1 to C6, S1
-    to S12), or a bound program has no executable file. Nothing was done, except after S1 (Device):
-    then a change was made or not, and the registry has to be opened again."""
+    """The registry refuses a call, by a number that the program's manual explains (B1 to B5, C1
+    to C6, S1 to S12), or a bound program has no executable file. Nothing was done, except with
+    S1 (Device): then a change may or may not have been made, and the registry has to be opened
+    again."""
 
 
 class Locked(Error):
@@ -267,17 +268,17 @@ def version() -> int:
 
 
 def _content(file: Content) -> bytes:
-    """Returns the bytes of a library or a program, which are given, or are read from a path. Of a
-    file that is too long, returns only as many as show that it is too long."""
+    """Returns the bytes of a library or a program: `file` itself, or the bytes of the file with
+    this path. If that file is too long, returns only as many bytes as show this."""
     if isinstance(file, (str, os.PathLike)):
         with open(file, 'rb') as stream:
-            length = os.fstat(stream.fileno()).st_size or _MOST  # what isn't a file has no length
+            length = os.fstat(stream.fileno()).st_size or _MOST  # a path that isn't that of a file has no length
             return stream.read(min(length, _MOST) + 1)
     return file if isinstance(file, bytes) else bytes(memoryview(file))
 
 
 def _word(word: PathName) -> bytes:
-    """Returns a path or a name for C, where a byte 0 would end it."""
+    """Returns a path or a name for C. It has to be without a byte 0, which would end it there."""
     given = os.fsencode(word)
     if b'\0' in given:
         raise ValueError('embedded null byte')
@@ -285,7 +286,7 @@ def _word(word: PathName) -> bytes:
 
 
 def _words(names: Iterable[str]) -> list[bytes]:
-    """Returns the names of preloads for C."""
+    """Returns the names of preloads in the form that C needs."""
     if isinstance(names, (str, bytes)):
         raise TypeError('preloads must be a list of names')
     return [_word(name) for name in names]
@@ -328,13 +329,13 @@ os.register_at_fork(after_in_child=_count_fork)
 
 
 def _process() -> tuple[int, int]:
-    """Identifies this process. A child can have its parent's process number, if it is process 1 of
-    another process namespace, so forks are counted, too."""
+    """Returns what identifies this process. A child can have its parent's process number, if it is
+    process 1 of another process namespace, so forks are counted, too."""
     return os.getpid(), _forks
 
 
 class _Turn(threading.local):
-    """Whether this thread is within a call."""
+    """The turn of this thread: whether the thread is within a call."""
 
     is_taken = False
 
@@ -345,8 +346,8 @@ class _Handle:
 
     Python may run the handler of a signal between any two steps of the main thread, for example
     between a call and the reading of its text. So a thread takes its turn before it waits for the
-    lock, and keeps it until it has read the whole answer. A handler that finds the turn taken
-    makes no call, and leaves the closing to the call that it interrupts."""
+    lock, and keeps the turn until it has read the whole answer. A handler that finds the turn taken
+    makes no call, and leaves a `close` to the call that it interrupts."""
 
     def __init__(self, path: PathName) -> None:
         self.path = path
@@ -391,9 +392,9 @@ class _Handle:
 
     def do(self, work: Callable[[], Union[Error, _Given]]) -> _Given:
         """Runs `work`, which makes calls by `ask`. No call of another thread comes between them.
-        Raises the error that `work` returns only after it has given back the turn and the lock:
-        before Python 3.11 a handler may run while an exception leaves them, and could leave them
-        taken."""
+        The turn and the lock are released before the error that `work` returns is raised. Before
+        Python 3.11, a handler could otherwise run while an exception passes through them, and leave
+        them taken."""
         error = self.refusal()
         if error:
             raise error
@@ -403,14 +404,14 @@ class _Handle:
                 given = work()
         finally:
             self.turn.is_taken = False
-            if self.is_closed:  # by a handler, meanwhile
+            if self.is_closed:  # a handler has asked for it meanwhile
                 self.close()
         if isinstance(given, Error):
             raise given
         return given
 
     def call(self, name: str, *words: object) -> None:
-        """Makes a call, and raises its error."""
+        """Makes a call by `ask`, and raises its error."""
         self.do(lambda: self.ask(name, *words))
 
     def open(self, name: str, *words: object, flags: int, wait: Wait) -> None:
@@ -509,8 +510,8 @@ def _bindings(handle: _Handle, program: bytes, base: int) -> Error | Bindings:
 
 
 def _name(word: str) -> str:
-    """Returns a name from the program's text, which writes a byte that isn't plain as two digits,
-    and an empty name as an e."""
+    """Returns the name that the program's text encodes. The text has two digits for a byte that
+    isn't plain, and an e for an empty name."""
     if word == '\\e':
         return ''
     spelt = re.sub(r'\\x(..)', lambda it: chr(int(it[1], 16)), word)
@@ -518,7 +519,7 @@ def _name(word: str) -> str:
 
 
 def _objects(text: str) -> list[BoundObject]:
-    """Returns the objects of the text of bindings."""
+    """Returns the objects that a text of bindings lists."""
     objects: list[BoundObject] = []
     for line in text.splitlines():
         what, *words = line.split(' ')
@@ -557,8 +558,8 @@ def _has(handle: _Handle, data: bytes) -> Error | bool:
 
 
 def _put(handle: _Handle, data: bytes) -> Error | Put:
-    """Installs a library. If a library of its SONAME with other bytes is installed, replaces it. A
-    file that is refused is refused first, whatever is installed."""
+    """Installs a library. If a library of its SONAME with other bytes is installed, replaces it.
+    The file itself is tested first, whatever is installed."""
     error = handle.ask('install', data, len(data))
     if not error or error.number != Status.ALREADY_INSTALLED:
         return error or 'installed'
@@ -588,7 +589,7 @@ def _damaged(name: str, finding: Finding) -> Error:
 
 
 def _findings(given: _calls.Findings) -> Findings:
-    """Returns names and findings in Python's own memory."""
+    """Returns the names and findings of a check, in Python's own memory."""
     return [(ctypes.string_at(given.names + it.name, it.name_length).decode(),
              _finding(it.finding)) for it in given.findings[:given.count]]
 
@@ -619,7 +620,8 @@ class Update:
     """Changes of a registry that are made together, as one, when its `with` block ends. If the
     block ends by an exception, none is made. Until the end nothing is written or refused. If the
     registry refuses a change, the next `bind`, and the end, raise the exception; its `change` is
-    the number of the change. Files are given as to a Registry, and are in memory until the end."""
+    the number of the change. Files are passed as to the calls of Registry, and stay in memory until
+    the end."""
 
     def __init__(self, handle: _Handle) -> None:
         self._handle = handle
@@ -658,7 +660,7 @@ class Update:
         self._handle.do(lambda: self._ask(name, changes, len(places), data, at, *words))
 
     def _ask(self, name: str, *words: object) -> Error | None:
-        """Makes a call. Returns its error, which says which change is refused, or None."""
+        """Makes a call. Returns None or its error, which has the number of the refused change."""
         error = self._handle.ask(name, *words)
         if error and _is_of_a_change(error.number):
             error.change = _library.rlibreg_last_answer(self._handle.struct).contents.count
@@ -796,8 +798,8 @@ class Registry:
         return Info(*(getattr(given, name) for name in Info._fields))
 
     def check(self) -> Findings:
-        """Tests each library, in the order of installation. Returns each name with what was found
-        of its file. A damaged library doesn't prevent the others from being tested."""
+        """Tests each library, in the order of installation. Returns a finding on each. The others
+        are tested even if a library is damaged."""
         given = _calls.Findings()
         try:
             self._handle.call('check_libraries', ctypes.byref(given))
@@ -865,6 +867,6 @@ def format(path: PathName, sectors: int, wait: Wait = False) -> None:
 
 
 def upgrade(path: PathName, wait: Wait = False) -> None:
-    """Makes a registry of version 1 one of version 2, with everything that it has."""
+    """Turns a registry of version 1 into one of version 2, with the same libraries and preloads."""
     with Registry(path, read_write=True, wait=wait) as registry:
         registry._handle.call('upgrade')

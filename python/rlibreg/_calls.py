@@ -68,7 +68,8 @@ class Findings(ctypes.Structure):
 
 @functools.lru_cache(maxsize=64)
 def array(length: int) -> Any:
-    """Returns the type of `length` bytes, which takes a while to make."""
+    """Returns the type of an array of `length` bytes. Each type is kept, because it takes long to
+    make."""
     return ctypes.c_char * length
 
 
@@ -80,8 +81,9 @@ class Image(ctypes.Structure):
                 ('bytes', ctypes.c_void_p)]
 
     def view(self, length: int) -> memoryview:
-        """Returns a view of the first bytes, which stay as long as anyone has a view of them. Any
-        length works here, while string_at takes a C int, and nothing is copied."""
+        """Returns a view of the first `length` bytes, which stay as long as a view of them
+        exists. Nothing is copied, and any length is possible, unlike with string_at, whose length
+        is a C int."""
         data = array(length).from_address(self.bytes)
         data.image = self
         return memoryview(data).cast('B').toreadonly()
@@ -131,8 +133,8 @@ PROTOTYPES: dict[str, tuple[Any, ...]] = {  # the result of each call, and its a
 
 
 def not_found(why: OSError) -> ImportError:
-    """Returns an error that says what was looked for and where, and which libraries of its name
-    exist."""
+    """Returns an error with the library that was searched, the places of the search, and the
+    libraries of this name that exist."""
     named = os.environ.get('LD_LIBRARY_PATH')
     folders = [*filter(None, (named or '').split(':')), '/usr/local/lib',
                f'/usr/lib/{os.uname().machine}-linux-gnu', '/usr/lib64', '/usr/lib']
@@ -145,7 +147,7 @@ def not_found(why: OSError) -> ImportError:
 
 
 def loaded_from() -> str:
-    """Returns the file that the loader has taken, if the system reports it."""
+    """Returns the file from which the library was loaded, if the system reports it."""
     try:
         with open('/proc/self/maps') as maps:
             return next((line.split(maxsplit=5)[5].strip() for line in maps
@@ -169,12 +171,12 @@ def load() -> ctypes.CDLL:
 
 
 library = load()
-# Only Python's C calls the functions that free: in a method of Python the handler of a signal
-# could run, and its exception would be lost, and the memory with it.
+# Only C code of Python calls the functions that free memory. In a Python method, the handler of a
+# signal could run: its exception would be lost, and the memory would never be freed.
 method = ctypes.pythonapi.PyInstanceMethod_New
 method.restype, method.argtypes = ctypes.py_object, [ctypes.py_object]
 Registry.__del__ = method(library.rlibreg_close)  # type: ignore[attr-defined]
 Image.__del__ = method(library.rlibreg_image_free)  # type: ignore[attr-defined]
 
-free = ctypes.CDLL(None).free  # that of the process, as the library's malloc
+free = ctypes.CDLL(None).free  # the process's own, like the library's malloc
 free.restype, free.argtypes = None, [POINTER]

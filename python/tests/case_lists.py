@@ -13,7 +13,7 @@ class Case(NamedTuple):
     call: str  # its first word
     words: list  # the other words; words of the program may be empty
     answer: str
-    holds: bool  # whether the call returns this answer, or another one
+    holds: bool  # whether the call has to return this answer, or a different one
 
 
 def number(word):
@@ -26,7 +26,7 @@ def stored(name):
 
 
 def change(data, word):
-    """Makes one change of a file's bytes."""
+    """Returns a file's bytes after one change."""
     place, spelt = word.split('=', 1)
     if place == 'cut':
         del data[number(spelt):]

@@ -1,9 +1,10 @@
-"""Runs the stored cases that the module has calls for, and compares answers and the disk's bytes.
+"""Runs the stored cases for which the module has calls, and compares the answers and the disk's
+bytes.
 
     python3 run_cases.py [FOLDER]
 
-FOLDER is where disks are made. An answer is put into the words of the program: its text, without
-the lines `object`, which an image of the module hasn't got, and its exit status.
+FOLDER is where disks are made. An answer is converted to what the program prints: its text, without
+the lines `object`, which an image of the module doesn't have, and its exit status.
 """
 
 import collections
@@ -29,7 +30,7 @@ class NotMapped(Exception):
     """A case that needs calls which the module doesn't have."""
 
 
-# ---- The program's words for what the module returns
+# ---- What the program prints for the results of the module
 
 
 def listing_text(listing):
@@ -59,7 +60,7 @@ def without_objects(text):
 
 
 def told(call):
-    """Returns what the program prints of a call, and its exit status."""
+    """Returns the text that the program prints for the result of a call, and its exit status."""
     try:
         text = call()
     except (rlibreg.Error, OSError) as error:
@@ -82,7 +83,8 @@ def ask(registry, command, words):
 
 
 def test_all(registry):
-    """Tests each library, as the program does when it opens a disk, and as the module doesn't."""
+    """Tests each library, as the program does when it opens a disk. The module doesn't do so by
+    itself."""
     if any(finding.number for _, finding in registry.check()):
         error = rlibreg.Refusal()
         error.number, error.text = Status.DAMAGED, 'refused S5 Damaged'
@@ -95,7 +97,7 @@ def run_command(disk, command, words):
     if command == 'upgrade':
         return rlibreg.upgrade(disk)
     if command in ('install', 'replace', 'bind') and words[0] != str(disk):
-        words = [Path(words[0]).read_bytes(), *words[1:]]  # as the program: before the disk
+        words = [Path(words[0]).read_bytes(), *words[1:]]  # the program tests this before it opens the disk
     with rlibreg.Registry(disk, read_write=command not in ('list', 'bind')) as registry:
         test_all(registry)
         return ask(registry, command, words)
@@ -122,8 +124,8 @@ def run_lines(registry, script):
 
 
 def update_by(registry, lines):
-    """Returns the replies to the lines of an update. A refusal comes later than the tool's: it
-    says which change it is about."""
+    """Returns the replies to the lines of an update. The tool refuses at the line itself, and the
+    module later, with the number of the change."""
     replies, changes = [], []
     try:
         with registry.update() as update:
@@ -159,7 +161,7 @@ def script_of(data):
     return data
 
 
-# ---- Calls of cases, each with what it returns
+# ---- Calls of cases, each with the answer that it returns
 
 
 class Run(NamedTuple):
@@ -221,7 +223,7 @@ def told_script(path, script):
 
 
 def is_mapped(run):
-    """Returns whether the words are those of a command that the module has."""
+    """Returns whether the words are a command for which the module has a call."""
     _, *words = run.words
     if run.program == 'tool':
         return run.command == 'update' and not words
@@ -315,7 +317,7 @@ def byte_on(case, disk):
 
 
 def library_on(case, disk):
-    """`library FILE => ANSWER`: what is found of the file, in place of a library `b`."""
+    """`library FILE => ANSWER`: the finding on the file, in place of a library `b`."""
     data = file(' '.join(case.words))
     if not (64 <= len(data) <= 1 << 24 and case.holds):
         raise NotMapped  # no library of that length is installed; other names are found to be the same
@@ -326,7 +328,7 @@ def library_on(case, disk):
         try:
             registry.install(before)
         except rlibreg.Refusal:
-            raise NotMapped from None  # it is shorter than that library
+            raise NotMapped from None  # the file is shorter than that library
     with open(disk, 'r+b') as sectors:
         sectors.seek(2 * 512)  # the first library's data
         sectors.write(data)

@@ -1,6 +1,6 @@
 """Calls from handlers of signals, some thousand of them a second, from threads, from children of
-fork, with closed streams, and at the end of Python: each hears what it was answered itself, and
-nothing is lost.
+fork, with closed streams, and at the end of Python: each call gets its own answer, and nothing is
+lost.
 
     python3 -X dev -m unittest test_handlers
 """
@@ -17,7 +17,7 @@ import rlibreg
 from rlibreg import Registry, Status
 from test_module import LIBRARY, PROGRAM, OnDisk
 
-SECONDS = 0.4  # the seconds of each test
+SECONDS = 0.4  # how many seconds each test takes
 
 
 class Handlers(OnDisk):
@@ -42,7 +42,7 @@ class Handlers(OnDisk):
 
     @staticmethod
     def heard(call):
-        """Returns the result of a call, or everything that is said of why there is none."""
+        """Returns the result of a call, or everything that its exception reports."""
         try:
             return call()
         except rlibreg.Busy:
@@ -57,8 +57,8 @@ class Handlers(OnDisk):
             update.remove('b')
 
     def try_all(self, wrong, busy=None):
-        """Makes each call. Adds to `wrong` the answers that differ from those without handlers,
-        and to `busy` those that say so."""
+        """Makes each call. Adds to `wrong` the answers that differ from those without handlers, and
+        to `busy` those that are Busy."""
         for call, answer in zip(self.calls, self.answers):
             found = self.heard(call)
             if found == 'busy' and busy is not None:
@@ -67,9 +67,9 @@ class Handlers(OnDisk):
                 wrong.append((found, answer))
 
     def strike(self, call):
-        """Makes the handler of a signal call a millisecond after the call before, until the test
-        ends. Returns a function that says whether to go on: for a while, and until enough was
-        seen."""
+        """Makes the handler of a signal run `call` one millisecond after the last run, until the
+        test ends. Returns a function that returns whether to go on: for some seconds, and until
+        there were enough calls."""
         def handler(*_):
             try:
                 call()
@@ -190,7 +190,7 @@ class Handlers(OnDisk):
         self.assertEqual((wrong, len(closed)), ([], 80))
 
     def test_a_child_of_a_handler_closes(self):
-        """A child that is made within a call also makes the rest of that call."""
+        """A child that a handler makes within a call also makes the rest of that call."""
         children = []
 
         def handler():

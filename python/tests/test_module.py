@@ -1,5 +1,5 @@
-"""What the stored cases can't say of the module: its types, its errors, locks, processes, threads
-and memory.
+"""Tests of the module that no stored case can express: its types, its errors, locks, processes,
+threads and memory.
 
     python3 -m unittest test_module
 """
@@ -28,7 +28,7 @@ from case_lists import DATA, file
 from rlibreg import Registry, Status, _calls
 
 HEADER = (Path(__file__).resolve().parents[2] / 'c' / 'rlibreg.h').read_text()
-TOOL = os.environ.get('RLIBREG_TOOL')  # which a dump is compared with
+TOOL = os.environ.get('RLIBREG_TOOL')  # the file that a dump is compared with
 LIBRARY, PROGRAM = DATA / 'strong.so', DATA / 'program-1.so'  # `b`, and a program that needs it
 SECTORS = 512
 
@@ -47,7 +47,7 @@ def spelt(name):
 
 
 def bindings_text(given):
-    """Returns the text of bindings, made from their objects."""
+    """Returns the text of bindings, which is made from the objects of `given`."""
     lines = []
     for it in given.objects:
         lines.append(f'found {spelt(it.name)}' if it.base is None else
@@ -150,8 +150,8 @@ class Arguments(OnDisk):
         self.refused(Status.BAD_ARGUMENT, rlibreg.format, self.disk, 7)
 
     def test_a_file_is_read_up_to_its_limit(self):
-        """A file is read up to its limit: a file of 1 TiB, and a pipe that has more than the
-        limit."""
+        """A file is read up to the limit of its length: a file of 1 TiB, and a pipe that has more
+        bytes than the limit."""
         long, pipe = self.disk.with_name('long'), self.disk.with_name('pipe')
         long.write_bytes(LIBRARY.read_bytes())
         os.truncate(long, 1 << 40)
@@ -335,7 +335,7 @@ class Updates(OnDisk):
 
     @staticmethod
     def update_with(registry, place, call):
-        """Makes `place` changes, and one that is refused."""
+        """Makes an update of `place` changes, and of one that is refused."""
         with registry.update() as update:
             for _ in range(place):
                 update.preload([])
@@ -379,7 +379,8 @@ class Updates(OnDisk):
         self.assertEqual(self.state(), before)
 
     def test_memory_that_is_refused(self):
-        """A process that may have only a little more memory doesn't get what a long disk needs."""
+        """A process that may have only a little more memory is refused the memory that a long disk
+        needs."""
         self.disk.unlink()
         rlibreg.format(self.disk, 1 << 19)
 
@@ -403,7 +404,7 @@ class Locks(OnDisk):
         with Registry(self.disk), Registry(self.disk):
             self.refused(Status.LOCKED, Registry, self.disk, True)
         self.assertRaises(ZeroDivisionError, self.ends_by_an_exception)
-        Registry(self.disk, read_write=True)  # and one that nobody names any more
+        Registry(self.disk, read_write=True)  # a registry that nothing refers to any more
         Registry(self.disk, read_write=True).close()
 
     def test_its_own_lock_is_not_waited_for(self):
@@ -417,7 +418,7 @@ class Locks(OnDisk):
             raise ZeroDivisionError
 
     def held_by_a_child(self, seconds):
-        """Makes a child that locks the disk, and says when it has done so."""
+        """Makes a child that locks the disk and reports this."""
         says, said = os.pipe()
         child = os.fork()
         if not child:
@@ -440,7 +441,7 @@ class Locks(OnDisk):
 
     def test_a_wait_of_seconds(self):
         with Registry(self.disk):
-            self.held_for(0, lambda: Registry(self.disk, True, 60))  # it would wait for itself
+            self.held_for(0, lambda: Registry(self.disk, True, 60))  # the thread would wait for itself
         child = self.held_by_a_child(60)
         for seconds in (0, 0.0, 0.25):
             self.held_for(seconds, lambda: Registry(self.disk, wait=seconds))
@@ -515,7 +516,8 @@ class Processes(OnDisk):
         registry.close()
 
     def test_children_with_their_parents_number(self):
-        """Process 1 of a process namespace makes another one, and forks its process 1; and so on."""
+        """Process 1 of a process namespace makes another namespace, forks a child, which is process
+        1 of it, and so on."""
         def child():
             assert not leave_namespace()
             self.in_a_child(lambda: self.in_generations([]))
@@ -556,7 +558,7 @@ class Processes(OnDisk):
 
 
 class GivingLock:
-    """A lock that a waiting thread gets before the thread that had it."""
+    """A lock that goes to a waiting thread before the thread that had it can take it again."""
 
     def __init__(self):
         self.lock = threading.Lock()
@@ -680,8 +682,8 @@ class Contents(OnDisk):
                 self.refused(Status.READ_ONLY, registry.put, it)
 
     def test_what_is_damaged_is_put_anew(self):
-        """A damaged library is put again; a refused file isn't, though a registry has exactly
-        these bytes."""
+        """`put` replaces a damaged library. It doesn't put a file that is refused, even if the
+        registry has exactly these bytes."""
         self.two_are_there()
         self.damage()
         with Registry(self.disk, read_write=True) as registry:
@@ -691,8 +693,8 @@ class Contents(OnDisk):
             self.assertEqual({finding.text for _, finding in registry.check()}, {'ok'})
 
     def test_another_thread_removes_what_is_put(self):
-        """Between the parts of a call no other call is made, though another thread waits to make
-        one."""
+        """No other call is made between the parts of `put`, even if another thread waits to make a
+        call."""
         with Registry(self.disk, read_write=True) as registry:
             registry.install(LIBRARY)
             handle, thread = registry._handle, threading.Thread(target=registry.remove, args=('b',))
@@ -709,8 +711,8 @@ class Contents(OnDisk):
             self.assertEqual(list(registry), [])
 
     def test_bindings_and_executables_are_those_of_the_tool(self):
-        """Compares them for each stored object as a program, together with the libraries that have
-        room."""
+        """Compares bindings and executables with those of the tool: for each stored object as a
+        program, with as many libraries as there is room for."""
         seen = set()
         with Registry(self.disk, read_write=True) as registry:
             for path in sorted(DATA.glob('linked*.so')) + sorted(DATA.glob('*.so')):
@@ -730,8 +732,8 @@ class Contents(OnDisk):
                                        'B1'})
 
     def is_told(self, form, path, given):
-        """Checks that the tool prints and says the same. Notes which lines, or which refusals,
-        were seen."""
+        """Checks that the tool has the same output and messages. Records which lines, or which
+        refusals, occurred."""
         if isinstance(given, rlibreg.Bindings):
             self.assertEqual(given.text, bindings_text(given))
             wanted = given.text.encode(), '', int(given.status != Status.DONE)
@@ -813,7 +815,8 @@ class Contents(OnDisk):
             self.assertEqual(self.dumped(registry, Status.OLD_FORMAT), b'cut')
 
     def test_a_dump_of_what_changes(self):
-        """A dump is of one state, or ends; changes that were refused meanwhile make no difference."""
+        """A dump has the libraries of one state, or ends. Changes that are refused meanwhile have
+        no effect on it."""
         self.two_are_there()
         with Registry(self.disk, read_write=True) as registry:
             wanted = b''.join(registry.dump())
@@ -922,8 +925,8 @@ class Memory(OnDisk):
             self.is_kept(2000, lambda: self.refused(Status.LOCKED, Registry, self.disk))
 
     def is_kept(self, count, call):
-        """Checks that `count` calls need no more memory and files than fifty calls, or than as
-        many calls before: Python allocates its own memory in pieces of a MiB."""
+        """Checks that `count` calls need no more memory and files than fifty calls, or than the
+        same number of calls before. Python allocates its own memory in pieces of a MiB."""
         self.many(50, call)
         for _ in range(3):
             memory, files = self.in_use()
@@ -941,7 +944,7 @@ class Memory(OnDisk):
 
     @staticmethod
     def in_use():
-        """Returns the bytes of memory, whether they were written or not, and the number of files."""
+        """Returns the number of bytes of memory, written or not, and the number of open files."""
         pages = int(Path('/proc/self/statm').read_text().split()[5])
         return pages * resource.getpagesize(), len(os.listdir('/proc/self/fd'))
 

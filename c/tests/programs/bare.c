@@ -1,5 +1,5 @@
-/* A program without initializers of its own: it prints a line when it is entered,
- * and calls the function that it was given for its end. */
+/* A program without initializers of its own: it prints a line when it is entered, and at its end
+ * calls the function whose address the loader passed to it. */
 #include "start.h"
 
 void begin(uint64_t *stack, uint64_t at_end) {

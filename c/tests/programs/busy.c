@@ -1,4 +1,4 @@
-/* A library whose constructor does with the program's C library what a constructor may do. */
+/* A library whose constructor makes many kinds of calls of the program's C library. */
 #include <pthread.h>
 #include <stdio.h>
 #include <stdlib.h>

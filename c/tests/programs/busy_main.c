@@ -1,4 +1,4 @@
-/* A program that says what the constructor of busy.c has left it. */
+/* A program that prints the results of the constructor of busy.c. */
 #include <stdio.h>
 #include <stdlib.h>
 #include <string.h>

@@ -1,5 +1,6 @@
-/* A library whose functions are compiled with a stack protector: each frame holds the secret value of the
- * thread. The library has the function that it and its program call if a frame's value has changed. */
+/* A library whose functions are compiled with a stack protector: each frame holds the secret value
+ * of the thread. The library also has the function that it and its program call if the value in a
+ * frame has changed. */
 #include "say.h"
 
 void __stack_chk_fail(void);

@@ -1,4 +1,5 @@
-/* A library that says its name when it begins and ends, by the program's C library. */
+/* A library that prints its name when it is initialized and finalized, by the program's C
+ * library. */
 #include <stdio.h>
 #include <stdlib.h>
 #include <string.h>

@@ -1,5 +1,5 @@
-/* A program that prints its name and its maps, as the kernel has them, and then the file that its
- * argument names, if there is one. */
+/* A program that prints its name and its maps, as the kernel reports them. If it has an argument,
+ * it then prints the file that this names. */
 #include "start.h"
 
 static void show(const char *path) {

@@ -1,5 +1,6 @@
-/* A program that prints a line when it is entered, and calls the function that it was given for its
- * end: twice, with one argument once, with two not at all. */
+/* A program that prints a line when it is entered. At its end it calls the function whose address
+ * the loader passed to it: twice, but only once if there is one argument, and not at all if there
+ * are two. */
 #include "start.h"
 
 static void before(int argc, char **argv, char **variables) {
@@ -7,8 +8,8 @@ static void before(int argc, char **argv, char **variables) {
     say("before "), say_number((uint64_t)argc), say(" "), say(argv[0]);
 }
 
-/* The program's own functions: the first is called before all others. The program's start would have to
- * call the rest, and doesn't. */
+/* The program's own functions: the first is called before all others. The others would have to be
+ * called by the program's start code, which doesn't call them. */
 __attribute__((section(".preinit_array"), used)) static void (*const preinit)(int, char **,
                                                                               char **) = before;
 __attribute__((constructor)) static void own(void) {

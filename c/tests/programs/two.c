@@ -1,4 +1,4 @@
-/* A library that needs libone.so: its functions, its data, and a pointer to each in its own
+/* A library that uses the functions and data of libone.so, and has a pointer to each in its own
  * data. */
 extern int one(void);
 extern int one_count;

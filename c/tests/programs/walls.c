@@ -1,4 +1,4 @@
-/* A program that touches memory that it may not touch: its first argument says which. */
+/* A program that touches memory that it may not touch. Its first argument selects the memory. */
 #include "start.h"
 
 static const char constant[] = "constant";

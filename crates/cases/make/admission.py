@@ -109,14 +109,14 @@ FIELDS = [
 def table():
     m = Case('minimal.so')
     write_list('admission-changes.txt', [
-        ('Changes of minimal.so that symbols, strings and the hash table bring, read as a program.', [
+        ('Changes to the symbols, the strings and the hash table of minimal.so, which is read as a program.', [
             image(changed(m, *change), wanted='B1 ' + refusal) for change, refusal in TABLE]),
         ('Fields of eight or four bytes that run past every file.', [
             image(changed(m, *change), wanted='B1 ' + refusal) for change, refusal in FIELDS]),
-        ('A library has a SONAME.', [admit(m, ''), library(m, 'E33 BadSoname')]),
-        ('HASH made SYMBOLIC, which an object may have: what is missing is the hash table.', [
+        ('A library must have a SONAME.', [admit(m, ''), library(m, 'E33 BadSoname')]),
+        ('HASH is replaced by SYMBOLIC, which an object may have. The file is refused because the hash table is missing.', [
             image(changed(m, (0xf8, u8(0x10))), wanted='B1 E19 NoHashTable')]),
-        ('FLAGS is read for DF_SYMBOLIC, the value 2, alone, and an object may have it.', [
+        ('Of FLAGS, only DF_SYMBOLIC (the value 2) is read, and an object may have it.', [
             admit(changed(made('flags.so', Object(entries=[(30, 8)]))[0]), ''),
             admit(made('symbolic.so', Object(entries=[(30, 10)]))[0], '')]),
     ] + symbolic_tags())
@@ -133,12 +133,12 @@ def symbolic_tags():
     pair, _ = made('symbolic-tags.so', Object(b'q', entries=[(SYMBOLIC, 0), (FLAGS, 2)]))
     triple, _ = made('symbolic-three-tags.so', Object(b'q', entries=[(SYMBOLIC, 0), (FLAGS, 2), (DEBUG, 0)]))
     return [
-        ('SYMBOLIC or FLAGS twice, whatever the values are, and beside versions, REL and RELR, in either order.', [
+        ('SYMBOLIC or FLAGS occurs twice, with any values, and together with versions, REL and RELR, in either order.', [
             line for entries, refusal in PAIRS for line in (
                 admit(with_entries(pair, entries), refusal), library(with_entries(pair, entries), refusal))]),
-        ('Both tags, of any value; tags of 64 bits; what stands behind the first NULL.', [
+        ('Both tags, with any values; tags of 64 bits; and entries after the first NULL.', [
             line for entries in TAKEN for line in (admit(with_entries(pair, entries), ''), library(with_entries(pair, entries), ''))]),
-        ('Three entries: the order of these tests.', [admit(with_entries(triple, entries), refusal) for entries, refusal in TRIPLES]),
+        ('Three entries show the order of these tests.', [admit(with_entries(triple, entries), refusal) for entries, refusal in TRIPLES]),
     ]
 
 
@@ -186,7 +186,7 @@ def symbols():
         ('LOCAL', [(info, u8(0x02))], 0), ('no type', [(info, u8(0x10))], 1), ('an object', [(info, u8(0x11))], 1),
         ('a section', [(info, u8(0x13))], 0), ('a file', [(info, u8(0x14))], 0),
         ('undefined', [(section, u8(0, 0))], 0), ('absolute', [(section, u8(0xf1, 0xff))], 1),
-        ('an ordinary section of a high number', [(section, u8(0, 0xff))], 1)]
+        ('an ordinary section with a high number', [(section, u8(0, 0xff))], 1)]
     hidden, _ = made('hidden.so', Object(soname=b'q', symbols=[export(b'f', visibility=HIDDEN)] * 2))
     twice, _ = made('twice.so', Object(soname=b'q', symbols=[export(b'f')] * 2))
     weak, _ = made('weak.so', Object(soname=b'q', symbols=[export(b'f'), export(b'f', binding=WEAK)]))
@@ -201,23 +201,23 @@ def symbols():
     local, _ = made('local.so', Object(soname=b'q', symbols=[export(b'f', binding=LOCAL), export(b'f')]))
     prefix, _ = made('prefix.so', Object(soname=b'q', symbols=[export(b'fg'), export(b'f'), export(b'')]))
     write_list('admission-symbols.txt', [
-        ('Symbols of binding, type and section that no object may have; the first test that applies answers.', [
+        ('Symbols with a binding, a type or a section that no object may have. The first test that applies refuses the file.', [
             library(changed(q, *change), refusal) for change, refusal in lines]),
         ('Symbol 0 isn\'t tested.', [library(changed(q, (at['symbols'] + 4, u8(0xff))), ''),
                                      library(changed(q, (at['symbols'], ALL)), '')]),
     ] + [(f'Which symbols are exported: {what}.', [find(changed(q, *change), b'f', wanted)])
          for what, change, wanted in visible] + [
-        ('Two symbols of one name: refused where both are exported, also where one is weak.', [
+        ('Two symbols of one name are refused if both are exported, even if one of them is weak.', [
             library(hidden, ''), find(hidden, b'f', 0), library(twice, 'E28 DuplicateDefinition'),
             library(weak, 'E28 DuplicateDefinition'), library(local, ''), find(local, b'f', 2)]),
-        ('Two exports whose names stand at one place of the strings: refused, as a library and as a program, also where one is\n'
-         'weak. Where one of the two isn\'t exported they are taken, and the other is found.', [
+        ('Two exports whose names begin at the same place of the strings are refused, in a library and in a program, even if one of them\n'
+         "is weak. If one of the two isn't exported, the object is accepted, and the other symbol is found.", [
             library(place_library, 'E28 DuplicateDefinition'), admit(place, 'E28 DuplicateDefinition'),
             image(place, wanted='B1 E28 DuplicateDefinition'), admit(place_weak, 'E28 DuplicateDefinition'),
             admit(place_local, ''), find(place_local, b'f', 2), admit(place_undefined, ''), find(place_undefined, b'f', 1)]),
-        ('Two exports of names that differ: in their lengths, in one byte, of one length with the same first, middle and last eight bytes,\n'
-         'as tails of one string.', [admit(pair_of_names(*row), '') for row in DIFFERENT]),
-        ('Two exports of one name: in one place of the strings and in two, as the tail of a string and as another string.', [
+        ('Two exports with different names. The names differ in their lengths, or in one byte; have the same length and the same first,\n'
+         'middle and last eight bytes; or are tails of one string.', [admit(pair_of_names(*row), '') for row in DIFFERENT]),
+        ('Two exports of one name: at one place of the strings, at two places, and as the tail of a string and as another string.', [
             admit(pair_of_names(*row), 'E28 DuplicateDefinition') for row in EQUAL]),
         ('A name that is the beginning of another one; the empty name; absent names.', [
             find(prefix, b'f', 2), find(prefix, b'fg', 1), find(prefix, b'', 3), find(prefix, b'g', 0),
@@ -266,31 +266,31 @@ def tables():
             library(changed(fg, (chain + 4, u32(1))), bad), library(changed(fg, (chain + 8, u32(3))), bad),
             library(changed(fg, (chain + 8, u32(0xffffffff))), bad), library(changed(fg, (bucket, u32(3))), bad),
             library(changed(fgh, (h3 + 12 + 12, u32(2))), bad)]),
-        ('chain[0] is followed by nobody, but it is a word of the table.', [
+        ('No chain leads on from chain[0], but it is a word of the table.', [
             library(changed(fg, (chain, u32(2))), ''), library(changed(fg, (chain, u32(3))), bad)]),
-        ('Exports that no chain holds, or that stand behind a 0.', [
+        ('Exports that no chain has, or that come after a 0 in their chain.', [
             library(changed(fg, (bucket, u32(0))), bad), library(changed(fg, (bucket, u32(2))), bad),
             library(changed(fg, (chain + 4, u32(0))), bad)]),
-        ('An export under another bucket than its own, under its own, and under both.', [
+        ('An export in a bucket that is not its own, in its own bucket, and in both.', [
             library(wrong, bad), library(right, ''), library(both, '')]),
-        ('More buckets than symbols: each export under its own; under another one\'s; under none; a word that is no symbol\'s index,\n'
-         'in a bucket that no name belongs to; a ring, from such a bucket too; and the same in a program.', [
+        ("More buckets than symbols: each export in its own bucket; in another export's bucket; in none. Also, in a bucket to which no\n"
+         "name belongs, a word that is no symbol's index; a ring, also one that begins in such a bucket; and the same in a program.", [
             library(wide, ''), find(wide, b'f', 1), find(wide, b'g', 2), find(wide, b'z', 0),
             library(under(0, 0, 2, 1, 0), bad), library(under(1, 2, 0, 0, 0), bad), library(under(0, 0, 0, 0, 0), bad),
             library(under(3, 0, 1, 2, 0), bad), library(under(0, 0, 1, 2, 0xffffffff), bad),
             library(under(0, 0, 1, 2, 0, 0, 1, 0), bad), library(under(2, 0, 1, 1, 0, 0, 2, 2), bad),
             library(under(2, 1, 1, 2, 1, 0, 0, 0), ''), admit(under(0, 0, 2, 1, 0), bad),
             image(under(0, 0, 2, 1, 0), wanted='B1 ' + bad)]),
-        ('A bucket into the middle of another one\'s chain.', [library(middle, ''), find(middle, b'g', 2), find(middle, b'h', 3)]),
+        ("A bucket that leads into the middle of another bucket's chain.", [library(middle, ''), find(middle, b'g', 2), find(middle, b'h', 3)]),
         ('An undefined symbol on a chain.', [library(before, ''), find(before, b'f', 2), find(before, b'u', 0)]),
-        ('No symbols; no buckets; no chains, so that the bucket\'s word isn\'t below their number.', [
+        ("No symbols; no buckets; no chains, and then the bucket's word isn't less than the number of chains.", [
             library(empty, ''), library(nothing, bad), library(none, bad)]),
         ('Numbers of buckets and chains that run past the file.', [
             library(changed(fg, (h, u32(0xffffffff))), 'E22 BadRange'),
             library(changed(fg, (h + 4, u32(0xffffffff))), 'E22 BadRange')]),
-        ('How many names a search compares.', [
+        ('The number of names that a search compares.', [
             find(fgh, b'f', 1), find(fgh, b'g', 2), find(fgh, b'h', 3), find(fgh, b'z', 0)]),
-        ('Hashes of names.', [f'hash {word} => 0x{value:x}' for word, value in [
+        ('The hashes of names.', [f'hash {word} => 0x{value:x}' for word, value in [
             ('bytes=', 0), ('a', 0x61), ('ab', 0x672), ('exit', 0x6cf04), ('printf', 0x077905a6),
             ('abcdefg', 0x0789aba7), ('abcdefgh', 0x089abaa8)]]),
     ])
@@ -308,22 +308,22 @@ def bounds():
     accepted = lambda *change: admit(changed(m, *change), '')
     refused = lambda *change: admit(changed(m, *change), 'E22 BadRange')
     write_list('admission-bounds.txt', [
-        ('The string table ends with its segment, and one byte past it; it begins one byte before the segment.', [
+        ('The string table ends where its segment ends, and one byte later. Or it begins one byte before the segment.', [
             accepted((strings, u64(end - 1))), refused((strings, u64(end))), accepted((strings, u64(end - 8)), (size, u64(8))),
             refused((strings, u64(end - 8)), (size, u64(9))), refused((strings, u64(2**64 - 1)), (size, u64(2)))]),
-        ('The hash table: its first eight bytes, and then all of it.', [
+        ('The hash table: its first eight bytes cross the end of the segment, or end there; and then the whole table.', [
             refused((table, u64(end - 7))), refused((table, u64(end))),
             admit(changed(m, (table, u64(end - 16)), (end - 16, u32(1)), (end - 12, u32(1)), (end - 8, u64(0))), ''),
             refused((table, u64(end - 16)), (end - 16, u32(1)), (end - 12, u32(2))),
             refused((table, u64(end - 16)), (end - 16, u32(2)), (end - 12, u32(1)))]),
-        ('The symbol table ends with its segment, and one byte past it.', [
+        ('The symbol table ends where its segment ends, and one byte later.', [
             accepted((sym, u64(end - 24))), refused((sym, u64(end - 23)))]),
-        ('The relocations end with their segment, and one byte past it.', [
+        ('The relocations end where their segment ends, and one byte later.', [
             accepted((rela, u64(end - 24))), refused((rela, u64(end - 23)))]),
-        ('A table that is readable through no one segment, behind the file\'s bytes.', [
+        ('A table after the bytes of the file: no single segment makes it readable.', [
             refused((0x68, u64(0x200)), (strings, u64(end)))]),
-        ('An empty table of relocations is readable wherever it stands.', [accepted((0x160, u64(0)), (rela, ALL))]),
-        ('Strings: no table, a last byte that isn\'t 0, a name at the last byte and one behind it.', strings_bounds()),
+        ('An empty table of relocations is readable at any address.', [accepted((0x160, u64(0)), (rela, ALL))]),
+        ("Strings: no table, a last byte that isn't 0, a name at the last byte, and a name after the last byte.", strings_bounds()),
     ])
 
 
@@ -384,14 +384,14 @@ def programs():
         (R_RELATIVE, 0, 0, 0), (kind, 8, 1, 0)], data=16))
     missing = lambda file, at: changed(file, (at['relocations'] + 24 + 12, u32(2)))
     write_list('admission-programs.txt', [
-        ('A program that needs libraries is answered with the first of them, after its base.', [
+        ('A program that needs libraries is refused with the name of the first of them. Its base is tested before.', [
             image(p, wanted='B3 Missing /program a'), image(p, 0x10001, 'B2 BadBase')]),
-        ('A library with header types and tags that aren\'t read, of two segments; one that needs versions.', [
+        ("A library of two segments, with header types and tags that aren't read; and a library that needs versions.", [
             library(w, ''), find(w, b'f', 1), library(versions, 'E17 SymbolVersions'), bound(w, 'w.image')]),
-        ('A relocation names a symbol that no object defines; one that isn\'t there.', [
+        ("A relocation names a symbol that no object defines, or a symbol that doesn't exist.", [
             image(named(kind)[0], wanted='B5 Undefined /program f') for kind in (1, 6, 7)] + [
             image(missing(*named(kind)), wanted='B1 E31 RelocationSymbol') for kind in (1, 6, 7)]),
-        ('The symbol of a relocation that names none isn\'t looked at.', [
+        ("If the type of a relocation needs no symbol, its symbol isn't read.", [
             admit(changed(Case('minimal.so'), (0xec, u32(0xffffffff))), '')]),
     ])
 
@@ -410,22 +410,22 @@ def values():
         return image(file, wanted='B5 Undefined /program f')
     own = Symbol(b'f', GLOBAL, FUNC, DEFINED, 8)
     write_list('values.txt', [
-        ('A defined symbol: its address and the addend for type 64, its address alone for the others.',
+        ('A defined symbol: for type 64, its address and the addend; for the other types, only its address.',
          row('64', [own], R_64, 5, lambda d: d + 5) + row('got', [own], R_GLOB_DAT, 5, lambda d: d)
          + row('slot', [own], R_JUMP_SLOT, 5, lambda d: d)),
-        ('An absolute symbol is its value, without the base.',
+        ('The value of an absolute symbol is taken without the base.',
          row('absolute', [Symbol(b'f', GLOBAL, FUNC, ABSOLUTE, 0x1234)], R_64, 1, lambda d: 0x1235)),
         ('Symbols that no other object can replace.',
          row('local', [Symbol(b'f', LOCAL, OBJECT, DEFINED, 8)], R_64, 0, lambda d: d)
          + row('protected', [Symbol(b'f', GLOBAL, FUNC, DEFINED, 8, PROTECTED)], R_64, 0, lambda d: d)
          + row('hidden', [Symbol(b'f', GLOBAL, FUNC, DEFINED, 8, HIDDEN)], R_64, 0, lambda d: d)),
-        ('An undefined symbol is found under its name; one that is hidden isn\'t.',
+        ('An undefined symbol is looked up by its name, except a hidden one.',
          row('found', [Symbol(b'f'), own], R_64, 0, lambda d: d)
          + row('withheld', [Symbol(b'f', WEAK, NOTYPE, UNDEFINED, 0, HIDDEN), own], R_64, 0, lambda d: 0)),
-        ('A weak symbol that isn\'t found is 0, another one is undefined.',
+        ("A weak symbol that isn't found has the value 0. Any other symbol that isn't found is undefined.",
          row('weak', [Symbol(b'f', WEAK)], R_64, -8, lambda d: -8) + row('weak-got', [Symbol(b'f', WEAK)], R_GLOB_DAT, 5, lambda d: 0)
          + [refused('undefined', Symbol(b'f')), refused('internal', Symbol(b'f', GLOBAL, NOTYPE, UNDEFINED, 0, INTERNAL))]),
-        ('Symbol 0 is 0.', [
+        ('Symbol 0 has the value 0.', [
             byte(changed(Case('minimal.so'), (0xe8, u8(1))), BASE, BASE + 0x188 + k, b) for k, b in enumerate((0x2000).to_bytes(8, 'little'))]),
     ])
 

@@ -160,36 +160,38 @@ def load_orders():
     asks_long = kept('needs-240.so', Object(needed=[b'm' * 240]))
     named = kept('program-named.so', Object(b'p', [b'p']))
     write_list('binds-order.txt', [
-        ('The program, the preloads, then level by level what these need. The program needs a and b, the preload p needs c,\n'
-         'a needs c and d, b needs d and e: in each order of installation the same, as a whole text too.', [
+        ('The program comes first, then the preloads, and then, level by level, what these need. The program needs a and b, the preload '
+         'p\n'
+         'needs c, a needs c and d, b needs d and e. Each order of installation gives the same load order and the same whole text.', [
              order(levels, *'pabcde'), text(levels, 'levels.image'),
              order(Bind(prog('ab'), of('edcbap'), ['p']), *'pabcde'), order(Bind(prog('ab'), of('dbpeca'), ['p']), *'pabcde')]),
-        ('A library that needs those before it, each once.', [order(Bind(prog('a'), rings), *'ab')]),
-        ('Level by level, and not each library\'s own needs first: a needs c, b needs d, c needs d.', [
+        ('A library needs two libraries that come before it. Each of them is loaded once.', [order(Bind(prog('a'), rings), *'ab')]),
+        ('The order goes level by level. It does not go to the needs of one library first: a needs c, b needs d, c needs d.', [
             order(Bind(prog('ab'), deep), *'abcd'), order(Bind(prog('ba'), deep), *'badc')]),
-        ('In the order of the entries, first occurrences only.', [
+        ('The needed libraries come in the order of the entries, and only the first occurrence of a name counts.', [
             order(Bind(prog('ba'), of('abcde')), *'badec'), order(Bind(prog('aa'), of('acd')), *'acd'),
             order(Bind(prog('aba'), of('abcde')), *'abcde'), order(Bind(prog('bab'), of('abcde')), *'badec')]),
         ('A library that nobody needs isn\'t loaded.', [
             order(Bind(prog(''), of('abcde'))), order(Bind(prog('c'), of('abcde')), 'c')]),
-        ('Preloads come before what the program needs, in their own order, and are loaded where nobody needs them.', [
+        ('Preloads come before what the program needs, in their own order. They are loaded even if no object needs them.', [
             order(Bind(prog('a'), of('acdp'), ['p']), *'pacd'), order(Bind(prog(''), of('ce'), ['e', 'c']), *'ec'),
             order(Bind(prog(''), of('ce'), ['c', 'e']), *'ce'), order(Bind(prog('c'), of('ced'), ['e', 'd']), *'edc')]),
-        ('A preload that is needed too stands where preloads stand.', [
+        ('A preload that is also needed comes among the preloads.', [
             order(Bind(prog('ab'), of('abcde'), ['b']), *'badec'), order(Bind(prog('ab'), of('abcde'), ['d']), *'dabce'),
             order(Bind(prog('a'), [lib('a', 'x'), lib('x', 'a')], ['x']), *'xa'),
             order(Bind(prog('a'), [lib('a', 'x'), lib('x', 'a')], ['a', 'x']), *'ax'),
             order(Bind(prog('abc'), of('abcde'), ['c', 'b', 'a']), *'cbade')]),
-        ('What preloads need comes in the order of the level: the program\'s names first.', [
+        ('What preloads need comes in the order of the level, after what the program needs.', [
             order(Bind(prog('b'), [lib('b'), lib('p', 'c'), lib('c')], ['p']), *'pbc')]),
-        ('Rings: a library that needs itself, two, three that need each other, all of them by all.', [
+        ('Circles: a library that needs itself; two libraries, and three, that need each other; and libraries all of which need all.', [
             order(Bind(prog('a'), [lib('a', 'a')]), 'a'), order(Bind(prog('a'), [lib('a', 'b'), lib('b', 'a')]), *'ab'),
             order(Bind(prog('a'), [lib('c', 'a'), lib('b', 'c'), lib('a', 'b')]), *'abc'),
             order(Bind(prog('c'), [lib('a', 'abc'), lib('b', 'abc'), lib('c', 'abc')]), *'cab'),
             order(Bind(prog(''), [lib('a', 'a')], ['a']), 'a')]),
         ('A name that is needed a thousand times.', [
             order(Bind(many, [lib('a')]), 'a', bases=[0x10000, 0x14000]), order(Bind(many, []), refused='B3 Missing /program a')]),
-        ('The first name that isn\'t installed, by who needs it in load order, and then by the entries.', [
+        ("The refusal names the first name that isn't installed: by the load order of the objects that need it, and then by their "
+         'entries.', [
             refused(Bind(prog('a')), 'B3 Missing /program a'), refused(Bind(prog('ab'), [lib('a')]), 'B3 Missing /program b'),
             refused(Bind(prog('xay'), [last['a']]), 'B3 Missing /program x'),
             refused(Bind(prog('ab'), [last['b'], last['a']]), 'B3 Missing a x'),
@@ -199,23 +201,25 @@ def load_orders():
             refused(Bind(prog('ab'), [lib('a', 'c'), last['b'], last['c']]), 'B3 Missing b y'),
             refused(Bind(prog('ab'), [lib('a', 'cx'), last['b'], last['c']]), 'B3 Missing a x'),
             refused(Bind(prog(''), [lib('b', 'ay')], ['b']), 'B3 Missing b a')]),
-        ('Seventeen objects: a program that needs sixteen libraries, and one at the head of a chain of them, in their order of\n'
-         'installation and in another; sixteen preloads. Then a program and a hundred libraries, each of which needs the next.', [
+        ('Seventeen objects: a program that needs sixteen libraries; a program that needs the first of a chain of sixteen, which are\n'
+         'installed in their order and in another; and sixteen preloads. Then a program and a hundred libraries, each of which needs the\n'
+         'next.', [
             order(Bind(wide, [lib(n) for n in sixteen]), *sixteen),
             order(Bind(prog('a'), chain), *sixteen), order(Bind(prog('a'), chain[::-1]), *sixteen),
             order(Bind(prog(''), [lib(n) for n in sixteen], list(sixteen[::-1])), *sixteen[::-1]),
             refused(Bind(wide, [lib(n) for n in sixteen[:-1]]), 'B3 Missing /program p'),
             refused(Bind(prog('a'), chain[:-1]), 'B3 Missing o p'),
             order(Bind(first, ring), *hundred), refused(Bind(first, ring[:-1]), 'B3 Missing l98 l99')]),
-        ('A needed name of 241 bytes, which no library has; that of a library of 240 bytes, which is found and needs the former.', [
+        ('A needed name of 241 bytes, which no library has; and the name of a library of 240 bytes, which is found and needs the name of\n'
+         '241 bytes.', [
             refused(Bind(needs_long), 'B3 Missing /program ' + 'n' * 241),
             refused(Bind(asks_long), 'B3 Missing /program ' + 'm' * 240),
             refused(Bind(asks_long, [Case('needs-both-long.so')]), 'B3 Missing ' + 'm' * 240 + ' ' + 'n' * 241)]),
-        ('What a library that isn\'t loaded needs isn\'t missing.', [order(Bind(prog('c'), [lib('c'), last['a']]), 'c')]),
-        ('The program\'s own SONAME is no name: a library of this name is another object, of the same bytes here.', [
+        ("If a library isn't loaded, what it needs doesn't count as missing.", [order(Bind(prog('c'), [lib('c'), last['a']]), 'c')]),
+        ("The program isn't found by its own SONAME. A library of this name is another object, here with the same bytes.", [
             refused(Bind(named), 'B3 Missing /program p'), order(Bind(named, [named]), 'p'),
             order(Bind(named, [named], ['p']), 'p'), order(Bind(prog('a'), [lib('a', 'a')]), 'a')]),
-        ('Names are bytes: the empty name, one with a slash, with a blank, with other bytes, a part of one.', [
+        ('Names are bytes: the empty name, a name with a slash, with a blank, or with other bytes, and a part of a name.', [
             refused(Bind(kept('needs-empty.so', Object(needed=[b''])), [lib('a')]), 'B3 Missing /program \\e'),
             refused(Bind(kept('needs-slash.so', Object(needed=[b'a/b'])), [lib('a'), lib('b')]), 'B3 Missing /program a/b'),
             refused(Bind(near(Case('needs-slash.so'), Object(needed=[b'a b'])), [lib('a'), lib('b')]), 'B3 Missing /program a\\x20b'),
@@ -224,7 +228,7 @@ def load_orders():
             refused(Bind(near(Case('needs-slash.so'), Object(needed=[b'aa\n'])), [lib('a')]), 'B3 Missing /program aa\\x0a'),
             refused(Bind(prog('A'), [lib('a')]), 'B3 Missing /program A'),
             refused(Bind(kept('needs-itself.so', Object(needed=[b'/program'])), [lib('a')]), 'B3 Missing /program /program')]),
-        ('A library goes by the name that it is given, whatever its SONAME is.', [
+        ('A library is found by the name under which the case installs it, whatever its SONAME is.', [
             order(Bind(prog('b'), [(lib('a'), b'b')]), 'b'), refused(Bind(prog('a'), [(lib('a'), b'b')]), 'B3 Missing /program a'),
             order(Bind(prog('ab'), [(lib('a', 'b'), b'b'), (lib('a', 'b'), b'a')]), *'ab'),
             order(Bind(Case('needs-empty.so'), [(lib('a'), b'')]), '\\e'),
@@ -286,41 +290,41 @@ def first_definitions():
     assert rules.elf_hash(b'bR') == rules.elf_hash(b'ab') == 0x672
     asking_at, colliding_at = places(Object(needed=[b'a', b'b'], symbols=[Symbol(b'ab')], relocations=[(R_64, 0, 1, 0)]))['data'], 0x170
     return [
-        ('The first definition in load order is taken, weak or not: a\'s f at 0x11170, although b\'s is strong.', [
+        ("The first definition in load order is taken, even if it is weak: a's f at 0x11170, although b's f is strong.", [
             word(both, P_WORD, 0x11170), text(both, 'first.image'),
             word(Bind(p, [b, a]), P_WORD, 0x11170), word_of(p, 0x11170, a_with(), b_with(binding=WEAK)),
             word_of(p, 0x11170, a_with(), b_with()), word_of(p, 0x11170, a_with(binding=WEAK), b_with(binding=WEAK)),
             word(Bind(p, [a, b], ['b']), P_WORD, 0x11170), word(Bind(p, [b_with(), a_with(at=4)], ['a']), P_WORD, 0x11174)]),
-        ('64 adds the addend, GLOB_DAT and JUMP_SLOT don\'t.', [
+        ("64 adds the addend; GLOB_DAT and JUMP_SLOT don't.", [
             word_of(p_with(R_64, 5), 0x11175), word_of(p_with(R_GLOB_DAT, 5), 0x11170), word_of(p_with(R_JUMP_SLOT, 5), 0x11170),
             word_of(p_with(R_64, -0x11171), 0xffffffffffffffff), word_of(p_with(R_64, -0x11170), 0)]),
-        ('NONE writes nothing, RELATIVE looks at no symbol.', [
+        ('NONE writes nothing, and RELATIVE reads no symbol.', [
             word_of(p_with(R_NONE, 5), 0), word_of(p_with(R_RELATIVE, 5), 0x10005)]),
-        ('The program comes before its libraries: its own definition is taken by all.', [
+        ('The program comes before its libraries, so all objects take its definition.', [
             word(Bind(near(Case('asking.so'), Object(needed=[b'a', b'b'], symbols=[Symbol(b'f', WEAK, FUNC, DEFINED)],
                                                      relocations=[(R_64, 0, 1, 0)])), [a, own]), P_WORD, 0x101c8)]),
-        ('A protected function is its own object\'s: b\'s word has b\'s f, the program\'s a\'s.', [
+        ("An object takes its own protected function: b's word has the address of b's f, and the program's word that of a's f.", [
             word(Bind(p, [a, own]), P_WORD, 0x11170), word(Bind(p, [a, own]), 0x121b8, 0x121c0), text(Bind(p, [a, own]), 'protected.image')]),
-        ('An absolute symbol has no base.', [
+        ('No base is added to an absolute symbol.', [
             word_of(p, 0x1234, a_with(section=ABSOLUTE, at=0x1234)), word_of(p_with(R_64, 5), 0x1239, a_with(section=ABSOLUTE, at=0x1234)),
             word_of(p_with(R_64, 2), 1, a_with(section=ABSOLUTE, at=2**64 - 1)), word_of(p, 0, a_with(section=ABSOLUTE, at=0)),
             word_of(p, 0x1234, a_with(section=ABSOLUTE, at=0x1234, visibility=PROTECTED))]),
-        ('Sums are modulo 2^64; a value may lie outside its object, and be 0.', [
+        ('Sums are modulo 2^64. The value of a symbol may lie outside its object, and may be 0.', [
             word_of(p, 0x10fff, a_with(section=2, at=2**64 - 1)), word_of(p_with(R_64, -0x10fff), 0, a_with(section=2, at=2**64 - 1)),
             word_of(p, 0x11000, a_with(section=2, at=0))]),
-        ('A hidden, internal or local symbol isn\'t found from outside: b\'s is; without b\'s it is undefined.', [
+        ("Another object doesn't find a hidden, internal or local symbol: b's f is found instead. Without b's f, the symbol is undefined.", [
             word_of(p, 0x12170, a_with(visibility=HIDDEN)), word_of(p, 0x12170, a_with(visibility=INTERNAL)),
             word_of(p, 0x12170, a_with(binding=LOCAL)), word_of(p, 0x11170, a_with(visibility=PROTECTED)),
             word_of(p, 'refused B5 Undefined /program f', a_with(visibility=HIDDEN), b_with(binding=LOCAL)),
             word_of(p_with(binding=WEAK), 0, a_with(visibility=HIDDEN), b_with(binding=LOCAL))]),
-        ('A weak symbol that nobody defines is 0, and the addend is added; a strong one is undefined.', [
+        ('A weak symbol that no object defines is 0, and the addend is added. A strong symbol that no object defines is undefined.', [
             word(Bind(weak), BASE + alone_at, 0xfffffffffffffff8), refused(Bind(strong), 'B5 Undefined /program f')]),
         ('An undefined symbol that is hidden isn\'t looked up; a protected one is.', [
             word_of(p_with(binding=WEAK, visibility=HIDDEN), 0), word_of(p_with(binding=WEAK, visibility=INTERNAL), 0),
             word_of(p_with(visibility=HIDDEN), 'refused B5 Undefined /program f'), word_of(p_with(visibility=PROTECTED), 0x11170)]),
         ('An undefined symbol with a value is no definition.', [
             word_of(p, 0x12170, a_with(section=UNDEFINED, at=0x170))]),
-        ('Names with one hash are told apart.', [word(Bind(asking, [colliding, other]), BASE + asking_at, 0x12000 + colliding_at)]),
+        ('Two names with the same hash are different names.', [word(Bind(asking, [colliding, other]), BASE + asking_at, 0x12000 + colliding_at)]),
     ]
 
 
@@ -371,8 +375,9 @@ def table_of_values():
     for (binding, visibility, defined), results in VALUES.items():
         o = three_words(binding, visibility, DEFINED if defined else UNDEFINED)
         lines = [line for first, result in zip(('a', '', 'c'), results) for line in values_of(first, o, result)]
-        parts.append((f'{NAMES[binding]}, {SEEN[visibility]}, {"defined" if defined else "undefined"} in the object that asks: where an '
-                      'earlier object defines it,\nwhere no other does, where a later one does; as 64, GLOB_DAT, JUMP_SLOT.', lines))
+        parts.append((f'A symbol {NAMES[binding]}, {SEEN[visibility]}, {"defined" if defined else "undefined"} in the object whose relocation '
+                      f'names it.\nAn earlier object defines the name{" too" if defined else ""}, no {"other " if defined else ""}object does, '
+                      'or a later one does; relocations 64, GLOB_DAT and JUMP_SLOT.', lines))
     return parts
 
 
@@ -386,7 +391,7 @@ def types_that_ask():
         itself = OF_OWN if kind in (0, 1, 2) else NOTHING if binding == GLOBAL else ZERO
         own += values_of('a', o, OF_OTHER)[:1] + values_of('', o, itself)[:1] + values_of('c', o, OF_OWN if kind in (0, 1, 2) else OF_LATER)[:1]
     return [('The type of an undefined symbol doesn\'t count.', undefined),
-            ('A symbol of a type that isn\'t exported is looked up as any other, and isn\'t its own definition.', own)]
+            ("A symbol with a type that isn't exported is looked up like any other, and isn't its own definition.", own)]
 
 
 def definitions_of_every_kind():
@@ -399,8 +404,9 @@ def definitions_of_every_kind():
             exported = binding != LOCAL and visibility in (DEFAULT, PROTECTED) and section != UNDEFINED and kind in (0, 1, 2)
             wanted = 0x12170 if not exported else 0x170 if section == ABSOLUTE else 0x11170
             lines.append(word_of(p_with(), wanted, a_with(binding=binding, visibility=visibility, kind=kind, section=section, at=at)))
-        parts.append((f'{NAMES[binding]}, {SEEN[visibility]} in the first library, of the types 0 to 4 and 15, each undefined, in a section, '
-                      'absolute and\nin a section of a number that is kept: the second library\'s is taken where it isn\'t exported.', lines))
+        parts.append((f'A symbol {NAMES[binding]}, {SEEN[visibility]} of the first library, with the types 0 to 4 and 15: each undefined, in a '
+                      'section, absolute,\nand in a section with a reserved number. If the symbol isn\'t exported, the second library\'s is '
+                      'taken.', lines))
     return parts
 
 
@@ -443,19 +449,19 @@ def undefined_and_overlapping():
         b'a', symbols=[Symbol(b'f', GLOBAL, FUNC, DEFINED)], relocations=[(R_JUMP_SLOT, 4, 1, 0), (R_GLOB_DAT, 0, 1, 0)], data=24), 1))
     held = 0x11000 + over_at['data']
     return [
-        ('B5 names the first entry: by load order, then DT_RELA, then DT_JMPREL, each in its order.', [
+        ('B5 (Undefined) names the first entry: by load order, then in DT_RELA, then in DT_JMPREL, each in its own order.', [
             refused(Bind(first, [a_with(binding=LOCAL)]), 'B5 Undefined /program g'), refused(Bind(swapped, [a_with(binding=LOCAL)]), 'B5 Undefined /program f'),
             refused(Bind(first, [f]), 'B5 Undefined /program g'), refused(Bind(slots), 'B5 Undefined /program g'),
             refused(Bind(prog('ab'), [a_asks, b_asks]), 'B5 Undefined a f'), refused(Bind(prog('ba'), [a_asks, b_asks]), 'B5 Undefined b g'),
             refused(Bind(prog(''), [a_asks, b_asks], ['b', 'a']), 'B5 Undefined b g'),
             refused(Bind(first, [a_asks]), 'B5 Undefined /program g')]),
-        ('A symbol that only NONE or RELATIVE names, or none, is never undefined.', [
+        ('A symbol that no relocation names, or only NONE or RELATIVE, is never undefined.', [
             word(Bind(none, [f]), BASE + at['data'], 0), word(Bind(none, [f]), BASE + at['data'] + 8, 0x11170),
             word(Bind(relative, [f]), BASE + at['data'], 0x10004)]),
         ('The empty name is a name.', [
             refused(Bind(empty, [lib('a')]), 'B5 Undefined /program \\e'),
             word(Bind(empty, [empty_found]), BASE + empty_at, 0x11000 + empty_found_at)]),
-        ('Of two places that overlap the later entry gives the bytes that both have: DT_JMPREL comes after DT_RELA, in a library too.', [
+        ('If two places overlap, the later entry determines the bytes that both have. DT_JMPREL comes after DT_RELA, also in a library.', [
             word(Bind(prog('a'), [over]), held, (0x11000 + over_at['data'] & 0xffffffff) << 32 | (0x11000 + over_at['data'] & 0xffffffff)),
             word(Bind(prog('a'), [over]), held + 4, 0x11000 + over_at['data']), word(Bind(prog('a'), [over]), held + 8, 0)]),
     ]
@@ -469,7 +475,7 @@ def index_zero():
     filled = Case('index-0.so', (at['symbols'], u32(3) + u8(0x12, 0, 1, 0) + u64(0x170)))
     hidden = Case('index-0.so', (at['symbols'], u32(3) + u8(0x10, 2, 0, 0)))
     data = 0x11000 + at['data']
-    return [('Symbol 0 gives 0, whatever the table has there: 64 adds its addend.', [
+    return [('Symbol 0 has the value 0, whatever the table has there; 64 adds its addend.', [
         word(Bind(prog('a'), [case]), data + 8 * i, 0x55 if i == 0 else 0) for case in (file, filled, hidden) for i in range(3)])]
 
 
@@ -481,7 +487,8 @@ def same_bytes():
     d = at['data']
     twins = Bind(both, [both])
     three = Bind(both, [both, (both, b'q')], ['q'])
-    return [('Objects of the same bytes are told apart: of a protected symbol each has its own, of another one all have the program\'s.', [
+    return [("Objects with the same bytes are different objects: each takes its own protected symbol, and all take the program's other "
+             'symbol.', [
         order(twins, 'p'), word(twins, 0x10000 + d, 0x10000 + d + 16), word(twins, 0x11000 + d, 0x11000 + d + 16),
         word(twins, 0x10008 + d, 0x10000 + d + 20), word(twins, 0x11008 + d, 0x10000 + d + 20),
         order(three, 'q', 'p'), word(three, 0x11000 + d, 0x11000 + d + 16), word(three, 0x12000 + d, 0x12000 + d + 16),
@@ -512,9 +519,10 @@ def bases_and_limits():
     near_bases = {12: 0x11000, 13: 0x12000, 14: 0x14000, 15: 0x18000, 16: 0x20000}
     steps = [order(Bind(two, [aligned(a, 1 << power)]), 'a', bases=[0x10000, near_bases.get(power, 1 << power)]) for power in range(12, 27)]
     return [
-        ('A library stands at the least multiple of its unit that isn\'t below the end before it: a page, or the greatest of its alignments,\n'
-         'up to 2^26.', steps),
-        ('A chain of alignments: each unit is the object\'s own.', [
+        ('A library lies at the least multiple of its unit that is at or above the end of the object before it. The unit is a page, or '
+         'the\n'
+         'greatest alignment of the library. This list tries alignments up to 2^26.', steps),
+        ('A chain of libraries with alignments: each object has its own unit.', [
             order(Bind(two, [aligned(chain[0], 1 << 26), chain[1], aligned(chain[2], 1 << 26)]), *'abc',
                   bases=[0x10000, 0x4000000, 0x4001000, 0x8000000]),
             order(Bind(two, [aligned(chain[0], 1 << 20), aligned(chain[1], 1 << 24), aligned(chain[2], 1 << 21)]), *'abc',
@@ -525,14 +533,14 @@ def bases_and_limits():
             refused(Bind(aligned(two, 1 << 26), [a], base=0x2000000), 'B2 BadBase')]),
         ('An alignment of 0, of 1 or of less than a page doesn\'t count.', [
             order(Bind(two, [aligned(a, n)]), 'a') for n in (0, 1, 16, 0x800)]),
-        ('Memory that ends at a page, one byte behind it, and two pages behind it.', [
+        ('Memory that ends at the end of a page, one byte after it, and two pages after it.', [
             order(Bind(reaching(two, 0x1000), [a]), 'a'), order(Bind(reaching(two, 0x1001), [a]), 'a', bases=[0x10000, 0x12000]),
             order(Bind(reaching(two, 0x2fff), [a]), 'a', bases=[0x10000, 0x13000]),
             order(Bind(prog('ab'), [reaching(a, 0x1001), b]), *'ab', bases=[0x10000, 0x11000, 0x13000])]),
-        ('An object of two segments: the program needs w and a.', [
+        ('A library of two segments (w): the program needs w and a.', [
             order(Bind(near(Case('program-2.so'), needing_program('wa')), [w, a]), *'wa', bases=[0x10000, 0x11000, 0x14000]),
             text(Bind(near(Case('program-2.so'), needing_program('wa')), [w, a]), 'two-segments.image', 'segment 0x0000000000013000 32 r-x')]),
-        ('The last object ends at or below 2^47 - 4,096: bases just below and above that, with one library and with two.', [
+        ('The last object has to end at or below 2^47 - 4,096: bases just below and above that limit, with one library and with two.', [
             order(Bind(two, [a], base=HIGHEST - 0x2000), 'a'), refused(Bind(two, [a], base=HIGHEST - 0x1000), 'B4 NoRoom'),
             refused(Bind(two, [a], base=HIGHEST), 'B4 NoRoom'),
             order(Bind(prog('ab'), [a, b], base=HIGHEST - 0x3000), *'ab'), refused(Bind(prog('ab'), [a, b], base=HIGHEST - 0x2000), 'B4 NoRoom'),
@@ -541,7 +549,7 @@ def bases_and_limits():
             word(Bind(two, [reaching(a, 0x1000)], base=HIGHEST - 0x2000), HIGHEST - 8, 0),
             word(Bind(two, [reaching(a, 0x1000)], base=HIGHEST - 0x2000), HIGHEST - 7, 'none'),
             refused(Bind(two, [reaching(a, 0x1001)], base=HIGHEST - 0x2000), 'B4 NoRoom')]),
-        ('Alignments above 2^26: a library far behind the program, at the limit, and behind 2^64.', [
+        ('Alignments above 2^26: a library far above the program, at the limit, and above 2^64.', [
             order(Bind(two, [aligned(a, 1 << 40)]), 'a', bases=[0x10000, 1 << 40]),
             order(Bind(two, [aligned(a, 1 << 46)]), 'a', bases=[0x10000, 1 << 46]),
             refused(Bind(prog('ab'), [aligned(a, 1 << 46), aligned(b, 1 << 46)]), 'B4 NoRoom'),
@@ -562,15 +570,15 @@ def order_of_tests():
         for length in range(first, last + 1):
             asked('text', Bind(Case('asking.so', ('cut', length))).arguments(), f'refused B1 {name}\n')
     return [
-        ('The program\'s file first: cut, with libraries and without.', [
+        ("The program's file is tested first: a file that is cut, with libraries and without.", [
             refused(Bind(Case('asking.so', *p.changes, ('cut', n)), libraries), f'B1 {name}')
             for n, name in rows for libraries in ([], [a_with(), b_with()])]),
-        ('Then the base, the first name that is missing, the limit of memory, the first symbol that is undefined.', [
+        ('After the file come the base, the first name that is missing, the limit of memory, and the first symbol that is undefined.', [
             refused(Bind(Case('asking.so', ('cut', 63)), base=1), 'B1 E1 TooShort'), refused(Bind(p, base=1), 'B2 BadBase'),
             refused(Bind(p, base=high + 1), 'B2 BadBase'), refused(Bind(p, base=high), 'B3 Missing /program a'),
             refused(Bind(p, [a_with()], base=HIGHEST), 'B3 Missing /program b'),
             refused(Bind(p, f_local, base=high), 'B4 NoRoom'), refused(Bind(p, f_local), 'B5 Undefined /program f')]),
-        ('A base that is good for a library alone isn\'t for the program.', [refused(Bind(p, f_local, base=0x10800), 'B2 BadBase')]),
+        ('A base that would be good for only the library is refused for the program.', [refused(Bind(p, f_local, base=0x10800), 'B2 BadBase')]),
     ]
 
 
@@ -584,14 +592,14 @@ def edges_of_segments():
     asks = lambda n: Case('touching.so', (place, u64(n)))
     bind = lambda n: Bind(prog('a'), [asks(n)])
     return [
-        ('The last eight bytes of a segment, and the first of the one that touches it.', [
+        ('A place in the last eight bytes of a segment, and in the first eight bytes of the next segment, which touches it.', [
             word(bind(end - 8), data + 8, data), word(bind(end), data + 16, data), word(bind(end + 8), data + 24, data)]),
-        ('A word of the image may lie across two segments that touch.', [
+        ('A word that is read from the image may lie across two segments that touch.', [
             word(bind(end - 8), data + 12, data >> 32), word(bind(end), data + 12, (data & 0xffffffff) << 32)]),
-        ('A place doesn\'t: as a program and as a library.', [
+        ('The place of a relocation may not lie across two segments, in a program and in a library.', [
             line for n in (end - 7, end - 4, end - 1, end + 9, end + 16, 0x1000000) for line in (
                 refused(Bind(asks(n)), 'B1 E32 RelocationPlace'), f'library {asks(n)} => refused E32 RelocationPlace')]),
-        ('Behind the last byte there is none, also where another object stands behind it.', [
+        ('No word can be read after the last byte of an object, even if another object follows.', [
             word(bind(end), data + 25, 'none'), word(bind(end), data + 32, 'none'), word(bind(end), 0x10fff, 'none'),
             word(bind(end), 0xffff, 'none'), word(bind(end), 0xfffffffffffffffc, 'none')]),
     ]
@@ -604,15 +612,16 @@ def layout():
 def wrong():
     both = Bind(p_with(), [a_with(binding=WEAK), b_with()])
     write_list('binds-wrong.txt', [
-        ('Wrong on purpose: the runner sees each difference. Another word, none, a refusal, another spelling of the number.', [
+        ('These cases are wrong on purpose, and the runner has to notice each difference. Another word, no word, a refusal, and another\n'
+         'form of the number.', [
             f'word 0x{P_WORD:x} {both} =/> {wanted}' for wanted in ('0x12170', '0x1117', 'none', 'refused B4 NoRoom', '70000', '0x011170')]),
-        ('Another order, other bases, an object less, one more.', [
+        ('Another order, other bases, one object less, one object more.', [
             f'order {both} =/> objects 0x0000000000010000 /program 0x000000000001{rest}' for rest in (
                 '1000 b 0x0000000000012000 a', '1000 a 0x0000000000013000 b', '1000 a', '1000 a 0x0000000000012000 b 0x0000000000013000 c')]),
-        ('Another text, one that is cut, a refusal.', [
+        ('Another text, a text that is cut, and a refusal.', [
             f'bind {both} =/> file levels.image', f'bind {both} =/> file first.image cut={(DATA / "first.image").stat().st_size - 1}',
             f'bind {both} =/> file first.image 0x28=31', f'bind {both} =/> refused B5 Undefined /program f', f'bind {both} =/> nothing']),
-        ('Another refusal, another needer, another name.', [
+        ('Another refusal, another object that needs the name, and another name.', [
             f'bind {Bind(p_with())} =/> refused {wanted}' for wanted in (
                 'B3 Missing /program b', 'B3 Missing a a', 'B3 Missing /program', 'B5 Undefined /program a', 'B3 Missing /program a ')]),
         ('Other libraries, other preloads.', [

@@ -66,17 +66,18 @@ def sixty_fours():
     four, five = 'made=sixty-four.changes', 'made=sixty-five.changes'
     roomy, roomier = f'{four} pad=69632 0x210=88', f'{five} pad=70656 0x210=8a'
     return [
-        ('64 libraries in a catalogue, sector 130; of 135 sectors three are free beside the one of the next catalogue, which are too few for\n'
-         'a library and a second catalogue.', [
+        ('64 libraries in one catalogue, which is sector 130. Of 135 sectors, three are free besides the one of the next catalogue. '
+         'These\n'
+         'are too few for a library and a second catalogue.', [
             listed(four, 'sixty-four.listing'), on(four, f'install disk {NAMED_Q}', S7, 'same'),
             on(four, 'replace disk numbered.so', '0 ok', has='0x8=02 0x14=40 0x38=01 0x40=85 0x10900=83 0x10a04=40 0x10a10=8400000005'),
             on(four, 'remove disk x000', '0 ok', has='0x14=3f 0x38=01 0x40=83 0x10604=3f 0x10610=0500000007'),
             on(four, 'preload disk x03f', '0 ok', 'same 0x8=02 0x14=40000100 0x18=3f 0x38=01 0x40=82')]),
-        ('With 136 sectors they aren\'t: data 131, entry 132, the catalogues 133 and 134.', [
+        ('136 sectors are enough: data in 131, entry in 132, catalogues in 133 and 134.', [
             on(roomy, f'install disk {NAMED_Q}', '0 ok', has='0x14=4100 0x38=02 0x40=8500000086 0x10900=83 0x10a00=4c4942434000 0x10a10=03'
                ' 0x10b0c=81 0x10c00=4c4942430100 0x10c10=8400000000')]),
-        ('65 libraries in two catalogues, sectors 132 and 133; of 136 sectors none is free beside those of the next two catalogues. A removal\n'
-         'needs one of them, and preloads neither; these stay whose they were.', [
+        ('65 libraries in two catalogues, which are the sectors 132 and 133. Of 136 sectors, none is free besides those of the next two\n'
+         'catalogues. A removal needs one of these, and a change of preloads needs none. The preloads keep their libraries.', [
             listed(five, 'sixty-five.listing'), on(five, f'install disk {NAMED_Q}', S7, 'same'), on(five, 'replace disk numbered.so', S7, 'same'),
             on(five, 'remove disk x000', '0 ok', has='0x14=40 0x38=01 0x40=8600000000 0x10c04=40 0x10c10=05 0x10d0c=83'),
             on(five, 'remove disk x03f', '0 ok', has='0x14=40 0x38=01 0x40=8600000000 0x10c10=03 0x10d0c=83'),
@@ -85,7 +86,7 @@ def sixty_fours():
             on(f'{five} 0x216=01 0x218=3f', 'remove disk x040', '0 ok', has='0x14=40000100 0x18=3f 0x38=01 0x40=86'),
             on(five, 'preload disk x040 x000', '0 ok', 'same 0x8=02 0x14=41000200 0x18=40 0x38=02 0x40=8400000085'),
             on(five, 'upgrade disk', '0 ok', 'same')]),
-        ('On 138 sectors a library is replaced, or the 66th installed: both catalogues are new.', [
+        ('On 138 sectors a library is replaced, or the 66th library is installed. Both catalogues are written again.', [
             on(roomier, 'replace disk numbered.so', '0 ok', has='0x14=41 0x38=02 0x40=8800000089 0x11010=87 0x11200=4c49424301 0x11210=83'),
             on(roomier, f'install disk {NAMED_Q}', '0 ok', has='0x14=42 0x38=02 0x40=8800000089 0x11010=03 0x11200=4c49424302 0x11210=8300000087')]),
     ]
@@ -96,32 +97,35 @@ def edges():
     four, full, third = 'made=sixty-four.changes', 'made=two-full.changes', 'made=two-full-and-one.changes'
     fullest, roomy = f'{full} cut=134144 0x210=06', f'{third} pad=138240 0x210=0e'
     return [
-        ('128 libraries in two catalogues, sectors 258 and 259; of 266 sectors four are free beside those of the next two, which are just\n'
-         'enough for a library and a third catalogue: data 260, entry 261, the catalogues 262 to 264.', [
+        ('128 libraries in two catalogues, which are the sectors 258 and 259. Of 266 sectors, four are free besides those of the next '
+         'two\n'
+         'catalogues. These are just enough for a library and a third catalogue: data in 260, entry in 261, catalogues in 262 to 264.', [
             listed(full, 'two-full.listing'),
             on(full, f'install disk {NAMED_Q}', '0 ok', has='0x14=81 0x38=03 0x40=060100000701000008010000 0x20b00=04010000 0x21000=4c4942430100'
                ' 0x21010=05010000'),
             on(f'{full} cut=135680 0x210=09', f'install disk {NAMED_Q}', S7, 'same'),
             on(full, 'replace disk numbered.so', '0 ok', has='0x14=80 0x38=02 0x40=0601000007010000 0x20b00=04010000 0x20c10=05010000 0x20e10=83'),
             on(full, 'remove disk x040', '0 ok', has='0x14=7f 0x38=02 0x40=0401000005010000 0x2090c=81 0x20a04=3f 0x20a10=85')]),
-        ('On 262 sectors none is free beside those of the next two: a removal of the first, of the last in the first catalogue, and of the last.', [
+        ('On 262 sectors, none is free besides those of the next two catalogues. Removals of the first library, of the last in the first\n'
+         'catalogue, and of the last of all.', [
             listed(fullest, 'two-full.listing'), on(fullest, f'install disk {NAMED_Q}', S7, 'same'),
             on(fullest, 'replace disk numbered.so', S7, 'same'),
             on(fullest, 'remove disk x000', '0 ok', has='0x14=7f 0x38=02 0x40=0401000005010000 0x20810=05 0x2090c=83 0x20a04=3f 0x20a10=85'),
             on(fullest, 'remove disk x03f', '0 ok', has='0x14=7f 0x38=02 0x40=0401000005010000 0x20810=03 0x2090c=83 0x20a04=3f 0x20a10=85'),
             on(fullest, 'remove disk x07f', '0 ok', has='0x14=7f 0x38=02 0x40=0401000005010000 0x20810=03 0x2090c=81 0x20a04=3f 0x20a10=83')]),
-        ('129 libraries in three catalogues, sectors 260 to 262; of 266 sectors none is free beside those of the next three. Without the last\n'
-         'there are two, in the sectors 263 and 264.', [
+        ('129 libraries in three catalogues, which are the sectors 260 to 262. Of 266 sectors, none is free besides those of the next\n'
+         'three catalogues. Once the last library is removed, there are two catalogues, in the sectors 263 and 264.', [
             listed(third, 'two-full-and-one.listing'), on(third, f'install disk {NAMED_Q}', S7, 'same'),
             on(third, 'replace disk numbered.so', S7, 'same'),
             on(third, 'remove disk x080', '0 ok', has='0x14=80 0x38=02 0x40=0701000008010000 0x20e10=03 0x21004=40 0x21010=83 0x2110c=0101'),
             on(third, 'remove disk x03f', '0 ok', has='0x14=80 0x38=02 0x40=0701000008010000 0x20f0c=83 0x21010=85 0x2110c=0301'),
             on(third, 'remove disk x07f', '0 ok', has='0x14=80 0x38=02 0x40=0701000008010000 0x20f0c=81 0x21010=83 0x2110c=0301'),
             on(third, 'preload disk x080 x07f', '0 ok', has='0x14=810002008000 0x1a=7f00 0x38=03 0x40=040100000501000006010000')]),
-        ('With four sectors more one of them is replaced, or the 130th installed: data 263, entry 264, the catalogues 265 to 267.', [
+        ('With four sectors more, a library is replaced, or the 130th library is installed: data in 263, entry in 264, catalogues in 265\n'
+         'to 267.', [
             on(roomy, 'replace disk numbered.so', '0 ok', has='0x14=81 0x38=03 0x40=09010000 0x21100=07010000 0x21210=08010000 0x21604=01 0x21610=0301'),
             on(roomy, f'install disk {NAMED_Q}', '0 ok', has='0x14=82 0x38=03 0x40=09010000 0x21210=03 0x21604=02 0x21610=0301000008010000')]),
-        ('Just the room that catalogues need twice, and a sector fewer: of 64 libraries, of 128 and of 129.', [
+        ('Exactly as many sectors as the catalogues need twice, and one sector less: for 64 libraries, for 128 and for 129.', [
             listed(f'{four} cut=67584 0x210=84', 'sixty-four.listing'), on(f'{four} cut=67072 0x210=83', 'list disk', S5, 'same'),
             on(f'{full} cut=133632 0x210=05', 'list disk', S5, 'same'), on(f'{third} cut=135680 0x210=09', 'list disk', S5, 'same')]),
         ('63 libraries in one catalogue.', [listed(f'{four} 0x214=3f 0x10404=3f 0x1050c=00', 'sixty-three.listing')]),
@@ -141,27 +145,33 @@ def damaged():
     too_full = (f'formatted.disk 0x200={ROOT}{hexed("QIH", 1, 8, 1)} 0x238=01 0x240=07 0x400=@{A} 0xc00={hexed("4sIHHI", b"LIBE", 2048, 1, 1, 0)}61'
                 f' 0xd00={hexed("II", 2, 4)} 0xe00=4c49424301 0xe10=06')
     return [
-        ('Catalogues that are none, or have another count than the root says: the first of 63, the second of two, of none.', [
+        ("Sectors that are no catalogues, or catalogues whose count doesn't fit the root: the first has 63 libraries; the second has "
+         'two,\n'
+         'or none.', [
             on(f'{five} {change}', 'list disk', S5, 'same') for change in (
                 '0x10800=4d', '0x10803=45', '0x10804=3f', '0x10804=3f 0x1090c=00', '0x10804=41', '0x10805=01', '0x10806=01', '0x1080f=01',
                 '0x10a04=00', '0x10a04=00 0x10a10=00', '0x10a04=02', '0x10a04=02 0x10a14=86', '0x10a14=86', '0x10910=01', '0x109ff=01')]),
-        ('The same libraries otherwise: one in the first catalogue, half of them, all but two; 64, as it has to be.', [
+        ('The same libraries, divided in other ways: one in the first catalogue, half of them, or all but two; and 64, as it has to be.', [
             on(f'{five} {split_at(first)}', 'list disk', S5, 'same') for first in (1, 32, 63)] + [
             listed(f'{five} {split_at(64)}', 'sixty-five.listing')]),
-        ('A root with other catalogues: too few or too many, one twice, the second one first, a library more or fewer.', [
+        ('A root with other catalogues: too few or too many, one catalogue twice, the second one first, one library more or less.', [
             on(f'{five} {change}', 'list disk', S5, 'same') for change in (
                 '0x238=01', '0x238=01 0x244=00', '0x238=03 0x248=86', '0x244=84', '0x240=8500000084', '0x214=42', '0x214=40', '0x214=81',
                 '0x244=83', '0x244=82', '0x244=86', '0x244=88', '0x240=03', '0x240=02')] + [
             listed(f'{five} 0x214=40 0x238=01 0x244=00', 'sixty-four.listing')]),
-        ('A name that stands twice, in one catalogue and in two; the file has it too.', [
+        ("A name that occurs twice, in one catalogue and in two, also if the library's file has this name.", [
             on(f'{five} {change}', 'list disk', S5, 'same') for change in ('0x8da=303030 0xa11=303030', '0x104da=303030 0x10611=303030')]),
-        ('Entry sectors of a catalogue: one of the first catalogue again, twice in one, data, a catalogue, a root, one behind the disk.', [
+        ('Entry sectors of a catalogue: a sector of the first catalogue again, a sector twice in one catalogue, data, a catalogue, a '
+         'root,\n'
+         'and a sector after the end of the disk.', [
             on(f'{five} {change}', 'list disk', S5, 'same') for change in (
                 '0x10a10=03', '0x10810=05', '0x10a10=02', '0x10a10=84', '0x10a10=85', '0x10a10=00', '0x10a10=01', '0x10a10=88', '0x10a12=01',
                 '0x10a12=40', '0x10a13=ff', '0x10a10=ffff3f', '0x10a10=86')]),
-        ('A catalogue whose sector is an entry\'s data as well, or a second one\'s.', [
+        ("A catalogue whose sector is also a sector of a library's data, or of another catalogue.", [
             on(f'{five} {change}', 'list disk', S5, 'same') for change in ('0x10700=84', '0x10700=85', '0x10704=02', '0x10700=80')]),
-        ('A disk with no room for its catalogues twice: one sector fewer, and two, where nothing else is amiss; and one library on eight.', [
+        ('A disk without room for its catalogues twice: one sector less, and two, although nothing else is wrong; and one library on '
+         'eight\n'
+         'sectors.', [
             on(f'{five} cut=69120 0x210=87', 'list disk', S5, 'same'), on(f'{five} cut=68608 0x210=86', 'list disk', S5, 'same'),
             on(f'{five} cut=68608 0x210=86', 'remove disk x000', S5, 'same'), on(f'{five} cut=68608 0x210=86', 'upgrade disk', S5, 'same'),
             on(too_full, 'list disk', S5, 'same'), on(too_full, 'remove disk a', S5, 'same'), on(too_full, 'upgrade disk', S5, 'same')]),
@@ -175,7 +185,7 @@ def hundreds():
     fewer = f'{many} 0x214=ff07 0x{SECTOR * 4129 + 4:x}=3f 0x{SECTOR * 4129 + 16 + 4 * 63:x}=0000'
     s9 = '1 refused S9 TooMany'
     return [
-        ('A hundred libraries and one more; the hundredth is replaced, removed, a preload, bound.', [
+        ('A hundred libraries, and one more. The hundredth is replaced, removed, made a preload, and bound.', [
             listed(hundred, 'hundred.listing'),
             on(hundred, f'install disk {NAMED_Q}', '0 ok', has='0x14=65 0x38=02 0x40=ce000000cf'),
             on(hundred, f'replace disk {a}', '0 ok', has='0x14=64 0x38=02 0x40=ce000000cf'),
@@ -184,13 +194,13 @@ def hundreds():
             on(hundred, 'preload disk x062 a', '0 ok', has='0x16=0200 0x18=62006300 0x38=02 0x40=ca000000cb'),
             on(hundred, 'bind disk hundredth.so 0x10000', '0 file hundred.image', 'same', file='hundred.image'),
             on(hundred, 'bind disk asking.so 0x10000', '1 refused B3 Missing /program b', 'same')]),
-        ('2,048 libraries, and no more: the name is tested before, the generation and the room behind.', [
+        ('2,048 libraries, which are the most. The name is tested before the number, and the generation and the room are tested after it.', [
             listed(many, 'many.listing'), on(many, f'install disk {NAMED_Q}', s9, 'same'), on(many, 'install disk real-large.so', s9, 'same'),
             on(last, f'install disk {NAMED_Q}', s9, 'same'), on(many, 'install disk numbered.so', '1 refused C2 AlreadyInstalled', 'same'),
             on(many, f'replace disk {NAMED_Q}', '1 refused C3 NotInstalled', 'same'),
             on(last, 'replace disk numbered.so', '1 refused S10 GenerationEnd', 'same'), on(cut, 'replace disk numbered.so', S7, 'same'),
             on(f'{many} 0x215=09', 'list disk', S5, 'same'), on(f'{many} 0x214=01', 'list disk', S5, 'same')]),
-        ('One of them replaced, the first and the last removed, the last a preload; and the 2,048th installed.', [
+        ('A library is replaced, the first and the last are removed, the last becomes a preload, and the 2,048th is installed.', [
             on(many, 'replace disk numbered.so', '0 ok', has='0x14=0008 0x38=20 0x40=24100000'),
             on(cut, 'remove disk x000', '0 ok', has='0x14=ff07 0x38=20 0x40=22100000'),
             on(many, 'remove disk x7ff', '0 ok', has='0x14=ff07 0x38=20 0x40=22100000'),
@@ -224,15 +234,17 @@ def single_bytes():
         return [on(raised('one.disk', start + at), 'list disk', S5, 'same') for at in places]
     root, entry, catalogue = 0x200, 0x600, 0x800
     return [
-        ('The current root: without the magic that of generation 0 is current; with a preload more, a; else it is damaged.', [
+        ('The current root, each of its bytes changed. Without the magic, the root of generation 0 is current; with one more preload, '
+         'that\n'
+         'is a; otherwise the disk is damaged.', [
             on(raised('one.disk', root + at), 'list disk', END, 'same') for at in range(8)] + bad(root, *range(8, 22)) + [
             listed(raised('one.disk', root + 22), 'one-preloaded.listing')] + bad(root, *ROOT_BYTES)),
-        ('The entry: with a byte more of the file, a zero; else it is damaged.', bad(entry, *range(4)) + [
+        ('The entry, each of its bytes changed. The file may have one byte more, a zero; otherwise the disk is damaged.', bad(entry, *range(4)) + [
             listed(raised('one.disk', entry + 4), 'one-345.listing')] + bad(entry, *ENTRY_BYTES)),
-        ('The catalogue.', bad(catalogue, *range(24), *range(24, 272, 4), *range(272, 512, 16), 511)),
-        ('The catalogue of three libraries, each of its bytes with the highest bit turned.', [
+        ('The catalogue, each of its bytes changed.', bad(catalogue, *range(24), *range(24, 272, 4), *range(272, 512, 16), 511)),
+        ('The catalogue of three libraries: the highest bit of each of its bytes is flipped.', [
             on(turned('three.disk', at), 'list disk', S5, 'same') for at in range(0x1400, 0x1600)]),
-        ('Each field of the root and of the entry, but the length, with the highest bit turned.', [
+        ('Each field of the root and of the entry, except the length of the file: its highest bit is flipped.', [
             on(turned('one.disk', start + at), 'list disk', S5, 'same')
             for start, places in ((root, range(8, 72)), (entry, (*range(4), *range(5, 18), *range(256, 272)))) for at in places]),
     ] + old_bytes(root, entry)
@@ -245,9 +257,11 @@ def old_bytes(root, entry):
     def good(at, has):
         return [on(raised('old-one.disk', at), 'upgrade disk', '0 ok', has=has)]
     return [
-        ('The current root of version 1, upgraded: without the magic that of generation 0 is current; with a preload more, a; else it is damaged.',
+        ('The current root of version 1, which is upgraded. Without the magic, the root of generation 0 is current; with one more '
+         'preload,\n'
+         'that is a; otherwise the disk is damaged.',
          [case for at in range(7) for case in good(root + at, '0x200=524c494252454732 0x208=01 0x214=00')] + bad(root, *range(7, 22))
          + good(root + 22, '0x0=524c494252454732 0x8=02 0x14=0100 0x16=0100') + bad(root, *ROOT_BYTES)),
-        ('Its entry: with a byte more of the file, a zero; else it is damaged.', bad(entry, *range(4)) + good(
+        ('The entry of that disk. The file may have one byte more, a zero; otherwise the disk is damaged.', bad(entry, *range(4)) + good(
             entry + 4, '0x0=524c494252454732 0x8=02 0x14=01 0x38=01 0x40=04') + bad(entry, *ENTRY_BYTES)),
     ]

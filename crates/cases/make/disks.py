@@ -59,21 +59,21 @@ def formats():
     bad = ['', '0', '1', '7', '+8', '-8', '8.', '0x8', '8s', 'a', '00000008', '4194305', '9999999', '10000000', '18446744073709551624',
            '٨', '8 8', '8 ']
     return [
-        ('A disk is made where none stands: zeros, but the root of generation 0 in sector 0. SECTORS has 1 to 7 digits.', [
+        ('A disk is made if none exists: zeros, except the root of generation 0 in sector 0. SECTORS has 1 to 7 digits.', [
             on('none', 'format disk 8', '0 ok', EMPTY),
             on('none', 'format disk 9', '0 ok', f'bytes={ROOT}09 pad=4608'),
             on('none', 'format disk 16', '0 ok', f'bytes={ROOT}10 pad=8192'),
             on('none', 'format disk 08', '0 ok', EMPTY),
             on('none', 'format disk 0000008', '0 ok', EMPTY),
             on('none', 'format disk 256', '0 ok', f'bytes={ROOT}0001 pad=131072')]),
-        ('One that stands has to have this length; the root is written, and nothing else.', [
+        ('An existing file has to have this length. Only the root is written.', [
             on(zeros, 'format disk 8', '0 ok', EMPTY),
             on(other, 'format disk 8', '0 ok', f'same 0x0={ROOT}0800000000000000'),
             on(zeros, 'format disk 9', s6, 'same'), on(zeros, 'format disk 16', s6, 'same'),
             on('bytes= pad=8192', 'format disk 8', s6, 'same'), on('bytes= pad=4095', 'format disk 8', s6, 'same'),
             on('bytes= pad=4097', 'format disk 8', s6, 'same'), on('bytes= pad=3584', 'format disk 8', s6, 'same'),
             on('bytes=', 'format disk 8', s6, 'same')]),
-        ('The magic of either version in sector 0 or 1: it was formatted before. The length is tested first.', [
+        ('The magic of either version in sector 0 or 1 shows that the disk was formatted before. The length is tested first.', [
             on('formatted.disk', 'format disk 8', s4, 'same'), on('formatted.disk', 'format disk 16', s6, 'same'),
             on('one.disk', 'format disk 8', s4, 'same'), on('full.disk', 'format disk 8', s4, 'same'),
             on(f'bytes={ROOT[:16]} pad=4096', 'format disk 8', s4, 'same'),
@@ -88,28 +88,32 @@ def formats():
             on(f'bytes= pad=4096 0x1={ROOT[:16]}', 'format disk 8', '0 ok', EMPTY),
             on(f'bytes= pad=4096 0x201={ROOT[:16]}', 'format disk 8', '0 ok'),
             on('bytes=726c69627265673200 pad=4096', 'format disk 8', '0 ok', EMPTY)]),
-        ('Another word SECTORS is a bad command line, and no disk is made.', [
+        ('Any other argument SECTORS is a bad command line, and no disk is made.', [
             on('none', f'format disk {word}', '2 error rlibreg: bad command line', 'none') for word in bad]),
     ]
 
 
 def rows():
     return [
-        ('A library: its data at the lowest free sector, its entry behind it, then the catalogue, and the root of generation 1 in sector 1.', [
+        ('A library is installed: its data in the lowest free sector, then its entry, then the catalogue; and the root of generation 1 '
+         'in\n'
+         'sector 1.', [
             on('formatted.disk', f'install disk {A}', '0 ok',
                f'same 0x200={ROOT[:16]}0100000000000000080000000100 0x238=01 0x240=04 0x400=@{A} 0x600={ENTRY_A} 0x610=61 0x700=0200000001'
                f' 0x800={ONE} 0x810=03')]),
-        ('Another file in its place: data 5, entry 6, catalogue 7, generation 2 in sector 0. The old sectors stay as they are.', [
+        ('Another file replaces it: data in 5, entry in 6, catalogue in 7, generation 2 in sector 0. The old sectors stay as they are.', [
             on('one.disk', f'replace disk {A}', '0 ok',
                f'same 0x8=02 0x14=01 0x38=01 0x40=07 0xa00=@{A} 0xc00={ENTRY_A} 0xc10=61 0xd00=0500000001 0xe00={ONE} 0xe10=06')]),
-        ('A removal of the last library needs no catalogue; preloads, and none, keep the one that there is: a root alone.', [
+        ('The removal of the last library needs no catalogue. A change of preloads, even to none, keeps the catalogue: only a root is\n'
+         'written.', [
             on('one.disk', 'remove disk a', '0 ok', 'same 0x8=02'),
             on('one.disk', 'preload disk a', '0 ok', 'same 0x8=02 0x14=01000100 0x38=01 0x40=04'),
             on('one.disk', 'preload disk', '0 ok', 'same 0x8=02 0x14=01 0x38=01 0x40=04'),
             on('replaced.disk', 'remove disk a', '0 ok', 'same 0x208=03 0x214=00 0x238=00 0x240=00'),
             on('replaced.disk', 'preload disk', '0 ok', 'same 0x208=03 0x240=07')]),
-        ('Preloads that stand already are a change as well; a removal closes the list up in a new catalogue, and moves the numbers of the\n'
-         'preloads.', [
+        ('Setting the same preloads again is a change as well. After a removal, the list in the new catalogue has no gap, and the '
+         'numbers\n'
+         'of the preloads change with it.', [
             on('three.disk', 'preload disk b a', '0 ok', 'same 0x208=05 0x216=02 0x218=02 0x240=0a'),
             on('three.disk', 'preload disk q b a', '0 ok', has='0x214=03000300 0x218=010002000000 0x238=01 0x240=0a'),
             on('three.disk', 'preload disk', '0 ok', has='0x214=03000000 0x218=0000 0x238=01 0x240=0a'),
@@ -117,10 +121,12 @@ def rows():
             on('three.disk 0x16=0100 0x18=01000000', 'remove disk a', '0 ok',
                has=f'0x208=05 0x214=02000100 0x218=00000000 0x240=07 0xe00={ONE[:8]}02 0xe10=060000000400000000'),
             on('three.disk 0x16=0100 0x18=01000000', 'remove disk b', '0 ok', has='0x214=02000100 0x218=01000000 0xe10=030000000600000000')]),
-        ('What was replaced is free afterwards: the data 2, the entry 3 and the catalogue 4 of before are taken.', [
+        ('The sectors of a replaced library are free afterwards: the next change uses its data sector 2, its entry 3 and the old '
+         'catalogue\n'
+         '4.', [
             on('replaced.disk', f'install disk {NAMED_Q}', '0 ok',
                f'same 0x208=03 0x214=02 0x400=@{NAMED_Q} 0x610=71 0x804=02 0x810=0600000003')]),
-        ('What is listed.', [
+        ('Listings.', [
             on('formatted.disk', 'list disk', '0 end', 'same'), on('one.disk', 'list disk', file='one.listing', after='same'),
             on('replaced.disk', 'list disk', file='one.listing', after='same'),
             on('full.disk', 'list disk', file='full.listing', after='same'),
@@ -144,10 +150,10 @@ def refusals():
     last = 'one.disk 0x8=feffffffffffffff 0x208=ffffffffffffffff'
     seventeen = 'preload disk' + 17 * ' z'
     return [
-        ('Files that are no libraries, and the disk is as it was.', [
+        ('Files that are no libraries: the disk stays as it was.', [
             on('one.disk', f'{command} disk {file}', f'1 refused C1 {refusal}', 'same')
             for file, refusal in FILE_REFUSALS for command in ('install', 'replace')]),
-        ('Names that are installed, and that aren\'t; preloads.', [
+        ('Names that are installed, names that are not, and preloads.', [
             on('one.disk', f'install disk {A}', '1 refused C2 AlreadyInstalled', 'same'),
             on('one.disk', 'install disk first.so', '1 refused C2 AlreadyInstalled', 'same'),
             on('one.disk', f'replace disk {NAMED_Q}', '1 refused C3 NotInstalled', 'same'),
@@ -167,8 +173,8 @@ def refusals():
             on('one.disk', 'preload disk z z', '1 refused C5 RepeatedPreload', 'same'),
             on('one.disk', 'preload disk' + 16 * ' z', '1 refused C5 RepeatedPreload', 'same'),
             on('one.disk', seventeen, '1 refused C6 TooManyPreloads', 'same')]),
-        ('Six sectors are free of eight: 1,536 bytes, their entry and the catalogue, which counts twice, take all of them, and one byte\n'
-         'more has no room. A removal always has.', [
+        ('Six of eight sectors are free. 1,536 bytes, their entry, and the catalogue, which counts twice, take all of them. For one byte\n'
+         'more there is no room. A removal always has room.', [
             on('formatted.disk', 'install disk long.so', '0 ok'),
             on('formatted.disk', 'install disk longer.so', '1 refused S7 Full', 'same'),
             on('formatted.disk', 'install disk real-none.so', '0 ok'),
@@ -178,7 +184,7 @@ def refusals():
             on('full.disk', f'install disk {NAMED_Q}', '1 refused S7 Full', 'same'),
             on('full.disk', 'remove disk a', '0 ok', 'same 0x8=02'),
             on('full.disk', 'preload disk a', '0 ok', 'same 0x8=02 0x14=01000100 0x38=01 0x40=06')]),
-        ('Two are free beside a library and its catalogue: a sector of data, and not two.', [
+        ('Two sectors are free besides a library and its catalogue: enough for one sector of data, but not for two.', [
             on('one.disk', f'install disk {NAMED_Q}', '0 ok', has='0x40=07 0xe04=02 0xe10=0300000006'),
             on('one.disk', 'install disk soname-240.so', '1 refused S7 Full', 'same'),
             on('one.disk', 'replace disk long.so', '1 refused S7 Full', 'same'),
@@ -187,7 +193,7 @@ def refusals():
             on('one.disk', 'install disk long.so', '1 refused C2 AlreadyInstalled', 'same'),
             on('one.disk', 'replace disk real-started.so', '1 refused C3 NotInstalled', 'same'),
             on('full.disk', 'install disk minimal.so', '1 refused C1 E33 BadSoname', 'same')]),
-        ('After the last generation nothing is changed; what is read stays. The other tests come first, but not that of the room.', [
+        ('After the last generation no change is made, and reading still works. The other tests come first, except that of the room.', [
             on(last, f'install disk {NAMED_Q}', '1 refused S10 GenerationEnd', 'same'),
             on(last, 'install disk real-started.so', '1 refused S10 GenerationEnd', 'same'),
             on(last, f'replace disk {A}', '1 refused S10 GenerationEnd', 'same'),
@@ -200,7 +206,7 @@ def refusals():
             on(last, 'remove disk z', '1 refused C3 NotInstalled', 'same'),
             on(last, 'preload disk z', '1 refused C3 NotInstalled', 'same'), on(last, 'list disk', file='one.listing', after='same'),
             on(last, 'bind disk minimal.so 0x10000', '0 file minimal.image', 'same', file='minimal.image')]),
-        ('The generation before it, and others whose number carries.', [
+        ('The generation before the last, and generations whose successor carries into further bytes.', [
             on('one.disk 0x8=feffffffffffffff 0x208=fdffffffffffffff', 'preload disk', '0 ok',
                'same 0x208=ff 0x214=00 0x238=00 0x240=00'),
             on('one.disk 0x8=fe 0x208=ff', 'preload disk', '0 ok', 'same 0x8=0001 0x14=01 0x38=01 0x40=04'),
@@ -261,7 +267,8 @@ def room():
     none = (DATA / 'real-none.so').read_bytes()
     assert len(none) == 1456
     return [
-        ('Free are the sectors 5 and 6, and 10 to 15: the data goes into the longer run, the entry and the catalogue into the lowest.', [
+        ('The free sectors are 5 and 6, and 10 to 15. The data goes into the longer run, the entry and the catalogue into the lowest\n'
+         'sectors.', [
             on('gap.disk', f'install disk {exclamation}', '0 ok',
                has=f'0x8=06 0x14=03000200 0x18=0100 0x38=01 0x40=06 0xa00={ENTRY_A} 0xa10=2100 0xb00=0a00000001 0x1400=@{exclamation}'
                ' 0xc00=4c49424303 0xc10=030000000400000005'),
@@ -273,7 +280,9 @@ def room():
             on('gap.disk', f'replace disk {A}', '0 ok', has=f'0x40=06 0xc10=050000000400000000 0xb00=0a00000001 0x1400=@{A} 0x400=@{A}'),
             on('gap.disk', 'replace disk protected.so', '0 ok', has='0x40=06 0xc10=030000000500000000 0xb00=0a00000001 0x1400=@protected.so'),
             on('gap.disk', 'install disk soname-good-3.so', '0 ok', has='0x40=06 0xc10=030000000400000005 0x1400=@soname-good-3.so')]),
-        ('Three runs of two sectors: the lower, then the next one\'s front; the entry is behind, and the catalogue behind that.', [
+        ('Three free runs of two sectors: the data goes into the lowest and into the front of the next, the entry comes after it, and '
+         'the\n'
+         'catalogue after the entry.', [
             on(pairs, f'install disk {NAMED_Q}', '0 ok', has=f'0x208=01 0x214=02 0x238=01 0x240=06 0x400=@{NAMED_Q} 0x700=0200000001'
                ' 0xc00=4c49424302 0xc10=0500000003'),
             on(pairs, 'install disk soname-240.so', '0 ok', has='0x240=07 0x400=@soname-240.so 0xd00=0200000002 0xe10=0500000006'),
@@ -281,27 +290,30 @@ def room():
             on(pairs, 'install disk linked-functions.so', '0 ok', has='0x240=0a 0x120a=02 0x1300=02000000020000000600000002 0x1410=0500000009'),
             on(pairs, 'install disk linked-base.so', '1 refused S7 Full', 'same'),
             on(pairs, f'replace disk {A}', '0 ok', has='0x214=01 0x240=06 0x700=0200000001 0xc10=03')]),
-        ('Two runs of two sectors and one of three: this whole, and of the others the lower one\'s front.', [
+        ('Free are two runs of two sectors and one of three. The data goes into all of the latter, and then into the front of the lower\n'
+         'one of the others.', [
             on(triple, 'install disk real-none.so', '0 ok', has='0x240=03 0x500=0900000003 0x610=0500000002'),
             on(triple, 'install disk linked-functions.so', '0 ok',
                has='0x240=06 0x60a=02 0x700=09000000030000000200000001 0xc10=0500000003'),
             on(triple, 'install disk linked-base.so', '0 ok', has='0x240=07 0xc0a=02 0xd00=09000000030000000200000002 0xe10=0500000006'),
             on(triple, 'install disk real-started.so', '1 refused S7 Full', 'same')]),
-        ('All 512 bytes of a sector are a file\'s, or zeros behind them; a free sector that nothing takes stays as it is.', [
+        ("All 512 bytes of a sector are bytes of a file, or zeros after them. A free sector that isn't used stays as it is.", [
             on('formatted.disk', 'install disk index-0.so', '0 ok'),
             on('formatted.disk 0x500=ff 0x558=ff 0x5ff=ff 0x620=ff 0x7ff=ff 0x806=ff 0x814=ff 0x9ff=ff 0xa00=ff 0xfff=ff', f'install disk {A}',
                '0 ok'),
             on('formatted.disk 0x200=52 0x240=ff 0x3ff=ff', f'install disk {A}', '0 ok')]),
-        ('33 sectors, where 35 are free and none beside another: too many runs. Of a library removed the sectors are free for it.', [
+        ('A file needs 33 sectors, and 35 are free, but none next to another: these are too many runs. If a library is removed, its\n'
+         'sectors are free for the file.', [
             on(apart, f'install disk {other}', '1 refused S8 Fragmented', 'same'),
             on(apart, f'install disk {exclamation}', '0 ok', has='0x240=06 0x810=21 0x900=0200000001 0xc10=430000004700000004'),
             on(apart, 'remove disk q', '0 ok', has='0x214=01 0x240=02 0x410=43'),
             on(apart + ' 0x0=00', f'install disk {other}', '1 refused S3 NotFormatted', 'same')]),
-        ('A file of 1,456 bytes whose first sector is 9 and whose others are 4 and 5; in the order 4, 5 and 9 its bytes are no library.', [
+        ('A file of 1,456 bytes, whose first sector is 9 and whose others are 4 and 5. In the order 4, 5 and 9 its bytes are no library.', [
             listed(apart_file(none, (9, 1), (4, 2)), 'none.listing'),
             on(apart_file(none, (9, 1), (4, 2)), 'upgrade disk', '0 ok', 'same'),
             on(apart_file(none, (9, 1), (4, 2), turned=True), 'list disk', '1 refused S5 Damaged', 'same')]),
-        ('33 sectors in 32 runs, of which one has two: that first. The entry is behind them all, and the catalogue behind it.', [
+        ('33 sectors in 32 runs, one of which has two sectors: that run is used first. The entry comes after all of them, and the\n'
+         'catalogue after the entry.', [
             on(nearer, f'install disk {other}', '0 ok', has='0x240=45 0x8604=78410000 0x860a=2000 0x8700=40000000020000000200000001'
                ' 0x87f8=3e00000001 0x8a00=4c49424303 0x8a10=440000004800000043')]),
     ]
@@ -323,17 +335,18 @@ def damaged():
     told_changes = ['0x210=09', '0x238=00', '0x238=02', '0x240=08', '0x240=03', '0x810=04', '0x700=03', '0x700=04', '0x610=62', f'0x400={zeros}']
     s4 = '1 refused S4 AlreadyFormatted'
     return [
-        ('Sector 1 has no root: the registry of generation 0, and what is installed is of generation 1 again.', [
+        ('Sector 1 has no root: the disk has the registry of generation 0, and the next installation makes generation 1 again.', [
             on('one.disk 0x200=00', 'list disk', '0 end', 'same'), on(none, 'list disk', '0 end', 'same'),
             on('one.disk 0x207=33', 'list disk', '0 end', 'same'), on(none, f'install disk {NAMED_Q}', '0 ok'),
             on('one.disk 0x200=00', f'install disk {A}', '0 ok', 'same 0x200=52'),
             on('one.disk 0x200=00', 'remove disk a', '1 refused C3 NotInstalled', 'same'),
             on('one.disk 0x200=00', 'preload disk', '0 ok', 'same 0x200=52 0x214=00 0x238=00 0x240=00')]),
-        ('Two roots whose generations differ by one: the later.', [
+        ('If the generations of two roots differ by one, the later root is current.', [
             listed('one.disk 0x8=02 0x208=03', 'one.listing'), on('one.disk 0x8=04 0x208=03', 'list disk', '0 end', 'same'),
             on('one.disk 0x8=02', 'list disk', '0 end', 'same'), on('one.disk 0x8=02', f'install disk {A}', '0 ok', 'same 0x208=03'),
             on('replaced.disk 0x0=00', 'list disk', s5, 'same'), on('replaced.disk 0x200=00', 'list disk', s5, 'same')]),
-        ('Any other two: generations that differ by more, one alone that isn\'t 0, one in the wrong sector.', [
+        ("Any other two roots are damaged: generations that differ by more, only one root whose generation isn't 0, and a root in the\n"
+         'wrong sector.', [
             on('one.disk 0x8=04 0x208=07', 'list disk', s5, 'same'), on('one.disk 0x8=06 0x208=03', 'list disk', s5, 'same'),
             on('one.disk 0x0=00', 'list disk', s5, 'same'), on('formatted.disk 0x8=02', 'list disk', s5, 'same'),
             on('formatted.disk 0x8=01', 'list disk', s5, 'same'), on('one.disk 0x8=03 0x208=02', 'list disk', s5, 'same'),
@@ -341,35 +354,38 @@ def damaged():
             on('one.disk 0x8=04 0x208=04', 'list disk', s5, 'same'), on('one.disk 0x208=ffffffffffffffff', 'list disk', s5, 'same'),
             on('one.disk 0x8=feffffffffffffff', 'list disk', s5, 'same'),
             on(f'bytes= pad=4096 0x200={ROOT}08', 'list disk', s5, 'same'), on(f'{EMPTY} 0x200={ROOT}08', 'list disk', s5, 'same')]),
-        ('A root with one byte changed, or two; the older of two as well.', [on(f'one.disk {change}', 'list disk', s5, 'same') for change in bad_roots] + [
+        ('A root with one or two bytes changed, also the older one of two roots.', [on(f'one.disk {change}', 'list disk', s5, 'same') for change in bad_roots] + [
             on('one.disk 0x14=01', 'list disk', s5, 'same'), on('one.disk 0x1ff=01', 'list disk', s5, 'same'),
             on('one.disk 0x38=01', 'list disk', s5, 'same'), on('one.disk 0x10=07', 'list disk', s5, 'same'),
             on('one.disk 0x8=01', 'list disk', s5, 'same'),
             on('formatted.disk 0x10=09', 'list disk', s5, 'same'), on('formatted.disk 0x3f=01', 'list disk', s5, 'same')]),
-        ('Roots that are others: a preload; the older one of a disk of another size, or with a catalogue that is none.', [
+        ('Other roots: one with a preload; and an older root that is of a disk of another size, or whose catalogue is none.', [
             listed('one.disk 0x216=01', 'one-preloaded.listing'), listed('one.disk 0x10=09', 'one.listing'),
             listed('one.disk 0x14=01 0x38=01 0x40=07', 'one.listing')]),
         ('An entry with one byte changed.', [on(f'one.disk {change}', 'list disk', s5, 'same') for change in bad_entries]),
-        ('Entries that are others: a byte more of the file; a sector more than it takes, which is free; the free ones alone.', [
+        ('Other entries: one byte more of the file; one sector more than the file takes, which is free; only the free sectors.', [
             listed('one.disk 0x604=59', 'one-345.listing'), on(f'one.disk 0x700=0500000002 0xa00=@{A}', 'list disk', s5, 'same'),
             listed(f'one.disk 0x700=0500000001 0xa00=@{A}', 'one.listing')]),
-        ('A file that is no library any more; bytes of it that no test reads, and bytes behind it and in free sectors, may be any.', [
+        ('A file that is no longer a library is damage. Bytes of a file that no test reads, bytes after the file, and bytes of free\n'
+         'sectors may have any values.', [
             on('one.disk 0x400=00', 'list disk', s5, 'same'), on(f'one.disk 0x400={zeros}', 'list disk', s5, 'same'),
             on('one.disk 0x410=02', 'list disk', s5, 'same'), on('full.disk 0x412=28', 'list disk', s5, 'same'),
             listed('one.disk 0x550=ffffffffffffffff', 'one.listing'), listed('one.disk 0x558=ff 0x5ff=ff 0xa00=ff 0xfff=ff', 'one.listing')]),
-        ('Two libraries whose files are those of one name, the other\'s, or zeros: an opening and an upgrade find each of them.', [
+        ("Two libraries whose files have one name, have each other's names, or are zeros: an opening and an upgrade detect each case.", [
             on(f'pair.disk {change}', words, s5, 'same') for change in other_files('0x400', '0xa00') for words in ('list disk', 'upgrade disk')]),
-        ('Two libraries: a sector that is used twice, one name, an entry that is the other\'s; the list the other way round.', [
+        ("Two libraries: a sector that is used twice, two equal names, an entry that is also the other's; and the list in the reverse\n"
+         'order.', [
             on(f'pair.disk {change}', 'list disk', s5, 'same') for change in (
                 '0xe14=03', '0xe14=02', '0xe14=07', '0xd00=02', '0xd00=03', '0xd00=07', '0x700=05', '0x710=01', '0xc10=61', '0x610=62',
                 '0xe10=0600000003 0x610=62')] + [on('pair.disk 0xe10=0600000003', 'list disk', file='pair-turned.listing', after='same')]),
-        ('The entry of the first one for both; a catalogue for the second entry, and for the catalogue a root.', [
+        ('Both libraries have the first entry; a catalogue takes the place of the second entry, and a root the place of the catalogue.', [
             on(f'pair.disk 0x{at:x}={pair[start:start + SECTOR].hex()}', 'list disk', s5, 'same')
             for at, start in ((0xc00, 0x600), (0xc00, 0xe00), (0xe00, 0x0))]),
-        ('A file of two extents, the later sectors first.', [
+        ('A file of two extents, of which the one with the higher sectors comes first.', [
             listed(f'full.disk 0xa0a=02 0xb00=04000000010000000200000002 0x400={zeros} 0x800=@{A}', 'full.listing')]),
-        ('A file of two extents that lie one behind the other; a sector of it twice, that of its entry, of the catalogue, one behind the disk,\n'
-         'a root\'s.', [
+        ('A file of two extents that follow each other; one of its sectors twice; and the sector of its entry, of the catalogue, after '
+         'the\n'
+         'end of the disk, or of a root.', [
             listed('full.disk 0xa0a=02 0xb00=02000000010000000300000002', 'full.listing'),
             listed('full.disk 0xa0a=02 0xb00=02000000020000000400000001', 'full.listing'),
             listed('full.disk 0xa0a=02 0xb00=02000000020000000700000001', 'full.listing')] + [
@@ -377,30 +393,33 @@ def damaged():
                 '02000000020000000300000001', '02000000020000000500000001', '02000000020000000600000001', '02000000020000000800000001',
                 '02000000020000000100000001', '02000000020000000400000002', '02000000010000000300000001', '03000000020000000200000001',
                 '02000000030000000400000000')]),
-        ('What is damaged is so for an upgrade too, and was formatted before: a root that is gone, has another number of sectors, no catalogue or two,\n'
-         'one behind the disk or the entry as one, or is of version 1; a catalogue that is none, lists two entries, one behind the disk or itself; an\n'
-         'entry whose file has the entry\'s own sector or the catalogue\'s; another name; a file that is none.', [
+        ('A damaged disk is damaged for an upgrade too, and was formatted before. The root is missing, has another number of sectors, '
+         'has\n'
+         'no catalogue or two, has a catalogue after the end of the disk or the entry as a catalogue, or is of version 1. The catalogue '
+         'is\n'
+         'none, or lists two entries, one after the end of the disk, or itself. The file of the entry has the sector of the entry or of\n'
+         'the catalogue. The entry has another name, or its file is no library.', [
             on(f'one.disk {change}', 'list disk', s5, 'same') for change in new_changes] + [
             on(f'one.disk {change}', words, wanted, 'same') for change in new_changes + told_changes
             for words, wanted in (('upgrade disk', s5), ('format disk 8', s4))]),
-        ('The same without the root of generation 1, which is no damage; and without either.', [
+        ('The same damage without the root of generation 1, which is then no damage; and without either root.', [
             on(none, 'upgrade disk', '0 ok', 'same'), on(none, 'format disk 8', s4, 'same'),
             on(f'one.disk {no_older} {no_root}', 'list disk', '1 refused S3 NotFormatted', 'same'),
             on(f'one.disk {no_older} {no_root}', 'upgrade disk', '1 refused S3 NotFormatted', 'same'),
             on(f'one.disk {no_older} {no_root}', 'format disk 8', '0 ok', f'same 0x0={ROOT}08')]),
-        ('Each command on a disk that is damaged.', each_opening('one.disk 0x0=00', s5)),
-        ('Each on a disk that was not formatted.', each_opening('bytes= pad=4096', '1 refused S3 NotFormatted')),
-        ('The magic of either version, and no root behind it.', [
+        ('Each command on a damaged disk.', each_opening('one.disk 0x0=00', s5)),
+        ('Each command on a disk that was not formatted.', each_opening('bytes= pad=4096', '1 refused S3 NotFormatted')),
+        ('The magic of either version, without a root after it.', [
             on(f'bytes={magic} pad=4096', words, '1 refused S5 Damaged', 'same')
             for magic in ('524c494252454731', '524c494252454732') for words in ('list disk', 'upgrade disk')]),
-        ('Each on a file that is no disk: half a sector, one byte, seven sectors, none.',
+        ('Each command on a file that is no disk: half a sector, one byte, seven sectors, and no bytes.',
          [case for before in ('one.disk cut=3840', 'one.disk pad=4097', 'one.disk cut=3584', 'empty')
           for case in each_opening(before, '1 refused S6 BadGeometry')]),
-        ('A disk that lost or got a sector isn\'t the one of its root; no registry at all on nine sectors.', [
+        ('A disk that is a sector shorter or longer than its root says is damaged; and nine sectors without a registry.', [
             on('pair.disk cut=7680', 'list disk', s5, 'same'), on('one.disk pad=4608', 'list disk', s5, 'same'),
             on('one.disk 0x10=00004000 0x210=00004000', 'list disk', s5, 'same'),
             on('bytes= pad=4608', 'list disk', '1 refused S3 NotFormatted', 'same')]),
-        ('Zeros: one sector and two, which are too few, nine, and a thousand.', [
+        ('Zeros: one sector and two, which are too few; nine; and a thousand.', [
             on(f'bytes= pad={512 * sectors}', words, wanted, 'same')
             for sectors, wanted in ((1, '1 refused S6 BadGeometry'), (2, '1 refused S6 BadGeometry'), (9, '1 refused S3 NotFormatted'),
                                     (1000, '1 refused S3 NotFormatted'))
@@ -415,7 +434,7 @@ def scripts():
     line = 'bytes=6c6973740a'
     return [
         ('Each command of a registry, and most of its refusals, on eight sectors.', [run('formatted.disk', 'commands', 1)]),
-        ('The empty script; half a byte; an empty line; a last line without a newline; one that is cut within a word.', [
+        ('The empty script; half a byte; an empty line; a last line without a newline; and a line that is cut within a word.', [
             on('formatted.disk', 'script disk', '0 nothing', 'same', 'bytes='), on('formatted.disk', 'script disk', '0 nothing', 'same'),
             on('formatted.disk', 'script disk', '1 refused L1 BadLine', 'same', 'bytes=696e7374616c6c203766340a'),
             on('formatted.disk', 'script disk', '1 refused L1 BadLine', 'same', 'bytes=0a'), run('formatted.disk', 'cut', 1),
@@ -423,25 +442,25 @@ def scripts():
             on('formatted.disk', 'script disk', '1 refused L2 CutLine', 'same', line + ' cut=4'),
             on('one.disk', 'script disk', '1 refused L2 CutLine', 'same', 'bytes=72656d6f76652061'),
             on('one.disk', 'script disk', '0 ok', 'same 0x8=02', 'bytes=72656d6f766520610a')]),
-        ('Eight sectors that are full, and twelve; what replaces a library has no room but beside it.', [
+        ('Eight sectors that are full, and twelve. A file that replaces another one needs room of its own.', [
             run('formatted.disk', 'full', 1), run(f'bytes={ROOT}0c pad=6144', 'fuller', 1), run('formatted.disk', 'replace-full', 1)]),
         ('Removals, preloads, places, names, digits, files that are refused, and the orders of the tests, on 64 sectors.', [
             run(sixty_four, name, status) for name, status in (
                 ('remove', 0), ('digits', 0), ('preloads', 1), ('refused', 1), ('order', 1), ('names', 1), ('places', 1))]),
-        ('Binds over what stands: none of them changes the disk.', [
+        ('Binds against the current state: none of them changes the disk.', [
             run(sixty_four, name, status) for name, status in (
                 ('bind-alone', 0), ('bind-levels', 0), ('bind-state', 1), ('bind-segments', 1), ('bind-protected', 0), ('bind-files', 1),
                 ('bind-refused', 1), ('bind-names', 1), ('session', 1))]),
-        ('Binders: what they have keeps its sectors until they end.', [
+        ('Binders: the sectors that a binder uses stay until the binder ends.', [
             run('formatted.disk', name, 1) for name in ('binder', 'binder-removed', 'binder-cancelled', 'binder-stepped', 'slots')]
             + [run(sixty_four, name, 1) for name in ('binders', 'binder-refused', 'slots-freed')]),
-        ('Nothing is left on the disk of a binder that lives at the end of a script: the next commands have the sectors that it had.', [
+        ('A binder that exists at the end of a script leaves nothing on the disk: the next commands can use its sectors.', [
             on('formatted.disk', 'script disk', '0 file script-binder-left.output', 'left.disk', 'script-binder-left.script',
                'script-binder-left.output'),
             on('left.disk', 'script disk', '1 refused C8 NoSuchBinder', 'same', 'bytes=' + b'advance 0\n'.hex()),
             on('left.disk', 'replace disk absolute.so', '0 ok', has='0x400=@absolute.so'),
             on('left.disk', 'remove disk a', '0 ok')]),
-        ('Binds over symbolic libraries.', [
+        ('Binds against symbolic libraries.', [
             run(sixty_four, name, status) for name, status in (
                 ('bind-symbolic', 0), ('bind-flags', 0), ('symbolic-first', 1), ('symbolic-refused', 1))]),
     ]
@@ -457,8 +476,8 @@ def tells_b(word, *files):
 
 def symbolic_binds(base):
     parts = [
-        ('Symbolic libraries, which are kept as any other: one in the place of b, installed, listed and bound; in its bytes on the disk the\n'
-         'tag made FLAGS 0, 2 and 8, and REL, which no library may have.', [
+        ('A symbolic library is stored like any other: it replaces b, and is installed, listed and bound. Then its tag on the disk is\n'
+         'changed to FLAGS 0, 2 and 8, and to REL, which no library may have.', [
             on('pair.disk', 'replace disk symbolic-b.so', '0 ok', has='0x208=03 0x214=02 0x240=09 0x900=0800000001 0x1000=@symbolic-b.so'
                ' 0x1210=0300000004'),
             on('formatted.disk', 'install disk symbolic-b.so', '0 ok', has='0x208=01 0x214=01 0x240=04 0x400=@symbolic-b.so'),
@@ -478,12 +497,12 @@ def symbolic_binds(base):
 def binds():
     base = '0x10000'
     return symbolic_binds(base) + [
-        ('A program over a and b, as they stand on the disk; with b as a preload its f is the first.', [
+        ('A program that needs a and b is bound against the disk. With b as a preload, the f of b is the first definition.', [
             on('pair.disk', f'bind disk asking.so {base}', '0 file first.image', 'same', file='first.image'),
             on('pair.disk 0x16=0100 0x18=0100', f'bind disk asking.so {base}', file='disk-preloaded.image', after='same'),
             on('pair.disk 0xe10=0600000003', f'bind disk asking.so {base}', '0 file first.image', 'same', file='first.image'),
             on('formatted.disk', f'bind disk minimal.so {base}', '0 file minimal.image', 'same', file='minimal.image')]),
-        ('What is refused: the program, the base, a need, the room, a symbol.', [
+        ('Refusals because of the program, the base, a missing name, the room, or a symbol.', [
             on('pair.disk', f'bind disk empty {base}', '1 refused B1 E1 TooShort', 'same'),
             on('pair.disk', f'bind disk minimal.image {base}', '1 refused B1 E2 BadMagic', 'same'),
             on('pair.disk', f'bind disk real-size.so {base}', '1 refused B1 E30 RelocationType 33', 'same'),
@@ -498,7 +517,7 @@ def binds():
             on('pair.disk', 'bind disk asking.so 0x7fffffffe000', '1 refused B4 NoRoom', 'same'),
             on('formatted.disk', f'bind disk value-undefined.so {base}', '1 refused B5 Undefined /program f', 'same'),
             on('pair.disk', f'bind disk value-undefined.so {base}', '1 refused B5 Undefined /program f', 'same')]),
-        ('Every base that isn\'t read, before any file is opened.', [
+        ('Every base with a bad form is refused before any file is opened.', [
             on('one.disk', f'bind disk {file} {word}', '2 error rlibreg: bad base', 'same') for file, word in (
                 ('minimal.so', '0x'), ('minimal.so', '10000'), ('minimal.so', '0X1'), ('minimal.so', '0x00000000000010000'), ('minimal.so', '0xg'),
                 ('minimal.so', ''), ('minimal.so', '0x-1'), ('no-such-file', '0x'))] + [
@@ -511,22 +530,22 @@ def missing():
     no_disk = '3 error rlibreg: cannot read disk'
     no_file = '3 error rlibreg: cannot read no-such-file'
     return [
-        ('A disk that doesn\'t stand: only `format` makes one.', each_opening('none', no_disk)),
-        ('A file that doesn\'t stand; it is read before the disk is opened.', [
+        ("A disk that doesn't exist: only `format` makes one.", each_opening('none', no_disk)),
+        ("A file that doesn't exist. It is read before the disk is opened.", [
             on(before, command, no_file, 'same') for before in ('one.disk', 'none', 'empty', 'one.disk 0x0=00') for command in (
                 'install disk no-such-file', 'replace disk no-such-file', 'bind disk no-such-file 0x10000')]),
-        ('What is no regular file, paths that lead nowhere, the empty path.', [
+        ('Paths of things that are no regular files, paths that lead nowhere, and the empty path.', [
             on('one.disk', f'{words}', f'3 error rlibreg: cannot read {path}', 'same') for words, path in (
                 ('list .', '.'), ('upgrade .', '.'), ('upgrade no-such-disk', 'no-such-disk'), ('upgrade ', ''), ('list ', ''), ('list one.disk/disk', 'one.disk/disk'), ('list no-such-folder/disk', 'no-such-folder/disk'),
                 ('format . 8', '.'), ('format no-such-folder/disk 8', 'no-such-folder/disk'), ('format  8', ''),
                 ('remove . a', '.'), ('preload .', '.'), ('script .', '.'), ('script no-such-disk', 'no-such-disk'),
                 (f'install . {A}', '.'), (f'replace no-such-disk {A}', 'no-such-disk'), ('install disk .', '.'), ('install disk ', ''),
                 ('replace disk .', '.'), ('bind disk . 0x10000', '.'), ('bind . minimal.so 0x10000', '.'), ('bind no-such-disk . 0x10000', '.'))]),
-        ('The disk itself is no library.', [
+        ('The disk itself as the file of a library: it is none.', [
             on('one.disk', 'install disk disk', '1 refused C1 E2 BadMagic', 'same'),
             on('one.disk', 'bind disk disk 0x0', '1 refused B1 E2 BadMagic', 'same'),
             on('empty', 'install disk disk', '1 refused S6 BadGeometry', 'same'), on('none', 'install disk disk', no_disk, 'none')]),
-        ('An upgrade of a disk of version 2 is an opening: nothing is written.', [
+        ('An upgrade of a disk of version 2 only opens the disk: nothing is written.', [
             on(disk, 'upgrade disk', '0 ok', 'same') for disk in ('formatted.disk', 'one.disk', 'replaced.disk', 'full.disk', 'three.disk', 'gap.disk')]),
     ]
 
@@ -540,8 +559,8 @@ def command_lines():
              'open disk', 'image disk', 'install  disk ' + A, '-- list disk', 'upgrade', 'upgrade disk disk', 'upgrade disk ', 'upgrade  disk',
              'Upgrade disk', 'upgrades disk', 'upgrade disk 8']
     return [
-        ('A word too few or too many, and words that are no command.', [on('one.disk', words, bad, 'same') for words in lines]),
-        ('No disk is made by them.', [on('none', words, bad, 'none') for words in ('format disk', 'format disk 8 8', 'Format disk 8', 'format 8 disk')]),
+        ('One argument too few or too many, and words that are no command.', [on('one.disk', words, bad, 'same') for words in lines]),
+        ('Such command lines make no disk.', [on('none', words, bad, 'none') for words in ('format disk', 'format disk 8 8', 'Format disk 8', 'format 8 disk')]),
     ]
 
 
@@ -573,7 +592,9 @@ def wrong():
              'on formatted.disk run script disk =/> 0 end then same',
              'on formatted.disk run script disk < bytes=6c6973740a =/> 0 nothing then same',
              'on formatted.disk run script disk < bytes=6c6973740a =/> 1 end then same']
-    return [('Wrong on purpose: another status, another answer or stream, another disk, one that is longer, shorter or not there.', lines)]
+    return [('These cases are wrong on purpose. Another status, another answer or stream, another disk, a disk that is longer, shorter, '
+             'or\n'
+             'missing.', lines)]
 
 
 def tells_wrong_readings():

@@ -165,11 +165,11 @@ def main():
     missing = Bind(Case('linked-program.so'), [Case(f'linked-{n}.so') for n in four if n != 'middle'])
     assert Binder().text(*missing.arguments()) == 'refused B3 Missing top.so middle.so\n'
     write_list('binds-linked.txt', [
-        (f'{versions()}\nEach case is a word that a relocation writes. -Bsymbolic-functions leaves no tag.\n{commands}', bound(four)),
-        ('The same in another order of installation, at another base.', bound(four[::-1], base=0x7f1234560000)),
-        ('With a preload, which replaces a function and a datum, in its own symbols too.', bound(four + ['front'], ['front.so'])),
-        ('With two preloads, one of which is needed too: it comes before what the program needs.', bound(four + ['front'], ['functions.so', 'front.so'])),
-        ('Without a library that is needed, and a library without what it calls.',
+        (f'{versions()}\nEach case is a word that a relocation writes. The option -Bsymbolic-functions leaves no tag in the library.\n{commands}', bound(four)),
+        ('The same libraries in another order of installation, at another base.', bound(four[::-1], base=0x7f1234560000)),
+        ('With a preload, whose definitions replace a function and a datum, even for the libraries that define them.', bound(four + ['front'], ['front.so'])),
+        ('With two preloads. One of them is also needed, and comes before what the program needs.', bound(four + ['front'], ['functions.so', 'front.so'])),
+        ('Without a library that is needed; and with a library that lacks the function that is called.',
          [f'bind {missing} => refused B3 Missing top.so middle.so'] + undefined(['front'])),
     ])
 

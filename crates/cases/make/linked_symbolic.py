@@ -148,7 +148,7 @@ def said(linker, how, by):
 
 
 def one_of_each():
-    parts = [('The words of a library behind base.so, which is a preload: ' + said(*LIBRARIES[n]),
+    parts = [('The words of a library that comes after the preload base.so in load order: ' + said(*LIBRARIES[n]),
               bound('program', NEEDED + [n], ['base', n], alone=f'{n}.so')) for n in LIBRARIES if n not in NEEDED]
     for n, (linker, kind, how, by) in PROGRAMS.items():
         if n != 'program':
@@ -165,12 +165,13 @@ def main():
     assert found_in('program', NEEDED, [], 'lld-list.so', 'report') == '/program'
     rest = [n for n in LIBRARIES if n not in NEEDED]
     write_list('binds-linked-symbolic.txt', [
-        (f'{versions()}\nLibraries that define what base.so has too, and programs.\n{commands}\n'
-         'Each case is a word that a relocation writes. The program needs base.so, a library that isn\'t symbolic and one that lld made\n'
-         'symbolic, which has its own of the names that are left to the loader.', bound('program', NEEDED)),
-        ('The other way round, at another base: preloads.', bound('program', NEEDED[::-1], ['lld-list', 'plain'], 0x7f1234560000)),
-        ('All of them behind base.so, as preloads.', bound('program', NEEDED + rest, ['base'] + rest)),
-        ('A library whose FLAGS is 0x8, with 0xa in its place, and with SYMBOLIC: it has its own of all names.', [
+        (f'{versions()}\nLibraries that define names which base.so defines too, and programs.\n{commands}\n'
+         'Each case is a word that a relocation writes. The program needs base.so, a library that isn\'t symbolic, and a library that '
+         'lld\nmade symbolic. The last one defines some of the names that were left to the loader.', bound('program', NEEDED)),
+        ('The libraries in the reverse order, as preloads, at another base.', bound('program', NEEDED[::-1], ['lld-list', 'plain'], 0x7f1234560000)),
+        ('All of the libraries as preloads, after base.so.', bound('program', NEEDED + rest, ['base'] + rest)),
+        ('A library whose FLAGS is 0x8; the same with 0xa in its place, and with SYMBOLIC: then the library uses its own definitions of\n'
+         'all names.', [
             line for entry in ((30, 10), (16, 8)) for line in bound('program', ['base', changed_flags('plain', entry), 'lld-list'])]),
     ] + one_of_each())
 

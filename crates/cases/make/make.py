@@ -174,10 +174,10 @@ def changes():
     write_list('changes.txt', [
         ('One change each of minimal.so, in the order of the tests, and the first refusal.',
          [image(minimal(*change), wanted='B1 ' + refusal) for change, refusal in CHANGES]),
-        ('Of two changes the test that comes first answers.',
+        ('Two changes: the test that comes first refuses the file.',
          [image(minimal(*change), wanted='B1 ' + refusal) for change, refusal in FIRST_OF_TWO]),
     ] + [(f'Accepted: {what}.', [image(minimal(*change))]) for what, change in ACCEPTED] + [
-        ('A table that JMPREL places needs PLTRELSZ and PLTREL; without JMPREL these are ignored, and other tags too.', tags())])
+        ('A table that JMPREL places needs PLTRELSZ and PLTREL. Without JMPREL these two are ignored, and so are other tags.', tags())])
 
 
 def tags():
@@ -207,20 +207,21 @@ def bases():
         return image(minimal(), base, wanted=wanted)
     limit = 0x7fffffffe000
     write_list('bases.txt', [
-        ('A base is good where it is a multiple of the unit, 4,096 here.', [
+        ('A base has to be a multiple of the unit, which is 4,096 here.', [
             row(0), row(0x10000), row(0xabcdef00000), row(0x10001, 'B2 BadBase'), row(0x10800, 'B2 BadBase'),
             row(0x7ffffffff001, 'B2 BadBase'), row(0xffffffffffffffff, 'B2 BadBase')]),
-        ('The program ends at or below 2^47 - 4,096.', [
+        ('The memory of the program has to end at or below 2^47 - 4,096.', [
             row(limit), row(0x7ffffffff000, 'B4 NoRoom'), row(0xfffffffffffff000, 'B4 NoRoom')]),
-        ('The file is refused before the base is looked at.', [
+        ('The file is tested before the base.', [
             f'image bytes=7f454c46 0x1 => refused B1 E1 TooShort', f'image bytes= 0x1 => refused B1 E1 TooShort']),
-        ('Memory that ends at the limit, and one byte above it.', [
+        ('Memory that ends at the limit, and memory that ends one byte above it.', [
             image(minimal((0x68, u64(0x1000))), limit, near='page.image'),
             image(minimal((0x68, u64(0x1001))), limit, wanted='B4 NoRoom')]),
-        ('The largest memory has 64 MiB: its last byte, the one behind it, and one byte more. The second reading has no room for it.', [
+        ('The largest memory has 64 MiB: its last byte, the byte after it, and a memory of one byte more. The second reading (rules.py)\n'
+         'has no room for it.', [
             'byte minimal.so 0x68=0000000400000000 0x10000 0x400ffff => 00', 'byte minimal.so 0x68=0000000400000000 0x10000 0x4010000 => none',
             image(minimal((0x68, u64(0x4000001))), wanted='B1 E13 TooLarge')]),
-        ('A unit of 0x2000, the greatest alignment: a multiple of the page alone is no good base.', [
+        ('A unit of 0x2000, which is the greatest alignment. A base that is a multiple of only the page size is refused.', [
             image(minimal((0x70, u64(0x2000))), 0x11000, wanted='B2 BadBase'),
             image(minimal((0x70, u64(0x2000))), 0x12000)]),
     ])
@@ -291,16 +292,16 @@ def relocations():
         ('A relocation writes base + addend, eight bytes, little endian.', [image(minimal())]),
         ('Bytes at the edges of the image and of that word.', [byte(minimal(), BASE, *row) for row in held]),
         ('A relocation of the type NONE writes nothing.', [image(minimal((0xe8, u8(0))))]),
-        ('A place behind the file\'s bytes, the last that there is, and one past it.', [
+        ("A place after the file's bytes: the last possible place, and one byte later.", [
             image(minimal((0x68, u8(0xa0)), (0xe0, u8(0x98))), near='tail.image'),
             image(minimal((0x68, u8(0xa0)), (0xe0, u8(0x99))), wanted='B1 E32 RelocationPlace')]),
-        ('An addend of -8, and one that makes the sum wrap.', [
+        ('An addend of -8, and an addend that makes the sum wrap.', [
             image(minimal((0xf0, u64(2**64 - 8)))), image(minimal((0xf0, u64(2**64 - 0x10000))))]),
-        ('The later of two overlapping relocations gives the bytes that both write.', [
+        ('If two relocations overlap, the later one determines the bytes that both write.', [
             image(Case('overlapping.so'), near='overlapping.image')]),
-        ('Relocations of DT_JMPREL come after those of DT_RELA: the first of the two is there, and overwrites the second.', [
+        ('The relocations of DT_JMPREL come after those of DT_RELA. The first relocation is in DT_JMPREL, and overwrites the second.', [
             image(later, near='jmprel.image')]),
-        ('A program of the system\'s linker: make/linked.c says how it was made, and its text.', [
+        ("A program that was linked by the system's linker. make/linked.c has its text, and describes how it was made.", [
             image(Case('linked.so'), 0x7f0000000000, near='linked.image')]),
     ])
 
@@ -310,27 +311,27 @@ def words():
     bad, base = '2 error rlibreg: bad command line', '2 error rlibreg: bad base'
     high = as_answer(rules.image_text(minimal().bytes(), 0xabcdef00000))
     write_list('words.txt', [
-        ('An image: status 0. BASE has one to sixteen digits of either case.', lines(
+        ('An image ends with status 0. BASE has one to sixteen digits of either case.', lines(
             (' image minimal.so 0x10000', '0 file minimal.image'), (' image minimal.so 0x0000000000010000', '0 file minimal.image'),
             (' image minimal.so 0xABCDEF00000', '0 ' + high), (' image minimal.so 0xabcdef00000', '0 ' + high),
             (' image minimal.so 0x0', '0 ' + as_answer(rules.image_text(minimal().bytes(), 0))))),
-        ('A refusal: status 1, on the output.', lines(
+        ('A refusal ends with status 1, and goes to standard output.', lines(
             (' image minimal.so 0x10001', '1 refused B2 BadBase'), (' image minimal.so 0x7ffffffff000', '1 refused B4 NoRoom'),
             (' image minimal.so 0xffffffffffffffff', '1 refused B2 BadBase'),
             (' image minimal.image 0x10000', '1 refused B1 E2 BadMagic'), (' image empty 0x10000', '1 refused B1 E1 TooShort'))),
-        ('Words that are no command: status 2.', lines(
+        ('Words that are no command end with status 2.', lines(
             ('', bad), (' ', bad), ('   ', bad), (' image', bad), (' image minimal.so', bad),
             (' image minimal.so 0x10000 more', bad), (' image minimal.so 0x10000 ', bad), (' Image minimal.so 0x10000', bad),
             (' imag minimal.so 0x10000', bad), (' images minimal.so 0x10000', bad), (' minimal.so 0x10000 image', bad))),
-        ('A base that isn\'t read: status 2, before any file is opened.', lines(*[
+        ('A base with a bad form ends with status 2, before any file is opened.', lines(*[
             (f' image no-such-file {word}', base) for word in (
                 '', '0x', '0X10', '10000', 'x10000', '0x+1', '0x-1', '0x1g', '0x_1', '0x00000000000010000', '0x10000é')])),
-        ('A file that can\'t be read: status 3.', lines(
+        ("A file that can't be read ends with status 3.", lines(
             (' image no-such-file 0x10000', '3 error rlibreg: cannot read no-such-file'),
             (' image . 0x10000', '3 error rlibreg: cannot read .'), (' image minimal.so/none 0x10000', '3 error rlibreg: cannot read minimal.so/none'),
             (' image  0x10000', '3 error rlibreg: cannot read '),
             (' image no-such-file 0x10001', '3 error rlibreg: cannot read no-such-file'))),
-        ('A file of 17 MiB, longer than a program may be, is read whole, and refused then.', [
+        ('A file of 17 MiB, which is longer than a program may be, is read whole, and then refused.', [
             'on minimal.so pad=17825792 run image disk 0x10000 => 1 refused B1 E13 TooLarge then same']),
     ])
     (DATA / 'empty').write_bytes(b'')
@@ -339,22 +340,24 @@ def words():
 def wrong():
     text = as_answer(rules.image_text(minimal((0xe8, u8(0))).bytes(), BASE))
     write_list('wrong.txt', [
-        ('Wrong on purpose: the runner sees each difference. Another refusal, another text, another file, no text.', [
+        ('These cases are wrong on purpose, and the runner has to notice each difference. Another refusal, another text, another file, '
+         'no\n'
+         'text.', [
             'image minimal.so 0x10001 =/> refused B4 NoRoom', 'image minimal.so 0x34=41 0x10000 =/> refused B1 E9 BadHeader',
             'image minimal.so 0x34=41 0x10000 =/> refused B1 E9 BadHeaderSizes', 'image minimal.so 0x10000 =/> file linked.image',
             f'image minimal.so 0x10000 =/> {text}', 'image minimal.so 0x10000 =/> file minimal.image cut=898',
             'image minimal.so 0x10000 =/> nothing', 'image minimal.so 0x10000 =/> refused B2 BadBase']),
-        ('Another byte, and none where there is one.', [
+        ('Another byte, and no byte where there is one.', [
             'byte minimal.so 0x10000 0x10000 =/> 45', 'byte minimal.so 0x10000 0x10000 =/> none',
             'byte minimal.so 0x10000 0x10190 =/> 00']),
-        ('Another answer of admission, another name, another symbol, another count, another hash.', [
+        ('Another answer of an admission, another name, another symbol, another count, another hash.', [
             'admit minimal.so =/> refused E29 BadHashTable', 'admit minimal.so 0xb0=00 =/> admitted', 'library q.so =/> library p',
             'library minimal.so =/> refused E32 RelocationPlace', 'find q.so f =/> none of 1', 'find q.so f =/> 2 of 1',
             'find q.so f =/> 1 of 2', 'hash a =/> 0x62']),
-        ('Another SONAME, another symbol, a view that is cut.', [
+        ('Another SONAME, another symbol, and a view that is cut.', [
             'view real-other.so =/> file real-third.view', 'view real-ld-sysv.so =/> file real-ld-both.view',
             f'view real-other.so =/> file real-other.view cut={(DATA / "real-other.view").stat().st_size - 1}']),
-        ('Another status, another text, the other stream.', [
+        ('Another status, another text, and the other stream.', [
             'words image minimal.so 0x10001 =/> 0 refused B2 BadBase', 'words image minimal.so 0x10001 =/> 1 refused B4 NoRoom',
             'words image minimal.so 0x10001 =/> 1 error refused B2 BadBase', 'words image minimal.so =/> 2 rlibreg: bad command line',
             'words image minimal.so =/> 3 error rlibreg: bad command line', 'words image minimal.so =/> 2 nothing']),

@@ -41,19 +41,19 @@ def linked(linker, style, output):
 # Objects that are admitted: what each is, its file, and its command. Those before have their sources in the folder.
 ADMITTED = [
     ('Two libraries that others need, by GNU ld.', 'real-other.so', f'gcc {COMPILED} {SYSV},-soname,other.so -o real-other.so other.c'),
-    ('The same with a GNU hash table beside.', 'real-third.so',
+    ('The same with a GNU hash table in addition.', 'real-third.so',
      f'gcc {COMPILED} {SMALL},--hash-style=both,-soname,third.so -o real-third.so third.c'),
-] + [(f'Symbols of every kind, by {name}, with {what}.', f'real-{short}-{style}.so', linked(linker, style, f'real-{short}-{style}.so'))
+] + [(f'Symbols of every kind, linked by {name}, with {what}.', f'real-{short}-{style}.so', linked(linker, style, f'real-{short}-{style}.so'))
      for linker, short, name in (('bfd', 'ld', 'GNU ld'), ('gold', 'gold', 'gold'), ('lld', 'lld', 'lld'))
-     for style, what in (('sysv', 'a SYSV hash table alone'), ('both', 'both hash tables'))] + [
-    ('The same as gcc makes it without flags for small files, symbol table and debug data left in.', 'real-large.so',
+     for style, what in (('sysv', 'only a SYSV hash table'), ('both', 'both hash tables'))] + [
+    ('The same, as gcc makes it without flags for small files. The symbol table and the debug data stay in the file.', 'real-large.so',
      'gcc -g -shared -fPIC -nostdlib -Wl,--hash-style=sysv,-soname,exports.so.1 -o real-large.so exports.c other.so third.so'),
     ('Compiled by clang, linked by lld.', 'real-clang.so',
      'clang -O1 -fPIC -nostdlib -shared -s -fuse-ld=lld -Wl,--hash-style=both,-soname,exports.so.1 -o real-clang.so exports.c other.so'),
     ('No exports.', 'real-none.so', f'gcc {COMPILED} {SYSV},-soname,none.so -o real-none.so none.c'),
     ('C++: a class with virtual functions, and a template.', 'real-classes.so',
      f'g++ {COMPILED} -fno-gnu-unique -fno-exceptions -fno-rtti {SYSV},-soname,classes.so -o real-classes.so classes.cc'),
-    ('With the start files of gcc, where nothing of the C library is called.', 'real-started.so',
+    ('With the start files of gcc, but without any call of the C library.', 'real-started.so',
      f'gcc {COMPILED} -shared -s -Wl,--build-id=none,-z,noseparate-code,-z,norelro,--hash-style=sysv,-soname,started.so '
      '-o real-started.so one.c'),
     ('Symbolic: names are looked up in the object itself first.', 'real-symbolic.so',
@@ -65,9 +65,9 @@ ADMITTED = [
 
 # Objects that are refused: why, the file, the command, and the refusal as a library.
 REFUSED = [
-    ('The hash style that gcc takes by itself: a GNU table alone.', 'real-gnu-hash.so',
+    ('The hash style that is the default of gcc: only a GNU hash table.', 'real-gnu-hash.so',
      f'gcc {COMPILED} {SMALL},-soname,q -o real-gnu-hash.so one.c', 'E19 NoHashTable'),
-    ('The same of gold, where it is asked for.', 'real-gold-gnu-hash.so',
+    ('The same by gold, with an option for it.', 'real-gold-gnu-hash.so',
      f'gcc {COMPILED} -nostdlib -shared -s -fuse-ld=gold -Wl,--hash-style=gnu,-soname,q -o real-gold-gnu-hash.so one.c', 'E19 NoHashTable'),
     ('A version script.', 'real-version.so',
      f'gcc {COMPILED} {SYSV},-soname,q,--version-script=one.map -o real-version.so one.c', 'E17 SymbolVersions'),
@@ -80,20 +80,20 @@ REFUSED = [
     ('Common symbols that gold leaves common.', 'real-gold-common.so',
      f'gcc {COMPILED} -fcommon -Wa,--elf-stt-common=yes -nostdlib -shared -s -fuse-ld=gold -Wl,--build-id=none,--hash-style=sysv,-soname,q '
      '-o real-gold-common.so common.c', 'E24 CommonSymbol'),
-    ('The same of lld.', 'real-lld-common.so',
+    ('The same by lld.', 'real-lld-common.so',
      f'gcc {COMPILED} -fcommon -Wa,--elf-stt-common=yes -nostdlib -shared -s -fuse-ld=lld -Wl,--build-id=none,--hash-style=sysv,-soname,q '
      '-o real-lld-common.so common.c', 'E24 CommonSymbol'),
-    ('GNU ld makes ordinary data of them.', 'real-ld-common.so',
+    ('GNU ld makes ordinary data of common symbols.', 'real-ld-common.so',
      f'gcc {COMPILED} -fcommon -Wa,--elf-stt-common=yes {SYSV},-soname,q -o real-ld-common.so common.c', ''),
     ('An indirect function that is exported.', 'real-indirect.so',
      f'gcc {COMPILED} {SYSV},-soname,q -o real-indirect.so indirect.c', 'E26 IfuncSymbol'),
-    ('An indirect function that isn\'t.', 'real-hidden-indirect.so',
+    ("An indirect function that isn't exported.", 'real-hidden-indirect.so',
      f'gcc {COMPILED} {SYSV},-soname,q -o real-hidden-indirect.so hidden_indirect.c', 'E30 RelocationType 37'),
-    ('Data of a C++ template, as g++ binds it by itself.', 'real-unique.so',
+    ('Data of a C++ template, with the binding that g++ chooses by default.', 'real-unique.so',
      f'g++ {COMPILED} {SYSV},-soname,q -o real-unique.so unique.cc', 'E27 BadBinding'),
     ('The size of another object\'s data.', 'real-size.so',
      f'gcc {COMPILED} {SYSV},-soname,q -o real-size.so size.c', 'E30 RelocationType 33'),
-    ('A program with data of a library copied to it.', 'real-copy.so',
+    ('A program into which data of a library is copied.', 'real-copy.so',
      'gcc -O1 -fPIE -fno-asynchronous-unwind-tables -fno-stack-protector -fcf-protection=none -nostdlib -pie -s '
      '-Wl,--build-id=none,-z,noseparate-code,-z,norelro,--hash-style=sysv,-e,_start -o real-copy.so program.c other.so third.so',
      'E30 RelocationType 5'),
@@ -104,16 +104,16 @@ REFUSED = [
     ('Packed relocations.', 'real-relr.so',
      f'gcc {COMPILED} -nostdlib -shared -s -fuse-ld=lld -Wl,--build-id=none,--hash-style=sysv,--pack-dyn-relocs=relr,-soname,q '
      '-o real-relr.so pointer.c', 'E18 UnsupportedTag'),
-    ('An object file that isn\'t linked; one of 32 bits; a program at fixed addresses.', 'real-one.o',
+    ("An object file that isn't linked, an object file of 32 bits, and a program at fixed addresses.", 'real-one.o',
      f'gcc {COMPILED} -c -o real-one.o one.c', 'E7 BadType'),
     ('', 'real-32.o', f'gcc -m32 {COMPILED} -c -o real-32.o one.c', 'E3 BadClass'),
     ('', 'real-fixed', f'gcc -O1 -fno-asynchronous-unwind-tables -nostdlib -static -no-pie -s -Wl,--build-id=none,-e,f -o real-fixed one.c',
      'E7 BadType'),
-    ('The debug data of a library, taken out of it.', 'real-one.debug',
+    ('The debug data of a library, in a file of its own.', 'real-one.debug',
      f'objcopy --only-keep-debug large.so real-one.debug', 'E15 BadDynamic'),
-    ('No room behind the dynamic entries, so that GNU ld leaves the last one out.', 'real-no-null.so',
+    ('No room after the dynamic entries, so GNU ld leaves out the last one.', 'real-no-null.so',
      f'gcc {COMPILED} {SYSV},--spare-dynamic-tags=0,-soname,q -o real-no-null.so pointer.c', 'E15 BadDynamic'),
-    ('No SONAME, and one with a slash.', 'real-nameless.so', f'gcc {COMPILED} {SYSV} -o real-nameless.so one.c', 'E33 BadSoname'),
+    ('A library without a SONAME, and a library whose SONAME has a slash.', 'real-nameless.so', f'gcc {COMPILED} {SYSV} -o real-nameless.so one.c', 'E33 BadSoname'),
     ('', 'real-slash.so', f'gcc {COMPILED} {SYSV},-soname,lib/q -o real-slash.so one.c', 'E33 BadSoname'),
 ]
 

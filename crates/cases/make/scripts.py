@@ -243,7 +243,7 @@ def rows():
         ('The empty script; half a byte; an empty line; a last line without a newline.', [
             short(b'', ''), short(b'install 7f4\n', 'refused L1 BadLine'), short(b'\n', 'refused L1 BadLine'),
             stored('script-cut', 64, [b'remove a', b'list'], ['refused C3 NotInstalled', 'refused L2 CutLine'], end=b'')]),
-        ('The list closes up, and the preloads keep their names and their order.', [stored('script-remove', 64, three, left)]),
+        ('After a removal the list has no gap, and the preloads keep their names and their order.', [stored('script-remove', 64, three, left)]),
     ]
 
 
@@ -258,34 +258,34 @@ def long_line():
 def bad_lines():
     name = b'x' * 241
     return [
-        ('Two spaces, a space in front, a space behind.', bad(
+        ('Two spaces, a space at the beginning, and a space at the end.', bad(
             b'remove  a', b'install  00', b'preload a  b', b'preload  a', b' list', b' remove a', b'list ', b'remove a ',
             b'preload ', b'preload a ', b'install 00 ', b' ', b'  ')),
         ('Tabs, and a carriage return before the newline.', bad(
             b'list\t', b'\tlist', b'remove\ta', b'preload\ta', b'install\t00', b'list\r', b'remove a\r', b'preload\r', b'install 00\r', b'\r')),
-        ('NUL and bytes that are not visible in a name.', bad(
+        ("A name with NUL, and names with bytes that aren't visible.", bad(
             b'remove \0', b'remove a\0', b'remove a\x7f', b'remove a\x80', b'remove \xc3\xa9', b'preload a \xff', b'preload \x01',
             b'preload a\tb', b'\0', b'list\0')),
         ('Words that are no command.', bad(
             b'List', b'LIST', b'INSTALL 00', b'Remove a', b'lists', b'lis', b'preloads', b'preloada', b'unload a', b'format 8', b'image a 0x0',
             b'script', b'#', b'ok')),
-        ('No digits, half a byte, a space between digits, what is no digit.', bad(
+        ('No digits, half a byte, a space between digits, and characters that are no digits.', bad(
             b'install', b'install ', b'install 0', b'install 000', b'install 00 00', b'install 0 0', b'install 0g', b'install 0x00',
             b'install -0', b'replace', b'replace ', b'replace 0', b'replace 00 ', b'replace zz', b'install \xef\xbc\x90\xef\xbc\x90')),
-        ('Commands with a word too few or too many.', bad(
+        ('Commands with one word too few or too many.', bad(
             b'remove', b'remove ', b'remove a b', b'list a', b'list list', b'install00', b'removea')),
-        ('A script of one byte: a newline, and a line that is cut.', [
+        ('A script of one byte, which is a newline; and a line that is cut.', [
             short(b'\n', 'refused L1 BadLine'), short(b'l', 'refused L2 CutLine'), short(b' ', 'refused L2 CutLine')]),
-        ('A line that is cut is not run, whatever stands in it.', [
+        ("A line that is cut isn't run, whatever it contains.", [
             short(b'list', 'refused L2 CutLine'), short(b'preload', 'refused L2 CutLine'), short(b'no line', 'refused L2 CutLine')]),
-        ('A line of 33 MiB, and one behind it.', [long_line()]),
-        ('Nothing stands behind the last newline.', [short(b'list\n', 'end'), short(b'preload\n', 'ok')]),
-        ('A name of a line may be of any length, and have any visible byte.', [
+        ('A line of 33 MiB, and a line after it.', [long_line()]),
+        ('Nothing follows the last newline.', [short(b'list\n', 'end'), short(b'preload\n', 'ok')]),
+        ('A name in a line may have any length, and any visible bytes.', [
             short(b'remove ' + name + b'\n', 'refused C3 NotInstalled'),
             short(b'preload ' + name + b'\n', 'refused C3 NotInstalled'),
             short(b'remove /\n', 'refused C3 NotInstalled'), short(b'remove \\x41\n', 'refused C3 NotInstalled'),
             short(b'remove !~\n', 'refused C3 NotInstalled')]),
-        ('Digits of either case.', [
+        ('Digits in either case.', [
             stored('script-digits', 64, [b'install ' + spelt(A).upper(), b'list'], ['ok', 'library a 344', 'end']),
             short(b'install aBcDeF\n', 'refused C1 E1 TooShort'), short(b'replace AbCdEf\n', 'refused C1 E1 TooShort')]),
     ]
@@ -302,10 +302,11 @@ def many_libraries():
     preloads = [install(library(name)) for name in names[:17]] + [sixteen, sixteen + b' ' + names[16], b'list']
     told = ['ok'] * 18 + ['refused C6 TooManyPreloads'] + listed[:17] + [f'preload {n.decode()}' for n in names[:16]] + ['end']
     return [
-        ('101 libraries, more than a disk of version 1 could have, in two catalogues.', [stored('script-hundred', 4096, lines, wanted)]),
+        ('101 libraries, which is more than a disk of version 1 could have, in two catalogues.', [stored('script-hundred', 4096, lines, wanted)]),
         ('16 preloads and 17.', [stored('script-preloads', 64, preloads, told)]),
-        ('The 65th library needs a second catalogue, and so four sectors beside its own two: 135 sectors are too few, 136 enough.\n'
-         'A removal needs none; after it a copy of a library has room. The preloads stay whose they were.', catalogue_after_catalogue(names, listed)),
+        ('The 65th library needs a second catalogue, and so four sectors besides its own two: 135 sectors are too few, and 136 are '
+         'enough.\n'
+         'A removal needs no second catalogue, and after it there is room for a copy of a library. The preloads keep their libraries.', catalogue_after_catalogue(names, listed)),
     ]
 
 
@@ -340,8 +341,8 @@ def sectors():
         stored('script-replace-full', 8, [install(A), replace(padded(A, 513)), replace(padded(A, 512)), b'list'],
                ['ok', 'refused S7 Full', 'ok', 'library a 512', 'end'])]
     return [
-        ('A library that takes all sectors that are free, and one byte more; what replaces it has no room beside it.', full),
-        ('A file may take the sectors that are free beside the one that it replaces, and not one more.', tight),
+        ('A library that takes all free sectors, and a library of one byte more. A file that replaces it has no room.', full),
+        ('A file may take all sectors that are free besides those of the file that it replaces, but not one more.', tight),
     ]
 
 
@@ -368,10 +369,10 @@ def refusals():
                          'ok', 'ok', 'library !~ 344', 'library libc.so.6 352', 'end']
     return [
         ('Files that are no libraries, and each refusal of a name; the file is tested first.', [stored('script-refused', 64, lines, wanted)]),
-        ('The order of the tests of preloads: their number, then repeats, then names that are not there.',
+        ("The order of the tests of preloads: first their number, then repeated names, then names that aren't installed.",
          [stored('script-order', 64, order, answers)]),
         ('Names are printed with a backslash as \\x5c, and read as they are.', [stored('script-names', 64, spelt_names, told)]),
-        ('A replaced library keeps its place; a script goes on after every refusal; the last line is cut.', [
+        ('A replaced library keeps its place in the list. A script goes on after every refusal. The last line is cut.', [
             stored('script-places', 64, [install(A), install(B), install(C), b'', replace(padded(A, 400)), b'list all', b'list', b'remove b',
                                          install(B), b'list', b'lis'],
                    ['ok', 'ok', 'ok', 'refused L1 BadLine', 'ok', 'refused L1 BadLine', 'library a 400', 'library b 344', 'library c 344',
@@ -404,27 +405,28 @@ def binds():
     levels = needing(None, b'a', b'b')
     assert WEAK_F == of_folder('first.so') and ASKING == of_folder('asking.so')
     return [
-        ('Binds over an empty registry: a program without needs, with digits of either case; it isn\'t installed by that.', [
+        ("Binds against an empty registry: a program without needs, with digits in either case. A bind doesn't install the program.", [
             stored('script-bind-alone', 64, [bind(minimal), b'bind 0x0000000000010000 ' + spelt(minimal).upper(), b'list',
                                              bind(of_folder('linked.so'), 0x7f0000000000), b'list'],
                    alone + alone + ['end'] + image_lines('linked.image') + ['end'])]),
-        ('Binds over what is installed: seven objects in load order behind a preload, in another order of installation.', [
+        ('Binds against installed libraries: seven objects in load order after a preload, in another order of installation.', [
             stored('script-bind-levels', 64, [install(file) for file in reversed(seven)] + [b'preload p', bind(levels)],
                    ['ok'] * 7 + image_lines('levels.image'))]),
-        ('Each bind has what stands: the first definition is a\'s; behind the preload b it is b\'s; of an a that was replaced it is\n'
-         'its new one; without b there is none; b again comes behind. No bind changes what is listed.', [
+        ("Each bind uses the current libraries. The first definition is a's; after the preload b it is b's; after a is replaced, it is "
+         'the\n'
+         "new a's; without b there is none of b; and b, installed again, comes last. No bind changes the listing.", [
             seen('script-bind-state', 64, [
                 install(WEAK_F), install(STRONG_F), bind(ASKING), b'list', b'preload b', bind(ASKING), b'preload', replace(LATER_F),
                 bind(ASKING), b'remove b', bind(ASKING), install(STRONG_F), bind(ASKING), b'list'],
                 ['ok', 'ok'] + image_lines('first.image') + ['library a 376', 'library b 376', 'end', 'ok']
                 + with_f(0x11170, 'b', 'a') + ['ok', 'ok'] + with_f(0x11174, 'a', 'b') + ['ok', 'refused B3 Missing /program b', 'ok']
                 + with_f(0x11174, 'a', 'b') + ['library a 376', 'library b 376', 'end'])]),
-        ('A library of two segments, of header types that are not read; one with symbol versions is refused.', [
+        ("A library of two segments, with header types that aren't read; and a library with symbol versions, which is refused.", [
             stored('script-bind-segments', 64, [
                 install(of_folder('w.so')), install(A), bind(needing(None, b'w', b'a')), replace(of_folder('w-verneed.so')), b'list'],
                 ['ok', 'ok'] + image_lines('two-segments.image') + ['refused C1 E17 SymbolVersions', 'library w 4112', 'library a 344',
                                                                     'end'])]),
-        ('A protected function of a library, which is its own.', [
+        ('A protected function of a library: the library itself takes it.', [
             stored('script-bind-protected', 64, [install(WEAK_F), install(of_folder('protected.so')), bind(ASKING)],
                    ['ok', 'ok'] + image_lines('protected.image'))]),
     ]
@@ -442,23 +444,26 @@ def walks():
     chain = [('a', 'b', 1), ('b', 'c', 1), ('c', 'd', 1), ('d', 'e', 1), ('e', '', 1)]
     levels = [('e', '', 1), ('d', '', 1), ('c', '', 3), ('b', 'de', 1), ('a', 'cd', 1), ('p', 'c', 1)]
     table = [
-        ('Nothing is needed, of an empty registry and of another one.', [
+        ('A program that needs nothing, bound against an empty registry and against another one.', [
             ('nothing', [], '', '', placed()), ('unneeded', one, '', '', placed())]),
-        ('What is needed isn\'t there: of the program alone, and beside what is there, of a library too.', [
+        ("A name that the program needs isn't installed; the same with other libraries installed; and a name that a library needs.", [
             ('absent', one, '', 'z', ['refused B3 Missing /program z']),
             ('absent-behind', [('a', 'ce', 1), ('b', '', 2)], '', 'adb', ['refused B3 Missing /program d'])]),
-        ('One after the other, and a third that isn\'t needed.', [
+        ("Libraries that need one another in a row, and a third library that isn't needed.", [
             ('turned', [('a', '', 1), ('b', '', 2), ('c', '', 4)], '', 'ba', placed('b', 'a')),
             ('one-less', [('a', '', 1), ('b', '', 1), ('c', '', 1)], '', 'ab', placed('a', 'b'))]),
-        ('Needed twice, by itself, in a ring, and a chain to its end.', [
+        ('A library that is needed twice, or by itself; a ring of libraries; and a chain of libraries to its end.', [
             ('twice', [('a', 'b', 1), ('b', 'ab', 1)], '', 'aa', placed('a', 'b')),
             ('ring', [('a', 'b', 1), ('b', 'c', 1), ('c', 'a', 1)], '', 'b', placed('b', 'c', 'a')),
             ('chain', chain, '', 'a', placed('a', 'b', 'c', 'd', 'e'))]),
-        ('Level by level behind a preload that needs something; preloads alone, in their order; preloads that are needed too.', [
+        ('The order goes level by level after a preload that needs a library; only preloads, in their order; and preloads that are '
+         'needed\n'
+         'too.', [
             ('preload-needing', levels, 'p', 'ab', placed('p', 'a', 'b', 'c', 'd', 'e')),
             ('preloads-alone', [('a', '', 1), ('b', '', 2)], 'ba', '', placed('b', 'a')),
             ('preloads-needed', [('a', '', 1), ('b', 'a', 2), ('c', '', 1)], 'ca', 'ab', placed('c', 'a', 'b'))]),
-        ('A preload that lacks what it needs, behind one that has it. The program lacks something too, and that is told.', [
+        ('A preload lacks a library that it needs, after a preload that lacks none. The program lacks a library too, and that name is\n'
+         'reported.', [
             ('preload-lacking', [('a', 'z', 1), ('b', 'a', 1)], 'ba', 'p', ['refused B3 Missing /program p'])]),
     ]
     return [(title, [walk(*row) for row in rows]) for title, rows in table]
@@ -490,20 +495,22 @@ def symbolic_binds():
     end = len(program) - 8
     assert end % 16 == 8
     return [
-        ('A symbolic library among others, which has its own f; in its place one whose flags say it, or don\'t, and symbolic again.', [
+        ("A symbolic library among others takes its own f. Then a library replaces it whose flags make it symbolic, or don't, and one "
+         'that\n'
+         'is symbolic again.', [
             stored('script-bind-symbolic', 64, [install(WEAK_F), install(symbolic), bind(ASKING)], ['ok', 'ok'] + image_lines('symbolic.image')),
             seen('script-bind-flags', 64, [
                 install(WEAK_F), install(with_entry(30, 8)), bind(ASKING), replace(with_entry(30, 2)), bind(ASKING), replace(with_entry(30, 0)),
                 bind(ASKING), replace(with_entry(30, 10)), bind(ASKING), replace(symbolic), bind(ASKING), b'list'],
                 ['ok', 'ok'] + with_f(0x11170, 'a', 'b')[:-1] + [other, 'end', 'ok'] + with_f(0x11170, 'a', 'b')[:-1] + [own, 'end', 'ok',
                  other, 'end', 'ok', own, 'end', 'ok', own, 'end', 'library a 376', f'library b {len(symbolic)}', 'end'])]),
-        ('A symbolic preload, and a symbolic program: their f is the first of all anyway.', [
+        ('A symbolic preload, and a symbolic program. Their f is the first definition in any case.', [
             seen('script-symbolic-first', 64, [
                 install(WEAK_F), install(symbolic), b'preload b', bind(ASKING), bind(program), b'preload', b'remove a', bind(program), bind(ASKING)],
                 ['ok', 'ok', 'ok', b_word(0x111d0), b_word(0x111d0), 'end', 'object 0x0000000000010000 /program',
                  b_word(BASE + end), b_word(0x111d0), 'end', 'ok', 'ok', b_word(BASE + end), b_word(0x111d0), 'end',
                  'refused B3 Missing /program a'])]),
-        ('Tags that stand twice, and those of other relocations beside SYMBOLIC.', [
+        ('Tags that occur twice, and tags of other relocations together with SYMBOLIC.', [
             stored('script-symbolic-refused', 64, [install(twice), install(beside[0]), install(symbolic), replace(beside[1]), replace(twice), b'list'],
                    ['refused C1 E16 DuplicateTag', 'refused C1 E18 UnsupportedTag', 'ok', 'refused C1 E18 UnsupportedTag',
                     'refused C1 E16 DuplicateTag', f'library b {len(symbolic)}', 'end'])]),
@@ -522,12 +529,12 @@ def refused_binds():
              (library(None, symbols=pair), 'B1 E28 DuplicateDefinition'), (typed, 'B1 E30 RelocationType 37')]
     needs_a, needs_b, asks = needing(None, b'a'), needing(b'a', b'b'), library(None, symbols=[Symbol(b'f')], relocations=[(R_64, 0, 1, 0)])
     return [
-        ('A program over an empty registry, its cuts, and other files that are no programs.', [
+        ('A program that is bound against an empty registry, cuts of the program, and other files that are no programs.', [
             stored('script-bind-files', 64, [bind(file) for file, _ in files], [f'refused {told}' for _, told in files])]),
         ('The file is tested before the base.', [
             short(b'bind 0x1 00\n', 'refused B1 E1 TooShort'), short(b'bind 0x10001 7f454c46\n', 'refused B1 E1 TooShort')]),
-        ('Bases, the limit of memory, names that are not installed, symbols that nobody defines; the base is tested before the\n'
-         'needs, these before the room, and that before symbols.', [
+        ('Bases, the limit of memory, names that are not installed, and symbols that no object defines. The base is tested before the\n'
+         'needs, the needs before the room, and the room before the symbols.', [
             stored('script-bind-refused', 64, [
                 bind(minimal, BASE + 1), bind(ASKING, BASE + 0x800), bind(minimal, top), bind(needs_a, top), bind(asks, top), bind(asks),
                 install(needs_b), bind(needs_a), bind(ASKING), bind(needs_a, BASE + 8), b'remove a', install(asks_g), bind(needs_a),
@@ -537,7 +544,7 @@ def refused_binds():
                  'refused B5 Undefined /program f', 'ok', 'refused B3 Missing a b', 'refused B3 Missing /program b', 'refused B2 BadBase',
                  'ok', 'ok', 'refused B5 Undefined a g', 'refused B4 NoRoom', 'refused B4 NoRoom', 'ok', 'ok', 'refused B5 Undefined /program f',
                  'refused B4 NoRoom', 'library a 448', 'library b 344', 'preload b', 'end'])]),
-        ('Names are printed as in an image: a blank, a byte above 0x7e, the empty name.', [
+        ('Names are printed as in an image: a blank, a byte above 0x7e, and the empty name.', [
             stored('script-bind-names', 64, [bind(needing(None, name)) for name in (b'a b', b'\xff\\', b'')],
                    ['refused B3 Missing /program a\\x20b', 'refused B3 Missing /program \\xff\\x5c', 'refused B3 Missing /program \\e']),
             stored('script-bind-bytes', 64, [bind(needing(None, name)) for name in (b'!~\x7f', b'\x01\x0a\x1f\xc3\xa9\xff', b'\\e')],
@@ -548,17 +555,17 @@ def refused_binds():
 
 def bind_lines():
     return [
-        ('A base of 1 to 16 digits of either case.', [short(line + b'\n', 'refused B1 E1 TooShort') for line in (
+        ('A base of 1 to 16 digits in either case.', [short(line + b'\n', 'refused B1 E1 TooShort') for line in (
             b'bind 0x0 00', b'bind 0x10000 00', b'bind 0xaBcDeF 00', b'bind 0xffffffffffffffff 00', b'bind 0xFFFFFFFFFFFFFFFF fF')]),
-        ('No base, one without digits, of 17 digits, without 0x, with another sign in it.', bad(
+        ('No base; a base without digits, of 17 digits, or without 0x; and a base with another character in it.', bad(
             b'bind', b'bind ', b'bind 00', b'bind 0x 00', b'bind 0x00000000000000000 00', b'bind 0x10000000000000000 00', b'bind 0X0 00',
             b'bind 0 00', b'bind 65536 00', b'bind 10000 00', b'bind 0xg 00', b'bind 0x+1 00', b'bind 0x-1 00', b'bind +0x1 00',
             b'bind -0x1 00', b'bind 0x1_0 00', b'bind 0x0x0 00', b'bind x0 00', b'bind 0x0\0 00', b'bind \xff 00', b'bind 0x\xef\xbc\x90 00',
             b'bind 0b1 00', b'bind 0x1h 00', b'bind 0x0. 00')),
-        ('No program, half a byte, what is no digit, the words the other way round, one too many.', bad(
+        ('No program, half a byte, characters that are no digits, the words in the reverse order, and one word too many.', bad(
             b'bind 0x0', b'bind 0x0 ', b'bind 0x0 0', b'bind 0x0 000', b'bind 0x0 0g', b'bind 0x0 0x00', b'bind 0x0 00 00', b'bind 0x0 0 0',
             b'bind 00 0x0', b'bind 0x0 a', b'bind 0x0 /program', b'bind 0x0 \xef\xbc\x90\xef\xbc\x90')),
-        ('Two spaces, a space in front or behind, tabs, a carriage return, other words.', bad(
+        ('Two spaces, a space at the beginning or at the end, tabs, a carriage return, and other words.', bad(
             b'bind  0x0 00', b'bind 0x0  00', b' bind 0x0 00', b'bind 0x0 00 ', b'bind 0x0 00\r', b'bind\t0x0 00', b'bind 0x0\t00',
             b'bind0x0 00', b'Bind 0x0 00', b'BIND 0x0 00', b'binds 0x0 00', b'bin 0x0 00', b'bind a 0x0 00', b'bind 0x0 00\0')),
         ('A bind that is cut isn\'t run.', [short(b'bind 0x0 00', 'refused L2 CutLine'), short(b'bind 0x0 ', 'refused L2 CutLine')]),
@@ -585,60 +592,63 @@ def binders():
     steps, no_binder = [b'advance 0'] * 3, 'refused C8 NoSuchBinder'
     eight = [f'slot {slot}' for slot in range(8)]
     return [
-        ('A binder has the library as it was when it was begun, and its image is of that; until then the library\'s sectors\n'
-         'aren\'t free, and from then on they are.', [
+        ("A binder has the library as it was when the binder began, and its image has that library. The library's sectors become free "
+         'only\n'
+         'when the binder ends.', [
             seen('script-binder', 8, start + [other] + steps + [other, bind(ASKING_A), b'advance 0'],
                  ['ok', 'slot 0', 'ok', 'refused S7 Full', 'going', 'going'] + own + ['ok'] + last + [no_binder])]),
-        ('The same of a library that is removed while a binder has it: a removal always has room.', [
+        ('The same if a library is removed while a binder has it. A removal always has room.', [
             seen('script-binder-removed', 8, start + [b'remove a', other] + steps + [other, bind(ASKING_A)],
                  ['ok', 'slot 0', 'ok', 'ok', 'refused C3 NotInstalled', 'going', 'going'] + own
                  + ['refused C3 NotInstalled', 'refused B3 Missing /program a'])]),
-        ('A binder that is cancelled leaves its sectors, before its first step and after it.', [
+        ('If a binder is cancelled, before its first step or after it, its sectors become free.', [
             seen('script-binder-cancelled', 8, start + [other, b'cancel 0', other, bind(ASKING_A), b'cancel 0'],
                  ['ok', 'slot 0', 'ok', 'refused S7 Full', 'ok', 'ok'] + last + [no_binder]),
             stored('script-binder-stepped', 8, start + [b'advance 0', b'advance 0', other, b'cancel 0', other, b'advance 0'],
                    ['ok', 'slot 0', 'ok', 'going', 'going', 'refused S7 Full', 'ok', 'ok', no_binder])]),
-        ('A binder that lives at the end of its script.', [
+        ('A binder that exists at the end of its script.', [
             stored('script-binder-left', 8, start + [b'advance 0'], ['ok', 'slot 0', 'ok', 'going'])]),
-        ('Eight binders live at once; the next has the lowest slot that is free, after a cancel and after a last answer. Slots 8\n'
-         'and 9 are never taken.', [
+        ('Eight binders exist at once. After a cancel, and after a last answer, the next binder gets the lowest free slot. The slots 8 '
+         'and\n'
+         "9 don't exist.", [
             stored('script-slots', 8, [begin(ASKING_A)] * 9 + [b'cancel 3', begin(ASKING_A)] + [b'advance 8', b'cancel 8', b'advance 9', b'cancel 9'],
                    eight + ['refused C7 NoSlot', 'ok', 'slot 3'] + [no_binder] * 4),
             stored('script-slots-freed', 8, [begin(b'\0')] * 3 + [b'advance 1', b'advance 1', b'cancel 1', b'cancel 0', begin(b'\0'), begin(b'\0'),
                                              begin(b'\0'), b'advance 2', b'advance 2', b'cancel 7', b'advance 7'],
                    eight[:3] + ['refused B1 E1 TooShort', no_binder, no_binder, 'ok', 'slot 0', 'slot 1', 'slot 3', 'refused B1 E1 TooShort',
                                 no_binder, no_binder, no_binder])]),
-        ('A program and its base are tested at the first step, a library that is missing at the last, and a symbol that nobody\n'
-         'defines there too. What is refused at last frees its slot.', [
+        ('A program and its base are tested at the first step. A library that is missing, and a symbol that no object defines, are\n'
+         'reported at the last step. A refusal frees the slot.', [
             stored('script-binder-refused', 64, [
                 begin(ASKING[:63]), begin(ASKING_A, BASE + 1), begin(ASKING_A), begin(library(None, symbols=[Symbol(b'f')],
                 relocations=[(R_64, 0, 1, 0)])), b'advance 0', b'advance 1', b'advance 2', b'advance 2', b'advance 3', b'advance 3',
                 b'advance 0', b'advance 1', b'advance 2', b'advance 3'],
                 eight[:4] + ['refused B1 E1 TooShort', 'refused B2 BadBase', 'going', 'refused B3 Missing /program a', 'going',
                              'refused B5 Undefined /program f'] + [no_binder] * 4)]),
-        ('A slot that was freed by a last step, as an image or refused, is taken again, for the registry as it is then.', [
+        ('A slot that was freed by a last step, which made an image or a refusal, is used again, for the registry as it is then.', [
             seen('script-binder-again', 8, start + [other] + steps + [other, bind(ASKING_A), b'advance 0', b'remove a', begin(ASKING_A), b'advance 0',
                                                                       b'advance 0', b'cancel 0', begin(ASKING_A)],
                  ['ok', 'slot 0', 'ok', 'refused S7 Full', 'going', 'going'] + own + ['ok'] + last
                  + [no_binder, 'ok', 'slot 0', 'going', 'refused B3 Missing /program a', no_binder, 'slot 0'])]),
-        ('A file that is no program at any base, and a program at a base that isn\'t good, in slots of their own: each is told at its first step,\n'
+        ('A file that is no program, at any base, and a program at a bad base, in slots of their own: each is refused at its first step.\n'
+         'The file is tested before the base.\n'
          'and the file before the base.', [
             stored('script-binder-tested', 8, [begin(bytes(64)), begin(b'\0', BASE + 1), begin(ASKING_A, BASE + 1), begin(ASKING_A)]
                    + [b'advance 0', b'advance 1', b'advance 2', b'advance 3', b'advance 3'],
                    eight[:4] + ['refused B1 E2 BadMagic', 'refused B1 E1 TooShort', 'refused B2 BadBase', 'going',
                                 'refused B3 Missing /program a'])]),
-        ('Of eight binders three are cancelled, one twice, and the slots are taken again, the lowest first.', [
+        ('Three of eight binders are cancelled, one of them twice. Their slots are used again, the lowest first.', [
             stored('script-slots-lowest', 8, [install(WEAK_F)] + [begin(ASKING_A)] * 9 + [
                 b'cancel 3', b'advance 3', b'cancel 3', begin(ASKING_A), b'cancel 6', b'cancel 1', begin(ASKING_A), begin(ASKING_A), begin(ASKING_A),
                 b'advance 8', b'cancel 8'],
                 ['ok'] + eight + ['refused C7 NoSlot', 'ok', no_binder, no_binder, 'slot 3', 'ok', 'ok', 'slot 1', 'slot 6', 'refused C7 NoSlot',
                                   no_binder, no_binder])]),
-        ('A version that eight binders have keeps its sectors until the last of them is cancelled, in two orders.', [
+        ('A version of a library that eight binders have keeps its sectors until the last of these binders is cancelled, in two orders.', [
             stored(f'script-version-{name}', 8, [install(WEAK_F)] + [begin(ASKING_A)] * 8 + [other]
                    + [line for slot in order for line in (other, b'cancel %d' % slot)] + [other],
                    ['ok'] + eight + ['ok'] + ['refused S7 Full', 'ok'] * 8 + ['ok'])
             for name, order in (('in-order', range(8)), ('turned', (5, 0, 7, 2, 6, 1, 4, 3)))]),
-        ('Binders of several states side by side: of the first a, of the second, and of none.', [
+        ('Binders of several states at the same time: of the first a, of the second a, and of no a.', [
             seen('script-binders', 64, [
                 install(WEAK_F), begin(ASKING_A), other, begin(ASKING_A), b'remove a', begin(ASKING_A), b'advance 2', b'advance 1', b'advance 0',
                 b'advance 1', b'advance 0', b'list', b'advance 1', b'advance 2', b'advance 0'],
@@ -650,23 +660,23 @@ def binder_lines():
     no_binder = 'refused C8 NoSuchBinder'
     return [
         ('A slot is one digit.', [short(line + b'%d\n' % slot, no_binder) for line in (b'advance ', b'cancel ') for slot in range(10)]),
-        ('No slot, one of two digits, with a sign, a letter, another digit than 0 to 9, one of hexadecimal.', bad(*(
+        ('No slot; a slot of two digits, with a sign, a letter, a digit other than 0 to 9, or a hexadecimal digit.', bad(*(
             command + word for command in (b'advance', b'cancel')
             for word in (b'', b' ', b' 00', b' 01', b' 10', b' 99', b' +1', b' -1', b' a', b' f', b' x', b' 0x0', b' 1.', b' \xb2', b' /', b' :',
                          b' \xef\xbc\x91', b' 1\0')))),
-        ('A slot too many, spaces, tabs, a carriage return, other words.', bad(*(
+        ('One slot too many, spaces, tabs, a carriage return, and other words.', bad(*(
             line for command in (b'advance', b'cancel')
             for line in (command + b' 0 0', command + b' 0 ', command + b'  0', b' ' + command + b' 0', command + b'\t0', command + b'0',
                          command + b' 0\r', command + b's 0', command.upper() + b' 0', command[:-1] + b' 0', b'0 ' + command)))),
-        ('A base of 1 to 16 digits of either case; nothing of the program is tested yet.', [short(line + b'\n', 'slot 0') for line in (
+        ("A base of 1 to 16 digits in either case. The program itself isn't tested yet.", [short(line + b'\n', 'slot 0') for line in (
             b'begin 0x0 00', b'begin 0x10001 00', b'begin 0xaBcDeF 00', b'begin 0xffffffffffffffff 00', b'begin 0xFFFFFFFFFFFFFFFF fF')]),
-        ('No base, one without digits, of 17 digits, without 0x, with another sign in it.', bad(
+        ('No base; a base without digits, of 17 digits, or without 0x; and a base with another character in it.', bad(
             b'begin', b'begin ', b'begin 00', b'begin 0x 00', b'begin 0x00000000000000000 00', b'begin 0x10000000000000000 00', b'begin 0X0 00',
             b'begin 0 00', b'begin 65536 00', b'begin 0xg 00', b'begin 0x+1 00', b'begin -0x1 00', b'begin 0x1_0 00')),
-        ('No program, half a byte, what is no digit, the words the other way round, one too many.', bad(
+        ('No program, half a byte, characters that are no digits, the words in the reverse order, and one word too many.', bad(
             b'begin 0x0', b'begin 0x0 ', b'begin 0x0 0', b'begin 0x0 000', b'begin 0x0 0g', b'begin 0x0 0x00', b'begin 0x0 00 00',
             b'begin 0x0 0 0', b'begin 00 0x0', b'begin 0x0 /program')),
-        ('Two spaces, a space in front or behind, tabs, a carriage return, other words.', bad(
+        ('Two spaces, a space at the beginning or at the end, tabs, a carriage return, and other words.', bad(
             b'begin  0x0 00', b'begin 0x0  00', b' begin 0x0 00', b'begin 0x0 00 ', b'begin 0x0 00\r', b'begin\t0x0 00', b'begin 0x0\t00',
             b'begin0x0 00', b'Begin 0x0 00', b'BEGIN 0x0 00', b'begins 0x0 00', b'begi 0x0 00', b'begin 0 0x0 00', b'begin 0x0 00\0')),
         ('A line that is cut isn\'t run.', [short(line, 'refused L2 CutLine') for line in (b'begin 0x0 00', b'advance 0', b'cancel 0')]),
@@ -675,7 +685,9 @@ def binder_lines():
 
 def sessions():
     """The worked example: a library with its program, a preload that takes its place, and what is left without it."""
-    return [('A whole script: libraries, a program, a preload, a better library, lines that are refused, the last one cut.', [
+    return [('A whole script: libraries, a program, a preload, a new version of a library, lines that are refused, and a last line that '
+             'is\n'
+             'cut.', [
         seen('script-session', 64, [
             b'list', install(WEAK_F), install(STRONG_F), install(WEAK_F), b'list', bind(ASKING), b'preload b', b'remove b', bind(ASKING),
             b'preload', replace(padded(LATER_F, 1000)), b'list', bind(ASKING, 0x7f0000000000), b'bind 10000 00', bind(ASKING[:63]), b'remove b',
@@ -691,7 +703,9 @@ def wrong():
     """Cases that are wrong on purpose, and stand because they differ."""
     line = 'script 64 script-commands.script =/>'
     whole = (DATA / 'script-commands.output').stat().st_size
-    return [('Wrong on purpose: a number of lines or of refusals, an output cut by a byte, that of another script, no output.', [
+    return [('These cases are wrong on purpose. Another number of lines or of refusals, an output that lacks a byte, the output of '
+             'another\n'
+             'script, and no output.', [
         f'{line} 10 5 file script-commands.output', f'{line} 12 5 file script-commands.output',
         f'{line} 11 4 file script-commands.output', f'{line} 11 6 file script-commands.output', f'{line} 5 11 file script-commands.output',
         f'{line} 11 5 file script-commands.output cut={whole - 1}', f'{line} 11 5 file script-order.output', f'{line} 11 5 nothing',

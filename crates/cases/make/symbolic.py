@@ -102,22 +102,25 @@ def tags():
     both = Bind(p_with(), [a_with(binding=WEAK), of_one_entry(SYMBOLIC, 0)])
     undefined = [of_one_entry(*entry, section=UNDEFINED, at=0) for entry, own in rows if own]
     return [
-        ('A library that defines f behind another that does, and has a word of it, with one more entry: SYMBOLIC 0, FLAGS 0x2, FLAGS 0xa,\n'
-         'which make it symbolic, so that its own f is found; FLAGS 0x0 and 0x8, which don\'t. The program\'s word has a\'s f in all.', [
+        ('The library b defines f, as an earlier library a does, and has a word with the address of f. One more entry of its dynamic\n'
+         'section is SYMBOLIC 0, FLAGS 0x2 or FLAGS 0xa, which make it symbolic, so that its own f is found; or FLAGS 0x0 or 0x8, which\n'
+         "don't. The program's word has a's f in all cases.", [
              line for entry, own in rows for line in two_words(of_one_entry(*entry), own)]),
-        ('The whole text of the first: b\'s word is d021010000000000.', [
+        ("The whole text of the first case: b's word is d021010000000000.", [
             text(both, 'symbolic.image', '0' * 16 + 'd021010000000000', '0' * 16 + '7011010000000000')]),
-        ('A symbolic library whose f is undefined gets a\'s.', [
+        ("The f of the symbolic library is undefined: its word gets a's f.", [
             line for b in undefined for line in two_words(b, False)]),
-        ('SYMBOLIC counts whatever its value is, and of FLAGS the bit 2 alone, whatever others stand.', [
+        ('SYMBOLIC counts with any value. Of FLAGS only the bit 2 counts, whatever the other bits are.', [
             line for entry, own in later for line in two_words(of_one_entry(*entry), own)]),
-        ('Other tags that have this value, and the same low 32 bits in a tag, make nothing symbolic.', [
+        ("Other tags with this value, and tags with the same low 32 bits, don't make a library symbolic.", [
             line for entry in OTHER_TAGS for line in two_words(of_one_entry(*entry), False)]),
-        ('Two entries: both tags, either one first; one of them beside another tag; behind the first NULL, whose value isn\'t read.', [
+        ('Two entries: both tags, in either order; one of them together with another tag; and one of them after the first NULL, where it\n'
+         "isn't read.", [
             line for entries, own in PAIRS for line in pair_words(entries, own)]),
-        ('The entry as the first of all.', [
+        ('The entry is the first of all entries.', [
             line for entry, own in rows for line in two_words(rotated(of_one_entry(*entry), own_f([entry])), own)]),
-        ('Without FLAGS the value of the first entry is no flag: NEEDED has 3 there, and the library isn\'t symbolic.', absent_flags()),
+        ("If there is no FLAGS, no other value counts as flags: the first entry is NEEDED with the value 3, and the library isn't\n"
+         'symbolic.', absent_flags()),
     ]
 
 
@@ -163,8 +166,9 @@ def table_of_values():
         for entries in (IS_SYMBOLIC, [(FLAGS, 2)]):
             o = words_of_f(binding, visibility, DEFINED if defined else UNDEFINED, entries=entries)
             lines += [line for first, result in zip(('a', '', 'c'), results) for line in values_of(first, o, result)]
-        parts.append((f'{NAMES[binding]}, {SEEN[visibility]}, {"defined" if defined else "undefined"} in the symbolic object that asks: '
-                      'where an earlier object\ndefines it, where no other does, where a later one does; as 64, GLOB_DAT, JUMP_SLOT.', lines))
+        parts.append((f'A symbol {NAMES[binding]}, {SEEN[visibility]}, {"defined" if defined else "undefined"} in the symbolic object whose '
+                      f'relocation names it.\nAn earlier object defines the name{" too" if defined else ""}, no {"other " if defined else ""}object '
+                      'does, or a later one does; relocations 64, GLOB_DAT and JUMP_SLOT.', lines))
     return parts
 
 
@@ -179,8 +183,8 @@ def types_that_ask():
         nothing = NOTHING if binding == GLOBAL else ZERO
         own += values_of('a', o, OF_OWN if exported else OF_OTHER)[:1] + values_of('', o, OF_OWN if exported else nothing)[:1]
         own += values_of('c', o, OF_OWN if exported else OF_LATER)[:1]
-    return [('The type of an undefined symbol of a symbolic object doesn\'t count.', undefined),
-            ('Its own symbol of a type that isn\'t exported is no definition for it either.', own)]
+    return [("The type of an undefined symbol of a symbolic object doesn't matter.", undefined),
+            ("If the object's own symbol has a type that isn't exported, it is no definition, not even for the object itself.", own)]
 
 
 def own_value(binding, visibility, kind, section, at):
@@ -204,8 +208,8 @@ def definitions_of_every_kind():
                              at=8 if section == DEFINED else 0x170)
             bind = Bind(prog('ab'), [a_with(binding=WEAK), b])
             lines.append(word(bind, B_WORD, own_value(binding, visibility, kind, section, at)))
-        parts.append((f'{NAMES[binding]}, {SEEN[visibility]} in a symbolic library, of the types 0 to 3 and 15, each undefined, in a '
-                      'section, absolute and in\na section of a number that is kept; an object before it exports the name.', lines))
+        parts.append((f'A symbol {NAMES[binding]}, {SEEN[visibility]} of a symbolic library, with the types 0 to 3 and 15: each undefined, in a '
+                      'section, absolute,\nand in a section with a reserved number. An earlier object exports the name.', lines))
     return parts
 
 
@@ -214,14 +218,15 @@ def own_definitions():
     def b_word(wanted, **fields):
         return word(Bind(p_with(), [a_with(), of_one_entry(SYMBOLIC, 0, **fields)]), B_WORD, wanted)
     return [
-        ('Its own weak definition comes before a strong one elsewhere; so do a protected one, a hidden one, an absolute one.', [
+        ("The library's own definition comes before a strong one elsewhere, even if its own is weak, protected, hidden or absolute.", [
             b_word(B_OWN, binding=WEAK), b_word(B_OWN, visibility=PROTECTED), b_word(B_OWN, visibility=HIDDEN),
             b_word(B_OWN, visibility=INTERNAL), b_word(B_OWN, binding=LOCAL), b_word(B_OWN, kind=OBJECT), b_word(B_OWN, kind=0),
             b_word(0x1234, section=ABSOLUTE, at=0x1234), b_word(0x1234, section=ABSOLUTE, at=0x1234, binding=WEAK)]),
-        ('A definition of value 0 is one: the base of the library; an absolute one is 0. A value may lie outside its object.', [
+        ('A symbol with the value 0 is a definition: its address is the base of the library, or 0 if it is absolute. A value may lie\n'
+         'outside its object.', [
             b_word(0x12000, section=2, at=0), b_word(0, section=ABSOLUTE, at=0), b_word(0x12000, section=2, at=0, binding=WEAK),
             b_word(0x11fff, section=2, at=WHOLE - 1), b_word(WHOLE - 1, section=ABSOLUTE, at=WHOLE - 1)]),
-        ('An undefined symbol with a value is no definition, in the object itself neither.', [
+        ('An undefined symbol with a value is no definition, not even for its own object.', [
             b_word(A_F, section=UNDEFINED, at=0x1d0), b_word(A_F, section=UNDEFINED, at=0x1d0, binding=WEAK)]),
     ]
 
@@ -242,19 +247,19 @@ def names_twice():
         return word(Bind(p_with(), [a_with(binding=WEAK), b]), data, wanted)
     hidden, local = dict(exports, visibility=HIDDEN), dict(exports, binding=LOCAL)
     return [
-        ('An undefined symbol of a symbolic library whose name the library exports by another symbol: its own export. It isn\'t symbolic\n'
-         'in the last two.', [
+        ('A relocation of a symbolic library names an undefined symbol, but the library exports this name by another symbol: that export\n'
+         "is taken. In the last two cases the library isn't symbolic.", [
              b_word(asks, exports, data + 8), b_word(dict(binding=WEAK), exports, data + 8),
              b_word(dict(visibility=PROTECTED), exports, data + 8),
              b_word(asks, dict(exports, binding=WEAK), data + 8), b_word(asks, dict(exports, visibility=PROTECTED), data + 8),
              b_word(asks, exports, A_F, PLAIN), b_word(asks, exports, A_F, [(FLAGS, 8)])]),
-        ('By a symbol that isn\'t exported: a\'s, as a hidden, an internal or a local one is none for a name.', [
+        ("That other symbol isn't exported: a's f is taken, because a hidden, internal or local symbol defines no name for others.", [
             b_word(asks, hidden, A_F), b_word(asks, dict(hidden, visibility=INTERNAL), A_F), b_word(asks, local, A_F),
             b_word(asks, dict(exports, kind=3), A_F), b_word(dict(visibility=PROTECTED), hidden, A_F)]),
-        ('An undefined symbol that is hidden isn\'t looked up, in the library itself neither.', [
+        ("An undefined symbol that is hidden isn't looked up, not even in its own library.", [
             b_word(dict(visibility=HIDDEN), exports, 'refused B5 Undefined b f'),
             b_word(dict(visibility=INTERNAL, binding=WEAK), exports, 0)]),
-        ('A symbol that isn\'t exported, whose name another one is exported by: the exported one.', [
+        ("A symbol isn't exported, but another symbol exports its name: the exported symbol is taken.", [
             b_word(dict(section=DEFINED, at=0, kind=3), exports, data + 8), b_word(dict(section=DEFINED, at=0, kind=3), hidden, A_F)]),
     ]
 
@@ -276,21 +281,22 @@ def programs():
     hidden = near(program, Object(needed=[b'a', b'b'], symbols=[Symbol(b'f', GLOBAL, FUNC, DEFINED, 8, HIDDEN)],
                                   relocations=[(R_64, 0, 1, 0)], data=16, entries=list(IS_SYMBOLIC)))
     return [
-        ('A symbolic program that defines f: all take it, as they would without the tag; a symbolic library has its own.', [
+        ('A symbolic program that defines f: all objects take its f, as they would without the tag. But a symbolic library takes its own.', [
             line for libraries, b_wanted in (([a, b], at + 8), ([a, named('b', IS_SYMBOLIC)], b_at + 8)) for line in (
                 word(Bind(program, libraries), at, at + 8), word(Bind(program, libraries), a_at, at + 8),
                 word(Bind(program, libraries), b_at, b_wanted))]),
-        ('A symbolic program that doesn\'t define f: the first library\'s for all, as the libraries aren\'t symbolic by that.', [
+        ("A symbolic program that doesn't define f: all objects take the first library's f, because the program's tag doesn't make the\n"
+         'libraries symbolic.', [
             word(Bind(asks, [a, b]), at, a_f), word(Bind(asks, [a, b]), a_at, a_f), word(Bind(asks, [a, b]), b_at, a_f),
             word(Bind(asks, [a, named('b', [(FLAGS, 0xa)])]), b_at, b_at + 8),
             word(Bind(asks, [a, named('b', [(FLAGS, 0xa)])]), at, a_f)]),
-        ('A symbolic program\'s hidden f is its own, and nobody else\'s.', [
+        ('Only a symbolic program itself takes its own hidden f.', [
             word(Bind(hidden, [a, b]), at, at + 8), word(Bind(hidden, [a, b]), a_at, a_f), word(Bind(hidden, [a, b]), b_at, a_f)]),
-        ('A symbolic program alone: its own f, at any base; a weak f that is undefined; a strong one.', [
+        ('A symbolic program without libraries: its own f, at any base; a weak f that is undefined; and a strong f that is undefined.', [
             word(Bind(alone), lone_at, lone_at + 9),
             word(Bind(alone, base=HIGHEST - 0x1000), HIGHEST - 0x11000 + lone_at, HIGHEST - 0x11000 + lone_at + 9),
             word(Bind(undefined), lone_at, 1), refused(Bind(missing), 'B5 Undefined /program f')]),
-        ('The refusals of a bind stand as they are: the base, a name that is missing, the limit of memory.', [
+        ('The refusals of a bind are the same: the base, a name that is missing, and the limit of memory.', [
             refused(Bind(asks, [a, b], base=0x10800), 'B2 BadBase'), refused(Bind(asks, [a]), 'B3 Missing /program b'),
             refused(Bind(asks, [a, b], base=HIGHEST), 'B4 NoRoom')]),
     ]
@@ -306,17 +312,18 @@ def several():
         at = {n: 0x111c8 + 0x1000 * i for i, n in enumerate(names)}
         return [order(bind, *names)] + [word(bind, at[n], at[own] + 8) for n, own in wanted]
     return [
-        ('A symbolic library that comes first: what it defines is the first definition for all.', [
+        ('The first library is symbolic: its definition is the first one for all objects.', [
             *words([symbolic('a'), plain('b'), plain('c')], ['aa', 'ba', 'ca'])]),
-        ('In the middle, and last: its f is its own alone. It stands once in load order.', [
+        ('The symbolic library comes in the middle, and last: only the library itself takes its f. It occurs once in load order.', [
             *words([plain('a'), symbolic('b'), plain('c')], ['aa', 'bb', 'ca']),
             *words([plain('a'), plain('b'), symbolic('c')], ['aa', 'ba', 'cc'])]),
-        ('Two symbolic libraries that both define f: each its own, and a third has the first\'s.', [
+        ("Two symbolic libraries that both define f: each takes its own, and a third library takes the first one's.", [
             *words([symbolic('a'), symbolic('b'), plain('c')], ['aa', 'bb', 'ca']),
             *words([plain('a'), symbolic('b'), flagged('c')], ['aa', 'bb', 'cc']),
             *words([symbolic('a'), plain('b'), flagged('c')], ['aa', 'ba', 'cc'])]),
-        ('All of them.', words([flagged('a'), symbolic('b'), flagged('c')], ['aa', 'bb', 'cc'])),
-        ('A symbolic preload, which comes before what the program needs: its own, as all have. Behind another preload: its own alone.', [
+        ('All libraries are symbolic.', words([flagged('a'), symbolic('b'), flagged('c')], ['aa', 'bb', 'cc'])),
+        ('A symbolic preload, which comes before what the program needs: all objects take its f. If it comes after another preload, only\n'
+         'the preload itself takes its f.', [
             *words([symbolic('p'), plain('a')], ['pp', 'ap'], ['p']),
             *words([plain('p'), symbolic('q'), plain('a')], ['pp', 'qq', 'ap'], ['p', 'q']),
             *words([symbolic('p'), symbolic('q'), symbolic('a')], ['pp', 'qq', 'aa'], ['p', 'q'])]),
@@ -334,19 +341,19 @@ def needers():
     weak_n = near(n_file, Object(b'n', [b's'], [Symbol(b'f', WEAK)], [(R_GLOB_DAT, 0, 1, 0)], data=16, entries=list(PLAIN)))
     no_f = a_with(binding=LOCAL)
     return [
-        ('A symbolic library whose f is found in itself, while its needer\'s is found elsewhere.', [
+        ('A symbolic library finds f in itself, and the library that needs it finds f elsewhere.', [
             order(Bind(prog('an'), [a_with(), n, s]), *'ans'), word(Bind(prog('an'), [a_with(), n, s]), n_at, A_F),
             word(Bind(prog('an'), [a_with(), n, s]), s_at, s_at + 8)]),
-        ('A symbolic library that needs it, and has no f of its own: what it needs isn\'t looked in first.', [
+        ("A symbolic library needs it, and has no f of its own. The libraries that it needs aren't searched first.", [
             word(Bind(prog('an'), [a_with(), symbolic_n, s]), n_at, A_F), word(Bind(prog('an'), [no_f, symbolic_n, s]), n_at, s_at + 8)]),
-        ('Nobody before it defines f: the needer has the symbolic library\'s, but not a hidden one.', [
+        ("No earlier object defines f: the library that needs the symbolic library takes the latter's f, but not a hidden one.", [
             word(Bind(prog('an'), [no_f, n, s]), n_at, s_at + 8), refused(Bind(prog('an'), [no_f, n, hidden_s]), 'B5 Undefined n f'),
             word(Bind(prog('an'), [no_f, weak_n, hidden_s]), n_at, 0), word(Bind(prog('an'), [no_f, weak_n, hidden_s]), s_at, s_at + 8)]),
-        ('A hidden, an internal, a local f of a symbolic library that comes first isn\'t found for the program: a\'s is.', [
+        ("The first library is symbolic, and its f is hidden, internal or local: the program doesn't find it, and takes a's f.", [
             word(Bind(near(Case('asking.so'), Object(needed=[b'b', b'a'], symbols=[Symbol(b'f')], relocations=[(R_64, 0, 1, 0)])),
                       [of_one_entry(SYMBOLIC, 0, **fields), a_with()]), P_WORD, 0x12170)
             for fields in (dict(visibility=HIDDEN), dict(visibility=INTERNAL), dict(binding=LOCAL), dict(kind=3))]),
-        ('Nor is one that it doesn\'t define.', [
+        ("Nor does the program find an f that the symbolic library doesn't define.", [
             word(Bind(near(Case('asking.so'), Object(needed=[b'b', b'a'], symbols=[Symbol(b'f')], relocations=[(R_64, 0, 1, 0)])),
                       [of_one_entry(SYMBOLIC, 0, section=UNDEFINED, at=at), a_with()]), P_WORD, 0x12170) for at in (0, 0x1d0)]),
     ]
@@ -368,13 +375,13 @@ def others():
     g = near(Case('first.so'), Object(b'a', symbols=[Symbol(b'g', GLOBAL, FUNC, DEFINED)]))
     three = Bind(both, [both, (both, b'q'), g], ['q', 'a'])
     return [
-        ('A name of the same hash isn\'t its own.', [word(Bind(prog('ab'), [a, collides]), at, A_F)]),
-        ('A slot of DT_JMPREL and a word of DT_RELA of one symbol.', [word(bind, held, held + 15), word(bind, held + 8, held + 16)]),
-        ('Objects of the same bytes, all symbolic: each has its own f, and of g all have the one that there is.', [
+        ("A symbolic library's own export with the same hash but another name isn't taken.", [word(Bind(prog('ab'), [a, collides]), at, A_F)]),
+        ('A slot of DT_JMPREL and a word of DT_RELA whose relocations name the same symbol.', [word(bind, held, held + 15), word(bind, held + 8, held + 16)]),
+        ('Symbolic objects with the same bytes: each takes its own f, and all take the only g.', [
             order(three, 'q', 'a', 'p'), *[word(three, 0x10000 + 0x1000 * i + d, 0x10000 + 0x1000 * i + d + 16) for i in (0, 1, 3)],
             *[word(three, 0x10008 + 0x1000 * i + d, 0x12170) for i in (0, 1, 3)],
             refused(Bind(both, [both]), 'B5 Undefined /program g')]),
-        ('B5 names the first entry in load order: a symbolic library before another, whose own f is found.', [
+        ('B5 (Undefined) names the first entry in load order: one symbolic library comes before another, whose own f is found.', [
             refused(Bind(prog('ab'), [named('a', IS_SYMBOLIC, section=UNDEFINED, at=0), named('b', IS_SYMBOLIC, visibility=HIDDEN)]),
                     'B5 Undefined a f'),
             refused(Bind(prog('ab'), [named('a', IS_SYMBOLIC, visibility=HIDDEN), named('b', IS_SYMBOLIC, section=UNDEFINED, at=0)]),
@@ -393,8 +400,9 @@ def symbolic_slots(o):
 def wrong():
     both = Bind(p_with(), [a_with(binding=WEAK), of_one_entry(SYMBOLIC, 0)])
     plain = Bind(p_with(), [a_with(binding=WEAK), of_one_entry(FLAGS, 8)])
-    return [('Wrong on purpose: the load order before a symbolic library itself, the library itself although it isn\'t symbolic, for the\n'
-             'program too, and a refusal.', [
+    return [('These cases are wrong on purpose. The load order comes before a symbolic library itself; a library itself comes first '
+             'although\n'
+             "it isn't symbolic; the same for the program; and a refusal.", [
                  f'word 0x{B_WORD:x} {both} =/> 0x{A_F:x}', f'word 0x{B_WORD:x} {plain} =/> 0x{B_OWN:x}',
                  f'word 0x{P_WORD:x} {both} =/> 0x{B_OWN:x}', f'bind {both} =/> refused B1 E18 UnsupportedTag',
                  f'bind {plain} =/> file symbolic.image', f'library {of_one_entry(FLAGS, 2)} =/> refused E18 UnsupportedTag'])]

@@ -111,16 +111,18 @@ def libraries():
         return kept(name, giving(b'a', [gives(k, 0, n, of) for n, (tails, of) in enumerate(exports) for k in tails], strings))
     bad, late = 'E28 DuplicateDefinition', BACK[0]
     write_list('admission-tails.txt', [
-        ('Of two strings that differ in one byte the tails that have this byte are exported: no two are the same. A tail behind it is\n'
-         'the same of both strings, where both export it.', [
+        ('Two strings differ in one byte. The exports are the tails that have this byte, and all of these differ. A tail that begins '
+         'after\n'
+         'this byte is the same in both strings, which is refused if both tails are exported.', [
              admit(exporting('tails-apart.so', (FRONT, STRING), (FRONT, OTHER)), ''),
              admit(exporting('tails-behind.so', (FRONT, STRING), ([*FRONT, late], OTHER)), ''),
              admit(exporting('tails-behind-both.so', ([*FRONT, late], STRING), ([*FRONT, late + 1], OTHER)), ''),
              admit(exporting('tails-equal.so', ([*FRONT, late], STRING), ([*FRONT, late], OTHER)), bad)]),
-        ('Of two equal strings the tails are exported in turn; then one of both.', [
+        ('The exports are tails of two equal strings in turn. Then one tail is exported from both strings.', [
             admit(exporting('tails-in-turn.so', (FRONT[::2], STRING), (FRONT[1::2], STRING)), ''),
             admit(exporting('tails-in-turn-equal.so', (FRONT[::2], STRING), ([*FRONT[1::2], 8], STRING)), bad)]),
-        ('A third string that differs in one byte from two equal ones: the same tail of the first and the last, and of all three.', [
+        ('A third string differs in one byte from two equal strings. The same tail is exported from the first and the last, and from all\n'
+         'three.', [
              admit(exporting('tails-between.so', (FRONT[::2], STRING), (FRONT, OTHER), (FRONT[1::2], STRING)), ''),
              admit(exporting('tails-around.so', ([*FRONT[::2], late], STRING), (FRONT, OTHER), ([*FRONT[1::2], late], STRING)), bad),
              admit(exporting('tails-all-three.so', (FRONT[::2], STRING), ([*FRONT, late + 2], OTHER), ([*FRONT[1::2], late + 2], STRING)), bad)]),
@@ -147,18 +149,21 @@ def lists():
     symbolic, plain = itself('tails-symbolic.so', SYMBOLIC), itself('tails-plain.so', [(24, 0)])
     definer = kept('tails-program.so', Shared(None, [b'c'], [gives(k, at[k]) for k in FRONT], data=8 * 24, strings=(STRING,)))
     write_list('binds-tails.txt', [
-        ('A program asks for 24 tails of a string of 4,000 bytes, twice each. The library gives them as tails of two equal strings in\n'
-         'turn.', [bound(Bind(program, [two]), 'tails-of-two.image', 0, [(1, at[k]) for k in mixed(FRONT)])]),
-        ('The names of a differ from those that are asked for in one byte, far behind; only those that begin behind it are the same.\n'
-         'The others are found in b.', [
+        ('A program has two relocations for each of 24 tails of a string of 4,000 bytes. The library exports them as tails of two equal\n'
+         'strings in turn.', [bound(Bind(program, [two]), 'tails-of-two.image', 0, [(1, at[k]) for k in mixed(FRONT)])]),
+        ("The names that a exports differ from the names of the program's relocations in one byte, far from the beginning. Only tails "
+         'that\n'
+         'begin after this byte are the same. The other names are found in b.', [
              bound(Bind(both, [late, whole]), 'tails-late.image', 0, [(1 if k in BACK else 2, at[k]) for k in mixed(all_tails)])]),
-        ('a gives the names at odd places, b all: the first in load order is taken. Where a gives all too, it is a.', [
+        ('The library a exports every other name, and b all names: the first definition in load order is taken. If a exports all names\n'
+         'too, its definitions are taken.', [
             bound(Bind(both, [odd, whole]), 'tails-odd.image', 0, [(1 if k % 2 else 2, at[k]) for k in mixed(all_tails)]),
             bound(Bind(both, [(whole, b'a'), whole]), 'tails-twice.image', 0, [(1, at[k]) for k in mixed(all_tails)])]),
-        ('Weak names of which every third one is missing are 0. The last name that is asked for is undefined.', [
+        ('Weak symbols: every third name is missing, and its value is 0. Then the name of the last relocation is undefined.', [
             bound(Bind(weak, [some]), 'tails-weak.image', 0, [(1, at[k]) if k % 3 else None for k in FRONT]),
             refused(Bind(program, [most]), f'B5 Undefined /program {STRING[last:].decode()}')]),
-        ('A library asks for names that the program gives, and gives those at odd places itself. A symbolic one takes its own.', [
+        ('The relocations of a library name symbols that the program exports, and the library itself exports every other one of these. A\n'
+         'symbolic library takes its own definitions.', [
             bound(Bind(definer, [symbolic]), 'tails-symbolic.image', 1, [(1, 16 * 24 + at[k]) if k % 2 else (0, at[k]) for k in mixed(FRONT)]),
             bound(Bind(definer, [plain]), 'tails-plain.image', 1, [(0, at[k]) for k in mixed(FRONT)])]),
     ])

@@ -401,41 +401,42 @@ def parts():
     pair, damaged, other = 'pair.disk', 'pair.disk 0x400=00', 'pair.disk 0xa00=@first.so'
     end = 'bindings asks-for-both.so 0x20000'
     return [
-        ('What each library is: of its own name, refused by a test, of another name.', [
+        ('The finding on each library: it is one of its own name, it is refused by a test, or it is one of another name.', [
             on('formatted.disk', 'check', '0 end'), on(pair, 'check', '0 ok a 376\nok b 376\nend'), on('three.disk', 'check'),
             on(damaged, 'check', '1 damaged a E2 BadMagic\nok b 376\nend'), on(other, 'check', '1 ok a 376\ndamaged b OtherName\nend'),
             on('old-one.disk', 'check', '1 error rlibreg-tool: refused S12 OldFormat')]),
-        ('Digests, also of bytes that are no library\'s.', [
+        ('Digests, also of bytes that are no library.', [
             on('formatted.disk', 'digest', '0 nothing'), on('three.disk', 'digest'), on(damaged, 'digest')]),
-        ('The bytes of a library, as they are.', [
+        ('The bytes of a library, unchanged.', [
             on(pair, 'file b', '0 file strong.so'), on(damaged, 'file a'), on(damaged, 'file b', '0 file strong.so'),
             on(pair, 'file c', '1 error rlibreg-tool: refused C3 NotInstalled')]),
-        ('Numbers: free sectors, their runs, the greatest file that goes in.', [
+        ('Numbers: the free sectors, their runs, and the largest file that fits.', [
             on('formatted.disk', 'info', '0 version 2\nsectors 8\ngeneration 0\nlibraries 0 of 2048\npreloads 0 of 16\nunused 6\nfree 6\nruns 1\n'
                'largest 1536\nend'),
             on('one.disk', 'info'), on('full.disk', 'info'), on('three.disk', 'info'), on('gap.disk', 'info'),
             on('made=sixty-four.changes', 'info'), on('made=sixty-five.changes', 'info'), on('made=many.changes', 'info')]),
-        ('What symbols are bound to; what is undefined, weak or not; what is missing.', [
+        ('The bindings of symbols; symbols that are undefined, weak or not; and names that are missing.', [
             on(pair, 'bindings starts-needing.so 0x20000',
                '0 object 0x0000000000020000 /program\nneeds a\nbinds f 0x0000000000021170 a\nunresolved g\nobject 0x0000000000021000 a\nend'),
             on(pair, end, '1 object 0x0000000000020000 /program\nneeds a\nbinds f 0x0000000000021170 a\nundefined g /program\n'
                'object 0x0000000000021000 a\nend'),
             on('formatted.disk', end, '1 found /program\nneeds a\nmissing a /program\nend'),
             on(pair, 'bindings asking.so 0x10000'), on('three.disk', 'bindings no-symbols.so 0x10000')]),
-        ('Executables: alone, with libraries, of two segments in a page.', [
+        ('Executables: of a program without libraries, with libraries, and with two segments in a page.', [
             on('formatted.disk', 'executable starts.so 0x20000'), on(pair, 'executable starts-needing.so 0x400000'),
             on(pair, 'executable starts-needing.so 0x10000'), on('three.disk', 'executable starts.so 0x20000')]
             + [on('formatted.disk', f'executable page-{it}.so 0x20000') for it in ('5-4', '7-4', '5-7')]),
-        ('No executable: without an entry, with functions that nobody would call, of a page that could be written and executed.', [
+        ('No executable is made: the program has no entry, there are functions that nobody would call, or a page could be written and\n'
+         'executed.', [
             on('formatted.disk', 'executable no-symbols.so 0x20000', '1 error rlibreg-tool: refused NoEntry'),
             on(with_library('initialized.so'), 'executable starts-needing.so 0x20000', '1 error rlibreg-tool: refused Initializers a'),
             on(with_library('finalized.so'), 'executable starts-needing.so 0x20000', '1 error rlibreg-tool: refused Finalizers a'),
             on('formatted.disk', 'executable page-5-6.so 0x20000', '1 error rlibreg-tool: refused WritableCode /program'),
             on('formatted.disk', 'executable starts-needing.so 0x20000', '1 error rlibreg-tool: refused B3 Missing /program a')]),
-        ('Executables of programs that call their libraries\' functions themselves, by a note.', [
+        ("Executables of programs that declare by a note that they call their libraries' functions themselves.", [
             on(with_library(library), f'executable {program}.so 0x20000')
             for library, program in (('initialized.so', 'calls'), ('finalized.so', 'calls-alone'), ('finalized.so', 'calls-behind'))]),
-        ('No executable: the note is another one, isn\'t whole, or isn\'t the program\'s.', [
+        ("No executable is made: the note is a different one, isn't whole, or isn't the program's.", [
             on(with_library('finalized.so'), f'executable calls-{it}.so 0x20000', '1 error rlibreg-tool: refused PreInitializers')
             for it in ('second', 'aligned', 'cut', 'type', 'name', 'longer', 'told', 'within', 'end')] + [
             on(with_library('calls-library.so'), 'executable starts-needing.so 0x20000', '1 error rlibreg-tool: refused Initializers a')]),

@@ -217,14 +217,15 @@ def rooms():
     two_extents = [i(long), i(q), b'remove a', i(long + bytes(564))]
     one, five, four = 'one.disk', 'made=sixty-five.changes', 'made=sixty-four.changes'
     return [
-        ('How much room an update takes, to the last sector: beside what stands, for what it puts, and for catalogues twice. What it puts and\n'
-         'takes out again is free for its next line.',
+        ('The room of an update, to the last sector: it needs sectors besides those of the current state, for what it installs and for '
+         'the\n'
+         'catalogues twice. Sectors of a library that it installs and removes again are free for its next line.',
          last(one, 10, r(a), r(a)) + last(one, 10, b'remove a', i(q)) + last(one, 10, r(a), b'remove a', i(a), r(a))
          + last(one, 12, r(a), r(a), r(a), r(long))),
-        ('A file in two extents: the four sectors that an earlier line left, and one behind.', [
+        ('A file in two extents: the four sectors that an earlier line has made free, and one after them.', [
             on('formatted.disk 0x10=0b pad=5632', *two_extents, b'commit', wanted=S7),
             on('formatted.disk 0x10=0c pad=6144', *two_extents, b'commit', wanted=OK, has='0x1300=02000000040000000800000001')]),
-        ('64 and 65 libraries: room for a second catalogue, and for both that stand where one is enough for the list.',
+        ('64 and 65 libraries: room for a second catalogue, and for both current catalogues although one is enough for the new list.',
          last(four, 138, i(q), b'remove x000', i(number)) + last(five, 142, b'remove x000', b'remove x001', i(q), i(number))
          + last(five, 140, r(number), r(number[:0xda] + b'001' + number[0xdd:]))),
     ]
@@ -236,45 +237,48 @@ def changes():
     program, asking = file('asking.so'), build(Object(needed=[b'a', b'none']))[0]
     room = 'formatted.disk 0x10=20 pad=16384'
     return [
-        ('One line and `commit`: the disk is the one that its command leaves.', [
+        ('One line and `commit`: the update leaves the same disk as the command.', [
             on('formatted.disk', i(a), c, wanted=OK, has=f'0x200={file("one.disk")[512:600].hex()} 0x400=@{A} 0x800=4c49424301'),
             on('one.disk', r(a), c, wanted=OK, has=f'0x0=524c49425245473202 0x40=07 0xa00=@{A}'),
             on('one.disk', b'remove a', c, wanted=OK), on('one.disk', b'preload a', c, wanted=OK), on('one.disk', b'preload', c, wanted=OK)]),
-        ('A library that is put twice, put and taken out, or put behind one that was taken out: what stands frees nothing before `commit`.', [
+        ('A library that is installed and replaced, installed and removed, or installed after the removal of another. The sectors of the\n'
+         'current state become free only with `commit`.', [
             on('one.disk', r(a), r(a), c, wanted=S7), on('one.disk', r(a), b'remove a', c, wanted=OK, has='0x0=524c49425245473202 0x14=00'),
             on('one.disk', b'remove a', i(q), c, wanted=S7), on('formatted.disk', i(a), b'remove a', i(q), c, wanted=OK),
             on('formatted.disk', i(a), b'remove a', c, wanted=OK, has='0x200=524c49425245473201'),
             on(room, i(a), r(a), r(a), b'remove a', i(a), i(q), c, wanted=OK), on('full.disk', b'remove a', i(a), c, wanted=S7),
             on('gap.disk', i(q), r(file(B_520)), b'preload', b'remove a', c, wanted=OK)]),
-        ('Many lines are one commit; no change is none.', [
+        ('Many lines make one commit, and an update without lines makes no change.', [
             on(room, i(a), i(q), i(file(B_520)), b'preload b a', b'list', b'remove q', c, wanted=OK, has='0x200=524c49425245473201'),
             on('one.disk', c, wanted=OK), on('one.disk', c, c, wanted=OK), on('one.disk', b'list', c, wanted=OK),
             on('one.disk', c, b'remove a', wanted=OK), on('one.disk', c, b'cut', end=b'', wanted=OK), on('formatted.disk', b'preload', c, wanted=OK)]),
-        ('Without a line `commit` there is none.', [
+        ('Without a line `commit` there is no commit.', [
             on('one.disk', wanted=L3), on('one.disk', b'remove a', wanted=L3),
             on('one.disk', b'remove a', c, end=b'', wanted=L2), on('one.disk', b'remove a', b'co', end=b'', wanted=L2)]
             + [on('one.disk', b'remove a', line, c, wanted=L1) for line in (
                 b'commit ', b' commit', b'COMMIT', b'', b'advance 0', b'cancel 0', b'begin 0x0 00', b'commit now', b'list ', b'remove')]),
-        ('The first refusal ends it, by the tests of a script over what the lines before have planned.', [
+        ('The first refusal ends an update. Each line is tested, as a line of a script is, against the state that the lines before it '
+         'have\n'
+         'planned.', [
             on('pair.disk', b'remove b', i(a), c, wanted=C2), on('pair.disk', b'remove a', r(a), c, wanted=C3),
             on('pair.disk', b'remove a', b'remove a', c, wanted=C3), on('pair.disk', b'remove a', b'preload a', c, wanted=C3),
             on('pair.disk', b'preload a', b'remove a', c, wanted=C4), on('pair.disk', b'preload a', b'preload b', b'remove a', c, wanted=OK),
             on('pair.disk', b'preload a a', c, wanted=C5), on('pair.disk', b'preload' + b' a' * 17, c, wanted=C6),
             on('pair.disk', i(a[:63]), c, wanted='refused C1 E1 TooShort'), on('pair.disk', i(program), c, wanted='refused C1 E33 BadSoname')]),
-        ('A bind is answered over what is planned.', [
+        ('A bind is answered against the planned state.', [
             on('one.disk', b'remove a', bind(asking), c, wanted='refused B3 Missing /program a'),
             on('one.disk', bind(asking), c, wanted='refused B3 Missing /program none'),
             on(room, i(file('first.so')), i(b), bind(program), c, wanted=OK), on('pair.disk', bind(program), c, wanted=OK),
             on('pair.disk', r(file('absolute.so')), b'preload b', bind(program), b'list', c, wanted=OK), on('pair.disk', bind(program, 1), c, wanted='refused B2 BadBase'),
             on('pair.disk', bind(a[:70]), c)]),
-        ('The last generation but one, and the last.', [
+        ('The last generation but one, and the last generation.', [
             on(LAST, i(a), b'preload a', c, wanted=OK, has='0x200=524c494252454732ffffffffffffffff'),
             on(f'{LAST} 0x200=524c494252454732ffffffffffffffff08', c, wanted=OK),
             on(f'{LAST} 0x200=524c494252454732ffffffffffffffff08', b'preload', c, wanted=S10),
             on(f'{LAST} 0x200=524c494252454732ffffffffffffffff08', i(a), c, wanted=S10)]),
-        ('Libraries whose bytes are those of none are mended, both at once.', [
+        ('Libraries whose files are no libraries are repaired, both in one update.', [
             on('pair.disk 0x400=00 0xa00=00', r(file('first.so')), r(file('strong.so')), c), on('pair.disk 0x400=00', b'remove a', b'list', c, wanted=OK)]),
-        ('Disks that are no registry of version 2.', [
+        ('Disks that hold no registry of version 2.', [
             on('old-one.disk', b'remove a', c, wanted=SAID + 'S12 OldFormat'), on('bytes= pad=4096', c, wanted=SAID + 'S3 NotFormatted'),
             on('one.disk 0x210=09', c, wanted=SAID + 'S5 Damaged'), on('bytes= pad=4095', c, wanted=SAID + 'S6 BadGeometry')]),
     ]
@@ -288,7 +292,7 @@ def dumps():
         text += b'preload ' + b' '.join(registry.preloads) + b'\n' if registry.preloads else b''
         answer = (text + last).decode()
         return f'on {before} tool dump disk{words} => 0 {answer_text(answer, "") if answer else "nothing"} then same'
-    return [('A dump, and one for an update.', [on_dump(disk, *words) for disk in ('formatted.disk', 'one.disk', 'three.disk')
+    return [('A dump, and a dump for an update.', [on_dump(disk, *words) for disk in ('formatted.disk', 'one.disk', 'three.disk')
                                                 for words in (('', b''), (' commit', b'commit\n'))])]
 
 

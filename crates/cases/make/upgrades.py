@@ -55,25 +55,29 @@ def images():
     sizes = (205, 'cd', S7, 'same'), (206, 'ce', '0 ok', None)
     hundred = [on(f'old-hundred.disk pad={512 * count} 0x10={digits}', 'upgrade disk', wanted, after) for count, digits, wanted, after in sizes]
     return [
-        ('Disks of version 1: no command reads one but `upgrade`, which writes the catalogue into the lowest free sector and the next root,\n'
-         'of version 2, into the other root sector. The same is listed then, and another upgrade writes nothing.', cases),
-        ('A hundred libraries on 204 sectors: two are free, and two catalogues count four. With two sectors more they have room.', [
+        ('Disks of version 1: only `upgrade` accepts them. It writes the catalogue into the lowest free sector, and the next root, of\n'
+         'version 2, into the other root sector. After that the same libraries are listed, and another upgrade writes nothing.', cases),
+        ('A hundred libraries on 204 sectors: two sectors are free, and two catalogues need four. With two sectors more they have room.', [
             on('old-hundred.disk', 'list disk', S12, 'same'), on('old-hundred.disk', 'upgrade disk', S7, 'same')] + hundred + [
             on('old-hundred.disk pad=105472 0x10=ce', 'upgrade disk', '0 ok', has=f'0x207=32 0x208=65 0x210=ce 0x214=64 0x238=02 0x240=ca000000cb'
                ' 0x19404=40 0x19604=24'),
             listed(hundred_upgraded(), 'old-hundred.listing')]),
-        ('64 of them with a sector fewer than their catalogue twice, and with as many; 65, which have two catalogues.', [
+        ('64 of these libraries, with one sector less than twice their catalogue, and with exactly as many sectors; and 65 of them, '
+         'which\n'
+         'need two catalogues.', [
             on(first_of_hundred(64, 131), 'upgrade disk', S7, 'same'),
             on(first_of_hundred(64, 132), 'upgrade disk', '0 ok', has='0x207=32 0x208=65 0x210=84 0x214=40 0x238=01 0x240=82 0x10404=40 0x1050c=81'),
             on(first_of_hundred(65, 135), 'upgrade disk', S7, 'same'),
             on(first_of_hundred(65, 136), 'upgrade disk', '0 ok', has='0x207=32 0x208=65 0x210=88 0x214=41 0x238=02 0x240=8400000085 0x10804=40'
                ' 0x1090c=81 0x10a04=01 0x10a10=83')]),
-        ('Eight sectors that are full. A library of 1,536 bytes leaves two free, which is enough for one catalogue twice; of 1,537, one.', [
+        ('Eight sectors that are full. A library of 1,536 bytes leaves two sectors free, which is enough for one catalogue twice. A\n'
+         'library of 1,537 bytes leaves one.', [
             on('old-full.disk', 'list disk', S12, 'same'), on('old-full.disk', 'upgrade disk', S7, 'same'),
             on('old-full.disk 0xe04=00060000 0xf04=03', 'upgrade disk', '0 ok', has='0x0=524c494252454732 0x8=02 0x14=01 0x38=01 0x40=05 0xa04=01'
                ' 0xa10=07'),
             on('old-full.disk 0xe04=01060000 0xf04=04', 'upgrade disk', S7, 'same')]),
-        ('Each command on a disk of version 1; `format` as on any disk that was formatted; a bad base and a missing file come first.',
+        ('Each command on a disk of version 1. `format` answers as on any formatted disk. A bad base and a missing file are reported\n'
+         'first.',
          each_command('old-one.disk', S12) + each_command('old-full.disk', S12) + [
             on('old-one.disk', 'format disk 8', '1 refused S4 AlreadyFormatted', 'same'),
             on('old-formatted.disk', 'format disk 8', '1 refused S4 AlreadyFormatted', 'same'),
@@ -99,7 +103,9 @@ def hundred_upgraded():
 def refusals():
     last = 'old-one.disk 0x8=feffffffffffffff 0x208=ffffffffffffffff'
     return [
-        ('What isn\'t upgraded: no disk, one that was not formatted, one that is damaged, the last generation, one without room.', [
+        ("Disks that can't be upgraded: a file that is no disk, a disk that was not formatted, a damaged disk, the last generation, and "
+         'a\n'
+         'disk without room.', [
             on('old-one.disk cut=3840', 'upgrade disk', '1 refused S6 BadGeometry', 'same'),
             on('old-one.disk cut=3584', 'upgrade disk', '1 refused S6 BadGeometry', 'same'),
             on('old-one.disk cut=3584', 'list disk', '1 refused S6 BadGeometry', 'same'),
@@ -108,7 +114,7 @@ def refusals():
             on(f'{last} 0x410=02', 'upgrade disk', S5, 'same'), on('old-full.disk 0x412=28', 'upgrade disk', S5, 'same'),
             on('old-full.disk 0x8=feffffffffffffff 0x208=ffffffffffffffff', 'upgrade disk', S10, 'same'),
             on('none', 'upgrade disk', '3 error rlibreg: cannot read disk', 'none'), on('empty', 'upgrade disk', '1 refused S6 BadGeometry', 'same')]),
-        ('The generation before the last, and others whose number carries.', [
+        ('The generation before the last, and generations whose successor carries into further bytes.', [
             on('old-one.disk 0x8=feffffffffffffff 0x208=fdffffffffffffff', 'upgrade disk', '0 ok', has='0x207=32 0x208=ffffffffffffffff 0x214=00'),
             on('old-one.disk 0x8=fe 0x208=ff', 'upgrade disk', '0 ok', has='0x7=32 0x8=0001 0x14=01 0x38=01 0x40=04'),
             on('old-one.disk 0x8=feffffff 0x208=ffffffff', 'upgrade disk', '0 ok', has='0x7=32 0x8=0000000001')]),
@@ -124,35 +130,37 @@ def damaged():
            '0x216=01 0x218=01', '0x218=01', '0x238=01', '0x23f=01', '0x240=00', '0x240=01', '0x240=08', '0x244=03', '0x3cf=01', '0x3d0=01',
            '0x3ff=01', '0x0=00', '0x14=01', '0x38=01', '0x1ff=01', '0x10=07']
     return [
-        ('Version 1 with what its root lists changed: to an opening it is of version 1, whatever else is wrong; an upgrade finds the damage.',
+        ('A disk of version 1 whose entries or files were changed. An opening reports only version 1, whatever else is wrong; an upgrade\n'
+         'detects the damage.',
          [on(f'old-one.disk {change}', words, wanted, 'same') for change in good for words, wanted in (('list disk', S12), ('upgrade disk', S5))]),
-        ('With a root changed that is none then: damaged for both.',
+        ('A root was changed so that it is no root any more: both commands report damage.',
          [on(f'old-one.disk {change}', words, S5, 'same') for change in bad for words in ('list disk', 'upgrade disk')]),
-        ('Sector 1 has no root: the registry of generation 0, which is upgraded as it is.', [
+        ('Sector 1 has no root: the registry of generation 0 is upgraded.', [
             on('old-one.disk 0x200=00', 'list disk', S12, 'same'),
             on('old-one.disk 0x200=00', 'upgrade disk', '0 ok', 'same 0x200=524c494252454732 0x214=00 0x240=00'),
             on(f'old-one.disk {no_root}', 'upgrade disk', '0 ok', f'same 0x200={NEW}01 0x210=08 0x214=00 0x240=00')]),
-        ('Two libraries: a sector that is used twice, one name; and the list the other way round, which is as good.', [
+        ('Two libraries: a sector that is used twice, two equal names; and the list in the reverse order, which is valid too.', [
             on(f'old-pair.disk {change}', words, wanted, 'same')
             for change in ('0x44=02', '0xb00=02', '0xb00=03', '0x700=05', '0x710=01', '0xa10=61', '0x610=62', '0x40=0500000003000000 0x610=62')
             for words, wanted in (('list disk', S12), ('upgrade disk', S5))] + [
             on('old-pair.disk 0x44=03', words, S5, 'same') for words in ('list disk', 'upgrade disk')] + [
             on('old-pair.disk 0x40=0500000003', 'upgrade disk', '0 ok', has='0xc10=0500000003')]),
-        ('Two libraries whose files are those of one name, the other\'s, or zeros: an upgrade finds each of them, and writes nothing.', [
+        ("Two libraries whose files have one name, have each other's names, or are zeros: an upgrade detects each case, and writes\n"
+         'nothing.', [
             on(f'old-pair.disk {change}', words, wanted, 'same') for change in other_files('0x400', '0x800')
             for words, wanted in (('list disk', S12), ('upgrade disk', S5))]),
-        ('Without one root, the other, and both.', [
+        ('A disk without one root, without the other, and without both.', [
             on(f'old-one.disk {no_root}', 'list disk', S12, 'same')] + [
             on(f'old-one.disk {change}', words, wanted, 'same')
             for change, wanted in ((no_older, S5), (f'{no_older} {no_root}', '1 refused S3 NotFormatted')) for words in ('list disk', 'upgrade disk')]),
-        ('A disk that lost or got a sector isn\'t the one of its root.', [
+        ('A disk that is a sector shorter or longer than its root says.', [
             on(disk, words, wanted, 'same') for disk in ('old-pair.disk cut=7680', 'old-one.disk pad=4608', 'old-one.disk 0x10=00004000 0x210=00004000')
             for words, wanted in (('list disk', S12), ('upgrade disk', S5))]),
-        ('A file of two extents, the later sectors first; one sector of it twice.', [
+        ('A file of two extents, of which the one with the higher sectors comes first; and one of its sectors twice.', [
             on(f'old-full.disk 0xe04=00060000 0xe0a=02 0xf00=04000000010000000200000002 0x400={bytes(344).hex()} 0x800=@{A}', 'upgrade disk',
                '0 ok', has='0x0=524c494252454732 0x8=02 0x14=01 0x38=01 0x40=05 0xa00=4c49424301 0xa10=07'),
             on('old-full.disk 0xe04=00060000 0xe0a=02 0xf00=02000000020000000300000001', 'upgrade disk', S5, 'same')]),
-        ('Generations that are no neighbours, and roots in the wrong sectors.', [
+        ('Generations that do not follow each other, and roots in the wrong sectors.', [
             on(disk, words, S5, 'same') for disk in (
                 'old-one.disk 0x8=04', 'old-one.disk 0x208=ffffffffffffffff', 'old-one.disk 0x8=01 0x208=02', 'old-formatted.disk 0x8=01',
                 'old-one.disk 0x0=00 0x208=00') for words in ('list disk', 'upgrade disk')]),
@@ -186,8 +194,8 @@ def combinations():
             after = f'same {slot((generation + 1) % 2, 2, generation + 1)}' if version == 1 else 'same'
             cases.append(on(disk, 'upgrade disk', '0 ok' if version else refused, after))
     assert len(current) == 11 and len(cases) == 98
-    return [('Two root sectors, each of them empty, bad, or with a root of either version: with which of them the greater generation is current.\n'
-             'One of version 1 behind one of version 2 is never written, and damaged.', cases)]
+    return [('Two root sectors, each of them empty, bad, or with a root of either version. If both have roots, the one with the greater\n'
+             'generation is current. A root of version 1 is never written after one of version 2, so that is damage.', cases)]
 
 
 def changes():
@@ -196,7 +204,7 @@ def changes():
     pair = f'old-pair.disk {UPGRADED["old-pair.disk"][0]}'
     empty = f'old-formatted.disk {UPGRADED["old-formatted.disk"][0]}'
     return [
-        ('After an upgrade: each change, whose root replaces that of version 1.', [
+        ('Each change after an upgrade: its root replaces the root of version 1.', [
             on(empty, f'install disk {A}', '0 ok', has=f'0x0={NEW}02 0x14=01 0x38=01 0x40=04 0x400=@{A} 0x610=61 0x800=4c49424301 0x810=03'),
             on(one, f'install disk {NAMED_Q}', '0 ok', has=f'0x200={NEW}03 0x214=02 0x238=01 0x240=07 0xa00=@{NAMED_Q} 0xe10=0300000006'),
             on(one, f'replace disk {A}', '0 ok', has=f'0x200={NEW}03 0x214=01 0x238=01 0x240=07 0xa00=@{A} 0xe10=06'),
@@ -205,7 +213,7 @@ def changes():
             on(one, 'install disk soname-240.so', S7, 'same'), on(one, 'format disk 8', '1 refused S4 AlreadyFormatted', 'same'),
             on(pair, 'remove disk a', '0 ok', has=f'0x0={NEW}04 0x14=01 0x38=01 0x40=07 0xe10=05'),
             on(pair, 'bind disk asking.so 0x10000', '0 file first.image', 'same', file='first.image')]),
-        ('The root of version 1 beside the current one may be of any registry.', [
+        ('The root of version 1 next to the current root may be of any registry.', [
             listed(f'{one} 0x210=09', 'one.listing'), listed(f'{one} 0x240=07', 'one.listing'), on(f'{one} 0x208=03', 'list disk', S5, 'same'),
             on(f'{one} 0x208=05', 'list disk', S5, 'same'), on(f'{one} 0x238=01', 'list disk', S5, 'same')]),
     ]
