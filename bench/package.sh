@@ -4,18 +4,12 @@
 # installed) finds no errors in it, and that its bytes are the same each time. Then it installs the package
 # in a bare Debian of each RELEASE, such as bookworm or trixie, runs its programs, and removes it.
 #
-<<<<<<< HEAD
 # If c/plugin.sh has put gcc's plugin into BUILT, the plugin gets a package of its own, because it has
 # another license. For gcc 12 this is rlibreg-gcc-12.
 #
-# It needs dpkg-dev, and pandoc for manual pages. The package's maintainer is DEBFULLNAME with DEBEMAIL, or
-# else the last commit's author. With a RELEASE it needs root and debootstrap, and loads some 50 MB from a
-# mirror.
-=======
 # It needs dpkg-dev, and pandoc for manual pages. The package's maintainer is DEBFULLNAME with DEBEMAIL or,
-# without these, the last commit's author. With a RELEASE it needs root and debootstrap, and loads some 50
-# MB from a mirror.
->>>>>>> 6a130cecad1d1839159fef9f60e5665416346b8b
+# without these, the last commit's author. With a RELEASE it needs root and debootstrap, and loads some 50 MB from a
+# mirror.
 set -eu
 export LC_ALL=C
 umask 022
@@ -109,7 +103,6 @@ make() {
     dpkg-deb --root-owner-group --build "$room/tree" "$1" > "$room/said"
 }
 
-<<<<<<< HEAD
 # tested FILE KIND: makes a package twice, and tests it.
 tested() {
     make "$1" "$2"
@@ -122,12 +115,8 @@ tested() {
     fi
 }
 
-# whole FILE: ends the script unless the package has each file that install.sh has listed. Manual pages are
-# compressed.
-=======
 # whole FILE: checks that the package has each file that install.sh has listed, and otherwise ends the
 # script. Manual pages are compressed.
->>>>>>> 6a130cecad1d1839159fef9f60e5665416346b8b
 whole() {
     sed '/^#/d; /\/$/d; \|/share/rlibreg/installed$|d; \|/rlibreg_tls-[^/]*$|d; s|/man/man[13]/.*|&.gz|' \
         "$room/installed" | sort > "$room/listed"

@@ -59,8 +59,8 @@ impl<const SIZE: usize> OutputBuffer<SIZE> {
         self.put_piece(out, &digits)
     }
 
-    /// Adds the line of hexadecimal digits of `bytes`, which are fewer than sixteen, to the buffered
-    /// text.
+    /// Adds the line of hexadecimal digits of `bytes`, which are fewer than sixteen, to the
+    /// buffered text.
     fn put_short_line<W: Write>(&mut self, out: &mut W, bytes: &[u8]) -> Result<(), WriteFault>
         requires { length bytes.now < LINE_BYTES }
         ensures ok { OnOk result (Sends (W.contents out.old) self.old (W.contents out.new) self.new
