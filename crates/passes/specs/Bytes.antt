@@ -12,6 +12,6 @@ bytes_at m ks = flat_map (sector m) ks
 abbrev pub padded : ℕ → List ℕ → List ℕ
 padded n bytes = take n (bytes ++ replicate n 0)
 
--- the extent ends on a disk of `sectors` sectors
+-- all sectors of the extent lie on a disk of `sectors` sectors
 abbrev pub IsOnDisk : ℕ → Extent → Type 0
 IsOnDisk sectors extent = extent.start + extent.count ≤ sectors

@@ -44,7 +44,7 @@ pub fn choose(slot0: Slot, slot1: Slot) -> Result<Root, ChooseRefusal>
     by_table(slot0, slot1)
 }
 
-// Answers by the table. The statements about the sectors follow from this.
+// Returns the result by the table `chosen`. The clauses about the sectors follow from it.
 fn by_table(slot0: Slot, slot1: Slot) -> Result<Root, ChooseRefusal>
     ensures { result ≡ chosen slot0 slot1 }
 {

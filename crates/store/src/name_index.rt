@@ -68,8 +68,8 @@ fn precedes(entries: &[PlacedEntry], position: u16, name: &[u8]) -> bool
     name_at(entries, position).cmp(name).is_lt()
 }
 
-/// Returns a sum over the bytes of a name: the place of the name's guess. Takes eight bytes at a
-/// time, because a file decides how many names it needs and how long they are.
+/// Returns a sum over the bytes of a name: the place of the name's guess. Adds eight bytes at a
+/// time to be fast: a file decides how many names are looked up and how long they are.
 fn guess_place(name: &[u8]) -> usize {
     let (words, rest) = name.as_chunks::<8>();
     let mut sum = 0u64;

@@ -8,8 +8,8 @@ use std::alloc::Global;
 use std::marker::Model;
 
 /// A store in the midst of an update: the current state on its disk, and a draft of the state after
-/// the update. The byte strings of the draft are written to unused sectors as they come, and
-/// nothing lists them before the commit.
+/// the update. The update writes the byte strings that it puts to unused sectors at once. No root
+/// leads to them before the commit.
 pub struct Update<D: Disk> {
     pub(crate) disk: D,
     pub(crate) kept: Kept,
