@@ -71,7 +71,8 @@ pub record IsCutWrite {E : Type 0} (old new : MemoryFile) (at : ℕ) (given : Li
 abbrev pub does_work : MemoryFile → CallOutcome → Bool
 does_work file outcome = if file.sync_failed then false else (if outcome.fails then nat_lt 0 outcome.most else true)
 
--- A sync brings everything to the medium, or changes nothing there. Reads return the same.
+-- A sync brings everything to the medium, or changes nothing there. Reads return the same contents as
+-- before.
 pub record IsCutSync (old new : MemoryFile) : Type 0 where
   pub now : (memory_facts (medium_of new)).now ≡ (memory_facts (medium_of old)).now
   pub done : does_work old (next_outcome old) ≡ true → LeavesNowAlone (memory_facts (medium_of new))

@@ -30,8 +30,7 @@ abbrev pub moved : {E : Type 0} → Result ℕ E → ℕ
 moved (Ok n) = n
 moved (Err e) = 0
 
--- c is the content that was given for sector k, if the sectors `given` were given for sector `at` and
--- the sectors after it
+-- for some i, sector k is sector `at + i`, and c is content number i of `given`
 abbrev pub IsGivenTo : ℕ → List Sector → ℕ → Sector → Type 0
 IsGivenTo at given k c = (i : ℕ) × (i < length given) × (k ≡ at + i) × (c ≡ sector given i)
 

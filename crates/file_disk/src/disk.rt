@@ -18,8 +18,8 @@ use std::alloc::{AllocError, Global};
 /// Written sectors are buffered in memory until a sector is written that isn't a neighbour, until
 /// 128 KiB are buffered, or until the next sync. Reads return buffered sectors too. If the disk is
 /// dropped, the write buffer is lost, as in a power cut. After a failed write or sync, all later
-/// ones fail, and so do reads of sectors that aren't in memory. The reason is that the system may
-/// have dropped data that it couldn't write, without reporting it at the next sync.
+/// writes and syncs fail, and so do reads of sectors that aren't in memory. The reason is that the
+/// system may have dropped data that it couldn't write, without reporting it at the next sync.
 #[derive(Drop)]
 pub struct FileDisk<F: SectorFile> {
     buffered: Buffered<F>,

@@ -82,7 +82,8 @@ impl MemoryFile {
         self.wait
     }
 
-    /// Returns the medium, which can be stopped. It has what was written to it since it was synced.
+    /// Returns the medium, which can be stopped. It also has the contents that were written since
+    /// the last sync.
     pub fn into_medium(self) -> Memory
         ensures { result ≡ medium_of self }
     {

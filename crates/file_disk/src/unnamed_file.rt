@@ -87,8 +87,8 @@ fn take_leftover<R: Files<File = File>>(rt: &R, other: &str) -> Result<(), OpenF
     Ok(())
 }
 
-/// Locks a file that was just made. Returns nothing if another process took the file for a
-/// leftover.
+/// Locks a file that was just made. Returns nothing if another process has locked the file or
+/// removed its name, because it took the file for a leftover.
 fn lock_made<R: Files<File = File>>(
     rt: &R,
     other: &str,

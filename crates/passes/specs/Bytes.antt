@@ -1,4 +1,4 @@
--- The bytes in sectors, and the bytes that are written there.
+-- The bytes of sectors, and the bytes that are written to sectors.
 use Rattle.std.specs.Prelude.{ℕ, ◌+◌, ◌≤◌, List, ◌++◌, take, replicate}
 use Rattle.std.specs.List.{flat_map}
 use Rattle.extents.specs.declared.extent.Extent.{Extent}

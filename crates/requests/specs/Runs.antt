@@ -1,7 +1,7 @@
 -- Steps, one after the other.
 use Rattle.std.specs.Prelude.{◌≡◌, ℕ, List, [], ◌∷◌, take}
 
--- the last of these states, or the first state if there are none
+-- the last state of the list, or `s` if the list is empty
 abbrev pub last_of : {S : Type 0} → S → List S → S
 last_of s [] = s
 last_of s (t ∷ ts) = last_of t ts

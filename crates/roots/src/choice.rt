@@ -56,8 +56,8 @@ fn by_table(slot0: Slot, slot1: Slot) -> Result<Root, ChooseRefusal>
     }
 }
 
-// Returns the later of two roots, if each is in its slot, they differ by one commit, and the later
-// one may follow the other by its version.
+// Returns the later of two roots. Refuses with Damaged unless each root is in its slot, the two are
+// one commit apart, and the later root's version may follow the earlier root's.
 fn later(even: Root, odd: Root) -> Result<Root, ChooseRefusal>
     ensures { result ≡ chosen (Slot.Good even) (Slot.Good odd) }
 {

@@ -44,7 +44,7 @@ pub record Drafted (D : Type 0) : Type 0 where
 abbrev pub lists : List PlacedEntry → PlacedEntry → Bool
 lists entries placed = list_any (λ other. other.at == placed.at) entries
 
--- the entries that aren't in the sector of any of the others
+-- the entries that aren't in the same sector as an entry of `others`
 abbrev pub apart_from : (others : List PlacedEntry) → List PlacedEntry → List PlacedEntry
 apart_from others entries = filter (λ placed. not (lists others placed)) entries
 
@@ -149,8 +149,7 @@ pub record IsLine {D : Type 0} (facts : D → DiskFacts) (old new : Drafted D) (
   pub changed : Changed facts Device Reopen old.store new.store most Refuses result
   pub refused : OnErr result (IsSameDraft old new)
 
--- On an honest disk, reads of the sectors of the bytes of the entry `put` return `bytes`, followed by
--- zeros.
+-- On an honest disk, reads of the extents of the entry `put` return `bytes`, followed by zeros.
 abbrev pub ReadBytes : DiskFacts → PlacedEntry → List ℕ → Type 0
 ReadBytes disk put bytes = IsTrue disk.honest
     → bytes_at disk.now (places (extents_of put.entry)) ≡ padded (sector_bytes * div_ceil (length bytes) sector_bytes) bytes
@@ -184,7 +183,8 @@ pub record IsDraftedOut {D : Type 0} (old new : Drafted D) (name : List ℕ) : T
   pub entries : new.entries ≡ remove old.entries position
   pub touched : new.touched ≡ Listed
 
--- what counts as changed after preloads were set: the list if it was changed before, and otherwise the preloads
+-- the part of a draft that counts as changed after preloads were set: the list if it was changed before,
+-- and otherwise the preloads
 abbrev pub touched_preloads : Touched → Touched
 touched_preloads Nothing = Preloads
 touched_preloads touched = touched

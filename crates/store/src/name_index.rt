@@ -23,9 +23,9 @@ const GUESSES: usize = 4096;
 #[derive(Drop)]
 pub(crate) struct NameIndex {
     positions: Vec<u16>,
-    // For the sum of a name, the position at which a name with this sum was put last. Nothing is
-    // claimed about the guesses: each is compared with the name before it is returned, and none is
-    // corrected when an entry before it is removed.
+    // For the sum of a name, the position at which a name with this sum was put last. A guess may
+    // be wrong, so the name at its position is compared before the position is returned. No guess
+    // is corrected when an earlier entry is removed.
     guesses: Vec<u16>,
 }
 

@@ -63,7 +63,7 @@ impl<D: Disk> Update<D> {
     ghost use Rattle.std.specs.Prelude.{◌≡◌};
 
     /// Gives an update up: the store and its layout are as if no update had been begun. Makes no
-    /// call of the disk, also after S2.
+    /// call of the disk. It also works after S2.
     pub fn give_up(self) -> Store<D>
         ensures { result ≡ self.store }
     {

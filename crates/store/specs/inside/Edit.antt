@@ -11,11 +11,11 @@ use Rattle.store.specs.declared.holds.HeldRow.{HeldRow}
 use Rattle.store.specs.Stands.{catalogues_of, name_of, sectors_of}
 use Rattle.store.specs.inside.Room.{IsGivenUp, IsReleased}
 
--- an entry for positions where there is none
+-- an entry for positions that have no entry
 abbrev pub no_entry : PlacedEntry
 no_entry = record { at = 0; entry = record { file_length = 0; name_length = 0; extent_count = 0; name = []; extents = [] } }
 
--- a list with one element for each entry, after the edit
+-- the list after the edit; it has one element for each entry, and `of` returns the element of an entry
 abbrev pub edited_by : {A : Type 0} → (PlacedEntry → A) → Edit → List A → List A
 edited_by of Nothing list = list
 edited_by of (Append put) list = list ++ of put ∷ []

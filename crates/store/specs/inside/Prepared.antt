@@ -92,7 +92,7 @@ pub record Prepares (old new : Kept) (Refuses : StoreRefusal → Type 0) (result
   pub refusals : IfErr result Refuses
   pub early : IfErr result (λ e. e ≢ Device)
 
--- the result without what was prepared
+-- the result, without the prepared change
 abbrev pub done_of : Result Prepared StoreRefusal → Result (Unit {0}) StoreRefusal
 done_of (Ok prepared) = Ok tt
 done_of (Err refusal) = Err refusal
