@@ -65,9 +65,9 @@ layout_drafted u = layout_of u.store.root.sectors (in_use u.store.root u.store.e
 abbrev pub longest_drafted : {D : Type 0} → Drafted D → ℕ
 longest_drafted u = sector_count (longest_runs (layout_drafted u))
 
--- the number of sectors that the draft's state can't use: those of the entries that left the draft,
--- those that only holders use, and two for each catalogue that the current list has more than the
--- draft's list needs
+-- the number of sectors that the draft's state can't use: those of the current list's entries that aren't
+-- in the draft's list, those that only holders use, and two for each catalogue that the current list has
+-- more than the draft's list needs
 abbrev pub beside : {D : Type 0} → Drafted D → ℕ
 beside u = entries_cost (left_out u) + length (lone_sectors u.store.held)
     + 2 * (length (catalogues_of u.store.root) - catalogues_for (length u.entries))
