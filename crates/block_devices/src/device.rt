@@ -21,7 +21,7 @@ const SWAPS: &str = "/proc/swaps";
 #[derive(Clone, Copy)]
 struct Device {
     numbers: Numbers,
-    /// The numbers of the disk of which this device is a partition.
+    /// If this device is a partition, the numbers of its disk.
     whole: Option<Numbers>,
 }
 
@@ -67,7 +67,7 @@ impl Device {
         }
     }
 
-    /// Returns whether one of these file systems is on the device.
+    /// Returns whether one of the file systems that `mounts` lists is on the device.
     fn has_mounted<R: Files>(self, rt: &R, alloc: Global, mounts: &str) -> io::Result<bool> {
         for line in mounts.lines() {
             if self.is_mounted_by(rt, alloc, line)? {
@@ -82,7 +82,7 @@ impl Device {
         self.has_mounted(rt, alloc, &mounts)
     }
 
-    /// Returns whether one of the lines begins with a path that leads to the device.
+    /// Returns whether one of the lines of `swaps` begins with a path that leads to the device.
     fn has_swap<R: Files>(self, rt: &R, alloc: Global, swaps: &str) -> io::Result<bool> {
         for line in swaps.lines() {
             if let Some(path) = line.split(' ').next() {

@@ -110,8 +110,8 @@ fn has_held_partition<R: Files>(
     Ok(false)
 }
 
-/// Returns whether other devices use the device of a folder of sysfs. If it is a partition, its
-/// disk counts too; otherwise its partitions do.
+/// Returns whether other devices use the device of a folder of sysfs. If the device is a partition,
+/// its disk is tested too. Otherwise its partitions are tested too.
 pub(crate) fn is_folder_held<R: Files>(
     rt: &R,
     alloc: Global,

@@ -20,7 +20,7 @@ plan_of disk = plan_in disk.planned.items
 abbrev pub given_to : ByteDisk → List Sector
 given_to disk = disk.start.now
 
--- the number of calls that were made by the time that these steps were made
+-- the number of calls that were made up to and including the last of these steps
 abbrev pub calls_for : List PlannedStep → ℕ
 calls_for [] = 0
 calls_for (p ∷ planned) = calls_made p.idle + 1 + calls_for planned
@@ -70,8 +70,9 @@ byte_facts disk = facts_of disk.start.now disk.planned.items disk.idle
 abbrev pub LeavesAsAfter : ByteDisk → ℕ → ℕ → Type 0
 LeavesAsAfter disk u n = (m : List Sector) → MixtureAt (byte_facts disk) u m ↔ IsMixtureAfter (given_to disk) (take n (plan_of disk)) m
 
--- How a plan relates to its disk. If the plan is carried out in its order, each prefix of it leaves what the disk
--- stated for some moment, and each moment has such a prefix.
+-- How a plan relates to its disk, if the plan is carried out in its order. After each prefix of the
+-- plan, a stop leaves exactly what the disk's facts state for some moment. For each moment there is such
+-- a prefix.
 pub record IsPlanOf (disk : ByteDisk) : Type 0 where
   pub prefixes : (n : ℕ) → n ≤ length (plan_of disk) → (u : ℕ) × (u ≤ (byte_facts disk).time) × LeavesAsAfter disk u n
   pub moments : (u : ℕ) → u ≤ (byte_facts disk).time → (n : ℕ) × (n ≤ length (plan_of disk)) × LeavesAsAfter disk u n

@@ -15,8 +15,9 @@ abbrev pub IsWriteStep : Step → Type 0
 IsWriteStep (Write at content) = Unit {0}
 IsWriteStep Sync = ⊥
 
--- A stop after these steps may leave sector k with this content: the content that it had at the last sync, or after
--- some step since then. (No sync comes after the first i steps.)
+-- A stop after these steps may leave sector k with this content: the content that it had at the last
+-- sync, or after some step since then. Sector k had the content after the first `i` steps, and no sync
+-- comes after them.
 abbrev pub MayBeLeft : List Sector → List Step → ℕ → Sector → Type 0
 MayBeLeft start steps k c = (i : ℕ) × (i ≤ length steps) × All IsWriteStep (drop i steps) × (c ≡ sector (carried_out start (take i steps)) k)
 

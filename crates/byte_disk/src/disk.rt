@@ -109,7 +109,8 @@ fn make_room(
     Ok(())
 }
 
-/// Adds a step, for which memory is reserved already. This is a successful call.
+/// Adds the step `step`, for which memory is reserved already. The call of the disk that makes the
+/// step succeeds.
 fn make_step(planned: &mut Vec<PlannedStep>, idle: &mut CallCount, step: Step)
     requires room { vec_len planned.old < vec_capacity planned.old }
     ensures made { planned.new.items

@@ -3,8 +3,8 @@
 use crate::step::Step;
 use sector_disk::CallCount;
 
-/// A step of a plan. For clauses only, it also counts the calls between the step before it and this
-/// one, which made no step.
+/// A step of a plan. For clauses only, it also counts the calls between the previous step and this
+/// one. These calls made no step.
 #[derive(Drop)]
 pub struct PlannedStep {
     /// The step.

@@ -9,7 +9,7 @@ pub enum Step {
     Write {
         /// The number of the sector.
         at: u32,
-        /// The content that is written to it.
+        /// The content that is written to the sector.
         content: [u8; SECTOR_BYTES],
     },
     /// Everything that was written is brought to the medium.

@@ -5,8 +5,8 @@ use Rattle.extents.specs.Extent.{IsApart}
 use Rattle.extents.specs.Layout.{AllUnused, IsInside}
 use Rattle.extents.specs.Limits.{most_extents}
 
--- The extents are at most as many as a file may have. They lie inside and are unused, no two share a sector, and
--- their order is arbitrary.
+-- There are at most as many extents as a file may have. They lie on the disk after the roots and are
+-- unused, and no two of them share a sector. Their order is arbitrary.
 pub record AreCandidates (flags : List Bool) (extents : List Extent) : Type 0 where
   pub few : length extents ≤ most_extents
   pub inside : All (IsInside flags) extents

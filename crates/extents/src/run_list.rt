@@ -80,8 +80,8 @@ impl RunList {
         }
     }
 
-    /// Inserts `run` at `place`. The runs below it move down, or those above it move up: whichever
-    /// are fewer, if there is room on both sides.
+    /// Inserts `run` at `place`. The runs below it move down, or the runs above it move up. If
+    /// there is room on both sides, the fewer runs move.
     pub(crate) fn insert(&mut self, place: usize, run: Extent)
         requires within { place ≤ length self.old.items }
         requires room { length self.old.items < self.old.capacity }

@@ -45,8 +45,8 @@ pub(crate) fn place_of(runs: &[Extent], sector: u32) -> usize
     runs.partition_point(|run| run.start as u64 + run.count as u64 <= sector as u64)
 }
 
-/// Removes the sectors of `extent` from the run at `place`, which has all of them. What is left of
-/// the run before and after the extent stays; if nothing is left, the run is removed.
+/// Removes the sectors of `extent` from the run at `place`, which has all of them. The parts of the
+/// run before and after the extent stay. If nothing is left of the run, it is removed.
 pub(crate) fn cut(runs: &mut RunList, place: usize, extent: Extent)
     requires within { place < length runs.old.items }
     requires front { (slice_index_or runs.old.items place extent).start ≤ extent.start }

@@ -12,10 +12,11 @@ or_else (Some content) other = content
 or_else None other = other
 
 module _ {F : Type 0} {g : Ghosts F} where
-  -- what reads return of sector k: its content in the write buffer, otherwise that in the file
+  -- the content that reads return for sector k: that in the write buffer if there is one, and otherwise
+  -- that in the file
   abbrev pub shown_at : Buffered F g → ℕ → Sector
   shown_at buffered k = or_else (write_buffer_at buffered.write_buffer k) (sector (g.facts buffered.file).now k)
 
-  -- a content of sector k that is in the write buffer, or that the file's medium may have
+  -- c is the content of sector k in the write buffer, or one that the file's medium may have in sector k
   abbrev pub Leaves : Buffered F g → ℕ → Sector → Type 0
   Leaves buffered k c = (write_buffer_at buffered.write_buffer k ≡ Some c) ⊎ MayHave (g.facts buffered.file) k c

@@ -17,17 +17,18 @@ use Rattle.file_disk.specs.SectorFile.{FileFacts, MayHave, MediumAt, IsCounted, 
 abbrev pub HasCause : {F : Type 0} → (F → FileFacts) → F → OpenFault → Type 0
 HasCause {F} facts file fault = (fault ≡ OutOfMemory) ⊎ ((after : F) × IsCounted {E = OpenFault} (facts file) (facts after) (Err fault))
 
--- moment v of the disk is the one that the disk was at when its file was at moment u: the last one whose mark isn't
--- past u
+-- the disk was at its moment v when its file was at moment u: v is the last moment of the disk whose
+-- mark isn't greater than u
 pub record IsMomentAt (disk : DiskFacts) (u v : ℕ) : Type 0 where
   pub up_to : v ≤ disk.time
   pub reached : disk.marks v ≤ u
   pub last : (w : ℕ) → v < w → w ≤ disk.time → u < disk.marks w
 
 module _ {F : Type 0} {g : Ghosts F} where
-  -- Reads return the write buffer over the file's contents, as at the last moment at which no write or sync had
-  -- failed. A stop may leave what was in the write buffer, or what the file's medium might have had, at the last
-  -- successful sync or after a write since. The mark of a moment is the file's time at that moment.
+  -- For each sector, reads return the content in the write buffer, or otherwise that in the file, as at
+  -- the last moment at which no write or sync had failed. A stop may leave contents from the last
+  -- successful sync, or from after a later write: those in the write buffer, and those that the file's
+  -- medium might have had. The mark of a moment is the file's time at that moment.
   abbrev pub file_facts : FileDisk F g → DiskFacts
   file_facts disk = record {
     honest = g.is_honest;
@@ -57,7 +58,7 @@ module _ {F : Type 0} {g : Ghosts F} where
   abbrev pub waiting : FileDisk F g → ℕ → Option Sector
   waiting disk k = write_buffer_at disk.buffered.write_buffer k
 
-  -- the content that the file returned for sector k, if it is kept
+  -- the content of sector k in the read-ahead buffer, which the file returned for the sector
   abbrev pub kept : FileDisk F g → ℕ → Option Sector
   kept disk k = read_ahead_at disk.buffered.read_ahead k
 
@@ -65,17 +66,18 @@ module _ {F : Type 0} {g : Ghosts F} where
   abbrev pub WaitsNot : FileDisk F g → Type 0
   WaitsNot disk = (k : ℕ) → waiting disk k ≡ None
 
-  -- the write buffer is the same
+  -- both disks have the same sectors in the write buffer, with the same contents
   abbrev pub WaitsSame : FileDisk F g → FileDisk F g → Type 0
   WaitsSame old new = (k : ℕ) → waiting new k ≡ waiting old k
 
-  -- the file, the write buffer and the read-ahead buffer are the same
+  -- the file, the write buffer and the read-ahead buffer are unchanged
   pub record IsSame (old new : FileDisk F g) : Type 0 where
     pub file : file_of new ≡ file_of old
     pub waits : WaitsSame old new
     pub kept : (k : ℕ) → kept new k ≡ kept old k
 
-  -- Sector `at` is in the write buffer with this content. Each other sector is there as before, or no longer.
+  -- Sector `at` is in the write buffer with this content. Each other sector has the same content in the
+  -- write buffer as before, or is no longer in it.
   pub record IsBuffered (old new : FileDisk F g) (at : ℕ) (content : Sector) : Type 0 where
     pub here : waiting new at ≡ Some content
     pub others : (k : ℕ) → k ≢ at → (waiting new k ≡ waiting old k) ⊎ (waiting new k ≡ None)
@@ -88,7 +90,8 @@ module _ {F : Type 0} {g : Ghosts F} where
     pub waits : WaitsNot disk
     pub kept : (k : ℕ) → kept disk k ≡ None
 
-  -- Reads return what the file has. A stop may leave what the file's medium may have, and nothing else.
+  -- Reads return the file's contents. A stop may leave what the file's medium may have, and nothing
+  -- else.
   pub record IsAsTheFile (disk : FileDisk F g) : Type 0 where
     pub now : (k : ℕ) → sector (file_facts disk).now k ≡ sector (facts_below disk).now k
     pub medium : (k : ℕ) (c : Sector) → MayHave (facts_below disk) k c → MayLeave (file_facts disk) k c
@@ -101,7 +104,7 @@ module _ {F : Type 0} {g : Ghosts F} where
     pub sectors : (file_facts disk).sectors ≡ (g.facts file).sectors
     pub now : (k : ℕ) → sector (file_facts disk).now k ≡ sector (g.facts file).now k
 
-  -- a disk over a file that is found with some sectors starts with them
+  -- if the file is found with the sectors `contents`, the disk starts with these sectors
   abbrev pub StartsAsFound : F → FileDisk F g → Type 0
   StartsAsFound file disk = (contents : List Sector) → IsFoundWith (g.facts file) contents → StartsWith (file_facts disk) contents
 
@@ -111,16 +114,17 @@ module _ {F : Type 0} {g : Ghosts F} where
     pub each : (u : ℕ) (m : List Sector) → (facts_below old).time ≤ u → u ≤ (facts_below new).time
         → MediumAt (facts_below new) u m → LeftSince (file_facts new) (file_facts old).time m
 
-  -- The mark of the present moment is the file's time. Consider what the file's medium may have had at a moment of
-  -- the file that came after some moment of the disk. A stop of the disk might have left this at the disk's moment
-  -- then.
+  -- The mark of the present moment is the file's time. Let `u` be a moment of the file, from the mark of
+  -- a moment `since` of the disk on. Whatever the file's medium may have had at `u`, a stop of the disk
+  -- might have left at the moment at which the disk was then.
   pub record FollowsTheFile (disk : FileDisk F g) : Type 0 where
     pub now : (file_facts disk).marks (file_facts disk).time ≡ (facts_below disk).time
     pub each : (since u : ℕ) (m : List Sector) → since ≤ (file_facts disk).time → (file_facts disk).marks since ≤ u → u ≤ (facts_below disk).time
         → MediumAt (facts_below disk) u m → (v : ℕ) × IsMomentAt (file_facts disk) u v × MixtureAt (file_facts disk) v m
 
-  -- If P holds of all that a stop of the disk may leave, from an earlier moment to now, P also holds of the file's
-  -- medium: of whatever it may have had at each moment of the file between them.
+  -- Let `P` hold for every list of sectors that a stop of the disk may leave, from the moment of `old`
+  -- to that of `new`. Then `P` holds for whatever the file's medium may have had at each moment of the
+  -- file between them.
   abbrev pub HoldsOfTheMedium : FileDisk F g → (List Sector → Type 0) → Type 0
   HoldsOfTheMedium new P = (old : FileDisk F g) → LeavesOnly (file_facts old) (file_facts new) P
       → (u : ℕ) (m : List Sector) → (facts_below old).time ≤ u → u ≤ (facts_below new).time → MediumAt (facts_below new) u m → P m

@@ -2,8 +2,9 @@
 use Rattle.std.specs.Prelude.{◌≡◌, ◌<◌, ◌≤◌, ◌+◌, ◌↔◌, ◌⊎◌, ℕ, List, length}
 use Rattle.sector_disk.specs.Disk.{Sector, sector, DiskFacts, MayLeave, IsUnchanged}
 
--- Of the sectors that were given from sector `at` on, the first `count` were written: reads return them. The medium
--- may have them, or what it might have had before. All other sectors stay the same.
+-- The first `count` of the sectors `given` were written, to sector `at` and the sectors after it. Reads
+-- return them. The medium may have them, or what it might have had before. All other sectors stay the
+-- same.
 pub record HasWritten (at : ℕ) (given : List Sector) (count : ℕ) (old new : DiskFacts) : Type 0 where
   pub sectors : new.sectors ≡ old.sectors
   pub size : length new.now ≡ length old.now
@@ -15,7 +16,7 @@ pub record HasWritten (at : ℕ) (given : List Sector) (count : ℕ) (old new : 
 abbrev pub IsWholeUnlessFailed : ℕ → ℕ → DiskFacts → DiskFacts → Type 0
 IsWholeUnlessFailed count asked old new = (count ≡ asked) ⊎ (old.failures < new.failures)
 
--- Reads return the same, and the medium may have the same.
+-- Reads return the same contents as before, and the medium may have the same contents as before.
 pub record IsSameMedium (old new : DiskFacts) : Type 0 where
   pub sectors : new.sectors ≡ old.sectors
   pub same : IsUnchanged old new

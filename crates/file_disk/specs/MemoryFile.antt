@@ -35,8 +35,8 @@ medium_of file = file.medium
 abbrev pub plan_of : MemoryFile → FilePlan
 plan_of file = file.plan
 
--- the outcome of call n: the planned call has its outcome; with `forever` later calls fail and move nothing; all others
--- pass
+-- the outcome of call n: that of the plan if n is the planned call; a failure that moves nothing if n is
+-- a later call and `forever` is true; otherwise the call passes
 abbrev pub outcome_of : FilePlan → ℕ → CallOutcome
 outcome_of plan n =
     if n == plan.call
@@ -47,12 +47,13 @@ outcome_of plan n =
 abbrev pub next_outcome : MemoryFile → CallOutcome
 next_outcome file = outcome_of file.plan (length file.past.items + 1)
 
--- A call fails exactly if its outcome says so.
+-- A call fails if and only if its outcome is a failure. The plan stays the same.
 pub record HasOutcome {T E : Type 0} (old new : MemoryFile) (result : Result T E) : Type 0 where
   pub fails : is_err result ≡ (next_outcome old).fails
   pub plan : plan_of new ≡ plan_of old
 
--- A read moves as many sectors as its outcome allows.
+-- A read that succeeds moves all sectors that it is asked for, or as many as its outcome allows if these
+-- are fewer.
 pub record IsMoved {E : Type 0} (old : MemoryFile) (asked : ℕ) (result : Result ℕ E) : Type 0 where
   pub count : IfOk result (λ count. count ≡ min (next_outcome old).most asked)
 
@@ -65,11 +66,13 @@ pub record IsCutWrite {E : Type 0} (old new : MemoryFile) (at : ℕ) (given : Li
   pub ok : IfOk result (λ n. n ≡ count)
   pub written : HasWritten at given count (memory_facts (medium_of old)) (memory_facts (medium_of new))
 
--- A sync does its work unless a sync has failed before, or this one fails early.
+-- whether a sync with this outcome does its work: no sync has failed before, and this sync doesn't fail
+-- early
 abbrev pub does_work : MemoryFile → CallOutcome → Bool
 does_work file outcome = if file.sync_failed then false else (if outcome.fails then nat_lt 0 outcome.most else true)
 
--- A sync brings everything to the medium, or changes nothing there. Reads return the same.
+-- A sync brings everything to the medium, or changes nothing there. Reads return the same contents as
+-- before.
 pub record IsCutSync (old new : MemoryFile) : Type 0 where
   pub now : (memory_facts (medium_of new)).now ≡ (memory_facts (medium_of old)).now
   pub done : does_work old (next_outcome old) ≡ true → LeavesNowAlone (memory_facts (medium_of new))

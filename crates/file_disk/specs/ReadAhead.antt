@@ -15,6 +15,6 @@ read_ahead_at read_ahead k =
 abbrev pub IsForgotten : ReadAhead → ReadAhead → ℕ → Type 0
 IsForgotten old new k = (read_ahead_at new k ≡ read_ahead_at old k) ⊎ (read_ahead_at new k ≡ None)
 
--- each kept content is the one that these sectors have
+-- each content in the read-ahead buffer is the one that its sector has in `now`
 abbrev pub KeepsOf : ReadAhead → List Sector → Type 0
 KeepsOf read_ahead now = (k : ℕ) (content : Sector) → read_ahead_at read_ahead k ≡ Some content → content ≡ sector now k

@@ -30,7 +30,7 @@ abbrev pub moved : {E : Type 0} → Result ℕ E → ℕ
 moved (Ok n) = n
 moved (Err e) = 0
 
--- sector k is one of the sectors that were given from sector `at` on, with this content
+-- for some i, sector k is sector `at + i`, and c is content number i of `given`
 abbrev pub IsGivenTo : ℕ → List Sector → ℕ → Sector → Type 0
 IsGivenTo at given k c = (i : ℕ) × (i < length given) × (k ≡ at + i) × (c ≡ sector given i)
 
@@ -42,12 +42,12 @@ pub record IsFileCall (failed : Bool) (old new : FileFacts) : Type 0 where
   pub failures : new.failures ≡ (if failed then old.failures + 1 else old.failures)
   pub past : (u k : ℕ) (c : Sector) → u ≤ old.time → new.may_have u k c ↔ old.may_have u k c
 
--- no set grows, and no sync failed
+-- the set of no sector grows, and `sync_failed` stays the same
 pub record HasNoMore (old new : FileFacts) : Type 0 where
   pub medium : (k : ℕ) (c : Sector) → MayHave new k c → MayHave old k c
   pub sync_failed : new.sync_failed ≡ old.sync_failed
 
--- The sectors are counted. The answer is their number; if it can't be determined, the call fails.
+-- The call returns the number of sectors. If the number can't be determined, the call fails.
 pub record IsCounted {E : Type 0} (old new : FileFacts) (result : Result ℕ E) : Type 0 where
   pub call : IsFileCall (is_err result) old new
   pub same : HasNoMore old new
@@ -62,23 +62,25 @@ pub record IsFileRead {E : Type 0} (old new : FileFacts) (at : ℕ) (into : List
   pub now : old.sync_failed ≡ false → new.now ≡ old.now
   pub moved : old.sync_failed ≡ false → (i : ℕ) → i < moved result → sector into i ≡ sector old.now (at + i)
 
--- each sector has its old content, or the one that it was given; those that were moved have the content that they
--- were given
+-- each sector has its old content, or the one that was given for it; the first `count` of the given
+-- sectors have the given content
 pub record IsOldOrGiven (at : ℕ) (given : List Sector) (count : ℕ) (old new : List Sector) : Type 0 where
   pub size : length new ≡ length old
   pub either : (k : ℕ) → (sector new k ≡ sector old k) ⊎ IsGivenTo at given k (sector new k)
   pub moved : (i : ℕ) → i < count → sector new (at + i) ≡ sector given i
 
--- A write, complete, short or failed. Of each given sector, reads return the old content or the new one; of those
--- that were moved, the new one. No set grows except by what was given there. A write that moves no sector has failed.
+-- A write that was complete, short or failed. For each given sector, reads return the old content or the
+-- given one. For the sectors that the write moved, they return the given one. The set of a sector grows
+-- at most by the content that was given for this sector. A write that moves no sector has failed.
 pub record IsFileWrite {E : Type 0} (old new : FileFacts) (at : ℕ) (given : List Sector) (result : Result ℕ E) : Type 0 where
   pub call : IsFileCall (moved result == 0) old new
   pub sync_failed : new.sync_failed ≡ old.sync_failed
   pub medium : (k : ℕ) (c : Sector) → MayHave new k c → MayHave old k c ⊎ IsGivenTo at given k c
   pub now : old.sync_failed ≡ false → IsOldOrGiven at given (moved result) old.now new.now
 
--- A sync: no set grows. If it succeeds, and no sync has failed before, each set contains only what reads return
--- there. If it fails, nothing states that a later sync makes a set smaller.
+-- A sync. The set of no sector grows. If the sync succeeds, and no sync has failed before, the set of
+-- each sector contains only what reads return for it. If the sync fails, nothing states that a later
+-- sync makes a set smaller.
 pub record IsFileSync {T E : Type 0} (old new : FileFacts) (result : Result T E) : Type 0 where
   pub call : IsFileCall (is_err result) old new
   pub medium : (k : ℕ) (c : Sector) → MayHave new k c → MayHave old k c
@@ -87,7 +89,7 @@ pub record IsFileSync {T E : Type 0} (old new : FileFacts) (result : Result T E)
   pub now : OnOk result (old.sync_failed ≡ false → new.now ≡ old.now)
   pub alone : OnOk result (old.sync_failed ≡ false → (k : ℕ) (c : Sector) → MayHave new k c → c ≡ sector new.now k)
 
--- what reads return is among what the medium may have
+-- the medium may have the contents that reads return
 pub record HoldsWhatIsRead (file : FileFacts) : Type 0 where
   pub size : length file.now ≡ file.sectors
   pub each : (k : ℕ) → k < file.sectors → MayHave file k (sector file.now k)

@@ -20,7 +20,8 @@ pub(crate) struct Buffered<F: SectorFile> {
     pub(crate) read_ahead: ReadAhead,
     // Whether a write or a sync has failed. From then on no call of the file is made.
     pub(crate) failed: bool,
-    // Whether the file's length was compared since the file was opened, or since the last sync.
+    // Whether the file's length was compared with the disk's since the file was opened or last
+    // synced.
     compared: bool,
     // The read-ahead buffer never keeps a content that a write has replaced.
     ghost apart: { IsApart write_buffer read_ahead },

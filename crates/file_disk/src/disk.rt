@@ -18,8 +18,8 @@ use std::alloc::{AllocError, Global};
 /// Written sectors are buffered in memory until a sector is written that isn't a neighbour, until
 /// 128 KiB are buffered, or until the next sync. Reads return buffered sectors too. If the disk is
 /// dropped, the write buffer is lost, as in a power cut. After a failed write or sync, all later
-/// ones fail, and so do reads of sectors that aren't in memory. The reason is that the system may
-/// have dropped data that it couldn't write, without reporting it at the next sync.
+/// writes and syncs fail, and so do reads of sectors that aren't in memory. The reason is that the
+/// system may have dropped data that it couldn't write, without reporting it at the next sync.
 #[derive(Drop)]
 pub struct FileDisk<F: SectorFile> {
     buffered: Buffered<F>,
@@ -135,13 +135,13 @@ impl<F: SectorFile> Disk for FileDisk<F> {
         // During the call, the file's medium has only what a stop of the disk may leave.
         ensures any_moment { IsTrue F.is_honest → IsCovered self.old self.new }
 
-        // The read fails only if a call of the file failed, or if a write or a sync had failed
-        // before.
+        // The read fails only if a call of the file failed, or if an earlier write or sync had
+        // failed.
         ensures cause { IsTrue F.is_honest → OnErr result ((has_failed self.old ≡ true)
             ⊎ ((facts_below self.old).failures < (facts_below self.new).failures)) }
 
-        // Written contents are read back before they are written to the file, and without a call of
-        // the file.
+        // A read of a sector that is in the write buffer or in the read-ahead buffer succeeds. It
+        // returns the content from the buffer, and makes no call of the file.
         ensures waiting { IfSome (waiting self.old at)
             (λ content. (is_err result ≡ false) × (into.new ≡ content)) }
         ensures kept { waiting self.old at ≡ None → IfSome (kept self.old at)
@@ -170,7 +170,7 @@ impl<F: SectorFile> Disk for FileDisk<F> {
             ⊎ ((facts_below self.old).failures < (facts_below self.new).failures)) }
         ensures ok { OnOk result (IsBuffered self.old self.new at from.now) }
 
-        // No earlier content of the sector is kept.
+        // After a successful write, the read-ahead buffer has no content of the sector.
         ensures forgotten { OnOk result (kept self.new at ≡ None) }
         ensures kept { (k : ℕ) → (kept self.new k ≡ kept self.old k) ⊎ (kept self.new k ≡ None) }
         ensures same { OnErr result (WaitsSame self.old self.new) }
@@ -202,7 +202,7 @@ impl<F: SectorFile> Disk for FileDisk<F> {
         ensures waits { OnOk result (WaitsNot self.new) }
         ensures kept { (k : ℕ) → kept self.new k ≡ kept self.old k }
 
-        // If the sync fails, the write buffer is read back as before.
+        // If the sync fails, the write buffer is unchanged, and reads still return its contents.
         ensures same { OnErr result (WaitsSame self.old self.new) }
         ensures failed { has_failed self.new ≡ is_err result }
         ensures stays { has_failed self.old ≡ true → is_err result ≡ true }

@@ -19,8 +19,8 @@ pub enum Access {
     /// is shared with other readers. Syncs succeed until a sector is written, and fail from then
     /// on.
     Reading,
-    /// For changes: the lock is held exclusively. If the file may not be written, it is opened all
-    /// the same, and syncs succeed until a sector is written.
+    /// For changes: the lock is held exclusively. If the file may not be written, it is opened only
+    /// for reading, and syncs succeed until a sector is written.
     Changes,
 }
 
@@ -60,8 +60,9 @@ fn has_no_sync(fault: &io::Error) -> bool {
     fault.kind() == ErrorKind::InvalidInput
 }
 
-/// Returns the number of whole sectors that a call moved, if it moved `bytes` bytes. Part of a
-/// sector counts as none: the file ends there, or can't grow further.
+/// Returns the number of whole sectors that a call moved, if it moved `bytes` bytes. A part of a
+/// sector counts as none. A call moves such a part if the file ends within the sector, or can't
+/// grow any more.
 fn whole_sectors(bytes: usize) -> usize
     ensures { result ≡ bytes / 512 }
 {
@@ -73,7 +74,7 @@ fn place_of(at: u32) -> u64 {
     u64::from(at) * SECTOR_BYTES as u64
 }
 
-/// Nothing is known about the honesty of such a file.
+/// Nothing is stated about whether a `DiskFile` is honest.
 impl SectorFile for DiskFile {
     ghost is_honest = { false };
 

@@ -2,7 +2,8 @@
 //!
 //! `FileDisk` is a `Disk` over a `SectorFile`. It is honest if the file is honest. Adjacent sectors
 //! are gathered into large writes, and read ahead in large reads. A sync of the disk is a sync of
-//! the file. After a failed write or sync, all later ones fail until the file is opened again.
+//! the file. After a failed write or sync, all later writes and syncs fail until the file is opened
+//! again.
 #![tactic(auto)]
 
 mod buffered;

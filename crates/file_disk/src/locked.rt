@@ -16,8 +16,8 @@ use std::thread::sleep;
 use std::time::Duration;
 use std::{fs, io};
 
-/// The number of tries to open a file that is replaced before it is locked, and to make a file
-/// under another name that other processes make and remove.
+/// The number of tries to open a file, if other processes replace it before it is locked. Also the
+/// number of tries to make a file under another name, if other processes make and remove that name.
 pub(crate) const TRIES: u32 = 16;
 
 /// The number of tries to lock a device, and the milliseconds between two tries: two seconds in
@@ -83,8 +83,7 @@ fn try_lock(file: &File, access: Access) -> Result<(), TryLockError> {
     }
 }
 
-/// Locks a file. A device is locked for changes if that succeeds within two seconds; anything else
-/// is locked at once or not at all.
+/// Locks a file. For changes to a device, tries for two seconds. In all other cases, tries once.
 fn lock<R: Clock>(rt: &R, file: &File, access: Access, is_device: bool) -> Result<(), OpenFault>
     ensures { IfErr result IsLengthFault }
 {
@@ -155,7 +154,7 @@ pub(crate) fn open_locked<R: Files<File = File> + Clock>(
     Err(OpenFault::CannotOpen)
 }
 
-/// Refuses a device that is in use.
+/// Refuses the device with the number `rdev` if it is in use.
 fn refuse_in_use<R: Files<File = File>>(rt: &R, alloc: Global, rdev: u64) -> Result<(), OpenFault>
     ensures { IfErr result IsLengthFault }
 {

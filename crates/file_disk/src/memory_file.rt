@@ -11,16 +11,16 @@ use std::io::ErrorKind;
 /// The outcome of a call of a `MemoryFile`.
 #[derive(Clone, Copy)]
 pub struct CallOutcome {
-    /// The maximum number of sectors that a read or a write moves. A sync that fails has done its
-    /// work if this isn't 0.
+    /// The maximum number of sectors that a read or a write moves. If this isn't 0, a sync that
+    /// fails has done its work before.
     pub most: usize,
     /// Whether the call fails, after it has moved its sectors.
     pub fails: bool,
 }
 
-/// Which call of a `MemoryFile` doesn't do everything that it was asked for: call number `call`,
-/// counted from 1; none if `call` is 0. With `forever` all later calls fail and move nothing, as if
-/// the system had stopped.
+/// The call of a `MemoryFile` that doesn't do everything that it was asked for. It is call number
+/// `call`, counted from 1. If `call` is 0, there is none. If `forever` is true, all later calls
+/// fail and move nothing, as if the system had stopped.
 #[derive(Clone, Copy)]
 pub struct FilePlan {
     pub call: u64,
@@ -34,7 +34,8 @@ pub struct FilePlan {
 pub struct MemoryFile {
     medium: Memory,
     plan: FilePlan,
-    // The number of calls up to and including the planned one; 0 after it.
+    // The number of calls that are left up to the planned one, counting that one. After the planned
+    // call, the number is 0.
     wait: u64,
     sync_failed: bool,
     // The medium at each past moment.
@@ -73,14 +74,16 @@ impl MemoryFile {
         }
     }
 
-    /// Returns the number of calls up to and including the planned one; 0 after it.
+    /// Returns the number of calls that are left up to the planned one, counting that one. After
+    /// the planned call, returns 0.
     pub fn calls_left(&self) -> u64
         ensures { result ≡ (plan_of self.now).call - (memory_file_facts self.now).time }
     {
         self.wait
     }
 
-    /// Returns the medium, which can be stopped. It has what was written to it since it was synced.
+    /// Returns the medium, which can be stopped. It also has the contents that were written since
+    /// the last sync.
     pub fn into_medium(self) -> Memory
         ensures { result ≡ medium_of self }
     {

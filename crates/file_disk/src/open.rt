@@ -27,8 +27,9 @@ pub enum OpenFault {
     /// block device, or it is a device in use.
     #[error("the file can't be opened")]
     CannotOpen,
-    /// The file's length, in bytes. It isn't that of a whole number of sectors, or not that of the
-    /// number of sectors that was asked for, or it is that of 2^32 sectors or more.
+    /// The file's length in bytes, which isn't the length of the disk. Either it isn't a multiple
+    /// of 512; or the file has another number of sectors than was asked for, or 2^32 sectors or
+    /// more.
     #[error("the file hasn't the length of a disk")]
     BadLength(u64),
     /// Memory was refused.
@@ -111,13 +112,13 @@ impl<F: SectorFile + Drop> FileDisk<F> {
     }
 }
 
-/// A disk of zeros that was made, or a disk over an existing file; and the name that a new file is
-/// still to get.
+/// The disk that `make` returns: a new disk of zeros, or a disk over an existing file. A new file
+/// still has to get its name.
 #[derive(Drop)]
 pub struct Made<'a> {
     /// The disk.
     pub disk: FileDisk<DiskFile>,
-    /// The name, if the file was made.
+    /// If the file was made, the name that it still has to get.
     pub name: Option<UnnamedFile<'a>>,
 }
 
@@ -135,10 +136,9 @@ impl FileDisk<DiskFile> {
         FileDisk::over(alloc, open_locked(rt, alloc, path, access)?)
     }
 
-    /// Opens the file at `path` as a disk of `sectors` sectors, for changes. If no file exists
-    /// there, makes a disk of zeros. An existing file is then on the medium under its name, because
-    /// its folder is synced. A file that was made gets its name by `UnnamedFile::publish`, once its
-    /// contents are synced.
+    /// Opens the file at `path` as a disk of `sectors` sectors, for changes, and syncs its folder,
+    /// so that the file's name is on the medium. If no file exists at `path`, makes a disk of
+    /// zeros. Its file gets its name by `UnnamedFile::publish`, once its contents are synced.
     pub fn make<'a, R: Files<File = File> + Clock>(
         rt: &R,
         alloc: Global,
@@ -160,7 +160,7 @@ impl FileDisk<DiskFile> {
     }
 }
 
-/// Makes a disk of zeros that is still to get its name.
+/// Makes a disk of zeros over a new file, which still has to get its name.
 fn make_new<'a, R: Files<File = File>>(
     rt: &R,
     alloc: Global,

@@ -42,8 +42,8 @@ pub(crate) fn write_all<F: SectorFile>(
     Err(DiskFault::Failed)
 }
 
-/// Reads until `most` sectors are there, the file returns none, or a read fails. Returns the number
-/// of sectors that were read.
+/// Reads sectors until `most` sectors have been read, the file returns none, or a read fails.
+/// Returns the number of sectors that were read.
 pub(crate) fn read_most<F: SectorFile>(
     file: &mut F,
     at: u32,

@@ -13,7 +13,7 @@ use thiserror::Error;
 /// The maximum length of a name in bytes.
 const LONGEST_NAME: usize = 255;
 
-/// The end of the other name.
+/// The ending of the other name.
 const ENDING: &str = ".rlibreg-new";
 
 /// Why a file that was made complete didn't get its name, or may lose it.
@@ -27,10 +27,10 @@ pub enum NameFault {
     NotSynced,
 }
 
-/// The name that a file is still to get. The file stays locked as long as this value exists.
+/// The name that a file still has to get. The file stays locked as long as this value exists.
 ///
-/// The other name is in the same folder. Only a process that holds the lock of the file under the
-/// other name gives the file its own name, or removes the other name.
+/// Until the file gets this name, it has another name in the same folder. Only a process that has
+/// locked the file under the other name gives it its own name, or removes the other name.
 #[derive(Drop)]
 pub struct UnnamedFile<'a> {
     file: File,
@@ -65,8 +65,8 @@ fn is_name_of<R: Files>(rt: &R, name: &str, file: &File) -> bool {
 }
 
 /// Removes the other name if a process that has ended left it behind. The file isn't written,
-/// because it may be a finished registry that has another name too. A file that is locked, or isn't
-/// a regular file, stays.
+/// because it may be a finished registry that has another name too. A file that is locked, or that
+/// isn't a regular file, isn't removed.
 fn take_leftover<R: Files<File = File>>(rt: &R, other: &str) -> Result<(), OpenFault> {
     match fs::symlink_metadata(rt, other) {
         Ok(found) if found.is_file() => {}
@@ -87,8 +87,8 @@ fn take_leftover<R: Files<File = File>>(rt: &R, other: &str) -> Result<(), OpenF
     Ok(())
 }
 
-/// Locks a file that was just made. Returns nothing if another process took the file for a
-/// leftover.
+/// Locks a file that was just made. Returns nothing if another process has locked the file or
+/// removed its name, because it took the file for a leftover.
 fn lock_made<R: Files<File = File>>(
     rt: &R,
     other: &str,
@@ -98,7 +98,7 @@ fn lock_made<R: Files<File = File>>(
         Ok(()) if is_name_of(rt, other, &file) => Ok(Some(file)),
         Ok(()) | Err(TryLockError::WouldBlock) => Ok(None),
         Err(TryLockError::Error(_)) => {
-            // The file can't be locked here by any process.
+            // No process can lock this file here, so its name is removed.
             if is_name_of(rt, other, &file) {
                 let _ = fs::remove_file(rt, other);
             }
@@ -176,8 +176,8 @@ impl<'a> UnnamedFile<'a> {
         drop(file);
     }
 
-    /// Gives the file its own name, if no file has this name, and removes the other name. Then syncs
-    /// the folder. The caller has synced the file itself.
+    /// Gives the file its own name, unless a file with this name exists, and removes the other
+    /// name. Then syncs the folder. The caller has synced the file itself.
     pub fn publish<R: Files<File = File>>(self, rt: &R) -> Result<(), NameFault> {
         let Ok(folder) = open_folder(rt, self.path) else {
             return self.refuse(rt);
@@ -189,7 +189,7 @@ impl<'a> UnnamedFile<'a> {
             Ok(()) => both(fs::remove_file(rt, self.other.as_str()), folder.sync_all()),
             Err(fault) if lacks_links(fault.kind()) && is_free(rt, self.path) => {
                 match fs::rename(rt, self.other.as_str(), self.path) {
-                    // FAT keeps a file's length next to its name.
+                    // FAT stores a file's length next to its name, so the file is synced too.
                     Ok(()) => both(self.file.sync_all(), folder.sync_all()),
                     Err(_) => self.refuse(rt),
                 }

@@ -1,4 +1,4 @@
--- The bytes in sectors, and the bytes that are written there.
+-- The bytes of sectors, and the bytes that are written to sectors.
 use Rattle.std.specs.Prelude.{ℕ, ◌+◌, ◌≤◌, List, ◌++◌, take, replicate}
 use Rattle.std.specs.List.{flat_map}
 use Rattle.extents.specs.declared.extent.Extent.{Extent}
@@ -12,6 +12,6 @@ bytes_at m ks = flat_map (sector m) ks
 abbrev pub padded : ℕ → List ℕ → List ℕ
 padded n bytes = take n (bytes ++ replicate n 0)
 
--- the extent ends on a disk of `sectors` sectors
+-- all sectors of the extent lie on a disk of `sectors` sectors
 abbrev pub IsOnDisk : ℕ → Extent → Type 0
 IsOnDisk sectors extent = extent.start + extent.count ≤ sectors

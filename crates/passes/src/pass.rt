@@ -116,7 +116,8 @@ pub fn switch_root<D: Disk>(
     requires room { at < (D.facts disk.old).sectors }
     ensures calls { AreCallsInRow 2 (D.facts disk.old) (D.facts disk.new) result }
 
-    // A stop at any moment leaves what a stop could leave before, or the same with the new sector.
+    // A stop at any moment leaves what a stop could leave before, or the same with the new content
+    // of sector `at`.
     ensures any_moment { IsTrue (D.facts disk.old).honest
         → LeavesOnly (D.facts disk.old) (D.facts disk.new)
         (IsMixtureOrSet (D.facts disk.old) at root.now) }

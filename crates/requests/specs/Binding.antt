@@ -36,7 +36,8 @@ binding_refusal s program base = bind_refusal program base (objects s) (preload_
 abbrev pub bound_image : State → List ℕ → ℕ → MemoryImage
 bound_image s program base = image_of (bound_objects s program base)
 
--- the refusal of a command if a bind isn't done; lack of memory is refused with S11, whatever needed the memory
+-- the refusal of a command whose bind is refused; lack of memory is refused with S11, whatever needed
+-- the memory
 abbrev pub of_bind : BindRefusal → Refusal
 of_bind bind.OutOfMemory = OutOfMemory
 of_bind refusal = Bind refusal

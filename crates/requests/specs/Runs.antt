@@ -1,7 +1,7 @@
 -- Steps, one after the other.
 use Rattle.std.specs.Prelude.{◌≡◌, ℕ, List, [], ◌∷◌, take}
 
--- the last of these states, or the first state if there are none
+-- the last state of the list, or `s` if the list is empty
 abbrev pub last_of : {S : Type 0} → S → List S → S
 last_of s [] = s
 last_of s (t ∷ ts) = last_of t ts
@@ -11,12 +11,14 @@ abbrev pub after : {S : Type 0} → S → List S → ℕ → S
 after s states k = last_of s (take k states)
 
 module _ {S Q R : Type 0} (Step : S → Q → R → S → Type 0) where
-  -- The requests may be answered like this, one after the other, and lead to these states.
+  -- Starting from the state `s`, the requests `qs` may be answered one after the other with the replies
+  -- `rs`, and leave the states `ts`.
   abbrev pub Steps : S → List Q → List R → List S → Type 0
   Steps s [] [] [] = Unit {0}
   Steps s (q ∷ qs) (r ∷ rs) (t ∷ ts) = Step s q r t × Steps t qs rs ts
   Steps s qs rs ts = ⊥
 
-  -- The requests may be answered like this, one after the other, and lead to the state `s'` at the end.
+  -- Starting from the state `s`, the requests `qs` may be answered one after the other with the replies
+  -- `rs`, and leave the state `s'` at the end.
   abbrev pub Run : S → List Q → List R → S → Type 0
   Run s qs rs s' = (states : List S) × Steps s qs rs states × (s' ≡ last_of s states)

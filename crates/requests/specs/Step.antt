@@ -74,14 +74,15 @@ pub record LacksRead (p : Phase) (program : List ℕ) (base : ℕ) (p' : Phase) 
   pub untested : program_refusal program base ≡ None
   pub same : Leads p p.state p'
 
--- what a failed call of the disk leaves; a bind only reads, and a listing makes no call
+-- what is true of the phase `p'` after a failed call of the disk; a bind only reads, and a listing makes
+-- no call
 abbrev pub LeavesFailed : Phase → Request → Phase → Type 0
 LeavesFailed p (bind program base) p' = LacksRead p program base p'
 LeavesFailed p list p' = ⊥
 LeavesFailed p request p' = LacksWrite p request p'
 
--- A command may be answered like this, and lead to this phase. After a failed write or sync every command is refused
--- with S2 (Reopen), and before that no command is.
+-- In the phase `p`, the command may be answered with this reply, and the phase is `p'` then. After a
+-- failed write or sync every command is refused with S2 (Reopen), and before that no command is.
 abbrev pub Step : Phase → Request → Reply → Phase → Type 0
 Step p request (Refused Reopen) p' = IsTrue p.failed × Leads p p.state p'
 Step p request (Refused Device) p' = IsFalse p.failed × LeavesFailed p request p'

@@ -1,4 +1,4 @@
--- The tests of a command in their order. Each reads the table and the request (own).
+-- The tests of a command in their order. Each test reads the table and the request (own).
 use Rattle.std.specs.Prelude.{ℕ, ◌||◌, List, [], ◌∷◌, length, map, Bool, false, not, nat_lt, Option}
 use Rattle.std.specs.List.{list_any}
 use Rattle.std.specs.Option.{option_map}
@@ -38,28 +38,28 @@ for_room tests = map (λ test. refusal_of_room test.1 when test.0) tests
 abbrev pub room_in : Table → Room
 room_in t = record { generation = t.generation; libraries = length t.names; free = t.free; longest = t.longest }
 
--- C1, C2, then the tests for room
+-- the tests for C1 and C2, then those for room
 abbrev pub install_tests : Table → List ℕ → List (Option Refusal)
 install_tests t bytes =
     option_map Object (library_refusal bytes)
     ∷ (AlreadyInstalled when is_installed t (name_of bytes))
     ∷ for_room (new_tests (room_in t) (length bytes))
 
--- C1, C3, then the tests for room, without that of the number of libraries
+-- the tests for C1 and C3, then those for room, except that of the number of libraries
 abbrev pub replace_tests : Table → List ℕ → List (Option Refusal)
 replace_tests t bytes =
     option_map Object (library_refusal bytes)
     ∷ (NotInstalled when not (is_installed t (name_of bytes)))
     ∷ for_room (put_tests (room_in t) 0 (length bytes))
 
--- C3, C4, then the test of the generation
+-- the tests for C3 and C4, then the test of the generation
 abbrev pub remove_tests : Table → List ℕ → List (Option Refusal)
 remove_tests t name =
     (NotInstalled when not (is_installed t name))
     ∷ (InPreloads when has_name t.preloads name)
     ∷ for_room (change_tests t.generation)
 
--- C6, C5, C3, then the test of the generation
+-- the tests for C6, C5 and C3, then the test of the generation
 abbrev pub preload_tests : Table → List (List ℕ) → List (Option Refusal)
 preload_tests t names =
     (TooManyPreloads when nat_lt most_preloads (length names))
@@ -67,7 +67,8 @@ preload_tests t names =
     ∷ (NotInstalled when list_any (λ name. not (is_installed t name)) names)
     ∷ for_room (change_tests t.generation)
 
--- the tests of a command. The only file that they read is the command's own. A bind or a listing has none.
+-- The tests of a command. The only file that they read is the command's own. A bind and a listing have
+-- no such tests.
 abbrev pub tests_of : Table → Request → List (Option Refusal)
 tests_of t (install bytes) = install_tests t bytes
 tests_of t (replace bytes) = replace_tests t bytes

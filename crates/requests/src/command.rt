@@ -5,7 +5,7 @@
 pub enum Command<'a> {
     /// Installs a library, given by the bytes of its file.
     Install(&'a [u8]),
-    /// Replaces the installed library of the same name by this file, given by its bytes.
+    /// Replaces the installed library that has the same name as this file, given by its bytes.
     Replace(&'a [u8]),
     /// Removes the library with this name.
     Remove(&'a [u8]),

@@ -1,5 +1,6 @@
 //! Commands to a registry of shared libraries, their answers, and the step table. The step table
-//! says how a command may be answered in a state, and which state this leaves (specs/Step.antt).
+//! states how a command may be answered in a state, and which state the command leaves
+//! (specs/Step.antt).
 //!
 //! `library_name` reads a file as a library. The registry that carries out the commands is in the
 //! crate `registry`.

@@ -29,8 +29,8 @@ pub enum Refusal {
     Device,
     /// S2: a write or a sync has failed before.
     Reopen,
-    /// S5: what was read isn't a library of the expected name. A registry whose files were tested
-    /// when it was opened never returns this on an honest disk.
+    /// S5: the bytes that were read aren't a library with the expected name. A registry whose files
+    /// were tested when it was opened never returns this on an honest disk.
     Damaged,
     /// S7: the file costs more sectors than are free. If the list needs one more catalogue, two
     /// sectors are added to the cost.

@@ -16,8 +16,8 @@ catalogue_bytes catalogue =
     ++ numbers w32 catalogue.entry_sectors  -- 16
     ++ zeros 240  -- 272
 
--- The limits of the fields: a catalogue can be encoded exactly if it keeps to them. It lists at least one entry. It
--- doesn't name its disk, so its sectors may be any of the largest disk.
+-- The limits of the fields: a catalogue can be encoded if and only if it keeps to them. It lists at
+-- least one entry. It doesn't name its disk, so its sectors may be any of the largest disk.
 pub record CatalogueHasSpelling (catalogue : Catalogue) : Type 0 where
   pub some : 1 ≤ catalogue.count
   pub sectors : ListsSectors most_catalogue_entries catalogue.count most_sectors catalogue.entry_sectors

@@ -39,7 +39,7 @@ abbrev pub are_in_row : Root → Root → Bool
 are_in_row even odd =
     are_neighbours even.generation odd.generation && keeps_version (version_of (earlier even odd)) (version_of (later even odd))
 
--- the choice, as a table
+-- the choice of the current root, for each pair of slots
 abbrev pub chosen : Slot → Slot → Result Root ChooseRefusal
 chosen (Good even) (Good odd) = if are_in_row even odd then Ok (later even odd) else Err Damaged
 chosen (Good root) Empty = if root.generation == 0 then Ok root else Err Damaged
@@ -56,7 +56,8 @@ pub record AreSuccessive (even odd : ℕ) : Type 0 where
 abbrev pub KeepsVersion : Root → Root → Type 0
 KeepsVersion older newer = version_of newer ≡ One → version_of older ≡ One
 
--- the root that is current in sectors 0 and 1: generation 0 by itself, or the later of two neighbours
+-- the root that is current in sectors 0 and 1: a root of generation 0 if the other sector has no magic,
+-- or the later of two roots that are one commit apart
 abbrev pub IsCurrent : List ℕ → List ℕ → Root → Type 0
 IsCurrent sector0 sector1 root =
     (SpellsRoot sector0 root × (root.generation ≡ 0) × LacksMagic sector1)

@@ -49,7 +49,7 @@ pub record ExtentsFit (entry : Entry) : Type 0 where
   pub listed : UsesFirst most_extents entry.extent_count IsDataExtent no_extent entry.extents
   pub sum : sum_by (λ extent. extent.count) (take entry.extent_count entry.extents) ≡ div_ceil entry.file_length sector_bytes
 
--- The limits of the fields: an entry can be encoded exactly if it keeps to them.
+-- The limits of the fields: an entry can be encoded if and only if it keeps to them.
 pub record EntryHasSpelling (entry : Entry) : Type 0 where
   pub file_length : IsInRange least_file_bytes most_file_bytes entry.file_length
   pub name : NameFits entry
@@ -64,7 +64,7 @@ pub record SpellsEntry (bytes : List ℕ) (entry : Entry) : Type 0 where
 abbrev pub name_of : Entry → List ℕ
 name_of entry = take entry.name_length entry.name
 
--- the extents in which an entry's file lies, in its order
+-- the extents of an entry's file, in the order of the file
 abbrev pub extents_of : Entry → List Extent
 extents_of entry = take entry.extent_count entry.extents
 

@@ -13,7 +13,8 @@ zeros n = replicate n 0
 abbrev pub numbers : Width → List ℕ → List ℕ
 numbers w ns = flat_map (to_le_bytes w) ns
 
--- Of `places` places the first `count` are used, each value in them fits, and the others hold `unused`.
+-- The first `count` of `places` places are used, and each value in them fits. The other places hold
+-- `unused`.
 pub record UsesFirst {A : Type 0} (places count : ℕ) (Fits : A → Type 0) (unused : A) (values : List A) : Type 0 where
   pub size : length values ≡ places
   pub room : count ≤ places

@@ -1,4 +1,5 @@
--- The limits of root, catalogue and entry sectors, beside those of free sectors and states.
+-- The limits of root, catalogue and entry sectors. The crates `extents` and `states` define the limits
+-- of layouts and of states.
 use Rattle.std.specs.Prelude.{ℕ}
 
 -- the maximum number of entries that a root of version 1 lists, and so the maximum number of libraries that it counts

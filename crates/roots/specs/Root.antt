@@ -25,7 +25,7 @@ magic_2 = codes "RLIBREG2"
 abbrev pub root_magics : List (List ℕ)
 root_magics = magic_1 ∷ magic_2 ∷ []
 
--- the version that has such a list
+-- the version of a disk whose roots have such a list
 abbrev pub version_of_list : EntryList → Version
 version_of_list (InRoot sectors) = One
 version_of_list (InCatalogues count sectors) = Two
@@ -39,7 +39,7 @@ abbrev pub magic_of : EntryList → List ℕ
 magic_of (InRoot sectors) = magic_1
 magic_of (InCatalogues count sectors) = magic_2
 
--- the sector is a root sector, good or bad
+-- the sector begins as a root sector of some version does, whether or not it encodes a root
 abbrev pub HasMagic : List ℕ → Type 0
 HasMagic bytes = Contains root_magics (take 8 bytes)
 
@@ -75,8 +75,8 @@ pub record PreloadsFit (root : Root) : Type 0 where
   pub listed : UsesFirst most_preloads root.preload_count (λ position. position < root.library_count) 0 root.preloads
   pub distinct : AreDistinct (take root.preload_count root.preloads)
 
--- The catalogues' sectors fit into their places and lie on the disk. There are exactly as many catalogues as list these
--- libraries.
+-- The catalogues' sectors fit into their places and lie on the disk. The number of catalogues is the
+-- number that `libraries` libraries need.
 pub record CatalogueListFits (libraries disk count : ℕ) (sectors : List ℕ) : Type 0 where
   pub few : libraries ≤ most_libraries
   pub enough : count ≡ catalogues_for libraries
@@ -88,7 +88,7 @@ abbrev pub ListFits : ℕ → ℕ → EntryList → Type 0
 ListFits libraries disk (InRoot sectors) = ListsSectors most_root_entries libraries disk sectors
 ListFits libraries disk (InCatalogues count sectors) = CatalogueListFits libraries disk count sectors
 
--- The limits of the fields: a root can be encoded exactly if it keeps to them.
+-- The limits of the fields: a root can be encoded if and only if it keeps to them.
 pub record RootHasSpelling (root : Root) : Type 0 where
   pub generation : root.generation < 2 ^ 64
   pub sectors : IsInRange least_sectors most_sectors root.sectors

@@ -10,7 +10,7 @@ use crate::lists::{lists_sectors, placed};
 use extents::MOST_SECTORS;
 
 /// A part of the list of libraries, given by the sectors of their entries. In a catalogue that can
-/// be encoded, the places after the count are zero.
+/// be encoded, the unused places of `entry_sectors` are zero.
 #[derive(Clone, Copy, PartialEq, Eq)]
 pub struct Catalogue {
     /// The number of entries that the catalogue lists.

@@ -44,7 +44,7 @@ pub fn choose(slot0: Slot, slot1: Slot) -> Result<Root, ChooseRefusal>
     by_table(slot0, slot1)
 }
 
-// Answers by the table. The statements about the sectors follow from this.
+// Returns the result by the table `chosen`. The clauses about the sectors follow from it.
 fn by_table(slot0: Slot, slot1: Slot) -> Result<Root, ChooseRefusal>
     ensures { result ≡ chosen slot0 slot1 }
 {
@@ -56,8 +56,8 @@ fn by_table(slot0: Slot, slot1: Slot) -> Result<Root, ChooseRefusal>
     }
 }
 
-// Returns the later of two roots, if each is in its slot, they differ by one commit, and the later
-// one may follow the other by its version.
+// Returns the later of two roots. Refuses with Damaged unless each root is in its slot, the two are
+// one commit apart, and the later root's version may follow the earlier root's.
 fn later(even: Root, odd: Root) -> Result<Root, ChooseRefusal>
     ensures { result ≡ chosen (Slot.Good even) (Slot.Good odd) }
 {

@@ -13,7 +13,7 @@ use crate::version::Version;
 use states::{MOST_PRELOADS, is_geometry};
 
 /// The root of a registry, as one of the two root sectors holds it. In a root that can be encoded,
-/// the places after a count are zero.
+/// the unused places of its lists are zero.
 #[derive(Clone, Copy, PartialEq, Eq)]
 pub struct Root {
     /// The number of commits that were made since the disk was formatted.
@@ -22,17 +22,17 @@ pub struct Root {
     pub sectors: u32,
     /// The number of installed libraries.
     pub library_count: u16,
-    /// The number of preloads among them.
+    /// The number of preloads.
     pub preload_count: u16,
     /// The preloads in their order, each by its position in the list of libraries.
     pub preloads: [u16; MOST_PRELOADS],
-    /// The list that leads to the libraries' entries, by the version of the disk.
+    /// The list that leads to the libraries' entries. Its form depends on the version of the disk.
     pub list: EntryList,
 }
 
 impl Root {
-    /// Returns the root of version 1 and of this generation, on a disk of `sectors` sectors. It
-    /// lists the sectors `entries` of entries, and the positions `preloads`.
+    /// Returns the root of version 1 with the generation `generation`, on a disk of `sectors`
+    /// sectors. It lists the sectors `entries` of entries, and the positions `preloads`.
     pub fn over_entries(generation: u64, sectors: u32, entries: &[u32], preloads: &[u16]) -> Root
         requires entries { length entries.now ≤ most_root_entries }
         requires preloads { length preloads.now ≤ most_preloads }
@@ -50,9 +50,9 @@ impl Root {
         }
     }
 
-    /// Returns the root of version 2 and of this generation, on a disk of `sectors` sectors. It
-    /// counts `library_count` libraries, and lists the sectors `catalogues` of catalogues and the
-    /// positions `preloads`.
+    /// Returns the root of version 2 with the generation `generation`, on a disk of `sectors`
+    /// sectors. It counts `library_count` libraries, and lists the sectors `catalogues` of
+    /// catalogues and the positions `preloads`.
     pub fn over_catalogues(
         generation: u64,
         sectors: u32,
@@ -113,7 +113,8 @@ impl Root {
     pub fn has_spelling(&self) -> bool
         ensures { IsTrue result ↔ RootHasSpelling self.now }
     {
-        // Each u64 is a generation. It is read here so that the proof knows that it is a u64.
+        // Each u64 is a generation, so there is nothing to test. The field is read only so that the
+        // proof knows that it is a u64.
         let _generation = self.generation;
         is_geometry(self.sectors)
             && self.preloads_fit()

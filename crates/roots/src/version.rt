@@ -1,4 +1,4 @@
-/// A version of the disk. Each has its own magic and its own list in the roots.
+/// A version of the disk. Each version has its own magic and its own list in the roots.
 #[derive(Clone, Copy, PartialEq, Eq)]
 pub enum Version {
     /// Version 1: a root lists the entries of up to 100 libraries.

@@ -42,7 +42,7 @@ pub record DiskFacts : Type 1 where
   pub log : List Logged
   -- the contents that reads return
   pub now : List Sector
-  -- the set of a sector at a moment: the contents with which a stop then may leave it
+  -- the set of a sector at a moment: the contents that a stop at that moment may leave in the sector
   pub may_leave : ℕ → ℕ → Sector → Type 0
 
 -- a stop now may leave sector k with this content: it is in the sector's set
@@ -58,7 +58,7 @@ pub record MixtureAt (disk : DiskFacts) (moment : ℕ) (m : List Sector) : Type 
 abbrev pub Mixture : DiskFacts → List Sector → Type 0
 Mixture disk m = MixtureAt disk disk.time m
 
--- left since a moment: a mixture of some moment from `since` up to the present one
+-- `m` is a mixture of some moment, from the moment `since` up to the present one
 abbrev pub LeftSince : DiskFacts → ℕ → List Sector → Type 0
 LeftSince disk since m = (u : ℕ) × (since ≤ u) × (u ≤ disk.time) × MixtureAt disk u m
 
@@ -82,7 +82,7 @@ pub record KeepsPast (old new : DiskFacts) : Type 0 where
   pub marks : (u : ℕ) → u ≤ old.time → new.marks u ≡ old.marks u
   pub past : (u k : ℕ) (c : Sector) → u ≤ old.time → new.may_leave u k c ↔ old.may_leave u k c
 
--- reads return the same, a stop may leave the same, and the log is the same
+-- reads return the same contents, a stop may leave the same contents, and the log is the same
 pub record IsUnchanged (old new : DiskFacts) : Type 0 where
   pub now : new.now ≡ old.now
   pub log : new.log ≡ old.log
@@ -140,7 +140,8 @@ pub record IsRead {T E : Type 0} (old new : DiskFacts) (at : ℕ) (content : Sec
   pub same : IsUnchanged old new
   pub ok : OnOk result (content ≡ sector old.now at)
 
--- A write to an honest disk: reads return the new content, and the set of its sector grows by this content.
+-- A write to an honest disk. If it succeeds, reads return the new content, and the set of the sector
+-- grows by this content.
 pub record IsWrite {T E : Type 0} (old new : DiskFacts) (at : ℕ) (content : Sector) (result : Result T E) : Type 0 where
   pub past : KeepsPast old new
   pub ok : OnOk result (new.now ≡ set old.now at content)
@@ -149,7 +150,8 @@ pub record IsWrite {T E : Type 0} (old new : DiskFacts) (at : ℕ) (content : Se
   pub stop : GrowsByAtMost old new at content
   pub stop_ok : OnOk result (GrowsBy old new at content)
 
--- A sync of an honest disk: reads return the same. If it succeeds, each set contains only the latest content.
+-- A sync of an honest disk. Reads return the same contents as before. If the sync succeeds, the set of
+-- each sector contains only the latest content.
 pub record IsSync {T E : Type 0} (old new : DiskFacts) (result : Result T E) : Type 0 where
   pub past : KeepsPast old new
   pub now : new.now ≡ old.now
@@ -162,8 +164,8 @@ pub record IsSync {T E : Type 0} (old new : DiskFacts) (result : Result T E) : T
 abbrev pub calls_between : DiskFacts → DiskFacts → ℕ
 calls_between old new = new.time - old.time
 
--- Some calls, on any disk: size and honesty stay the same. At most as many calls failed as were made, and the log
--- grew by at most as many.
+-- Some calls, on any disk: size and honesty stay the same. The number of failures and the length of the
+-- log each grew by at most the number of calls.
 pub record AreCalls (old new : DiskFacts) : Type 0 where
   pub honest : new.honest ≡ old.honest
   pub sectors : new.sectors ≡ old.sectors
@@ -183,7 +185,7 @@ pub record AreCallsAtMost (calls : ℕ) (old new : DiskFacts) : Type 0 where
   pub some : AreCalls old new
   pub time : new.time ≤ old.time + calls
 
--- From `old` to `new`, a stop at any moment leaves a list of sectors that has P.
+-- From `old` to `new`, a stop at any moment leaves only lists of sectors for which `P` holds.
 pub record LeavesOnly (old new : DiskFacts) (P : List Sector → Type 0) : Type 0 where
   pub past : KeepsPast old new
   pub each : (m : List Sector) → LeftSince new old.time m → P m
@@ -201,7 +203,8 @@ IsMixtureBut places disk m = (m' : List Sector) × Mixture disk m' × SameBut pl
 abbrev pub IsMixtureOrSet : DiskFacts → ℕ → Sector → List Sector → Type 0
 IsMixtureOrSet disk at content m = Mixture disk m ⊎ ((m' : List Sector) × Mixture disk m' × (m ≡ set m' at content))
 
--- the same disk by another clock, at the present moment; nothing is stated about earlier moments
+-- `new` is the same disk as `old`, but counts its moments in another way: the facts of both agree at the
+-- present moment, and nothing is stated about earlier moments
 pub record IsSameDisk (old new : DiskFacts) : Type 0 where
   pub honest : new.honest ≡ old.honest
   pub sectors : new.sectors ≡ old.sectors

@@ -10,7 +10,8 @@ use Rattle.sector_disk.specs.declared.fuse.CallOutcome.{CallOutcome}
 use Rattle.sector_disk.specs.declared.fuse.CallOutcome.TheVariants.{Pass, Early, Late}
 use Rattle.sector_disk.specs.Disk.{Sector, DiskFacts, IsCall, IsRead, IsWrite, IsSync}
 
--- the outcome of call n: the planned call fails early or late; with `forever` later calls fail early; all others pass
+-- the outcome of call n: the planned call fails, late if the plan has `late`, and otherwise early; if
+-- `forever` is true, later calls fail early; all other calls pass
 abbrev pub outcome_of : Plan → ℕ → CallOutcome
 outcome_of plan n =
     if n == plan.call
@@ -74,7 +75,8 @@ WasSynced facts old new reply =
     IsCall (facts old.inner) (facts new.inner) reply
     × (IsTrue (facts old.inner).honest → IsSync (facts old.inner) (facts new.inner) reply)
 
--- a call passes, or fails early, before it reaches the inner disk, or fails late, after it was made there
+-- the outcome of a call: it passes; or it fails early, before it reaches the inner disk; or it fails
+-- late, after the inner disk has made it
 abbrev pub HasOutcome : {D : Type 0} → CallOutcome → Fuse D → Fuse D → (Result (Unit {0}) DiskFault → Type 0) → Result (Unit {0}) DiskFault → Type 0
 HasOutcome Pass old new WasAsked result = WasAsked result
 HasOutcome Early old new WasAsked result = (new.inner ≡ old.inner) × (result ≡ Err Failed)

@@ -16,7 +16,8 @@ answers_of liar = liar.answers.items
 abbrev pub reads_of : Liar → ℕ
 reads_of liar = length liar.reads.items
 
--- what read number k returns, counted from 0: answer number k modulo their number, or zeros if there are no answers
+-- the content that read number k returns, counted from 0: answer number k modulo the number of answers,
+-- or zeros if there are no answers
 abbrev pub answer : List Sector → ℕ → Sector
 answer answers k = slice_index_or answers (k % length answers) (replicate sector_bytes 0)
 

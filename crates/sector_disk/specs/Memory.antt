@@ -26,6 +26,7 @@ pub record AddsChoice (old new : Memory) (at : ℕ) (content : Sector) : Type 0 
 pub record HasOneChoice (disk : Memory) : Type 0 where
   pub each : (k : ℕ) → k < (memory_facts disk).sectors → memory_choices disk k ≡ sector (memory_facts disk).now k ∷ []
 
--- the content is choice number `named`, modulo the number of choices
+-- the content is choice number `named`, modulo the number of choices, for some `named` that `IsNamed`
+-- allows
 abbrev pub IsPicked : (ℕ → Type 0) → List Sector → Sector → Type 0
 IsPicked IsNamed cs content = (named : ℕ) × IsNamed named × (content ≡ sector cs (named % length cs))

@@ -32,7 +32,7 @@ impl CallCount {
         ensures ok { OnOk reply.now (calls_failed self.new ≡ calls_failed self.old) }
         ensures err { OnErr reply.now (calls_failed self.new ≡ calls_failed self.old + 1) }
 
-        // This is a call of a disk about which nothing else is known.
+        // The count changes as by one call of a disk about which nothing else is known.
         ensures call { (sectors : ℕ)
             → IsCall (unknown_disk sectors self.old) (unknown_disk sectors self.new) reply.now }
     {

@@ -4,8 +4,8 @@ ghost use Rattle.std.specs.Prelude.{◌≡◌, ◌-◌, length};
 use crate::disk::{Disk, DiskFault, SECTOR_BYTES};
 use crate::past::Past;
 
-/// Which calls fail: call number `call`, counted from 1, and with `forever` all later calls too.
-/// With `late`, call number `call` reaches the inner disk before it fails.
+/// The plan of the calls that fail: call number `call`, counted from 1, and all later calls if
+/// `forever` is true. If `late` is true, call number `call` reaches the inner disk before it fails.
 #[derive(Clone, Copy)]
 pub(crate) struct Plan {
     pub call: u64,
@@ -29,11 +29,12 @@ pub(crate) struct Step {
 }
 
 /// A disk that passes its calls on to an inner disk, and fails at planned calls. Reads return what
-/// the inner disk returns, and a stop may leave what it may leave of the inner disk.
+/// the inner disk returns, and a stop may leave what a stop of the inner disk may leave.
 pub struct Fuse<D> {
     inner: D,
     plan: Plan,
-    // The number of calls up to and including the planned one; 0 after it.
+    // The number of calls that are left up to the planned one, counting that one. After the planned
+    // call, the number is 0.
     wait: u64,
     past: Past<Step>,
     ghost waits: { wait ≡ plan.call - length past.items },
@@ -44,9 +45,10 @@ impl<D: Disk> Fuse<D> {
     ghost use Rattle.sector_disk.specs.Disk.{IsSameDisk};
     ghost use Rattle.sector_disk.specs.Fuse.{fuse_facts, inner_of, plan_of, next_outcome};
 
-    /// Makes a fuse over `inner`. Its `k`-th read, write or sync fails, counted from 1. With
-    /// `forever` all later calls fail too, without reaching `inner`. With `late` the `k`-th call
-    /// reaches `inner` first. If `k` is 0, a call fails only if it fails on `inner`.
+    /// Makes a fuse over `inner`. Its call number `k` fails: reads, writes and syncs are counted
+    /// together, from 1. If `forever` is true, all later calls fail too, without reaching `inner`.
+    /// If `late` is true, call number `k` reaches `inner` before it fails. If `k` is 0, a call
+    /// fails only if it fails on `inner`.
     pub fn new(inner: D, k: u64, forever: bool, late: bool) -> Fuse<D>
         ensures inner { inner_of result ≡ inner }
         ensures plan { plan_of result ≡ record { call = k; forever = forever; late = late } }
@@ -114,7 +116,7 @@ impl<D: Disk> Fuse<D> {
     }
 }
 
-// Written by hand for the same reason as the drop of `Memory`.
+// This drop is written by hand, for the same reason as that of `Memory`.
 impl<D: Drop> Drop for Fuse<D> {
     fn drop(self) {
         let Fuse {

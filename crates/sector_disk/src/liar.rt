@@ -26,7 +26,7 @@ impl Liar {
     ghost use Rattle.sector_disk.specs.Liar.{liar_facts, answers_of, reads_of};
 
     /// Makes a disk of `sectors` sectors. Read number k, counted from 0, returns answer number k
-    /// modulo the number of answers.
+    /// modulo the number of answers. If there are no answers, reads return zeros.
     pub fn new(sectors: u32, answers: Vec<[u8; SECTOR_BYTES]>) -> Liar
         ensures sectors { (liar_facts result).sectors ≡ sectors }
         ensures time { (liar_facts result).time ≡ 0 }

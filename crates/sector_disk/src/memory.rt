@@ -137,8 +137,8 @@ impl Memory {
     }
 }
 
-// Written by hand so that the fields are taken apart in one place. A derived drop would be proved
-// again on each way out of every function that has a disk.
+// This drop is written by hand so that the fields are taken apart in one place. A derived drop
+// would be proved again on each way out of every function that has a disk.
 impl Drop for Memory {
     fn drop(self) {
         let Memory {

@@ -15,8 +15,8 @@ use Rattle.store.specs.NameOrder.{IsOrderOf, entry_names}
 use Rattle.store.specs.Opened.{Opened, IsAt}
 use Rattle.store.specs.Stands.{no_library}
 
--- what a snapshot keeps: a handle for each byte string, their positions in the order of the names,
--- and the positions of the preloads
+-- the data of a snapshot: a handle for each byte string, the positions of the byte strings in the order
+-- of their names, and the positions of the preloads
 pub record Taken : Type 0 where
   pub handles : List ℕ
   pub order : List ℕ
@@ -31,7 +31,7 @@ pub record AreHeldBy (held : List HeldRow) (handles : List ℕ) (entries : List 
   pub count : length handles ≡ length entries
   pub each : (i : ℕ) (d : PlacedEntry) → i < length entries → IsHeldBy held (slice_index_or handles i 0) (slice_index_or entries i d)
 
--- The snapshot has these entries: it holds each of them, and its order is that of their names.
+-- The snapshot holds each of the entries `entries`, and its `order` is the order of their names.
 pub record IsTakenOf (table : List HeldRow) (snapshot : Taken) (entries : List PlacedEntry) : Type 0 where
   pub held : AreHeldBy table snapshot.handles entries
   pub order : IsOrderOf (entry_names entries) snapshot.order
@@ -47,7 +47,8 @@ pub record IsSnapshotOf {D : Type 0} (facts : D → DiskFacts) (taken now : Open
   pub preloads : snapshot.preloads ≡ listed_preloads taken.root
   pub libraries : (s : State) → IsAt facts taken s → IsTrue (facts now.disk).honest × AreHeldAs facts now snapshot.handles s.libraries
 
--- A snapshot of a store is taken: each byte string is held once more, or none is. No call is made.
+-- Either a snapshot of the store was taken, and each byte string has one more holder; or the call
+-- refused, and the holders are as before. No call of the disk was made.
 pub record Takes {D : Type 0} (facts : D → DiskFacts) (old new : Opened D) (result : Result Taken StoreRefusal) : Type 0 where
   pub ok : IfOk result (λ snapshot. IsSnapshotOf facts old new snapshot)
   pub holders : IfOk result (λ snapshot. (sector : ℕ) → holders_of new.held sector ≡ holders_of old.held sector + times sector snapshot.handles)
@@ -62,7 +63,7 @@ pub record Takes {D : Type 0} (facts : D → DiskFacts) (old new : Opened D) (re
   pub reopen : (result ≡ Err Reopen) ↔ IsTrue old.failed
   pub refusals : IfErr result (λ e. (e ≡ Reopen) ⊎ (e ≡ OutOfMemory))
 
--- All these handles released their byte strings, and nothing else changed.
+-- The byte strings of all `handles` were released, and nothing else changed.
 pub record LetsAllGo {D : Type 0} (facts : D → DiskFacts) (old new : Opened D) (handles : List ℕ) : Type 0 where
   pub holders : (sector : ℕ) → holders_of new.held sector ≡ holders_of old.held sector - times sector handles
   pub others : (sector : ℕ) (library : Library) → 0 < holders_of new.held sector → HeldIs facts old sector library → HeldIs facts new sector library

@@ -28,7 +28,8 @@ pub(crate) fn hold_all<D: Disk>(
             },
             Err(refusal) => {
                 release(store, handles);
-                // Each held byte string has one row, so exactly what was held before is held now.
+                // Each held byte string has one row. So exactly the byte strings that were held
+                // before are held now.
                 store.holds_are_sound();
                 return Err(refusal);
             }

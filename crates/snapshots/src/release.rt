@@ -8,7 +8,7 @@ use store::{Held, Store};
 pub(crate) fn release<D: Disk>(store: &mut Store<D>, handles: Vec<Held>)
     ensures { LetsAllGo D.facts store.old store.new handles.items }
 {
-    // Held byte strings have holders, also if there are no handles.
+    // Each held byte string has a holder, also if there are no handles to release.
     store.holds_are_sound();
     let mut left = handles;
     while let Some(held) = left.pop() {

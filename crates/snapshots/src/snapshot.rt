@@ -6,8 +6,8 @@ use std::alloc::Global;
 use std::marker::Model;
 use store::{Held, Store, StoreRefusal};
 
-/// All byte strings of a store as they were when the snapshot was taken, held one by one. A
-/// snapshot is valid only for its own store, as each handle is, until it is passed to `let_go`.
+/// All byte strings of a store as they were when the snapshot was taken, held one by one. Like a
+/// handle, a snapshot is valid only for its own store. It is valid until it is passed to `let_go`.
 #[derive(Drop)]
 pub struct Snapshot {
     handles: Vec<Held>,
@@ -45,7 +45,8 @@ impl Snapshot {
     pub fn take<D: Disk>(alloc: Global, store: &mut Store<D>) -> Result<Snapshot, StoreRefusal>
         ensures { Takes D.facts store.old store.new result }
     {
-        // Also after a refusal, a held byte string counts as listed exactly if the state lists it.
+        // Also after a refusal, a held byte string is marked as listed if and only if the state
+        // lists it.
         store.holds_are_sound();
         let count = store.count();
         if store.has_failed() {
@@ -74,7 +75,7 @@ impl Snapshot {
     pub fn preloads(&self) -> &[u16]
         ensures value { result.now ≡ self.now.preloads }
 
-        // On any disk, each is the position of a byte string, and none occurs twice.
+        // On any disk, each number is the position of a byte string, and no number occurs twice.
         ensures inside { All (λ p. p < length self.now.handles) result.now }
         ensures once { IsDistinct nat_eq result.now }
     {
@@ -121,8 +122,8 @@ impl Snapshot {
         store.read_held(alloc, &self.handles[position])
     }
 
-    /// Releases all byte strings of the snapshot. Allocates nothing and makes no call of the disk,
-    /// also after S2.
+    /// Releases all byte strings of the snapshot. Allocates nothing and makes no call of the disk.
+    /// It also works after S2.
     pub fn let_go<D: Disk>(self, store: &mut Store<D>)
         ensures { LetsAllGo D.facts store.old store.new self.handles }
     {

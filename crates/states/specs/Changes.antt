@@ -7,7 +7,7 @@ abbrev pub libraries_with : (name bytes : List ℕ) → List Library → List Li
 libraries_with name bytes [] = []
 libraries_with name bytes (l ∷ ls) = if bytes_eq name l.name then record { name = name; bytes = bytes } ∷ ls else l ∷ libraries_with name bytes ls
 
--- the libraries without the one with this name; the later ones move up
+-- the libraries without the one with this name; the libraries after it move up
 abbrev pub libraries_without : List ℕ → List Library → List Library
 libraries_without name [] = []
 libraries_without name (l ∷ ls) = if bytes_eq name l.name then ls else l ∷ libraries_without name ls

@@ -19,7 +19,8 @@ catalogues_for libraries = div_ceil libraries most_catalogue_entries
 abbrev pub taken_by : State → ℕ
 taken_by s = sum_by (λ l. cost (length l.bytes)) s.libraries + 2 * catalogues_for (length s.libraries)
 
--- the number of free sectors of a disk of `sectors` sectors in a state, beside those for the next change's catalogues
+-- the number of sectors that are free in a state, on a disk of `sectors` sectors; the sectors for the
+-- next change's catalogues don't count as free
 abbrev pub free : ℕ → State → ℕ
 free sectors s = sectors - root_sectors - taken_by s
 

@@ -1,4 +1,4 @@
--- The tests of a change for lack of room, in their one order (own).
+-- The tests of a change for lack of room, in their order (own).
 use Rattle.std.specs.Prelude.{ℕ, ◌+◌, ◌-◌, ◌==◌, Bool, nat_le, nat_lt, List, [], ◌∷◌, ◌++◌}
 use Rattle.states.specs.Limits.{most_libraries, last_generation}
 use Rattle.states.specs.Cost.{cost, catalogue_cost}
@@ -37,15 +37,17 @@ is_full free more size = nat_lt free (cost size + more)
 abbrev pub is_fragmented : (longest size : ℕ) → Bool
 is_fragmented longest size = nat_lt longest (cost size - 1)
 
--- the test for S10, for a change that takes no sectors, and its refusal
+-- the only test of a change that takes no sectors, with its refusal: S10
 abbrev pub change_tests : (generation : ℕ) → List (Bool × RoomRefusal)
 change_tests generation = (is_last generation, GenerationEnd) ∷ []
 
--- S10, S7, S8, for a file of `size` bytes that takes `more` sectors beside its cost. If the file replaces another
--- one, `more` is 0, because the number of catalogues stays the same.
+-- The tests for S10, S7 and S8, in this order, of a file of `size` bytes that takes `more` sectors
+-- beside its cost. If the file replaces another one, `more` is 0, because the number of catalogues stays
+-- the same.
 abbrev pub put_tests : Room → (more size : ℕ) → List (Bool × RoomRefusal)
 put_tests room more size = change_tests room.generation ++ (is_full room.free more size, Full) ∷ (is_fragmented room.longest size, Fragmented) ∷ []
 
--- S9, S10, S7, S8, for a file of `size` bytes under a new name, which may need one more catalogue
+-- the tests for S9, S10, S7 and S8, in this order, of a file of `size` bytes under a new name; such a
+-- file may need one more catalogue
 abbrev pub new_tests : Room → (size : ℕ) → List (Bool × RoomRefusal)
 new_tests room size = (has_most room.libraries, TooMany) ∷ put_tests room (catalogue_cost room.libraries) size

@@ -7,7 +7,7 @@ use Rattle.store.specs.Opened.{Opened}
 -- the refusal of a failing device (S1), and `s2` that of a store that has to be opened again (S2).
 pub record Changed {D R : Type 0} (facts : D → DiskFacts) (s1 s2 : R) (old new : Opened D) (most : ℕ) (Refuses : R → Type 0)
     (result : Result (Unit {0}) R) : Type 0 where
-  -- after a failed write or sync the disk has to be opened again
+  -- the answer is `s2` if and only if an earlier write or sync failed: the disk has to be opened again
   pub reopen : (result ≡ Err s2) ↔ IsTrue old.failed
   pub device : IfErr result (λ e. e ≡ s1 → ((facts old.disk).failures < (facts new.disk).failures) × IsTrue new.failed)
   pub same : IfErr result (λ e. e ≢ s1 → new ≡ old)

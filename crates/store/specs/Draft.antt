@@ -1,4 +1,5 @@
--- The draft of an update: the list that the update has so far, which no root lists before the commit.
+-- The draft of an update: the list that the update has made so far. No root leads to this list before
+-- the commit.
 use Rattle.std.specs.Prelude.{◌≡◌, ◌≢◌, ◌==◌, ℕ, ◌+◌, ◌-◌, ◌*◌, ◌<◌, Bool, not, List, [], ◌∷◌, ◌++◌, length, map, filter, set, slice_index_or}
 use Rattle.std.specs.Prelude.{All, IsTrue, Result, IfOk, OnErr}
 use Rattle.std.specs.Global.{Vec}
@@ -27,26 +28,27 @@ use Rattle.roots.specs.declared.version.Version.TheVariants.{Two}
 use Rattle.store.specs.Stands.{Stands, catalogues_of, entries_cost, extents_of, library_of, name_of, names_at, no_library, sectors_of}
 use Rattle.store.specs.Taken.{IsTaken}
 
--- what an update keeps
+-- the data of an update: its store and its draft
 pub record Drafted (D : Type 0) : Type 0 where
-  -- the current store: the lines of the update change only its disk, and whether a call failed
+  -- the store with the current state: a line of the update changes only its disk, and the flag whether a
+  -- call failed
   pub store : Opened D
   -- the draft's list: entries of the store, and others that the update wrote
   pub entries : List PlacedEntry
   -- the positions of the draft's preloads in the draft's list
   pub preloads : List ℕ
-  -- what was changed in the draft
+  -- which part of the draft was changed
   pub touched : Touched
 
 -- whether one of the entries is in the sector of `placed`
 abbrev pub lists : List PlacedEntry → PlacedEntry → Bool
 lists entries placed = list_any (λ other. other.at == placed.at) entries
 
--- the entries that aren't in the sector of any of the others
+-- the entries that aren't in the same sector as an entry of `others`
 abbrev pub apart_from : (others : List PlacedEntry) → List PlacedEntry → List PlacedEntry
 apart_from others entries = filter (λ placed. not (lists others placed)) entries
 
--- the entries that the update wrote and still has in its list
+-- the entries that the update wrote and that are still in the draft's list
 abbrev pub staged : {D : Type 0} → Drafted D → List PlacedEntry
 staged u = apart_from u.store.entries u.entries
 
@@ -63,8 +65,9 @@ layout_drafted u = layout_of u.store.root.sectors (in_use u.store.root u.store.e
 abbrev pub longest_drafted : {D : Type 0} → Drafted D → ℕ
 longest_drafted u = sector_count (longest_runs (layout_drafted u))
 
--- the number of sectors that the draft's state can't use: sectors in use that aren't the draft's, and two for each
--- catalogue by which the current list exceeds the draft's
+-- the number of sectors that the draft's state can't use: those of the current list's entries that aren't
+-- in the draft's list, those that only holders use, and two for each catalogue that the current list has
+-- more than the draft's list needs
 abbrev pub beside : {D : Type 0} → Drafted D → ℕ
 beside u = entries_cost (left_out u) + length (lone_sectors u.store.held)
     + 2 * (length (catalogues_of u.store.root) - catalogues_for (length u.entries))
@@ -81,7 +84,8 @@ draft_state m generation entries preloads = record {
   preloads = names_at (map (library_of m) entries) preloads;
 }
 
--- Every mixture holds the current state `s`, and reads return the draft's state `d`.
+-- Every mixture of the store's disk holds the current state `s`. The sectors that reads return encode
+-- the draft's entries, and these entries describe the state `d`.
 pub record IsDraftedAt {D : Type 0} (facts : D → DiskFacts) (u : Drafted D) (s d : State) : Type 0 where
   pub stands : IsAt facts u.store s
   pub spelt : All (λ placed. SpellsEntry (sector (facts u.store.disk).now placed.at) placed.entry) u.entries
@@ -98,8 +102,8 @@ abbrev pub committed : Touched → (s d : State) → State
 committed Nothing s d = s
 committed touched s d = next s d.libraries d.preloads
 
--- the number of calls of a commit: 0 if nothing was changed; 2 if only preloads were set (the root and a sync);
--- otherwise one for each catalogue, and 3 (a sync, the root and a sync)
+-- the number of calls of a commit: none if nothing was changed; if only preloads were set, a write of
+-- the root and a sync; otherwise a write for each catalogue, a sync, a write of the root, and a sync
 abbrev pub commit_calls : Touched → ℕ → ℕ
 commit_calls Nothing libraries = 0
 commit_calls Preloads libraries = 2
@@ -122,7 +126,8 @@ pub record IsDraftedNamed {D : Type 0} (u : Drafted D) (name : List ℕ) (positi
 abbrev pub IsNoPreloadOfDraft : {D : Type 0} → Drafted D → List ℕ → Type 0
 IsNoPreloadOfDraft u name = All (λ position. (d : PlacedEntry) → name_of (slice_index_or u.entries position d).entry ≢ name) u.preloads
 
--- The current state is untouched: on the disk at any moment, and in memory, except for whether a call failed.
+-- A stop at any moment leaves the current state. In memory, the current state and the held byte strings
+-- are unchanged.
 pub record StaysBeside {D : Type 0} (facts : D → DiskFacts) (old new : Drafted D) : Type 0 where
   pub any_moment : (s : State) → IsAt facts old.store s → LeavesOnly (facts old.store.disk) (facts new.store.disk) (λ m. Stands m s)
   pub root : new.store.root ≡ old.store.root
@@ -130,26 +135,27 @@ pub record StaysBeside {D : Type 0} (facts : D → DiskFacts) (old new : Drafted
   pub table : new.store.held ≡ old.store.held
   pub held : KeepsHeld facts old.store new.store
 
--- the draft's entries and preloads, and what was changed in the draft, are the same
+-- `old` and `new` have the same entries, the same preloads, and the same value of `touched`
 pub record IsSameDraft {D : Type 0} (old new : Drafted D) : Type 0 where
   pub entries : new.entries ≡ old.entries
   pub preloads : new.preloads ≡ old.preloads
   pub touched : new.touched ≡ old.touched
 
--- A line of an update made at most `most` calls on any disk, and refused only with refusals that `Refuses` allows. A
--- refusal leaves the draft unchanged.
+-- On any disk, a line of an update made at most `most` calls, and refused only with refusals that
+-- `Refuses` allows. A refusal leaves the draft unchanged.
 pub record IsLine {D : Type 0} (facts : D → DiskFacts) (old new : Drafted D) (most : ℕ) (Refuses : StoreRefusal → Type 0)
     (result : Result (Unit {0}) StoreRefusal) : Type 0 where
   pub beside : StaysBeside facts old new
   pub changed : Changed facts Device Reopen old.store new.store most Refuses result
   pub refused : OnErr result (IsSameDraft old new)
 
--- On an honest disk, reads of the entry's sectors return these bytes, followed by zeros.
+-- On an honest disk, reads of the extents of the entry `put` return `bytes`, followed by zeros.
 abbrev pub ReadBytes : DiskFacts → PlacedEntry → List ℕ → Type 0
 ReadBytes disk put bytes = IsTrue disk.honest
     → bytes_at disk.now (places (extents_of put.entry)) ≡ padded (sector_bytes * div_ceil (length bytes) sector_bytes) bytes
 
--- the draft has one more entry, the last, in sectors that weren't in use
+-- the draft's list has one more entry, which comes last; the sectors of this entry and of its bytes
+-- weren't in use
 pub record IsDraftedBehind {D : Type 0} (facts : D → DiskFacts) (old new : Drafted D) (bytes : List ℕ) : Type 0 where
   pub put : PlacedEntry
   pub taken : IsTaken (layout_drafted old) (div_ceil (length bytes) sector_bytes) (extents_of put.entry) put.at []
@@ -158,7 +164,8 @@ pub record IsDraftedBehind {D : Type 0} (facts : D → DiskFacts) (old new : Dra
   pub touched : new.touched ≡ Listed
   pub written : ReadBytes (facts new.store.disk) put bytes
 
--- another entry, in sectors that weren't in use, replaces the draft's entry with this name
+-- the draft's entry with the name `name` was replaced by an entry whose sectors, and those of its bytes,
+-- weren't in use
 pub record IsDraftedOver {D : Type 0} (facts : D → DiskFacts) (old new : Drafted D) (name bytes : List ℕ) : Type 0 where
   pub position : ℕ
   pub at : IsDraftedNamed old name position
@@ -176,7 +183,8 @@ pub record IsDraftedOut {D : Type 0} (old new : Drafted D) (name : List ℕ) : T
   pub entries : new.entries ≡ remove old.entries position
   pub touched : new.touched ≡ Listed
 
--- what counts as changed after preloads were set: the list if it was changed before, and otherwise the preloads
+-- the part of a draft that counts as changed after preloads were set: the list if it was changed before,
+-- and otherwise the preloads
 abbrev pub touched_preloads : Touched → Touched
 touched_preloads Nothing = Preloads
 touched_preloads touched = touched

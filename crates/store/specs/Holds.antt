@@ -63,24 +63,25 @@ pub record IsHeldAs (disk : DiskFacts) (held : List HeldRow) (sector : ℕ) (lib
 abbrev pub HeldIs : {D : Type 0} → (D → DiskFacts) → Opened D → ℕ → Library → Type 0
 HeldIs facts store sector library = IsHeldAs (facts store.disk) store.held sector library
 
--- Held byte strings keep their holders, on any disk. On an honest disk they also keep their bytes.
+-- On any disk, held byte strings keep their holders. On an honest disk, they also keep their bytes.
 pub record KeepsHolders (before after : DiskFacts) (old new : List HeldRow) : Type 0 where
   pub holders : (sector : ℕ) → holders_of new sector ≡ holders_of old sector
   pub bytes : IsTrue before.honest → (sector : ℕ) (library : Library) → IsHeldAs before old sector library → IsHeldAs after new sector library
   pub holds : (sector : ℕ) (placed : PlacedEntry) → IsHeldBy old sector placed ↔ IsHeldBy new sector placed
   pub none : old ≡ [] → new ≡ []
 
--- from `old` to `new`, held byte strings keep their holders, and on an honest disk their bytes
+-- from `old` to `new`, held byte strings keep their holders; on an honest disk, they also keep their
+-- bytes
 abbrev pub KeepsHeld : {D : Type 0} → (D → DiskFacts) → Opened D → Opened D → Type 0
 KeepsHeld facts old new = KeepsHolders (facts old.disk) (facts new.disk) old.held new.held
 
--- A held byte string counts as listed exactly if it is one of the state's.
+-- A held byte string is marked as listed if and only if the state lists it.
 abbrev pub AreFlagged : {D : Type 0} → Opened D → Type 0
 AreFlagged store = All (λ hold. (hold.listed ≡ true) ↔ Contains store.entries hold.placed) store.held
 
--- Each held byte string has one row and at least one holder, and it counts as listed exactly if the state lists
--- it. So the sectors that only holders use are those of each byte string that the state no longer lists,
--- counted once.
+-- Each held byte string has one row and at least one holder, and it is marked as listed if and only if
+-- the state lists it. So the sectors that only holders use are those of the held byte strings that the
+-- state no longer lists, each counted once.
 pub record AreHolds {D : Type 0} (store : Opened D) : Type 0 where
   pub rows : HaveOwnRows store.held
   pub holders : (sector : ℕ) (placed : PlacedEntry) → IsHeldBy store.held sector placed → 0 < holders_of store.held sector
@@ -91,7 +92,7 @@ pub record AreHolds {D : Type 0} (store : Opened D) : Type 0 where
 pub record TakesHold {D : Type 0} (facts : D → DiskFacts) (old new : Opened D) (position : ℕ) (result : Result ℕ StoreRefusal) : Type 0 where
   pub ok : (s : State) → IsAt facts old s → IfOk result (λ held. HeldIs facts new held (slice_index_or s.libraries position no_library))
   pub same : (s : State) → IsAt facts old s → IsAt facts new s
-  -- on any disk
+  -- the clauses from here on hold on any disk, honest or not
   pub hold : IfOk result (λ held. (d : PlacedEntry) → IsHeldBy new.held held (slice_index_or old.entries position d))
   pub holders : IfOk result (λ held. (sector : ℕ) → holders_of new.held sector ≡ holders_of old.held sector + (if held == sector then 1 else 0))
   pub others : (sector : ℕ) (library : Library) → HeldIs facts old sector library → HeldIs facts new sector library
@@ -113,7 +114,7 @@ pub record ReadsHeld {D : Type 0} (facts : D → DiskFacts) (old new : Opened D)
   pub unchanged : IsTrue (facts old.disk).honest → IsUnchanged (facts old.disk) (facts new.disk)
   pub others : KeepsHeld facts old new
   pub same : (s : State) → IsAt facts old s → IsAt facts new s
-  -- on any disk: a read that fails doesn't make the store fail
+  -- on any disk, honest or not, a failed read leaves `failed` as it was
   pub kept : (new.root ≡ old.root) × (new.entries ≡ old.entries) × (new.held ≡ old.held) × (new.failed ≡ old.failed)
   pub reopen : (result ≡ Err Reopen) ↔ IsTrue old.failed
   pub unknown : (result ≡ Err Damaged) ↔ (IsFalse old.failed × (holders_of old.held held ≡ 0))
@@ -127,10 +128,11 @@ pub record ReadsHeld {D : Type 0} (facts : D → DiskFacts) (old new : Opened D)
       → OnOk result (AreCallsExactly (div_ceil placed.entry.file_length sector_bytes) (facts old.disk) (facts new.disk))
   pub calls : (placed : PlacedEntry) → IsHeldBy old.held held placed
       → AreCallsAtMost (div_ceil placed.entry.file_length sector_bytes) (facts old.disk) (facts new.disk)
-  -- also if nobody holds it
+  -- this also holds if nobody holds the byte string
   pub called : AreCalls (facts old.disk) (facts new.disk)
 
--- A holder released a byte string, and nothing else changed. If nobody holds it in this store, nothing changed.
+-- A holder released a byte string, and nothing else changed. If nobody held the byte string in this
+-- store, nothing changed at all.
 pub record LetsHoldGo {D : Type 0} (facts : D → DiskFacts) (old new : Opened D) (held : ℕ) : Type 0 where
   pub holders : (sector : ℕ) → holders_of new.held sector ≡ holders_of old.held sector - (if held == sector then 1 else 0)
   pub others : (sector : ℕ) (library : Library) → 0 < holders_of new.held sector → HeldIs facts old sector library → HeldIs facts new sector library

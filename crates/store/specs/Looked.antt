@@ -49,7 +49,7 @@ pub record Looks {D : Type 0} (facts : D → DiskFacts) (disk : D) (looking : Re
   pub ok : IsTrue (facts disk).honest → IfOk looking (λ look.
       (s : State) × ((Stands (facts disk).now s × IsSeenAt facts look s) ⊎ (StandsOld (facts disk).now s × IsSeenOldAt facts look s)))
   pub refused : IsTrue (facts disk).honest → IfErr looking (λ e. RefusesLook StandsEither (facts disk).now e.0)
-  -- the rest holds on any disk, also on one that isn't honest
+  -- the clauses from here on hold on any disk, honest or not
   pub unheld : IfOk looking (λ look. (seen look).held ≡ [])
   pub usable : IfOk looking (λ look. IsFalse (seen look).failed)
   pub geometry : IfOk looking (λ _. IsGeometry (facts disk).sectors)

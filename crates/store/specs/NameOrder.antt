@@ -16,7 +16,7 @@ entry_names entries = map (λ placed. name_of placed.entry) entries
 abbrev pub name_at : List (List ℕ) → ℕ → List ℕ
 name_at names position = slice_index_or names position []
 
--- the order of the names at two positions: byte by byte, and a name before the longer names that
+-- the comparison of the names at two positions: byte by byte; a name is less than the longer names that
 -- begin with it
 abbrev pub name_order : List (List ℕ) → ℕ → ℕ → Ordering
 name_order names a b = slice_cmp nat_cmp (name_at names a) (name_at names b)

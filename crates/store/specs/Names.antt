@@ -13,7 +13,7 @@ pub record IsName (name : List ℕ) : Type 0 where
   pub size : IsInRange 1 most_name_bytes (length name)
   pub bytes : All IsNameByte name
 
--- a byte string of this length can be put: 64 bytes to 16 MiB
+-- a put accepts a byte string of this length: 64 bytes to 16 MiB
 abbrev pub IsFileSize : ℕ → Type 0
 IsFileSize size = IsInRange least_file_bytes most_file_bytes size
 

@@ -19,7 +19,8 @@ pub record Opened (D : Type 0) : Type 0 where
   pub held : List HeldRow
   pub failed : Bool
 
--- The store is at a state by a root of this version: every mixture of its disk holds that state.
+-- The disk is honest, no write or sync has failed, and every mixture of the disk holds the state `s` by
+-- a root of the version `version`.
 pub record IsAtBy (version : Version) {D : Type 0} (facts : D → DiskFacts) (store : Opened D) (s : State) : Type 0 where
   pub honest : IsTrue (facts store.disk).honest
   pub usable : IsFalse store.failed

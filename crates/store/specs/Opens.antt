@@ -29,8 +29,8 @@ pub record Opens (StandsFor : List Sector → State → Type 0) {D : Type 0} (fa
       → MatchResult opening (λ opened. AtFor opened s) (λ e. (e.0 ≡ Device) ⊎ (e.0 ≡ OutOfMemory))
   pub refused : IsTrue (facts disk).honest → IfErr opening (λ e. RefusesOpen StandsFor (facts disk).now e.0)
 
--- The disk was opened from its entries only, or refused and handed back. No byte string was read, so the bytes of the
--- byte strings don't matter.
+-- The disk was opened from its entries only, or refused and handed back. No byte string was read, so the
+-- result doesn't depend on the bytes of the byte strings.
 pub record OpensByEntries {D : Type 0} (facts : D → DiskFacts) (disk : D) (opening : Result (Opened D) (StoreRefusal × D)) : Type 0 where
   pub opened : Opens Stands facts (IsAt facts) disk opening
   pub on_any_disk : OpensOnAnyDisk facts disk opening

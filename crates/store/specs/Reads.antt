@@ -22,7 +22,7 @@ pub record ReadsBlob (version : Version) {D : Type 0} (facts : D → DiskFacts) 
   -- reads return what they returned before, and a stop may leave what it could leave before
   pub unchanged : IsTrue (facts old.disk).honest → IsUnchanged (facts old.disk) (facts new.disk)
   pub same : (s : State) → IsAtBy version facts old s → IsAtBy version facts new s
-  -- on any disk: a read that fails doesn't make the store fail
+  -- on any disk, honest or not, a failed read leaves `failed` as it was
   pub kept : (new.root ≡ old.root) × (new.entries ≡ old.entries) × (new.failed ≡ old.failed)
   pub table : new.held ≡ old.held
   pub held : KeepsHeld facts old new

@@ -15,11 +15,12 @@ use Rattle.states.specs.Room.{RoomRefusal, Room, change_tests, put_tests, new_te
 use Rattle.store.specs.Opened.{Opened}
 use Rattle.store.specs.Holds.{layout_in_use}
 
--- the number of sectors of the 32 longest unused runs: a byte string may have as many extents
+-- the number of sectors of the 32 longest unused runs: 32 is the maximum number of extents of a byte
+-- string
 abbrev pub longest_unused : {D : Type 0} → Opened D → ℕ
 longest_unused store = sector_count (longest_runs (layout_in_use store))
 
--- the store's refusal for a refusal of the tests of room
+-- the store's refusal that corresponds to a refusal of the tests of room
 abbrev pub refusal_of_room : RoomRefusal → StoreRefusal
 refusal_of_room room.TooMany = TooMany
 refusal_of_room room.GenerationEnd = GenerationEnd
@@ -31,20 +32,20 @@ abbrev pub first_refusal : List (Bool × RoomRefusal) → Option StoreRefusal
 first_refusal [] = None
 first_refusal (test ∷ others) = if test.0 then Some (refusal_of_room test.1) else first_refusal others
 
--- the numbers of a state that the tests need, on a disk with this number of sectors and these
--- longest unused runs
+-- the numbers of the state `s` that the tests of room need, on a disk of `sectors` sectors whose longest
+-- unused runs have `longest` sectors
 abbrev pub room_at : (sectors longest : ℕ) → State → Room
 room_at sectors longest s = record { generation = s.generation; libraries = length s.libraries; free = free sectors s; longest = longest }
 
--- the first reason to refuse a put that replaces bytes, which needs no more catalogues than before
+-- the first reason to refuse a put that replaces bytes; such a put needs no more catalogues than before
 abbrev pub refusal_of_put : (sectors longest : ℕ) → State → List ℕ → Option StoreRefusal
 refusal_of_put sectors longest s bytes = first_refusal (put_tests (room_at sectors longest s) 0 (length bytes))
 
--- the first reason to refuse a put under a new name, which may need more catalogues
+-- the first reason to refuse a put under a new name; such a put may need more catalogues
 abbrev pub refusal_of_new : (sectors longest : ℕ) → State → List ℕ → Option StoreRefusal
 refusal_of_new sectors longest s bytes = first_refusal (new_tests (room_at sectors longest s) (length bytes))
 
--- the first reason to refuse a change that can't lack sectors
+-- the first reason to refuse a change that never lacks sectors
 abbrev pub refusal_of_change : State → Option StoreRefusal
 refusal_of_change s = first_refusal (change_tests s.generation)
 
@@ -52,7 +53,8 @@ refusal_of_change s = first_refusal (change_tests s.generation)
 abbrev pub refusal_of_upgrade : (sectors : ℕ) → State → Option StoreRefusal
 refusal_of_upgrade sectors s = first_refusal (change_tests s.generation ++ (nat_lt sectors (root_sectors + taken_by s), room.Full) ∷ [])
 
--- a put with this first refusal may have this answer: S11 may replace Full, Fragmented and Ok, and S1 may replace Ok
+-- a put may have this answer if this is the first refusal of its tests: the answer that follows from the
+-- tests; S11 in place of Ok, Full or Fragmented; or S1 in place of Ok
 abbrev pub IsAnswer : Option StoreRefusal → Result (Unit {0}) StoreRefusal → Type 0
 IsAnswer None (Ok done) = Unit
 IsAnswer None (Err refusal) = (refusal ≡ Device) ⊎ (refusal ≡ OutOfMemory)
@@ -61,23 +63,24 @@ IsAnswer (Some Full) (Err refusal) = (refusal ≡ Full) ⊎ (refusal ≡ OutOfMe
 IsAnswer (Some Fragmented) (Err refusal) = (refusal ≡ Fragmented) ⊎ (refusal ≡ OutOfMemory)
 IsAnswer (Some first) (Err refusal) = refusal ≡ first
 
--- an upgrade with this first refusal may have this answer: S1 and S11 may replace each answer, because the upgrade
--- reads the disk before it makes these tests
+-- an upgrade may have this answer if this is the first refusal of its tests: the answer that follows
+-- from the tests, or S1 or S11 in place of any answer, because the upgrade reads the disk before it
+-- makes these tests
 abbrev pub IsUpgradeAnswer : Option StoreRefusal → Result (Unit {0}) StoreRefusal → Type 0
 IsUpgradeAnswer None (Ok done) = Unit
 IsUpgradeAnswer None (Err refusal) = (refusal ≡ Device) ⊎ (refusal ≡ OutOfMemory)
 IsUpgradeAnswer (Some first) (Ok done) = ⊥
 IsUpgradeAnswer (Some first) (Err refusal) = (refusal ≡ first) ⊎ (refusal ≡ Device) ⊎ (refusal ≡ OutOfMemory)
 
--- a change that allocates nothing and has this first refusal may have this answer: S1 may replace Ok
+-- a change that allocates nothing may have this answer if this is the first refusal of its tests: the
+-- answer that follows from the tests, or S1 in place of Ok
 abbrev pub IsExactAnswer : Option StoreRefusal → Result (Unit {0}) StoreRefusal → Type 0
 IsExactAnswer None (Ok done) = Unit
 IsExactAnswer None (Err refusal) = refusal ≡ Device
 IsExactAnswer (Some first) (Ok done) = ⊥
 IsExactAnswer (Some first) (Err refusal) = refusal ≡ first
 
--- The refusals of a change that allocates nothing and can't lack sectors, on any disk, honest or
--- not.
+-- The refusals of a change that allocates nothing and never lacks sectors, on any disk, honest or not.
 abbrev pub IsRefusalOfChange : StoreRefusal → Type 0
 IsRefusalOfChange Device = Unit
 IsRefusalOfChange Reopen = Unit
@@ -103,12 +106,12 @@ IsRefusalOfCommit GenerationEnd = Unit
 IsRefusalOfCommit Full = Unit
 IsRefusalOfCommit other = ⊥
 
--- an answer without the store or the disk that it hands over
+-- an answer, without the store or the disk that is in it
 abbrev pub answer_of : {D : Type 0} → Result (Opened D) (StoreRefusal × D) → Result (Unit {0}) StoreRefusal
 answer_of (Ok store) = Ok tt
 answer_of (Err refused) = Err refused.0
 
--- the store's refusal for a refusal of taking sectors
+-- the store's refusal that corresponds to a refusal of taking sectors
 abbrev pub refusal_of_take : TakeRefusal → StoreRefusal
 refusal_of_take take.Full = Full
 refusal_of_take take.Fragmented = Fragmented

@@ -15,7 +15,8 @@ use Rattle.store.specs.Opened.{Opened}
 use Rattle.store.specs.Holds.{layout_in_use}
 use Rattle.store.specs.Stands.{name_of, extents_of, catalogues_of, used}
 
--- single sectors of this layout are taken in this order: each in its turn is the lowest unused one
+-- the sectors of the list are taken from this layout one after the other, and each is the lowest sector
+-- that is unused then
 abbrev pub AreTaken : List Bool → List ℕ → Type 0
 AreTaken layout [] = Unit
 AreTaken layout (k ∷ ks) = IsLowestUnused layout k × AreTaken (with_flag true (one_sector k) layout) ks
@@ -41,7 +42,7 @@ pub record IsPutBehind {D : Type 0} (facts : D → DiskFacts) (old new : Opened 
   pub taken : IsTaken (layout_in_use old) (div_ceil (length bytes) sector_bytes)
       (extents_of put.entry) put.at (catalogues_of new.root)
   pub entries : new.entries ≡ old.entries ++ put ∷ []
-  -- on an honest disk
+  -- on an honest disk, the extents of the new entry then have the bytes
   pub written : IsTrue (facts old.disk).honest
       → HaveBytes (facts new.disk) (extents_of put.entry) bytes
 
@@ -50,8 +51,8 @@ pub record IsNamedAt {D : Type 0} (store : Opened D) (name : List ℕ) (position
   pub inside : position < length store.entries
   pub named : (d : PlacedEntry) → name_of (slice_index_or store.entries position d).entry ≡ name
 
--- another entry replaces the one with this name; its sectors and those of the catalogues weren't in
--- use
+-- another entry replaces the entry with the name `name`; the sectors of the new entry, of its bytes and
+-- of the catalogues weren't in use
 pub record IsPutOver {D : Type 0} (facts : D → DiskFacts) (old new : Opened D)
     (name bytes : List ℕ) : Type 0 where
   pub position : ℕ
@@ -60,7 +61,7 @@ pub record IsPutOver {D : Type 0} (facts : D → DiskFacts) (old new : Opened D)
   pub taken : IsTaken (layout_in_use old) (div_ceil (length bytes) sector_bytes)
       (extents_of put.entry) put.at (catalogues_of new.root)
   pub entries : new.entries ≡ set old.entries position put
-  -- on an honest disk
+  -- on an honest disk, the extents of the new entry then have the bytes
   pub written : IsTrue (facts old.disk).honest
       → HaveBytes (facts new.disk) (extents_of put.entry) bytes
 

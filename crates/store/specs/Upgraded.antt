@@ -23,8 +23,9 @@ IsNotOld m = (s : State) → StandsOld m s → ⊥
 abbrev pub IsUpgradeOf : {D : Type 0} → (D → DiskFacts) → Opened D → List Sector → State → Type 0
 IsUpgradeOf facts store m s = (Stands m s × IsAt facts store s) ⊎ (StandsOld m s × IsAt facts store (upgraded s))
 
--- The store has the entries by which these sectors held the state by the rules of version 1. Its
--- catalogues are in sectors that weren't in use then: each in its turn is in the lowest unused one.
+-- The store has the entries with which the sectors `m` held the state `s` by the rules of version 1. The
+-- sectors of the store's catalogues weren't in use then: each catalogue was put into the lowest unused
+-- sector.
 pub record IsRelistedFrom {D : Type 0} (m : List Sector) (s : State) (store : Opened D) : Type 0 where
   pub root : Root
   pub stood : StandsBy One m root store.entries s

@@ -57,8 +57,8 @@ impl Singles {
         self.list.push_reserved(single);
     }
 
-    /// Appends the catalogues at the sectors `catalogues`. They list the entry sectors `sectors`,
-    /// each its part of them.
+    /// Appends the catalogues at the sectors `catalogues`. Together they list the entry sectors
+    /// `sectors`.
     fn push_catalogues(&mut self, catalogues: &[u32], sectors: &[u32])
         requires parts { CanBeCatalogued (length catalogues.now) sectors.now }
         requires room { length self.old ≤ 1 }

@@ -69,9 +69,9 @@ impl<D: Disk> Store<D> {
     ghost use Rattle.states.specs.Changes.{without};
     ghost use Rattle.store.specs.Step.{refusal_of_change, IsExactAnswer, IsRefusalOfChange};
 
-    /// Removes the byte string with the name `name`, which isn't a preload. Those after it move up,
-    /// and the preloads keep their names. Allocates nothing, and never lacks sectors. Refuses with
-    /// S2, S10 or S1; only S1 may come after the first write.
+    /// Removes the byte string with the name `name`, which isn't a preload. The byte strings after
+    /// it move up, and the preloads keep their names. Allocates nothing, and never lacks sectors.
+    /// Refuses with S2, S10 or S1; only S1 may come after the first write.
     pub fn delete(&mut self, name: &[u8]) -> Result<(), StoreRefusal>
         requires present { HasName self.old name.now }
         requires no_preload { IsNoPreload self.old name.now }

@@ -33,7 +33,7 @@ pub enum Touched {
 /// The positions of preloads.
 pub(crate) type Preloads = ArrayVec<u16, MOST_PRELOADS>;
 
-/// The list that an update has so far. No root lists it before the commit.
+/// The list that an update has made so far. No root leads to this list before the commit.
 #[derive(Drop)]
 pub(crate) struct Draft {
     pub entries: Vec<PlacedEntry>,

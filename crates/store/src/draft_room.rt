@@ -71,8 +71,8 @@ fn release_unlisted(
 }
 
 impl Kept {
-    /// Takes room for a byte string that is put after the draft's others. Refuses with S2, S9, S10,
-    /// S11, S7 or S8.
+    /// Takes room for a byte string that is put after the draft's other byte strings. Refuses with
+    /// S2, S9, S10, S11, S7 or S8.
     pub(crate) fn take_new(
         &mut self,
         draft: &mut Draft,

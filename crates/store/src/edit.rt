@@ -18,7 +18,7 @@ use roots::Root;
 /// A change of the list of entries.
 #[derive(Clone, Copy)]
 pub(crate) enum Edit {
-    /// Nothing: the same catalogues list the same entries.
+    /// The list stays the same, and so do its catalogues.
     Nothing,
     /// The entry is put after the others.
     Append(PlacedEntry),

@@ -58,10 +58,11 @@ impl<D: Disk> Store<D> {
     }
 
     /// Returns the held byte string. Reads each of its sectors once, and writes nothing. Refuses
-    /// with S2, S11 or S1. Refuses with Damaged, without a call of the disk, if nobody holds the
-    /// byte string in this store. Then the handle is another store's, or from before the same disk
-    /// was opened again. A handle is only the sector of an entry: if somebody holds, in this store,
-    /// another byte string whose entry is in that sector, that one is read.
+    /// with S2, S11 or S1. If nobody holds the byte string in this store, refuses with Damaged,
+    /// without a call of the disk. Such a handle comes from another store, or was made before the
+    /// same disk was opened again. A handle is only the sector of an entry. So if somebody holds,
+    /// in this store, another byte string whose entry is in that sector, the call reads that byte
+    /// string.
     pub fn read_held(&mut self, alloc: Global, held: &Held) -> Result<Vec<u8>, StoreRefusal>
         ensures { ReadsHeld D.facts self.old self.new held.now result }
     {
@@ -75,9 +76,9 @@ impl<D: Disk> Store<D> {
     }
 
     /// Releases a held byte string. If this was its last holder and the state no longer lists it,
-    /// its sectors become unused. Makes no call of the disk and allocates nothing, also after S2.
-    /// Does nothing if nobody holds the byte string in this store. Treats a handle of another
-    /// store, or from before the disk was opened again, as `read_held` does.
+    /// its sectors become unused. Makes no call of the disk and allocates nothing. It also works
+    /// after S2. If nobody holds the byte string in this store, does nothing. Treats a handle of
+    /// another store, or one from before the disk was opened again, as `read_held` does.
     pub fn let_go(&mut self, held: Held)
         ensures { LetsHoldGo D.facts self.old self.new held }
     {

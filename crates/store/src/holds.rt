@@ -106,8 +106,8 @@ impl Holds {
         true
     }
 
-    /// Takes one holder from the byte string whose entry is in `sector`. Removes its row and
-    /// returns it, if this was the last holder. Allocates nothing.
+    /// Takes one holder from the byte string whose entry is in `sector`. If this was the last
+    /// holder, removes the row of the byte string and returns this row. Allocates nothing.
     pub(crate) fn let_go(&mut self, sector: u32) -> Option<HeldRow>
         ensures none { IsNone result → (IsHeldLess self.old self.new sector)
             ⊎ ((IsUnheld self.old sector) × (self.new ≡ self.old)) }

@@ -11,7 +11,8 @@ use roots::Root;
 pub(crate) struct Kept {
     pub root: Root,
     pub entries: Vec<PlacedEntry>,
-    /// The sectors of the entries, in their order, until a change fails.
+    /// The sectors of the entries, in the order of the entries. This holds as long as no change has
+    /// failed.
     pub sectors: Vec<u32>,
     /// Room for the sectors that a change writes one by one.
     pub singles: Singles,

@@ -45,8 +45,8 @@ fn read_catalogue<D: Disk>(disk: &mut D, at: u32) -> Result<Option<Catalogue>, D
 }
 
 /// Returns the sectors of the entries that a root's catalogues list, in their order. Reads each
-/// catalogue once. Refuses with Damaged if a catalogue doesn't decode, or doesn't have the count
-/// that it must have.
+/// catalogue once. Refuses with Damaged if a catalogue doesn't decode, or lists another number of
+/// entries than it must.
 fn read_catalogues<D: Disk>(
     alloc: Global,
     disk: &mut D,
@@ -92,8 +92,8 @@ fn are_inside(listed: &[u32], sectors: u32) -> bool
     listed.iter().all(|at| *at < sectors)
 }
 
-/// Returns the sectors of the entries that a root lists, in its order. Reads each catalogue once.
-/// Refuses with Damaged if one of these sectors doesn't lie on the disk.
+/// Returns the sectors of the entries that a root lists, in the order of the list. Reads each
+/// catalogue once. Refuses with Damaged if one of these sectors doesn't lie on the disk.
 pub(crate) fn read_listed<D: Disk>(
     alloc: Global,
     disk: &mut D,

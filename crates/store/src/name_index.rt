@@ -23,9 +23,9 @@ const GUESSES: usize = 4096;
 #[derive(Drop)]
 pub(crate) struct NameIndex {
     positions: Vec<u16>,
-    // For the sum of a name, the position at which a name with this sum was put last. Nothing is
-    // claimed about the guesses: each is compared with the name before it is returned, and none is
-    // corrected when an entry before it is removed.
+    // For the sum of a name, the position at which a name with this sum was put last. A guess may
+    // be wrong, so the name at its position is compared before the position is returned. No guess
+    // is corrected when an earlier entry is removed.
     guesses: Vec<u16>,
 }
 
@@ -68,8 +68,8 @@ fn precedes(entries: &[PlacedEntry], position: u16, name: &[u8]) -> bool
     name_at(entries, position).cmp(name).is_lt()
 }
 
-/// Returns a sum over the bytes of a name: the place of the name's guess. Takes eight bytes at a
-/// time, because a file decides how many names it needs and how long they are.
+/// Returns a sum over the bytes of a name: the place of the name's guess. Adds eight bytes at a
+/// time to be fast: a file decides how many names are looked up and how long they are.
 fn guess_place(name: &[u8]) -> usize {
     let (words, rest) = name.as_chunks::<8>();
     let mut sum = 0u64;

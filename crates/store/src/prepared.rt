@@ -1,4 +1,5 @@
-// A change in two steps: it is prepared, with everything that may refuse it, and then made.
+// A change is made in two steps. Preparing it makes the tests, allocates memory and claims sectors.
+// Making it is refused only with S1.
 use crate::change::Change;
 use crate::edit::Edit;
 use crate::kept::Kept;

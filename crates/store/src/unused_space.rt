@@ -95,7 +95,7 @@ impl<D: Disk> Store<D> {
             → (result.free ≡ free (room_of self.now) s)
             × (result.sectors ≡ free (room_of self.now) s + catalogues_for (length s.libraries)) }
 
-        // Bytes pass the tests of a put under a new name exactly if they aren't longer than
+        // Bytes pass the tests of a put under a new name if and only if they aren't longer than
         // `largest`. `largest` is 0, or a length that passes the tests itself.
         ensures largest { (s : State) → IsAt D.facts self.now s
             → (bytes : List ℕ) → IsFileSize (length bytes)

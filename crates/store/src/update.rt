@@ -8,8 +8,8 @@ use std::alloc::Global;
 use std::marker::Model;
 
 /// A store in the midst of an update: the current state on its disk, and a draft of the state after
-/// the update. The byte strings of the draft are written to unused sectors as they come, and
-/// nothing lists them before the commit.
+/// the update. The update writes the byte strings that it puts to unused sectors at once. No root
+/// leads to them before the commit.
 pub struct Update<D: Disk> {
     pub(crate) disk: D,
     pub(crate) kept: Kept,
@@ -63,7 +63,7 @@ impl<D: Disk> Update<D> {
     ghost use Rattle.std.specs.Prelude.{◌≡◌};
 
     /// Gives an update up: the store and its layout are as if no update had been begun. Makes no
-    /// call of the disk, also after S2.
+    /// call of the disk. It also works after S2.
     pub fn give_up(self) -> Store<D>
         ensures { result ≡ self.store }
     {

@@ -26,8 +26,8 @@ impl<D: Disk> Store<D> {
     /// store or the new one whole. Refuses with S6, S3, S5, S10, S7, S11 or S1, and then hands the
     /// disk back; only S1 may come after the first write.
     pub fn upgrade(alloc: Global, disk: D) -> Result<Store<D>, (StoreRefusal, D)>
-        // A stop at any moment leaves what it could leave before, or the state by the rules of
-        // either version.
+        // A stop at any moment leaves what it could leave before. On a disk of version 1, it may
+        // also leave the state after the upgrade.
         ensures any_moment { IsTrue (D.facts disk).honest → (s : State)
             → StandsOld (D.facts disk).now s
             → LeavesOnly (D.facts disk) (D.facts (disk_after result))
@@ -45,8 +45,8 @@ impl<D: Disk> Store<D> {
             → IfErr result (λ e. e.0 ≢ StoreRefusal.Device
             → (D.facts e.1).now ≡ (D.facts disk).now) }
 
-        // The store is at the state that the disk's sectors held before, or, if the disk was of
-        // version 1, at the state after it. Every mixture holds that state.
+        // The store is at the state that the disk's sectors held before. If the disk was of version
+        // 1, the store is at the upgraded state instead. Every mixture holds the store's state.
         ensures ok { IsTrue (D.facts disk).honest → IfOk result (λ store.
             (s : State) × IsUpgradeOf D.facts store (D.facts disk).now s) }
         ensures stands { IsTrue (D.facts disk).honest → (s : State) → Stands (D.facts disk).now s

@@ -29,7 +29,7 @@ carried_out_whole n start (Write at content ∷ steps) whole writes =
     (All-tail (IsWriteOn n) (at, content) (writes_in steps) writes)
 carried_out_whole n start (Sync ∷ steps) whole writes = carried_out_whole n start steps whole writes
 
--- what is true of all writes is true of the first ones
+-- what is true of all writes of a plan is true of the writes in its first steps
 pub writes_taken : (P : SectorWrite → Type 0) (i : ℕ) (steps : List Step) → All P (writes_in steps) → All P (writes_in (take i steps))
 writes_taken P zero steps all = All-nil P
 writes_taken P (suc i) [] all = All-nil P
@@ -67,7 +67,7 @@ steps_at_end (p ∷ planned) n =
     ∙ ap (λ m. m + 1) (ap (steps_at planned) later ∙ steps_at_end planned n)
     ∙ omega arith
 
--- the plan up to the present moment is the plan
+-- the steps that were made up to the present moment are the whole plan
 pub plan_now : (planned : List PlannedStep) (n : ℕ) → take (steps_at planned (calls_for planned + n)) (plan_in planned) ≡ plan_in planned
 plan_now planned n =
     ap (λ m. take m (plan_in planned)) (steps_at_end planned n)

@@ -5,11 +5,11 @@ use Rattle.sector_disk.specs.Disk.{IsWhole, HoldsNow, HasWholeSectors}
 use Rattle.byte_disk.specs.declared.read_only.ReadOnlyDisk.{ReadOnlyDisk}
 use Rattle.byte_disk.specs.ReadOnlyDisk.{read_only_facts}
 
--- The contents that reads of such a disk return are one of the mixtures.
+-- The contents that reads of a read-only disk return are one of the mixtures.
 pub read_only_holds : (disk : ReadOnlyDisk) → HoldsNow (read_only_facts disk)
 read_only_holds disk = record { size = refl; each = λ k lt. refl }
 
--- The sectors of such a disk are whole.
+-- The sectors of a read-only disk are whole.
 pub read_only_whole : (disk : ReadOnlyDisk) → HasWholeSectors (read_only_facts disk)
 read_only_whole disk =
     record {

@@ -36,7 +36,7 @@ module _ {F : Type 0} {g : Ghosts F} where
   pub read_of : (disk : FileDisk F g) (k : ℕ) → k < disk.buffered.sectors → sector (file_facts disk).now k ≡ shown_of disk.latest.items k
   read_of disk k lt = get_or-map-range_with_len (shown_of disk.latest.items) 0 disk.buffered.sectors k k [] lt (omega arith)
 
-  -- what a stop now may leave, stated without the past
+  -- a stop now may leave each content that it might have left at a moment in `since`
   pub left_now : (disk : FileDisk F g) (k : ℕ) (c : Sector) → LeftOf disk.since.items k c → MayLeave (file_facts disk) k c
   left_now disk k c left = subst (λ since. LeftOf since.items k c) (sym (get_or_past disk.past.items _ disk.since (omega (arith, disk.counted)))) left
 

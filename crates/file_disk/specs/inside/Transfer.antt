@@ -5,7 +5,7 @@ use Rattle.file_disk.specs.SectorFile.{FileFacts, MayHave, IsGivenTo, IsOldOrGiv
 use Rattle.file_disk.specs.declared.read_ahead.ReadAhead.{ReadAhead}
 use Rattle.file_disk.specs.ReadAhead.{KeepsOf}
 
--- At no moment of some calls did the medium have anything except what is allowed.
+-- From `old` to `new`, the medium had at each moment only contents that `Allowed` allows.
 pub record StaysWithin (Allowed : ℕ → Sector → Type 0) (old new : FileFacts) : Type 0 where
   pub sectors : new.sectors ≡ old.sectors
   pub later : old.time ≤ new.time
@@ -13,8 +13,8 @@ pub record StaysWithin (Allowed : ℕ → Sector → Type 0) (old new : FileFact
   pub past : (u k : ℕ) (c : Sector) → u ≤ old.time → new.may_have u k c → old.may_have u k c
   pub each : (u k : ℕ) (c : Sector) → old.time ≤ u → u ≤ new.time → new.may_have u k c → Allowed k c
 
--- writes were given the sectors `given`, from sector `at` on, some perhaps more than once, and transferred the first
--- `done` of them
+-- writes of the sectors `given`, to sector `at` and the sectors after it, have transferred the first
+-- `done` of them; some sectors may have been written more than once
 pub record IsWrittenAt (at : ℕ) (given : List Sector) (done : ℕ) (old new : FileFacts) : Type 0 where
   pub within : StaysWithin (λ k c. MayHave old k c ⊎ IsGivenTo at given k c) old new
   pub trusted : new.sync_failed ≡ false

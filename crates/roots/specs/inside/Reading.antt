@@ -17,7 +17,7 @@ use Rattle.roots.specs.declared.entry.Entry.{Entry}
 abbrev pub number_at : Width → ℕ → List ℕ → ℕ
 number_at w at bytes = from_le_bytes w (drop at bytes)
 
--- the extent that the first of these bytes encode
+-- the extent that the first eight of these bytes encode
 abbrev pub extent_of : List ℕ → Extent
 extent_of bytes = record { start = from_le_bytes w32 bytes; count = from_le_bytes w32 (drop 4 bytes) }
 

@@ -18,7 +18,7 @@ pub present : (writes : List Written) (synced : ℕ) (past : List Moment)
     → moment_at writes synced past (length past) ≡ record { writes = length writes; synced = synced; failed = false }
 present writes synced past = get_or_past past (length past) _ (omega arith)
 
--- what a stop now may leave, stated without the past
+-- a stop now may leave each choice of a sector
 pub left_now : (start : List Sector) (writes : List Written) (synced : ℕ) (past : List Moment) (k : ℕ) (c : Sector)
     → Contains (choices start writes synced k) c → (facts_of start writes synced past).may_leave (length past) k c
 left_now start writes synced past k c left =

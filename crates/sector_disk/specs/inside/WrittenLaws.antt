@@ -19,7 +19,8 @@ contents_split start writes zero = refl
 contents_split start [] (suc n) = refl
 contents_split start (w ∷ writes) (suc n) = contents_split (set start w.at w.content) writes n
 
--- one more write at the front counts for its own sector, and not for another one
+-- a write at the front of the list adds its content to the contents that were written to its own sector,
+-- and not to those of another sector
 pub written_to_same : (k : ℕ) (w : Written) (writes : List Written) → w.at ≡ k → written_to k (w ∷ writes) ≡ w.content ∷ written_to k writes
 written_to_same k w writes same = rw (eq-eqb w.at k same) refl
 

@@ -33,7 +33,7 @@ staged_calls Nothing = 0
 staged_calls (Catalogues catalogues) = length catalogues + 1
 staged_calls (Put put catalogues) = sector_count (extents_of put.entry) + length catalogues + 2
 
--- an entry that is put can be encoded
+-- if a byte string is put, its entry can be encoded
 abbrev pub HasSpelling : Staged → Type 0
 HasSpelling Nothing = Unit
 HasSpelling (Catalogues catalogues) = Unit
@@ -46,7 +46,7 @@ CanBeStaged sectors Nothing listed = Unit
 CanBeStaged sectors (Catalogues catalogues) listed = HavePlaces sectors catalogues × CanBeCatalogued (length catalogues) listed
 CanBeStaged sectors (Put put catalogues) listed = HasPlace sectors put catalogues × CanBeCatalogued (length catalogues) listed
 
--- bytes that are put are in their extents, followed by zeros
+-- if a byte string is put, the sectors of its extents hold its bytes, followed by zeros
 abbrev pub HasBytes : List Sector → Staged → List ℕ → Type 0
 HasBytes m Nothing bytes = Unit
 HasBytes m (Catalogues catalogues) bytes = Unit
@@ -70,13 +70,13 @@ abbrev pub HasSync : Staged → (written : List PlacedEntry) → Type 0
 HasSync Nothing written = written ≡ []
 HasSync staged written = Unit
 
--- The sectors of these entries and their bytes, which were written before, are in `m` as they are
--- now.
+-- `m` and `now` have the same contents in the sectors of the entries `written` and of their bytes. These
+-- sectors were written before.
 pub record AreWritten (now : List Sector) (written : List PlacedEntry) (m : List Sector) : Type 0 where
   pub each : (k : ℕ) → Contains (flat_map sectors_of written) k → sector m k ≡ sector now k
 
--- What is staged is in sectors that `s` doesn't use and that weren't written before. Sectors that
--- hold `s`, what is staged and what was written before hold `s'` once the next root is written.
+-- What is staged is in sectors that `s` doesn't use and that weren't written before. If sectors hold
+-- `s`, what is staged and what was written before, then they hold `s'` once the next root is written.
 pub record IsFollowed (version : Version) (root : Root) (entries : List PlacedEntry) (s : State) (now : List Sector) (written : List PlacedEntry)
     (change : Change) (bytes listed : List ℕ) (others : List PlacedEntry) (s' : State) : Type 0 where
   pub unused : (k : ℕ) → Contains (staged_sectors change.staged) k → Contains (used root entries) k → ⊥

@@ -23,7 +23,7 @@ use Rattle.store.specs.inside.NameIndex.{IsIndex}
 use Rattle.store.specs.inside.Room.{IsPutTaken}
 use Rattle.store.specs.inside.Stored.{opened}
 
--- what contracts see of an update
+-- an update as contracts see it
 abbrev pub drafting : {D : Type 0} → D → Kept → Draft → Drafted D
 drafting disk kept draft = record { store = opened disk kept; entries = draft.entries.items; preloads = draft.preloads.items; touched = draft.touched }
 
@@ -103,8 +103,8 @@ pub record KeepsList (old new : Kept) : Type 0 where
   pub index : new.index ≡ old.index
   pub held : new.held ≡ old.held
 
--- Bytes got room beside a draft, and only the layout changed; or they got none, and nothing
--- changed.
+-- Either sectors were taken for the bytes beside a draft, and only the layout changed; or the call
+-- refused, and nothing changed.
 pub record TakesBeside (old new : Kept) (name bytes : List ℕ) (spare : ℕ) (Refuses : StoreRefusal → Type 0)
     (result : Result PlacedEntry StoreRefusal) : Type 0 where
   pub kept : new ≡ with_layout old new.layout

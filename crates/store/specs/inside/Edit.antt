@@ -11,11 +11,11 @@ use Rattle.store.specs.declared.holds.HeldRow.{HeldRow}
 use Rattle.store.specs.Stands.{catalogues_of, name_of, sectors_of}
 use Rattle.store.specs.inside.Room.{IsGivenUp, IsReleased}
 
--- an entry for positions where there is none
+-- an entry for positions that have no entry
 abbrev pub no_entry : PlacedEntry
 no_entry = record { at = 0; entry = record { file_length = 0; name_length = 0; extent_count = 0; name = []; extents = [] } }
 
--- a list with one element for each entry, after the edit
+-- the list after the edit; it has one element for each entry, and `of` returns the element of an entry
 abbrev pub edited_by : {A : Type 0} → (PlacedEntry → A) → Edit → List A → List A
 edited_by of Nothing list = list
 edited_by of (Append put) list = list ++ of put ∷ []
@@ -40,21 +40,21 @@ KeepsNames (Append put) entries = All (λ other. name_of other.entry ≢ name_of
 KeepsNames (Replace position put) entries = name_of (slice_index_or entries position no_entry).entry ≡ name_of put.entry
 KeepsNames (Remove position) entries = Unit
 
--- an entry that the edit puts can be encoded
+-- if the edit puts an entry, this entry can be encoded
 abbrev pub IsSpelt : Edit → Type 0
 IsSpelt Nothing = Unit
 IsSpelt (Append put) = EntryHasSpelling put.entry
 IsSpelt (Replace position put) = EntryHasSpelling put.entry
 IsSpelt (Remove position) = Unit
 
--- there is room in memory for one more element, if the edit adds one
+-- if the edit adds an element, the memory of the list has room for one more
 abbrev pub HasMemory : {A : Type 0} → Edit → Vec A → Type 0
 HasMemory Nothing list = Unit
 HasMemory (Append put) list = vec_len list < vec_capacity list
 HasMemory (Replace position put) list = Unit
 HasMemory (Remove position) list = Unit
 
--- there is room in the order of the names for one more position, if the edit adds one
+-- if the edit adds an entry, the order of the names has room for one more position
 abbrev pub HasPlaces : Edit → ℕ → Type 0
 HasPlaces Nothing room = Unit
 HasPlaces (Append put) room = 1 ≤ room
@@ -66,8 +66,8 @@ pub record CanEditSectors (edit : Edit) (sectors : Vec ℕ) : Type 0 where
   pub within : IsWithin edit (length sectors.items)
   pub memory : HasMemory edit sectors
 
--- the edit can be made in a list of entries, and in an order of their names that has room for
--- `room` more
+-- the edit can be made in a list of entries, and in the order of their names, which has room for `room`
+-- more positions
 pub record CanEdit (edit : Edit) (entries : Vec PlacedEntry) (room : ℕ) : Type 0 where
   pub within : IsWithin edit (length entries.items)
   pub spelt : IsSpelt edit

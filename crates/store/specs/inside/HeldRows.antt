@@ -20,7 +20,7 @@ unlisted hold = record { placed = hold.placed; holders = hold.holders; listed = 
 abbrev pub first_row : PlacedEntry → HeldRow
 first_row placed = record { placed = placed; holders = 1; listed = true }
 
--- the row of the byte string with this entry sector is `hold`, at this place of the table
+-- `hold` is the row at position `place` of the table, and its entry is in `sector`
 pub record IsAtPlace (held : List HeldRow) (sector place : ℕ) (hold : HeldRow) : Type 0 where
   pub inside : place < length held
   pub is : (d : HeldRow) → slice_index_or held place d ≡ hold
@@ -40,7 +40,8 @@ pub record IsHeldMore (old new : List HeldRow) (sector : ℕ) : Type 0 where
   pub at : IsAtPlace old sector place hold
   pub is : new ≡ set old place (with_holders (hold.holders + 1) hold)
 
--- the state no longer lists the held byte string
+-- the row of a held byte string is now marked as not listed, because the state no longer lists the byte
+-- string
 pub record IsLeft (old new : List HeldRow) (sector : ℕ) : Type 0 where
   pub place : ℕ
   pub hold : HeldRow
@@ -64,8 +65,8 @@ pub record IsLetGo (old new : List HeldRow) (sector : ℕ) (hold : HeldRow) : Ty
   pub last : hold.holders < 2
   pub is : new ≡ remove old place
 
--- A row of the table is sound: it has a holder, and if it counts as listed, the state lists its
--- byte string.
+-- A row of the table is sound: it has a holder, and if it is marked as listed, the state lists its byte
+-- string.
 pub record IsHeldRow (entries : List PlacedEntry) (hold : HeldRow) : Type 0 where
   pub fits : EntryHasSpelling hold.placed.entry
   pub some : 0 < hold.holders

@@ -14,7 +14,7 @@ pub record Index : Type 0 where
   pub positions : List ℕ
   pub room : ℕ
 
--- the order of the name at a position and of a name that is looked for
+-- the comparison of the name at `position` with the name `name`
 abbrev pub order_to : List (List ℕ) → List ℕ → ℕ → Ordering
 order_to names name position = slice_cmp nat_cmp (name_at names position) name
 
@@ -27,7 +27,7 @@ pub record IsSortedOrder (names : List (List ℕ)) (positions : List ℕ) : Type
   pub moved : IsPermutation (range_with_len 0 (length names)) positions
   pub sorted : IsSortedBy (λ a b. is_lt (name_order names a b)) positions
 
--- each name comes before the next one
+-- in the order of the positions, each name is less than the next one
 pub record Rises (names : List (List ℕ)) (positions : List ℕ) : Type 0 where
   pub rise : (k : ℕ) → k + 1 < length positions → name_order names (slice_index positions k) (slice_index positions (k + 1)) ≡ Less
 
@@ -37,6 +37,6 @@ pub record IsPlace (names : List (List ℕ)) (positions name : List ℕ) (place 
   pub before : (k : ℕ) → k < place → order_to names name (slice_index positions k) ≡ Less
   pub behind : (k : ℕ) → place ≤ k → k < length positions → is_lt (order_to names name (slice_index positions k)) ≡ false
 
--- a position after the entry at `gone` was removed: the entries after it moved up
+-- the new value of `position` after the entry at `gone` was removed: the entries after `gone` moved up
 abbrev pub closed_up : ℕ → ℕ → ℕ
 closed_up gone position = if nat_lt gone position then position - 1 else position

@@ -44,8 +44,8 @@ IsTestedNew kept e = ((e ≡ Reopen) × IsTrue kept.failed)
     ⊎ ((e ≡ TooMany) × IsFalse kept.failed × (most_libraries ≤ length kept.entries.items))
     ⊎ ((e ≡ GenerationEnd) × IsFalse kept.failed × (length kept.entries.items < most_libraries) × (kept.root.generation ≡ last_generation))
 
--- The staged sectors are claimed in the layout, beside those that were claimed before. The next root lists the
--- new list, and the sectors that only the old list used are given up then.
+-- The staged sectors are claimed in the layout, beside those that were claimed before. The next root
+-- leads to the new list. Then the sectors that only the old list used are given up.
 pub record IsPrepared (root : Root) (entries : List PlacedEntry) (held : List HeldRow) (layout : List Bool) (prepared : Prepared) : Type 0 where
   pub before : List Bool
   pub kept : IsKept root entries held before
@@ -56,7 +56,7 @@ pub record IsPrepared (root : Root) (entries : List PlacedEntry) (held : List He
   pub next : IsNext root (edited prepared.edit entries) catalogues preloads prepared.change.root
   pub moved : IsMoved (used root entries) (staged_sectors prepared.change.staged)
       (used prepared.change.root (edited prepared.edit entries)) (gone_sectors prepared.edit root entries)
-  -- also if holders keep the sectors of the replaced or removed entry
+  -- there is room for the next change, also if holders keep the sectors of the replaced or removed entry
   pub room : (sectors : ℕ) → root.sectors ≤ sectors + (length (lone_sectors held) + length (gone_entry prepared.edit entries))
       → HasRoom sectors prepared.change.root.list (edited prepared.edit entries)
 
@@ -82,7 +82,7 @@ pub record IsMade (old new : Kept) (prepared : Prepared) : Type 0 where
   pub root : new.root ≡ prepared.change.root
   pub entries : new.entries.items ≡ edited prepared.edit old.entries.items
 
--- The effect of preparing a change, with refusals that `Refuses` allows. If preparing is refused, nothing changes that
+-- The effect of preparing a change, with refusals that `Refuses` allows. Preparing changes nothing that
 -- contracts see.
 pub record Prepares (old new : Kept) (Refuses : StoreRefusal → Type 0) (result : Result Prepared StoreRefusal) : Type 0 where
   pub same : ShowsSame old new
@@ -92,7 +92,7 @@ pub record Prepares (old new : Kept) (Refuses : StoreRefusal → Type 0) (result
   pub refusals : IfErr result Refuses
   pub early : IfErr result (λ e. e ≢ Device)
 
--- the result without what was prepared
+-- the result, without the prepared change
 abbrev pub done_of : Result Prepared StoreRefusal → Result (Unit {0}) StoreRefusal
 done_of (Ok prepared) = Ok tt
 done_of (Err refusal) = Err refusal

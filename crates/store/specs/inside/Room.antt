@@ -29,8 +29,9 @@ pub record IsReleased (old new : List Bool) (gone : List ℕ) : Type 0 where
   pub size : length new ≡ length old
   pub each : (kept : List ℕ) → ClaimsJust old (kept ++ gone) → AreDistinct (kept ++ gone) → ClaimsJust new kept
 
--- The state no longer uses an entry's sectors and those of catalogues. They are unused now, except
--- the entry's if somebody holds its byte string.
+-- The state no longer uses the sectors of an entry and of its bytes, nor those of the catalogues. The
+-- sectors of the catalogues are unused now. Those of the entry and its bytes are too, unless somebody
+-- holds its byte string.
 abbrev pub IsGivenUp : (held left : List HeldRow) (old new : List Bool) (placed : PlacedEntry) (catalogues : List ℕ) → Type 0
 IsGivenUp held left old new placed catalogues =
     (IsLeft held left placed.at × IsReleased old new catalogues)
@@ -50,8 +51,8 @@ pub record HasPlace (sectors : ℕ) (placed : PlacedEntry) (catalogues : List �
   pub inside : All (IsUsable sectors) (sectors_of placed ++ catalogues)
   pub once : AreDistinct (sectors_of placed ++ catalogues)
 
--- Bytes with this name got room for themselves, their entry and `catalogues` catalogues, and at
--- least `spare` sectors stay unused.
+-- Sectors were taken for the bytes `bytes`, for their entry with the name `name`, and for `catalogues`
+-- catalogues. At least `spare` sectors are still unused.
 pub record IsPutTaken (old new : List Bool) (name bytes : List ℕ) (catalogues spare : ℕ) (put : PlacedEntry) (listed : List ℕ) : Type 0 where
   pub taken : IsTaken old (div_ceil (length bytes) sector_bytes) (extents_of put.entry) put.at listed
   pub claimed : IsClaimedBeside old new (sectors_of put ++ listed)

@@ -18,7 +18,7 @@ use Rattle.store.specs.Stands.{entry_sectors}
 use Rattle.store.specs.inside.Kept.{IsKept}
 use Rattle.store.specs.inside.NameIndex.{IsIndex}
 
--- what contracts see of a store with this disk, which keeps `kept`
+-- a store with the disk `disk` and the data `kept`, as contracts see it
 abbrev pub opened : {D : Type 0} → D → Kept → Opened D
 opened disk kept = record { disk = disk; root = kept.root; entries = kept.entries.items; held = kept.held; failed = kept.failed }
 
@@ -34,7 +34,7 @@ IsStored sectors kept = IsKept kept.root kept.entries.items kept.held kept.layou
 abbrev pub sectors_for : Kept → ℕ
 sectors_for kept = kept.root.sectors - length (lone_sectors kept.held)
 
--- the number of sectors of the longest unused runs: as many runs as a byte string may have extents
+-- the number of sectors of the longest unused runs, with as many runs as a byte string may have extents
 abbrev pub longest_in : Kept → ℕ
 longest_in kept = sector_count (longest_runs kept.layout)
 

@@ -1,4 +1,4 @@
--- The old list after the commit of a draft's list: which of its sectors stay in use.
+-- The sectors of the old list that stay in use after the commit of a draft's list.
 use Rattle.std.specs.Prelude.{◌≡◌, ◌↔◌, ℕ, ◌+◌, ◌≤◌, Bool, List, [], ◌++◌, length}
 use Rattle.roots.specs.declared.root.Root.{Root}
 use Rattle.store.specs.declared.placed_entry.PlacedEntry.{PlacedEntry}
