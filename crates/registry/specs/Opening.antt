@@ -53,8 +53,8 @@ pub record EndsUpgrading {D : Type 0} (facts : D → DiskFacts) (disk : D) (upgr
   pub answer : IsTrue (facts disk).honest → (s : State) → StandsOld (facts disk).now s
       → IsUpgradeAnswer (refusal_of_upgrade (facts disk).sectors s) (answer_of upgrading)
   pub refused : IsTrue (facts disk).honest → IsNotOld (facts disk).now → IfErr upgrading (λ e. RefusesLook StandsEither (facts disk).now e.0)
-  -- an upgrade makes exactly the calls of opening; on a disk of version 1 also those for the catalogues,
-  -- the root and two syncs
+  -- on a disk of version 2, an upgrade makes exactly the calls of opening; on a disk of version 1, it
+  -- also makes the calls for the catalogues and the root, and two syncs
   pub calls_current : IsTrue (facts disk).honest → (s : State) → Stands (facts disk).now s → IfOk upgrading (λ registry.
       AreCallsExactly (opening_calls registry) (facts disk) (facts registry.disk))
   pub calls_old : IsTrue (facts disk).honest → (s : State) → StandsOld (facts disk).now s → IfOk upgrading (λ registry.
