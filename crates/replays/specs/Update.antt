@@ -26,7 +26,7 @@ use Rattle.program_parts.specs.Streams.{Streams}
 use Rattle.updates.specs.Streams.{CannotWrite, SaysOnly, outputs_of}
 use Rattle.replays.specs.Replay.{IsFault, requests_for, sectors_for}
 
--- the state of the phase is the one that the requests `front` make in a draft of an empty registry
+-- the state of the phase is the state that the requests `front` make in a draft of an empty registry
 abbrev pub IsDraftBehind : List Request → Phase → Type 0
 IsDraftBehind front p = p.state ≡ drafted_by empty_state front
 
@@ -36,7 +36,8 @@ abbrev pub changes_by : List Request → ℕ
 changes_by [] = 0
 changes_by (request ∷ requests) = 1
 
--- the state with the same libraries and preloads, after the one change that makes it
+-- the state with the same libraries and preloads; its generation is the number of changes that an update
+-- makes for it
 abbrev pub renewed : State → State
 renewed s = record { generation = changes_by (requests_for s); libraries = s.libraries; preloads = s.preloads }
 
