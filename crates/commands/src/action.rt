@@ -19,7 +19,7 @@ pub enum Action<'a> {
         /// The argument BASE, which may not be readable as an address.
         base: &'a str,
     },
-    /// Makes an empty registry on a disk. If the file doesn't exist, makes it too.
+    /// Makes an empty registry on a disk. If the file doesn't exist, makes the file too.
     Format {
         /// The path of the disk.
         disk: &'a str,
