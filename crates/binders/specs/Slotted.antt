@@ -13,7 +13,7 @@ pub record Slotted (D : Type 0) : Type 0 where
   pub registry : Opened D
   pub slots : List (Option Binding)
 
--- the lowest slot without a binder, or none if each slot has one
+-- the lowest slot without a binder, or none if each slot has a binder
 abbrev pub lowest_free : List (Option Binding) → Option ℕ
 lowest_free slots = position is_none slots
 

@@ -70,8 +70,8 @@ impl<D: Disk> Binders<D> {
         self.registry.holds_are_sound();
     }
 
-    /// Returns the registry. Its binders are dropped, and what they hold stays held until the disk
-    /// is opened again.
+    /// Returns the registry. Its binders are dropped, and the byte strings that they hold stay held
+    /// until the disk is opened again.
     pub fn into_registry(self) -> Registry<D>
         ensures { result ≡ self.registry }
     {

@@ -1,4 +1,4 @@
-// Carries out events, one after the other.
+// Carries out events one after the other.
 use crate::binders::Binders;
 use crate::event::{Event, EventReply};
 use registry::Step;
