@@ -45,8 +45,8 @@ renewed s = record { generation = changes_by (requests_for s); libraries = s.lib
 abbrev pub LeavesAllOrNothing : {D : Type 0} → (D → DiskFacts) → State → D → D → Type 0
 LeavesAllOrNothing facts s disk left = LeavesOnly (facts disk) (facts left) (λ m. Mixture (facts disk) m ⊎ (Stands m empty_state ⊎ Stands m (renewed s)))
 
--- `refusal` may refuse a line or the commit on a disk of `sectors` sectors. S7 is possible only if these
--- are too few for the state. S8, S1, S2 and S11 are possible on any disk.
+-- `refusal` may refuse a line or the commit on a disk of `sectors` sectors. S7 is possible only if
+-- `sectors` is too small for the state. S8, S1, S2 and S11 are possible on any disk.
 abbrev pub IsHindrance : State → (sectors : ℕ) → Refusal → Type 0
 IsHindrance s sectors Full = sectors < sectors_for s
 IsHindrance s sectors Fragmented = Unit {0}
