@@ -127,7 +127,7 @@ module _ {D : Type 0} (facts : D → DiskFacts) (disk : D) where
         × (EndsInCommit contents io lines answers begins.old u status left
         ⊎ (EndsRefused io lines answers begins.old u status left ⊎ EndsBroken io lines answers begins.old u status left))
 
-    -- either an update was run over the disk, or the disk was refused and returned, and standard error
+    -- either an update was run over the disk; or the disk was refused and returned, and standard error
     -- reports why
     abbrev pub UpdateEnds : Streams → Status → D → Type 0
     UpdateEnds io status left =
