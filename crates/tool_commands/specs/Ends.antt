@@ -68,7 +68,7 @@ module _ (old new : DiskFacts) where
       ⊎ SaysOnly NoMemory memory_line io status
 
   -- `file`: either exactly the bytes of the library named `name` are written, or there is no such
-  -- library, or its bytes can't be read
+  -- library, or the bytes of the library can't be read
   abbrev pub FileEnds : State → List ℕ → Streams → Status → Type 0
   FileEnds s name io status =
       ((bytes : List ℕ) × HasFile s name bytes × TellsOnly Done bytes io status)

@@ -60,7 +60,7 @@ SaysUnread read_file.OutOfMemory before after = AppendsFront before after memory
 abbrev pub SystemDisk : Type 0
 SystemDisk = FileDisk DiskFile ghosts
 
--- Either the question is answered for a new disk over a file, or no disk was opened, and standard error
+-- Either the question is answered for a new disk over a file; or no disk was opened, and standard error
 -- reports why. S6 (BadGeometry) is reported only of a length that no disk has.
 abbrev pub TellEnds : Question → Streams → Status → Type 0
 TellEnds question io status =
