@@ -7,7 +7,7 @@ use Rattle.store.specs.Stands.{Stands}
 use Rattle.store.specs.declared.refusal.StoreRefusal.{StoreRefusal}
 use Rattle.store.specs.declared.refusal.StoreRefusal.TheVariants.{BadGeometry, Device, OutOfMemory}
 
--- The bytes have whole sectors, as a disk has, and these sectors hold state s.
+-- The bytes have the length of a disk, and their sectors hold state s.
 pub record HoldStore (bytes : List ℕ) (s : State) : Type 0 where
   pub size : IsDiskLength (length bytes)
   pub stands : Stands (sectors_in bytes) s
