@@ -35,7 +35,7 @@ pub record EventStep {D : Type 0} (facts : D → DiskFacts) (old : Slotted D) (h
 pub record EventsRan {D : Type 0} (facts : D → DiskFacts) (old new : Slotted D) (happenings : List Happening) (replies : List EventReply) : Type 0 where
   -- the registry with its binders after each event
   pub passed : List (Slotted D)
-  -- each event had its effect on what the event before it left
+  -- each event had its effect on the registry with binders that the event before it left
   pub steps : Steps (EventStep facts) old happenings replies passed
   pub last : new ≡ last_of old passed
   -- If the registry is at a state, a stop at any moment leaves the state after accepted commands. They
