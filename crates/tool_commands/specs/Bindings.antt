@@ -1,4 +1,4 @@
--- How a form ends that reports what the symbols of a program are bound to (own).
+-- How `bindings` ends, the form that reports what the symbols of a program are bound to (own).
 use Rattle.std.specs.Prelude.{◌≡◌, ◌≢◌, ◌⊎◌, ℕ, List, Option, None, Ok, Err, map, false, is_none, if◌then◌else◌}
 use Rattle.bindings.specs.Bindings.{bindings_text}
 use Rattle.bindings.specs.Dependencies.{dependencies_text}
