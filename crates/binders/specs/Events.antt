@@ -46,12 +46,14 @@ pub record AppliesIn {D : Type 0} (facts : D → DiskFacts) (old new : Slotted D
   pub alone : HoldAlone old → HoldAlone new
   pub counted : HoldAlone old → CountsOnce old
 
--- the step was answered with this last answer, or with this refusal
+-- the step of the binder in `slot` was answered with `answer`: the last answer of the binder, or a
+-- refusal
 abbrev pub StepReplies : {D : Type 0} → (D → DiskFacts) → Slotted D → Slotted D → ℕ → Reply → Type 0
 StepReplies facts old new slot answer = AdvancesIn facts old new slot (Ok (step.Final answer))
     ⊎ ((refusal : Refusal) × (answer ≡ Refused refusal) × AdvancesIn facts old new slot (Err refusal))
 
--- the event was answered with this reply, and had the effect of its call
+-- the event was answered with this reply, and had the effect of the call that carries out events of its
+-- kind
 abbrev pub Happens : {D : Type 0} → (D → DiskFacts) → Slotted D → Slotted D → Happening → EventReply → Type 0
 Happens facts old new (apply request) (Replied answer) = AppliesIn facts old new request answer
 Happens facts old new (begin program base) (Slot slot) = BeginsIn facts old new program base (Ok slot)

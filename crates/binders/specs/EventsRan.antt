@@ -1,5 +1,5 @@
--- The effect of a list of events on a registry with binders, and the states that a stop leaves
--- meanwhile (own).
+-- The effect of a list of events on a registry with binders, and the states that a stop during the
+-- events leaves (own).
 use Rattle.std.specs.Prelude.{◌≡◌, List, [], ◌∷◌, map}
 use Rattle.sector_disk.specs.Disk.{DiskFacts}
 use Rattle.states.specs.State.{State}
@@ -19,7 +19,7 @@ abbrev pub exchange_of : Happening → EventReply → Exchange
 exchange_of (apply request) (Replied answer) = answered (command request) answer
 exchange_of happening reply = stepped
 
--- events and their replies as exchanges, one each
+-- events and their replies as exchanges, with one exchange for each event
 abbrev pub exchanges : List Happening → List EventReply → List Exchange
 exchanges (happening ∷ happenings) (reply ∷ replies) = exchange_of happening reply ∷ exchanges happenings replies
 exchanges happenings replies = []
@@ -31,11 +31,11 @@ pub record EventStep {D : Type 0} (facts : D → DiskFacts) (old : Slotted D) (h
   pub holds_before : AreHolds old.registry
   pub holds_after : AreHolds new.registry
 
--- These events were answered with these replies, one after the other, with one reply each.
+-- These events were answered with these replies, one after the other, with one reply for each event.
 pub record EventsRan {D : Type 0} (facts : D → DiskFacts) (old new : Slotted D) (happenings : List Happening) (replies : List EventReply) : Type 0 where
   -- the registry with its binders after each event
   pub passed : List (Slotted D)
-  -- each event had its effect on what the event before it left
+  -- each event had its effect on the registry with binders that the event before it left
   pub steps : Steps (EventStep facts) old happenings replies passed
   pub last : new ≡ last_of old passed
   -- If the registry is at a state, a stop at any moment leaves the state after accepted commands. They

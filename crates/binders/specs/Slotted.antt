@@ -8,12 +8,12 @@ use Rattle.registry.specs.Flight.{Flight}
 use Rattle.registry.specs.Flying.{Flies, handles_of}
 use Rattle.registry.specs.inside.Binding.{Binding}
 
--- a registry, and its slots: each has a binder, or none
+-- a registry, and its slots, each of which has a binder or is free
 pub record Slotted (D : Type 0) : Type 0 where
   pub registry : Opened D
   pub slots : List (Option Binding)
 
--- the lowest slot without a binder, or none if each slot has one
+-- the lowest slot without a binder, or none if each slot has a binder
 abbrev pub lowest_free : List (Option Binding) → Option ℕ
 lowest_free slots = position is_none slots
 

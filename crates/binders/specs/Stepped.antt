@@ -40,14 +40,14 @@ BegunIn facts old new program base s flights (Ok slot) = (lowest_free old.slots 
     × AreOn facts new (slice_set flights slot (Some (begun program base s)))
 BegunIn facts old new program base s flights (Err refusal) = AreOn facts new flights
 
--- A binder was begun in a slot, or refused: with S2, with C7 exactly if each slot has a binder, or
--- with S11.
+-- A binder was begun in a slot, or it was refused with S2, C7 or S11. The refusal is S2 if and only if a
+-- write or a sync has failed. Otherwise it is C7 if and only if each slot has a binder.
 pub record BeginsIn {D : Type 0} (facts : D → DiskFacts) (old new : Slotted D) (program : List ℕ) (base : ℕ) (result : Result ℕ Refusal) : Type 0 where
   pub ok : (s : State) (flights : List (Option Flight)) → IsAt facts old.registry s
       → AreOn facts old flights → BegunIn facts old new program base s flights result
   pub stays : StaysAt facts old new
-  -- on any disk, and without a call of the disk: a slot gets a binder, or none does, and no other flight
-  -- changes
+  -- on any disk: no call of the disk is made, one slot gets a binder or the slots are unchanged, and the
+  -- other binders stay on their flights
   pub slots : IfOk result (λ slot. (lowest_free old.slots ≡ Some slot) × IsPut old.slots slot new.slots)
   pub err : OnErr result ((new.slots ≡ old.slots) × FlyOn facts old new)
   pub failed : IsTrue old.registry.failed → new ≡ old
@@ -74,15 +74,15 @@ abbrev pub SlotsAfter : List (Option Binding) → ℕ → List (Option Binding) 
 SlotsAfter old slot new (Ok (Final answer)) = new ≡ slice_set old slot None
 SlotsAfter old slot new result = IsPut old slot new
 
--- The binder in a slot made a step. The step is refused with C8, before all other tests, exactly if the
--- slot has no binder.
+-- The binder in a slot made a step. The step is refused with C8 if and only if the slot has no binder.
+-- This is the first test.
 pub record AdvancesIn {D : Type 0} (facts : D → DiskFacts) (old new : Slotted D) (slot : ℕ) (result : Result Step Refusal) : Type 0 where
   pub step : (flights : List (Option Flight)) (flight : Flight) → AreOn facts old flights
       → slice_index_or flights slot None ≡ Some flight → SteppedIn facts old new slot flights flight result
   pub bounds : (flights : List (Option Flight)) (flight : Flight) → AreOn facts old flights
       → slice_index_or flights slot None ≡ Some flight → IsBounded flight
-  -- during the step, a stop leaves only what it could leave before; after the step, it may leave exactly
-  -- the same as before
+  -- During the step, a stop leaves only sectors that a stop could leave before the step. After the step,
+  -- a stop may leave exactly these sectors.
   pub any_moment : IsTrue (facts old.registry.disk).honest
       → LeavesOnly (facts old.registry.disk) (facts new.registry.disk) (Mixture (facts old.registry.disk))
   pub unchanged : IsTrue (facts old.registry.disk).honest → IsUnchanged (facts old.registry.disk) (facts new.registry.disk)
@@ -97,8 +97,8 @@ pub record AdvancesIn {D : Type 0} (facts : D → DiskFacts) (old new : Slotted 
   pub answers : IfOk result IsLastStep
   pub calls : AreCalls (facts old.registry.disk) (facts new.registry.disk)
 
--- The binder in a slot was ended. The answer is Done, or C8 exactly if the slot has no binder. No call
--- of the disk is made.
+-- The binder in a slot was ended. If the slot has no binder, the answer is C8; otherwise it is Done. No
+-- call of the disk is made.
 pub record CancelsIn {D : Type 0} (facts : D → DiskFacts) (old new : Slotted D) (slot : ℕ) (answer : Reply) : Type 0 where
   pub ok : (flights : List (Option Flight)) → AreOn facts old flights → AreOn facts new (slice_set flights slot None)
   pub stays : StaysAt facts old new

@@ -6,8 +6,8 @@ use sector_disk::Disk;
 use std::alloc::Global;
 use std::marker::Model;
 
-/// A registry with up to 8 binders. Each binds a program, step by step, against the registry as it
-/// was when the binder was begun. No binder is kept when the disk is opened again.
+/// A registry with up to 8 binders. Each binder binds a program, step by step, against the registry
+/// as it was when the binder was begun. No binder is kept when the disk is opened again.
 pub struct Binders<D: Disk> {
     pub(crate) alloc: Global,
     registry: Registry<D>,
@@ -70,8 +70,8 @@ impl<D: Disk> Binders<D> {
         self.registry.holds_are_sound();
     }
 
-    /// Returns the registry. Its binders are dropped, and what they hold stays held until the disk
-    /// is opened again.
+    /// Returns the registry. Its binders are dropped, and the byte strings that they hold stay held
+    /// until the disk is opened again.
     pub fn into_registry(self) -> Registry<D>
         ensures { result ≡ self.registry }
     {
@@ -149,8 +149,8 @@ impl<D: Disk> Binders<D> {
         }
     }
 
-    /// Ends the binder in `slot`, and then the slot is free. Returns Done, also after S2, or C8 if
-    /// the slot has no binder. Allocates nothing, and makes no call of the disk.
+    /// Ends the binder in `slot`; afterwards the slot is free. Returns Done, also after S2. If the
+    /// slot has no binder, returns C8. Allocates nothing, and makes no call of the disk.
     pub fn cancel(&mut self, slot: usize) -> Reply
         ensures { CancelsIn D.facts self.old self.new slot result }
     {

@@ -1,4 +1,4 @@
-// Carries out events, one after the other.
+// Carries out events one after the other.
 use crate::binders::Binders;
 use crate::event::{Event, EventReply};
 use registry::Step;
@@ -40,8 +40,8 @@ impl<D: Disk> Binders<D> {
         }
     }
 
-    /// Carries out events one after the other, and returns one reply for each. If memory for the
-    /// replies is refused, carries out none.
+    /// Carries out `events` one after the other, and returns one reply for each event. If memory
+    /// for the replies is refused, carries out none.
     pub fn run_events(&mut self, events: &[Event<'_>]) -> Result<Vec<EventReply>, AllocError>
         // Each event has its effect on the registry that the event before it left. A stop at any
         // moment leaves the state after accepted commands, which include every command that was

@@ -43,8 +43,8 @@ failures_of (Some disk) = (byte_facts disk).failures
 abbrev pub IsBadLength : List ℕ → StoreRefusal → Type 0
 IsBadLength bytes refusal = (refusal ≡ BadGeometry) × (IsDiskLength (length bytes) → ⊥)
 
--- Nothing is opened on these bytes, for this reason. If they hold a state, whatever its files are, the
--- reason is a failed call or that memory was refused.
+-- Nothing is opened on the bytes `bytes`, and `refusal` is the reason. If the bytes hold a state,
+-- whatever its files are, the reason is a failed call or refused memory.
 pub record IsUnopened (bytes : List ℕ) (refusal : StoreRefusal) : Type 0 where
   pub why : contents.IsUnopened bytes refusal
   pub held : (s : State) → HoldStore bytes s → (refusal ≡ Device) ⊎ (refusal ≡ OutOfMemory)
@@ -59,20 +59,21 @@ pub record IsAsked (bytes : List ℕ) (s : State) (request : Request) (reply : R
   pub leads : reply ≡ Done → LeadsTo sectors.Stands (sectors_in bytes) s (accepted s request) steps
   -- if s is a state of a registry, the steps lead to a state of a registry
   pub registry : reply ≡ Done → Holds bytes s → LeadsTo Stands (sectors_in bytes) s (accepted s request) steps
-  -- there are at most as many steps as calls that the change makes, and one sync before them
+  -- the number of steps is at most the number of calls that the change makes, plus one for the sync
+  -- before them; it is also at most `most_steps request`
   pub few : reply ≡ Done → length steps ≤ calls_of s request + 1
   pub at_most : reply ≡ Done → length steps ≤ most_steps request
 
--- An empty registry was made on these bytes. They had no root before, and the steps lead from these
+-- An empty registry was made on these bytes. The bytes had no root before, and the steps lead from their
 -- sectors to sectors that hold the empty state.
 pub record IsFormatted (bytes : List ℕ) (steps : List Step) : Type 0 where
   pub size : IsDiskLength (length bytes)
   pub unformatted : HasRootMagic (sectors_in bytes) → ⊥
   pub leads : LeadsFrom (sectors_in bytes) (λ m. m ≡ sectors_in bytes) (λ m. Stands m empty_state) steps
-  -- a sync, the root, and a sync
+  -- there are at most three steps: a sync, the write of the root, and a sync
   pub few : length steps ≤ 3
 
--- no registry is made, for this reason
+-- no registry is made on the bytes, and `refusal` is the reason
 abbrev pub IsUnformatted : List ℕ → StoreRefusal → Type 0
 IsUnformatted bytes refusal = IsBadLength bytes refusal ⊎ IsDiskLength (length bytes) × RefusesFormat (sectors_in bytes) refusal
 
@@ -85,7 +86,8 @@ pub record HoldsOld (bytes : List ℕ) (s : State) : Type 0 where
 pub record LeadsOver (bytes : List ℕ) (s : State) (steps : List Step) : Type 0 where
   pub holds : HoldsOld bytes s
   pub leads : LeadsFrom (sectors_in bytes) (λ m. StandsOld m s) (λ m. Stands m (upgraded s)) steps
-  -- a sync, the catalogues, a sync, the root, and a sync
+  -- there are at most these steps: a sync, the writes of the catalogues, a sync, the write of the root,
+  -- and a sync
   pub few : length steps ≤ catalogues_for (length s.libraries) + 4
 
 -- The registry now has version 2. Either the bytes hold state s by the rules of version 1, and the steps
@@ -95,9 +97,10 @@ IsUpgraded bytes s steps =
     LeadsOver bytes s steps
     ⊎ (Holds bytes s × LeadsTo Stands (sectors_in bytes) s s steps × (steps ≡ Sync ∷ []))
 
--- No registry is upgraded on these bytes, for this reason. If they hold a state of version 1, the reason
--- is the refusal by the tests of an upgrade, or refused memory. If they hold a state of version 2, it is
--- refused memory. Otherwise it is the refusal of a look at the bytes.
+-- No registry is upgraded on the bytes, and `refusal` is the reason. If the bytes hold a state of
+-- version 1, the reason is the refusal by the tests of an upgrade, or refused memory. If they hold a
+-- state of version 2, the reason is refused memory. In all other cases it is S6 for a bad length, or a
+-- refusal that `RefusesLook` allows.
 pub record IsUnupgraded (bytes : List ℕ) (refusal : StoreRefusal) : Type 0 where
   pub old : (s : State) → HoldsOld bytes s → IsUpgradeAnswer (refusal_of_upgrade (length (sectors_in bytes)) s) (Err refusal)
   pub held : (s : State) → Holds bytes s → (refusal ≡ Device) ⊎ (refusal ≡ OutOfMemory)

@@ -7,7 +7,7 @@ use Rattle.store.specs.Stands.{Stands}
 use Rattle.store.specs.declared.refusal.StoreRefusal.{StoreRefusal}
 use Rattle.store.specs.declared.refusal.StoreRefusal.TheVariants.{BadGeometry, Device, OutOfMemory}
 
--- The bytes have whole sectors, as a disk has, and these sectors hold state s.
+-- The bytes have the length of a disk, and their sectors hold state s.
 pub record HoldStore (bytes : List ℕ) (s : State) : Type 0 where
   pub size : IsDiskLength (length bytes)
   pub stands : Stands (sectors_in bytes) s
@@ -22,8 +22,8 @@ IsUnopened bytes refusal =
     ((refusal ≡ BadGeometry) × (IsDiskLength (length bytes) → ⊥))
     ⊎ (IsDiskLength (length bytes) × RefusesOpen Stands (sectors_in bytes) refusal)
 
--- The reason why bytes have no contents. It is never a failed call of their disk, and if the bytes hold
--- a state, it is always that memory was refused.
+-- The reason why bytes have no contents. It is never a failed call of their disk. If the bytes hold a
+-- state, the reason is refused memory.
 pub record HaveNoContents (bytes : List ℕ) (refusal : StoreRefusal) : Type 0 where
   pub why : IsUnopened bytes refusal
   pub no_failure : refusal ≢ Device

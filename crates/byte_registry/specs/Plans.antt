@@ -12,7 +12,7 @@ use Rattle.states.specs.State.{State}
 use Rattle.requests.specs.Request.{Request, install, replace}
 use Rattle.registry.specs.Stands.{Stands}
 
--- The bytes have whole sectors, as a disk has, and these sectors hold state s of a registry.
+-- The bytes have the length of a disk, and their sectors hold state s of a registry.
 pub record Holds (bytes : List ℕ) (s : State) : Type 0 where
   pub size : IsDiskLength (length bytes)
   pub stands : Stands (sectors_in bytes) s

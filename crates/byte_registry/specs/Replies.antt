@@ -28,7 +28,7 @@ phase_on m root entries failures s = record {
   state = s;
 }
 
--- The step table allows this reply to the request, if the sectors hold state s.
+-- The sectors hold state s, and the step table allows the reply `reply` to the request.
 pub record IsReplyOn (m : List Sector) (s : State) (request : Request) (reply : Reply) : Type 0 where
   pub root : Root
   pub entries : List PlacedEntry

@@ -37,7 +37,7 @@ pub record ArePlanned (old new : Drafted ByteDisk) (s : State) (requests : List 
   pub plans : Plans byte_facts old new requests answers
   pub update : IsUpdate byte_facts old new s requests answers
 
--- A draft refused one of the requests. The n requests before it were planned, and made this draft.
+-- A draft refused one of the requests. The n requests before it were planned, and made the draft `last`.
 pub record StopsAt (old last : Drafted ByteDisk) (requests : List Request) (n : ℕ) (refusal : Refusal) : Type 0 where
   pub before : List Request
   pub request : Request
@@ -49,16 +49,17 @@ pub record StopsAt (old last : Drafted ByteDisk) (requests : List Request) (n : 
   pub plans : Plans byte_facts old mid before answers
   pub refused : DraftAnswers byte_facts mid request (Refused refusal) last
 
--- The step table refuses the first refused request, in the state after the requests before it and with
--- the draft that they made. Then the update is given up, with the disk `left`.
+-- The step table refuses request number `n`, counted from 0, with `refusal`. It tests the request in the
+-- state after the requests before it, with the draft that they made. Then the update is given up, with
+-- the disk `left`.
 pub record IsRefusedAt (old : Drafted ByteDisk) (s : State) (requests : List Request) (n : ℕ) (refusal : Refusal) (left : ByteDisk) : Type 0 where
   pub last : Drafted ByteDisk
   pub stops : StopsAt old last requests n refusal
   pub update : IsUpdate byte_facts old stops.mid s stops.before stops.answers
   pub back : left ≡ last.store.disk
 
--- All requests were planned, and the commit of their draft left the disk `left`. A stop meanwhile leaves
--- the state before the update, or the state after all requests.
+-- All requests were planned, and the commit of their draft left the disk `left`. A stop at any moment
+-- leaves the state before the update, or the state after all requests.
 pub record IsCommitted (old : Drafted ByteDisk) (s : State) (requests : List Request) (left : ByteDisk) : Type 0 where
   pub after : Drafted ByteDisk
   pub planned : ArePlanned old after s requests
@@ -74,8 +75,9 @@ AnswersUpdate old s requests (Err refused) left =
     ⊎ ((refused.0 ≡ length requests) × (refused.1 ≡ Device) × IsCommitted old s requests left)
     ⊎ ((refused.0 ≡ 0) × (refused.1 ≡ OutOfMemory) × (left ≡ old.store.disk))
 
--- If the bytes hold state s, the step table allows this answer to an update with these requests, which
--- leaves the disk `left`. The draft is begun on a registry that was just opened on the bytes.
+-- The bytes hold state s. The step table allows this answer to an update with the requests `requests`,
+-- and the update leaves the disk `left`. The draft is begun on a registry that was just opened on the
+-- bytes.
 pub record IsUpdateOn (bytes : List ℕ) (s : State) (requests : List Request) (answer : Result (Unit {0}) (ℕ × Refusal)) (left : ByteDisk) : Type 0 where
   pub root : Root
   pub entries : List PlacedEntry

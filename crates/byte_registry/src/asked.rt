@@ -62,8 +62,8 @@ pub fn ask<'a>(
     ensures ok { IfOk result (λ asked. (s : State)
         × IsAsked disk.now s (request_of command.now) asked.0 (synced_plan asked.1)) }
 
-    // The answer is S1 only if a call of the disk failed: a write or a sync, because memory was
-    // refused.
+    // The answer is S1 only if a call of the disk failed. Here only a write or a sync can fail, and
+    // only because memory was refused.
     ensures device { MatchResult result
         (λ asked. asked.0 ≡ Refused Device → 0 < (byte_facts asked.1).failures)
         (λ refused. refused.0 ≡ StoreRefusal.Device → 0 < failures_of refused.1) }

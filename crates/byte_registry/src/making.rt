@@ -17,8 +17,8 @@ pub fn format(
 ) -> Result<ByteDisk<'_>, (StoreRefusal, Option<ByteDisk<'_>>)>
     ensures ok { IfOk result (λ made. IsFormatted disk.now (synced_plan made)) }
 
-    // The answer is S1 only if a call of the disk failed: a write or a sync, because memory was
-    // refused.
+    // The answer is S1 only if a call of the disk failed. Here only a write or a sync can fail, and
+    // only because memory was refused.
     ensures device { IfErr result (λ refused. refused.0 ≡ StoreRefusal.Device
         → 0 < failures_of refused.1) }
     ensures err { IfErr result (λ refused. IsUnformatted disk.now refused.0) }

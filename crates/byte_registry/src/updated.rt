@@ -17,7 +17,7 @@ use requests::{Command, Refusal, Reply};
 use std::alloc::Global;
 use store::StoreRefusal;
 
-/// Returns the refusal as an error, if the reply is a refusal.
+/// If `reply` is a refusal, returns the refusal as an error.
 fn refusal_in(reply: Reply) -> Result<(), Refusal>
     ensures { MatchResult result (λ _. is_refusal reply ≡ false)
         (λ refusal. reply ≡ Reply.Refused refusal) }
@@ -40,8 +40,8 @@ fn plan_one(update: &mut Update<ByteDisk<'_>>, command: &Command<'_>) -> Result<
     refusal_in(reply)
 }
 
-/// Plans `commands` one after the other, up to the first refused one. For that one, returns the
-/// number of commands before it, and the refusal.
+/// Plans `commands` one after the other, up to the first one that is refused. If a command is
+/// refused, returns the number of commands before it, and the refusal.
 fn plan_all(
     update: &mut Update<ByteDisk<'_>>,
     commands: &[Command<'_>],
@@ -56,8 +56,8 @@ fn plan_all(
     Ok(())
 }
 
-/// Makes an update with `commands`. If one is refused, returns which one and why, and the registry
-/// is unchanged.
+/// Makes an update with `commands`. If a command is refused, returns the number of commands before
+/// it and the refusal, and leaves the registry unchanged.
 fn make_update<'a>(
     registry: Registry<ByteDisk<'a>>,
     commands: &[Command<'_>],
@@ -83,9 +83,9 @@ fn make_update<'a>(
 
 /// Opens the registry on the bytes `disk`, and returns its answer to an update with `commands`, and
 /// the disk after the update. If the opening is refused, returns the refusal, and the disk if the
-/// bytes are whole sectors. A refusal of the update comes with the number of commands before the
-/// refused one: 0 if memory for the draft is refused, and the number of all commands if the commit
-/// fails. Reads no file, except those that a bind needs.
+/// bytes are whole sectors. If the update is refused, the answer has the refusal and the number of
+/// commands before the refused one. This number is 0 if memory for the draft is refused, and the
+/// number of all commands if the commit fails. Reads no file, except those that a bind needs.
 pub fn ask_update<'a>(
     alloc: Global,
     disk: &'a [u8],
@@ -94,8 +94,8 @@ pub fn ask_update<'a>(
     ensures ok { IfOk result (λ asked. (s : State) × IsUpdateAsked disk.now s
         (map request_of commands.now) asked.0 asked.1) }
 
-    // The answer is S1 only if a call of the disk failed: a write or a sync, because memory was
-    // refused.
+    // The answer is S1 only if a call of the disk failed. Here only a write or a sync can fail, and
+    // only because memory was refused.
     ensures device { MatchResult result
         (λ asked. IfErr asked.0 (λ refused. refused.1 ≡ Refusal.Device
         → 0 < (byte_facts asked.1).failures))

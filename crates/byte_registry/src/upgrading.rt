@@ -41,8 +41,8 @@ pub fn upgrade(
 ) -> Result<ByteDisk<'_>, (StoreRefusal, Option<ByteDisk<'_>>)>
     ensures ok { IfOk result (λ made. (s : State) × IsUpgraded disk.now s (synced_plan made)) }
 
-    // The answer is S1 only if a call of the disk failed: a write or a sync, because memory was
-    // refused.
+    // The answer is S1 only if a call of the disk failed. Here only a write or a sync can fail, and
+    // only because memory was refused.
     ensures device { IfErr result (λ refused. refused.0 ≡ StoreRefusal.Device
         → 0 < failures_of refused.1) }
     ensures err { IfErr result (λ refused. IsUnupgraded disk.now refused.0) }

@@ -13,8 +13,8 @@ use Rattle.commands.specs.Line.{is_no_change, meaning}
 use Rattle.commands.specs.declared.answer.Answer.{Answer}
 use Rattle.commands.specs.declared.answer.Answer.TheVariants.{Replied, BadLine, CutLine}
 
--- The answer to a line is the reply to what the line asks for. A line that asks for nothing is answered
--- with BadLine, and changes nothing.
+-- The answer to a line is the reply to the event that the line asks for. A line that asks for nothing is
+-- answered with BadLine, and changes nothing.
 abbrev pub LineStep : {S : Type 0} → (S → Happening → EventReply → S → Type 0) → S → List ℕ → Answer → S → Type 0
 LineStep step s line (Replied reply) s' = (happening : Happening) × (meaning line ≡ Some happening) × step s happening reply s'
 LineStep step s line BadLine s' = (meaning line ≡ None) × (s' ≡ s)

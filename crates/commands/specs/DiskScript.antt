@@ -26,8 +26,8 @@ event_reply_of answer = None
 abbrev pub replied : List Answer → List EventReply
 replied answers = filter_map event_reply_of answers
 
--- The events that the lines ask for happened over a disk, one after the other, with one reply each.
--- `EventsRan` also states which state a stop at any moment leaves.
+-- The events that the lines ask for happened over a disk, one after the other, with one reply for each
+-- event. `EventsRan` also states which state a stop at any moment leaves.
 abbrev pub LinesRan : {D : Type 0} → (D → DiskFacts) → Slotted D → Slotted D → List (List ℕ) → List Answer → Type 0
 LinesRan facts old new lines answers = EventsRan facts old new (happenings lines) (replied answers)
 

@@ -13,7 +13,7 @@ use Rattle.registry.specs.Opened.{IsAt}
 pub record DiskStep {D : Type 0} (facts : D → DiskFacts) (old : Opened D) (request : Request) (answer : Reply) (new : Opened D) : Type 0 where
   -- if the registry is at a state, the answer and its effect are those of the step table
   pub applied : (s : State) → IsAt facts old s → Applies facts old new s request answer
-  -- an accepted command makes exactly its calls of the disk
+  -- an accepted command makes exactly the calls of the disk that `calls_of` defines
   pub all_calls : (s : State) → IsAt facts old s → IfAccepted answer (AreCallsExactly (calls_of s request) (facts old.disk) (facts new.disk))
   -- the answer is also one of those that a command may get on any disk, even on a disk that lies
   pub on_any_disk : Answered facts old new request answer

@@ -8,7 +8,7 @@ use Rattle.binders.specs.Events.{Happening, apply, begin, advance, cancel}
 use Rattle.scripts.specs.Asked.{request_meaning}
 use Rattle.scripts.specs.Words.{has_front, program_behind}
 
--- the slot that the word SLOT names, which is exactly one decimal digit
+-- the slot that the word SLOT names; SLOT is exactly one decimal digit
 abbrev pub slot_of : List ℕ → Option ℕ
 slot_of (digit ∷ []) = if is_ascii_digit digit then Some (digit - 48) else None
 slot_of word = None

@@ -31,7 +31,8 @@ use Rattle.program_parts.specs.declared.status.Status.{Status}
 use Rattle.program_parts.specs.declared.status.Status.TheVariants.{Done}
 use Rattle.commands.specs.declared.summary.Summary.{Summary}
 
--- The registry on a disk was opened, and a request was applied to it. `left` is the disk after that.
+-- The registry on a disk was opened, and a request was applied to it. `left` is the disk after the
+-- request.
 pub record IsAnswered {D : Type 0} (facts : D → DiskFacts) (disk : D) (request : Request) (reply : Reply) (left : D) : Type 0 where
   pub old : Opened D
   pub opened : EndsOpening facts disk (Ok old)
@@ -50,7 +51,7 @@ RequestEnds facts disk request before after status left =
     ((reply : Reply) × IsAnswered facts disk request reply left × IsTold (reply_status reply) (reply_text reply) before after status)
     ⊎ ((refusal : StoreRefusal) × EndsOpening facts disk (Err (refusal, left)) × IsTold (disk_status refusal) (disk_refusal_text refusal) before after status)
 
--- an empty registry was made on the disk, or the disk was refused; `left` is the disk after that
+-- an empty registry was made on the disk, or the disk was refused; `left` is the disk afterwards
 abbrev pub FormatEnds : {D : Type 0} → (D → DiskFacts) → D → Result (Unit {0}) StoreRefusal → D → Type 0
 FormatEnds facts disk answer left = (making : Result (Opened _) (StoreRefusal × _)) × EndsMaking facts disk making
     × (answer ≡ answer_of making) × (left ≡ disk_after making)
@@ -74,15 +75,15 @@ module _ {D : Type 0} (facts : D → DiskFacts) (io : Streams) (old new : Slotte
       × Ends (Worsens (EventStep facts)) io (old, Done) (new, worst) summary whole cut answers
       × LinesRan facts old new whole answers × (status ≡ greatest worst (lines_status summary.refused))
 
-  -- A script ended early, and the events of the answered lines happened. The status is the greater one
-  -- of the replies' statuses and of the status of the fault that ended the script.
+  -- A script ended early, and the events of the answered lines happened. The status is the greater of
+  -- two: the greatest status of the replies, and the status of the fault that ended the script.
   abbrev pub BreaksOnDisk : Type 0
   BreaksOnDisk = (worst : Status) × (fault : ScriptFault) × (whole : List (List ℕ)) × (part : List ℕ) × (answers : List Answer)
       × Breaks (Worsens (EventStep facts)) io (old, Done) (new, worst) fault whole part answers
       × LinesRan facts old new whole answers × (status ≡ greatest worst (fault_status fault))
 
 -- The registry on a disk was opened, without binders and without held byte strings. Then a script was
--- run over it. `left` is the disk after that.
+-- run over it. `left` is the disk after the script.
 pub record IsScripted {D : Type 0} (facts : D → DiskFacts) (disk : D) (io : Streams) (status : Status) (left : D) : Type 0 where
   pub old : Slotted D
   pub opened : EndsOpening facts disk (Ok old.registry)

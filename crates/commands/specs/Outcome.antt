@@ -79,7 +79,7 @@ pub record Upgrades (before after : Option (List ℕ)) : Type 0 where
   pub upgraded : IsUpgraded disk new
   pub written : Appends before after (codes "ok\n")
 
--- exactly the line was appended that reports why the registry can't be made or opened on a disk
+-- the only appended text is the line that reports why the registry can't be made or opened on a disk
 abbrev pub TurnsAway : (StoreRefusal → Type 0) → Status → Option (List ℕ) → Option (List ℕ) → Type 0
 TurnsAway MayRefuse status before after = (refusal : StoreRefusal) × MayRefuse refusal
     × (disk_status refusal ≡ status) × Appends before after (disk_refusal_text refusal)

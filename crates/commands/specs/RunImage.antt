@@ -1,4 +1,4 @@
--- What is written when the image of a program is shown.
+-- The text that is written when the image of a program is shown.
 use Rattle.std.specs.Prelude.{ℕ, List, Option, Some, None, ◌≡◌}
 use Rattle.std.specs.Io.KnownBytes.{Appends}
 use Rattle.image.specs.declared.refusal.BindRefusal.{BindRefusal}

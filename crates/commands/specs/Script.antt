@@ -15,7 +15,7 @@ use Rattle.scripts.specs.declared.fault.ScriptFault.TheVariants.{Write}
 use Rattle.scripts.specs.Line.{IsLine, ended}
 use Rattle.commands.specs.declared.summary.Summary.{Summary}
 
--- the answer to the bytes after the last newline, if there are any
+-- the answer to the bytes after the last newline, or no answer if there are no such bytes
 abbrev pub cut_answer : List ℕ → List Answer
 cut_answer [] = []
 cut_answer (byte ∷ bytes) = CutLine ∷ []
@@ -58,7 +58,8 @@ module _ {S : Type 0} (step : S → Happening → EventReply → S → Type 0) w
     pub written : Appends io.before io.after (output (answers ++ cut_answer cut))
     pub counts : Counts summary (answers ++ cut_answer cut)
 
-  -- These lines were read and answered. At most one more line was read, and it wasn't applied.
+  -- The lines `whole` were read and answered. At most one more line was read, and that line wasn't
+  -- applied.
   pub record Breaks (io : Streams) (s s' : S) (fault : ScriptFault) (whole : List (List ℕ)) (part : List ℕ) (answers : List Answer) : Type 0 where
     pub read : IfSome io.unread (λ text. (others : List ℕ) × (text ≡ flat_map ended whole ++ part ++ others))
     pub lines : All IsLine whole
@@ -67,16 +68,16 @@ module _ {S : Type 0} (step : S → Happening → EventReply → S → Type 0) w
     -- the answers were written, unless the writer failed
     pub written : fault ≢ Write → Appends io.before io.after (output answers)
 
-  -- a script was read to its end, with some lines and answers
+  -- a script was read to its end: `Ends` holds for some lines and answers
   abbrev pub Finishes : Streams → S → S → Summary → Type 0
   Finishes io s s' summary = (whole : List (List ℕ)) × (cut : List ℕ) × (answers : List Answer) × Ends io s s' summary whole cut answers
 
-  -- a script ended early, with some lines and answers
+  -- a script ended early: `Breaks` holds for some lines and answers
   abbrev pub Stops : Streams → S → S → ScriptFault → Type 0
   Stops io s s' fault = (whole : List (List ℕ)) × (part : List ℕ) × (answers : List Answer) × Breaks io s s' fault whole part answers
 
-  -- the writer failed, and held the answers to the earlier lines before that; what it holds now is
-  -- unspecified
+  -- The writer failed. Before the failed write it held the text `held`, for which `IsHeldBack` holds.
+  -- Its contents after the failed write are unspecified.
   abbrev pub StopsWriting : Streams → S → S → Option (List ℕ) → Type 0
   StopsWriting io s s' held = (whole : List (List ℕ)) × (part : List ℕ) × (answers : List Answer)
       × Breaks io s s' Write whole part answers × IsHeldBack io.before held whole answers

@@ -7,9 +7,9 @@ ghost use Rattle.commands.specs.inside.Access.{disk_of};
 
 use crate::form::read_form;
 
-/// A command of the program with its arguments in their order, each as it was given
-/// on the command line. The first argument of every command except `image` is the
-/// path of the file that is the disk.
+/// A command of the program with its arguments in their order. The arguments are as they were given
+/// on the command line, except that SECTORS is a number. The first argument of every command except
+/// `image` is the path of the file that is the disk.
 #[derive(Clone, Copy)]
 pub enum Action<'a> {
     /// Prints the image of a program that needs no library.
@@ -19,7 +19,7 @@ pub enum Action<'a> {
         /// The argument BASE, which may not be readable as an address.
         base: &'a str,
     },
-    /// Makes an empty registry on a disk. If the file doesn't exist, makes it too.
+    /// Makes an empty registry on a disk. If the file doesn't exist, makes the file too.
     Format {
         /// The path of the disk.
         disk: &'a str,
@@ -81,7 +81,7 @@ pub enum Action<'a> {
 }
 
 impl<'a> Action<'a> {
-    /// Returns the path of the disk, if the command has one.
+    /// Returns the path of the command's disk, or `None` if the command has no disk.
     pub(crate) fn disk(&self) -> Option<&'a str>
         ensures { option_map (λ disk. disk.now) result ≡ disk_of (line_of self.now) }
     {
@@ -101,8 +101,8 @@ impl<'a> Action<'a> {
 }
 
 /// Returns the command that the arguments after the program's name ask for, or `None`. The name of
-/// the command and the number of its arguments decide, and for `format` also SECTORS: 1 to 7
-/// decimal digits with a value from 8 to 4,194,304. Every other argument may be any string.
+/// the command and the number of its arguments decide. In addition, the SECTORS of `format` must be
+/// 1 to 7 decimal digits with a value from 8 to 4,194,304. Every other argument may be any string.
 /// Allocates no memory.
 pub fn read_words(words: &[String]) -> Option<Action<'_>>
     ensures { option_map line_of result

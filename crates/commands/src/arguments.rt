@@ -15,7 +15,7 @@ use std::io;
 use std::io::{ErrorKind, Read, Write};
 use std::rt::{Clock, Files};
 
-/// Does the same as `run_words` if the arguments could be read. If memory for them was refused,
+/// If the arguments could be read, does the same as `run_words`. If memory for them was refused,
 /// reports S11 (OutOfMemory). After any other error, reports a bad command line.
 pub fn run_arguments<R: Files<File = File> + Clock, I: Read, O: Write, E: Write>(
     rt: &R,

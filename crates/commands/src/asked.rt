@@ -17,7 +17,7 @@ pub(crate) enum Asked<'a> {
     Cancel(usize),
 }
 
-/// Returns the slot that the word SLOT names, which is one decimal digit.
+/// Returns the slot that the word SLOT names, or `None` if SLOT isn't one decimal digit.
 fn slot_in(word: &[u8]) -> Option<usize>
     ensures { result ≡ slot_of word.now }
 {

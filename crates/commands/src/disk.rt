@@ -27,8 +27,8 @@ pub(crate) enum NoRegistry {
     Refused(StoreRefusal),
 }
 
-/// Returns the reason why a file isn't a disk. S6 (BadGeometry) means that the length isn't one of
-/// whole sectors, or isn't that of the requested number of sectors.
+/// Returns the reason why a file isn't a disk. S6 (BadGeometry) means that the file's length isn't
+/// a whole number of sectors, or isn't the requested number of sectors.
 pub(crate) fn no_disk(fault: OpenFault) -> NoRegistry
     ensures open { IsNoRegistry IsOpenRefusal result }
     ensures format { IsNoRegistry IsFormatRefusal result }
@@ -41,7 +41,7 @@ pub(crate) fn no_disk(fault: OpenFault) -> NoRegistry
     }
 }
 
-/// Gives a registry's file its final name, if the file was newly made.
+/// If a registry's file was newly made, gives the file its final name.
 fn name_file<R: Files<File = File>>(rt: &R, name: Option<UnnamedFile<'_>>) -> Result<(), NoRegistry>
     ensures refused { IfErr result (IsNoRegistry IsFormatRefusal) }
 {
@@ -52,7 +52,7 @@ fn name_file<R: Files<File = File>>(rt: &R, name: Option<UnnamedFile<'_>>) -> Re
     }
 }
 
-/// Deletes a registry's file, if the file was newly made.
+/// If a registry's file was newly made, deletes the file.
 fn take_away<R: Files<File = File>>(rt: &R, name: Option<UnnamedFile<'_>>) {
     if let Some(name) = name {
         name.take_away(rt);

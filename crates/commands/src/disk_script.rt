@@ -14,7 +14,7 @@ use std::alloc::Global;
 use std::io::{Read, Write};
 
 /// Runs a script over a registry on a disk, as `run_script` does over any type that takes events.
-/// Its contract adds the effect on the disk: the commands of the answered lines are a run. On an
+/// The contract adds the effect on the disk: the commands of the answered lines are a run. On an
 /// honest disk, wherever the script ends, a stop at any moment leaves the state after a prefix of
 /// the accepted commands. The prefix contains every command acknowledged by then.
 pub fn run_script_on_disk<R: Read, W: Write, D: Disk>(
@@ -40,7 +40,7 @@ pub fn run_script_on_disk<R: Read, W: Write, D: Disk>(
     })
         binders.old binders.new) }
 
-    // The text that the writer held before a write failed.
+    // If a write failed, this clause defines the text that the writer held before that write.
     ensures sent { IfErr result (λ fault. fault ≡ ScriptFault.Write
         → (held : W) × StopsWriting (EventStep D.facts) (record {
           unread = R.remaining reader.old;

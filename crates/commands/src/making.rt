@@ -11,8 +11,8 @@ use std::io::Write;
 use store::StoreRefusal;
 
 /// Makes an empty registry on `disk`, and hands the disk back. `write_disk_answer` reports the
-/// answer. If a file was made for the disk, the caller gives it its final name before it reports
-/// the answer.
+/// answer. If the caller made a file for the disk, the caller gives the file its final name first,
+/// and reports the answer afterwards.
 pub fn run_format<D: Disk>(alloc: Global, disk: D) -> (Result<(), StoreRefusal>, D)
     ensures { FormatEnds D.facts disk result.0 result.1 }
 {

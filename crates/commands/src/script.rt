@@ -25,7 +25,7 @@ use std::io::{BufReader, Read, Write};
 const PAGE: usize = 0x10000;
 
 /// Appends the answer to a line to the buffered answers. If this answer may not be sent later,
-/// sends all of them.
+/// sends all buffered answers.
 fn tell_answer<W: Write>(
     waiting: &mut Line,
     writer: &mut W,
@@ -157,7 +157,7 @@ pub fn run_script<R: Read, W: Write, G: TakesEvents>(
     })
         binders.old binders.new) }
 
-    // The text that the writer held before a write failed.
+    // If a write failed, this clause defines the text that the writer held before that write.
     ensures sent { IfErr result (λ fault. fault ≡ ScriptFault.Write
         → (held : W) × StopsWriting G.step (record {
           unread = R.remaining reader.old;

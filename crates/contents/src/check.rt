@@ -23,7 +23,7 @@ use std::alloc::{AllocError, Global};
 pub fn finding_of(alloc: Global, name: &[u8], file: &[u8]) -> Result<Finding, AllocError>
     ensures finding { IfOk result (IsFinding (record { name = name.now; bytes = file.now })) }
     ensures read { IfOk result (λ finding. finding ≢ Finding.Unreadable) }
-    // If another test refuses the file, this is always reported.
+    // The call fails only if no test of the object refuses the file and admission may need memory.
     ensures memory { OnErr result (ReadNeedsMemory file.now) }
 {
     match library_name(alloc, file) {
@@ -55,7 +55,7 @@ impl<D: Disk> Contents<D> {
             (file_sectors (slice_index_or self.old.entries position d))
             (D.facts self.old.disk) (D.facts self.new.disk)) }
 
-        // It fails before the library is read, or at a test that allocates.
+        // If the call fails, it fails before the library is read, or at a test that allocates.
         ensures memory { (s : State) → IsAt D.facts self.old s → OnErr result
             ((self.new ≡ self.old)
             ⊎ ReadNeedsMemory (slice_index_or s.libraries position no_library).bytes) }
@@ -86,7 +86,7 @@ impl<D: Disk> Contents<D> {
         ensures calls { AreCallsAtMost (sum_by file_sectors self.old.entries)
             (D.facts self.old.disk) (D.facts self.new.disk) }
 
-        // It ends early before a library is read, or at a test that allocates.
+        // If the check ends early, it ends before a library is read, or at a test that allocates.
         ensures memory { (s : State) → IsAt D.facts self.old s → OnErr result
             (LacksMemory (D.facts self.old.disk) (D.facts self.new.disk) self.old.entries s) }
     {

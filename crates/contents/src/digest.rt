@@ -20,7 +20,7 @@ use std::alloc::{AllocError, Global};
 
 impl<D: Disk> Contents<D> {
     /// Returns the SHA-256 of the bytes of the library at `position`, or `None` if they can't be
-    /// read. Reads each of their sectors once, and fails only if memory is refused.
+    /// read. Reads each sector of the bytes once. Fails only if memory is refused.
     pub fn digest_at(
         &mut self,
         alloc: Global,
@@ -76,8 +76,8 @@ impl<D: Disk> Contents<D> {
         Ok(digests)
     }
 
-    /// Returns the SHA-256 of the bytes of the library with the name `name`. Reads each of their
-    /// sectors once, as `file` does, and reads nothing if no library has the name.
+    /// Returns the SHA-256 of the bytes of the library with the name `name`. Reads each sector of
+    /// the bytes once, as `file` does. If no library has the name, reads nothing.
     pub fn digest(&mut self, alloc: Global, name: &[u8]) -> Result<[u8; 32], Unread>
         ensures read { IsRead D.facts self.old self.new }
 

@@ -45,8 +45,8 @@ impl<D: Disk> Contents<D> {
     }
 
     /// Returns the bytes of the library with the name `name`, as they were installed. Only `check`
-    /// tests whether the file is still a library. Reads each sector of the file once, and reads
-    /// nothing if no library has the name.
+    /// tests whether the file is still a library. Reads each sector of the file once. If no library
+    /// has the name, reads nothing.
     pub fn file(&mut self, alloc: Global, name: &[u8]) -> Result<Vec<u8>, Unread>
         ensures read { IsRead D.facts self.old self.new }
 

@@ -41,9 +41,8 @@ impl<D: Disk> Contents<D> {
         ensures unused { result.unused.sectors ≡ unused_count (layout_in_use self.now) }
         ensures runs { result.unused.runs ≡ length (unused_runs (layout_in_use self.now)) }
 
-        // An install of a file with a new name is refused with none of S7, S8, S9 and S10 exactly
-        // if the file has at most `largest` bytes. `largest` is 0, or a length that such a file may
-        // have.
+        // An install of a file with a new name is refused with S7, S8, S9 or S10 if and only if the
+        // file has more than `largest` bytes. `largest` is 0, or a length that a file may have.
         ensures largest { (s : State) → IsAt D.facts self.now s
             → (file : List ℕ) → IsFileSize (length file)
             → (length file ≤ result.unused.largest)

@@ -2,9 +2,9 @@
 //! read, but a library's file is read only if it is asked for.
 //!
 //! `Contents::open` opens a disk of version 2 only for reading. `file` returns a library's bytes,
-//! `info` the numbers of the whole disk, `check` a finding for each library, and `digests` the
-//! SHA-256 of each. A library that is damaged or can't be read doesn't prevent the others from
-//! being read.
+//! and `info` returns the numbers of the whole disk. `check` returns a finding for each library,
+//! and `digests` returns the SHA-256 of each library. A library that is damaged or can't be read
+//! doesn't prevent the others from being read.
 #![tactic(auto)]
 
 mod check;

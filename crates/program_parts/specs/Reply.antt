@@ -14,13 +14,12 @@ use Rattle.image.specs.Text.{image_text}
 use Rattle.store.specs.declared.refusal.StoreRefusal.TheVariants as disk
 use Rattle.program_parts.specs.Refusal.{disk_refusal_text, file_refusal_text, refusal_text}
 
--- the line of a refusal; `said` is its number, its name and what follows them
+-- the line of a refusal; `said` is the number and the name of the refusal, and any text after them
 abbrev pub refused_line : List ℕ → List ℕ
 refused_line said = codes "refused " ++ said ++ codes "\n"
 
--- The line of a command's refusal. After C1 comes the refusal of the file. A refusal of a bind has the
--- same line as without a registry, and a refusal of a disk the same line as when the disk can't be
--- opened.
+-- The line of a command's refusal. C1 is followed by the refusal of the file. A refused bind has the
+-- line `refusal_text`, and a refusal of the disk has the line `disk_refusal_text`.
 abbrev pub command_refusal_text : Refusal → List ℕ
 command_refusal_text (Object refusal) = refused_line (codes "C1 " ++ file_refusal_text refusal)
 command_refusal_text AlreadyInstalled = refused_line (codes "C2 AlreadyInstalled")

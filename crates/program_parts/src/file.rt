@@ -10,8 +10,8 @@ use std::fs::File;
 use std::io::{ErrorKind, Read};
 use std::rt::Files;
 
-/// A file of this length in bytes or more isn't read: 1 GiB. So a device without an end counts as a
-/// file that can't be read.
+/// The limit on the length of a file, in bytes. A file of 1 GiB or more isn't read, so a device
+/// without an end counts as a file that can't be read.
 const READ_LIMIT: usize = 0x4000_0000;
 
 /// The number of bytes that are read at once.
@@ -52,7 +52,7 @@ fn read_page<F: Read>(file: &mut F, page: &mut [u8; PAGE]) -> Result<Option<usiz
     }
 }
 
-/// Reads a file to its end, if it has fewer than `limit` bytes. Reads through a page on the stack,
+/// If a file has fewer than `limit` bytes, reads it to its end. Reads through a page on the stack,
 /// so that refused memory can be distinguished from a read that fails.
 pub fn read_all<F: Read>(alloc: Global, file: &mut F, limit: usize) -> Result<Vec<u8>, FileFault>
     ensures short { IfOk result (λ bytes. length bytes.items < limit) }

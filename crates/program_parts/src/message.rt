@@ -1,4 +1,4 @@
-// Messages on standard error. If a write to standard error fails, the status stays the same.
+// Messages on standard error. If a write to standard error fails, the status doesn't change.
 
 ghost use Rattle.std.specs.Prelude.{◌≡◌, ◌++◌, codes, OnOk};
 ghost use Rattle.std.specs.Io.KnownBytes.{Appends};

@@ -31,9 +31,9 @@ pub struct StandardStreams<F> {
 }
 
 impl<F: Drop> StandardStreams<F> {
-    /// Takes the free ones of the three numbers. Has to be called before any other file is opened.
-    /// Afterwards each read and each write of a stream that was closed fails. Returns an error if
-    /// the numbers can't be taken.
+    /// Occupies those of the three numbers that are free. Has to be called before any other file is
+    /// opened. Afterwards each read and each write of a stream that was closed fails. Returns an
+    /// error if the numbers can't be taken.
     pub fn hold<R: Files<File = F>>(rt: &R) -> io::Result<StandardStreams<F>> {
         let held = open_three(rt)?;
         Ok(StandardStreams { held })
@@ -99,7 +99,7 @@ fn is_behind<R: Files>(rt: &R, found: &Metadata, stream: &str) -> Option<bool> {
     }
 }
 
-/// Returns whether both are the same file, or the same block device at two nodes.
+/// Returns whether `one` and `other` describe the same file, or the same block device at two nodes.
 fn is_same_file(one: &Metadata, other: &Metadata) -> bool {
     let are_devices = one.file_type().is_block_device() && other.file_type().is_block_device();
     (one.dev() == other.dev() && one.ino() == other.ino())

@@ -34,7 +34,7 @@ acknowledged (given_up ∷ exchanges) = acknowledged exchanges
 acknowledged (stepped ∷ exchanges) = acknowledged exchanges
 acknowledged [] = []
 
--- the state after a command, or after all requests of an update, is accepted
+-- the state after a command is accepted, or after all requests of an update are accepted
 abbrev pub outcome : State → Transaction → State
 outcome s (command request) = accepted s request
 outcome s (update requests) = updated s requests

@@ -96,13 +96,12 @@ ChangeLeaves old new Done = IsFalse new.failed
 ChangeLeaves old new (Refused refusal) = (refusal ≡ Device → IsTrue new.failed) × (refusal ≢ Device → new ≡ old)
 ChangeLeaves old new other = Unit {0}
 
--- the root, the entries and the held byte strings are unchanged, and so is whether a write or a sync
--- failed
+-- the root, the entries, the held byte strings and the mark of a failed write or sync are unchanged
 abbrev pub KeepsState : {D : Type 0} → Opened D → Opened D → Type 0
 KeepsState old new = (new.root ≡ old.root) × (new.entries ≡ old.entries) × (new.held ≡ old.held) × (new.failed ≡ old.failed)
 
--- A change leaves what `ChangeLeaves` defines. A bind keeps what `KeepsState` lists, and a listing
--- changes nothing. A bind changes nothing either if a test refuses the program by itself.
+-- A change leaves what `ChangeLeaves` defines. A bind keeps what `KeepsState` lists; if a test refuses
+-- the program by itself, the bind changes nothing. A listing changes nothing.
 abbrev pub Leaves : {D : Type 0} → Opened D → Opened D → Request → Reply → Type 0
 Leaves old new (bind program base) answer = KeepsState old new × (program_refusal program base ≢ None → new ≡ old)
 Leaves old new list answer = new ≡ old
@@ -110,7 +109,7 @@ Leaves old new change answer = ChangeLeaves old new answer
 
 -- what a command that was answered with `answer` did, on any disk
 pub record Did {D : Type 0} (facts : D → DiskFacts) (old new : Opened D) (request : Request) (answer : Reply) : Type 0 where
-  -- the answer is S2 exactly if a write or a sync failed before; then nothing is done
+  -- The answer is S2 if and only if a write or a sync failed before. In that case nothing is done.
   pub reopen : (answer ≡ Refused Reopen) ↔ IsTrue old.failed
   pub failed : IsTrue old.failed → new ≡ old
   -- the answer is S1 only if a call of the disk failed
@@ -118,8 +117,8 @@ pub record Did {D : Type 0} (facts : D → DiskFacts) (old new : Opened D) (requ
   pub leaves : Leaves old new request answer
   -- each held byte string keeps the number of its holders and, on an honest disk, its bytes
   pub held : KeepsHeld facts old new
-  -- before and after, each held byte string has one row, which is marked as listed exactly if the state
-  -- lists the byte string
+  -- before and after, each held byte string has one row; the row is marked as listed if and only if the
+  -- state lists the byte string
   pub holds_before : AreHolds old
   pub holds_after : AreHolds new
   pub calls : AreCalls (facts old.disk) (facts new.disk)
@@ -129,7 +128,7 @@ pub record Answered {D : Type 0} (facts : D → DiskFacts) (old new : Opened D) 
   pub did : Did facts old new request answer
   pub answers : IsAnswerTo request answer
 
--- commands were answered one after the other, with one answer for each
+-- commands were answered one after the other, with one answer for each command
 abbrev pub AreAnswered : {D : Type 0} → (D → DiskFacts) → Opened D → Opened D → List Request → List Reply → Type 0
 AreAnswered facts old new [] [] = new ≡ old
 AreAnswered facts old new (request ∷ requests) (answer ∷ answers) = (mid : Opened _)

@@ -18,8 +18,8 @@ use Rattle.registry.specs.Untested.{UntestedStep}
 
 -- The phase of a draft, for the step table. `lone` counts the sectors in use that don't belong to the
 -- draft's state. These are the sectors of current entries that aren't in the draft, and the sectors that
--- only binders hold. If the current list has more catalogues than the draft, two sectors for each of
--- them count too.
+-- only binders hold. If the current list has more catalogues than the draft needs, each of the extra
+-- catalogues counts as two sectors.
 abbrev pub draft_phase : {D : Type 0} → (D → DiskFacts) → Drafted D → State → Phase
 draft_phase facts u d = record {
   sectors = (facts u.store.disk).sectors;
@@ -48,7 +48,7 @@ PlanStep p request answer p' =
     IsFalse p.failed × (refusal_at p request ≡ None) × (answer ≡ Done) × Leads p (drafted p.state (accepted p.state request)) p'
 
 -- How a command of an update may be answered. A listing is a step of the step table in the draft's
--- state, a bind is a step over files that weren't tested, and a change is planned.
+-- state, a bind is a step of `UntestedStep`, and a change is planned.
 abbrev pub DraftStep : Phase → Request → Reply → Phase → Type 0
 DraftStep p (bind program base) answer p' = UntestedStep p (bind program base) answer p'
 DraftStep p list answer p' = Step p list answer p'
@@ -88,8 +88,8 @@ LeavesDraft old new request answer = new.touched ≢ Nothing
 
 -- A command of an update was answered with `answer`, on any disk.
 pub record AnsweredDraft {D : Type 0} (facts : D → DiskFacts) (old new : Drafted D) (request : Request) (answer : Reply) : Type 0 where
-  -- the answer is S2 exactly if a write failed before; then nothing is done, and the update can only be
-  -- given up
+  -- The answer is S2 if and only if a write failed before. In that case nothing is done, and the update
+  -- can only be given up.
   pub reopen : (answer ≡ Refused Reopen) ↔ IsTrue old.store.failed
   pub failed : IsTrue old.store.failed → new ≡ old
   -- the answer is S1 only if a call of the disk failed

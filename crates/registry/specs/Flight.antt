@@ -40,8 +40,8 @@ goings_by None order = length order
 goings_by (Some refusal) order = 0
 
 -- The number of steps that are answered Going before the last step. One of them tests the program, and
--- each other one reads a library of the load order. If a test refuses the program by itself, there are
--- none.
+-- each of the others reads a library of the load order. If a test refuses the program by itself, the
+-- number is 0.
 abbrev pub goings : Flight → ℕ
 goings f = goings_by (program_refusal f.program f.base) (flight_order f)
 

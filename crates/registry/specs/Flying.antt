@@ -51,16 +51,16 @@ pub record Begins {D : Type 0} (facts : D → DiskFacts) (old new : Opened D) (p
   pub reopen : (result ≡ Err Reopen) ↔ IsTrue old.failed
   pub refusals : IfErr result (λ e. (e ≡ Reopen) ⊎ (e ≡ OutOfMemory))
 
--- a step may be refused with S11 only if no test that comes before memory is allocated refuses the
--- program
+-- a step may be refused with S11 only if none of the tests that come before the first allocation refuses
+-- the program
 abbrev pub MayBeRefused : List ℕ → Refusal → Type 0
 MayBeRefused program OutOfMemory = WantsMemory program
 MayBeRefused program refusal = Unit {0}
 
--- How a step may be answered. After Going the binder is one step further. The bind's answer comes after
--- exactly the number of steps that the bind needs. After a refusal the binder is where it was. After S1
--- or S11 the same step can be made again, and after S2 the disk has to be opened again. No step makes
--- more calls than its library has sectors.
+-- How a step may be answered. After Going the binder is one step further. The bind's answer is returned
+-- after exactly `goings flight` steps that were answered Going. A refusal leaves the binder on the same
+-- flight. After S1 or S11 the same step can be made again. After S2 the disk has to be opened again. No
+-- step makes more calls than its library has sectors.
 abbrev pub IsStep : {D : Type 0} → (D → DiskFacts) → Opened D → Opened D → Flight → Binding → Result Step Refusal → Type 0
 IsStep facts old new flight binder (Ok Going) = (flight.going < goings flight) × Flies facts new binder (further flight)
     × AreCallsExactly (step_sectors flight) (facts old.disk) (facts new.disk)
@@ -93,12 +93,12 @@ IsLastStep (Final answer) = IsLast answer
 pub record Advances {D : Type 0} (facts : D → DiskFacts) (old new : Opened D) (before after : Binding) (result : Result Step Refusal) : Type 0 where
   pub step : (flight : Flight) → Flies facts old before flight → IsStep facts old new flight after result
   pub bounds : (flight : Flight) → Flies facts old before flight → IsBounded flight
-  -- during the step, a stop leaves only what it could leave before; after the step, it may leave exactly
-  -- the same as before
+  -- During the step, a stop leaves only sectors that a stop could leave before the step. After the step,
+  -- a stop may leave exactly these sectors.
   pub any_moment : IsTrue (facts old.disk).honest → LeavesOnly (facts old.disk) (facts new.disk) (Mixture (facts old.disk))
   pub unchanged : IsTrue (facts old.disk).honest → IsUnchanged (facts old.disk) (facts new.disk)
   pub same : (s : State) → IsAt facts old s → IsAt facts new s
-  -- on any disk: other binders stay on their flights, and of the registry only the disk's time and
+  -- on any disk: other binders stay on their flights, and in the registry only the disk's time and
   -- failures change
   pub others : (binder : Binding) (flight : Flight) → Flies facts old binder flight → Flies facts new binder flight
   pub held : KeepsHeld facts old new

@@ -10,7 +10,7 @@ use Rattle.requests.specs.declared.refusal.Refusal.TheVariants.{Device, Reopen, 
 use Rattle.registry.specs.Binding.{data_sectors}
 use Rattle.registry.specs.Untested.{ReadsLibraries}
 
--- the libraries that are found, and a needed name that isn't installed, if there is one
+-- the libraries that are found and, if needed names aren't installed, one of these names
 pub record Found : Type 0 where
   pub libraries : List Library
   pub missing : Option Need
@@ -19,12 +19,12 @@ pub record Found : Type 0 where
 abbrev pub found_sectors : Found → ℕ
 found_sectors found = sum_by (λ library. data_sectors library.bytes) found.libraries
 
--- a needed name is missing among the installed libraries exactly if it is missing among `libraries`
+-- a needed name is missing among the installed libraries if and only if it is missing among `libraries`
 abbrev pub IsKnown : State → List Library → Need → Type 0
 IsKnown s libraries need = is_missing (names_of (objects s)) need ≡ is_missing (names_of (map object_of libraries)) need
 
 -- The program and the found libraries are the program's load order, `missing` is the first missing name,
--- and each found file is a library. A name that one of these objects needs is missing exactly if no
+-- and each found file is a library. A name that one of these objects needs is missing if and only if no
 -- found library has that name.
 pub record IsFoundFor (s : State) (program : List ℕ) (found : Found) : Type 0 where
   pub order : load_order program (objects s) (preload_numbers s) ≡ available program (map object_of found.libraries)

@@ -41,7 +41,7 @@ pub record EndsUpgrading {D : Type 0} (facts : D → DiskFacts) (disk : D) (upgr
   -- a disk that doesn't have version 1 is unchanged
   pub left_alone : IsTrue (facts disk).honest → IsNotOld (facts disk).now → LeavesOnly (facts disk) (facts (disk_after upgrading)) (Mixture (facts disk))
   pub now : IsTrue (facts disk).honest → IsNotOld (facts disk).now → (facts (disk_after upgrading)).now ≡ (facts disk).now
-  -- a refused disk is unchanged too, unless a call failed
+  -- if no call failed, a refused disk is unchanged too
   pub unwritten : IsTrue (facts disk).honest → IfErr upgrading (λ e. e.0 ≢ Device → LeavesOnly (facts disk) (facts e.1) (Mixture (facts disk)))
   pub now_refused : IsTrue (facts disk).honest → IfErr upgrading (λ e. e.0 ≢ Device → (facts e.1).now ≡ (facts disk).now)
   -- the registry is at the state that the disk held or, if the disk had version 1, at the upgraded state
@@ -53,8 +53,8 @@ pub record EndsUpgrading {D : Type 0} (facts : D → DiskFacts) (disk : D) (upgr
   pub answer : IsTrue (facts disk).honest → (s : State) → StandsOld (facts disk).now s
       → IsUpgradeAnswer (refusal_of_upgrade (facts disk).sectors s) (answer_of upgrading)
   pub refused : IsTrue (facts disk).honest → IsNotOld (facts disk).now → IfErr upgrading (λ e. RefusesLook StandsEither (facts disk).now e.0)
-  -- an upgrade makes exactly the calls of opening; on a disk of version 1 also those for the catalogues,
-  -- the root and two syncs
+  -- on a disk of version 2, an upgrade makes exactly the calls of opening; on a disk of version 1, it
+  -- also makes the calls for the catalogues and the root, and two syncs
   pub calls_current : IsTrue (facts disk).honest → (s : State) → Stands (facts disk).now s → IfOk upgrading (λ registry.
       AreCallsExactly (opening_calls registry) (facts disk) (facts registry.disk))
   pub calls_old : IsTrue (facts disk).honest → (s : State) → StandsOld (facts disk).now s → IfOk upgrading (λ registry.

@@ -38,7 +38,8 @@ pub record AppliesAt {D : Type 0} (facts : D → DiskFacts) (p : Point D) (reque
   pub applied : Applied facts p.registry p'.registry p.state p'.state request answer
   pub calls : IfAccepted answer (AreCallsExactly (calls_of p.state request) (disk_at facts p) (disk_at facts p'))
 
--- one command of a run: either it is applied, or a write or a sync failed before, and nothing is done
+-- one command of a run: either it is applied; or a write or a sync failed before, and then nothing is
+-- done
 pub record Goes {D : Type 0} (facts : D → DiskFacts) (p : Point D) (request : Request) (answer : Reply) (p' : Point D) : Type 0 where
   pub did : Did facts p.registry p'.registry request answer
   pub applied : AppliesAt facts p request answer p' ⊎ (IsTrue p.registry.failed × (p' ≡ p))
@@ -49,8 +50,8 @@ pub record IdlesAt {D : Type 0} (facts : D → DiskFacts) (p p' : Point D) : Typ
   pub after : IsAt facts p'.registry p'.state
   pub any_moment : LeavesOnly (disk_at facts p) (disk_at facts p') (Mixture (disk_at facts p))
 
--- no change was asked for: either the registry stays at its state, or a write or a sync failed before,
--- and no call is made
+-- no change was asked for: either the registry stays at its state; or a write or a sync failed before,
+-- and then no call is made
 pub record Idles {D : Type 0} (facts : D → DiskFacts) (p p' : Point D) : Type 0 where
   pub same : p'.state ≡ p.state
   pub stays : IdlesAt facts p p' ⊎ (IsTrue p.registry.failed × IsTrue p'.registry.failed × (p'.registry.disk ≡ p.registry.disk))
@@ -64,16 +65,17 @@ pub record UpdatesAt {D : Type 0} (facts : D → DiskFacts) (p : Point D) (reque
   pub planned : IsUpdate facts (begun p.registry) draft p.state requests answers
   -- a stop at any moment leaves the state before the update, or the state after all of its requests
   pub any_moment : LeavesOnly (disk_at facts p) (disk_at facts p') (λ m. Stands m p.state ⊎ Stands m (updated p.state requests))
-  -- either the commit is acknowledged and p' has the updated state, or a write or a sync failed and p'
+  -- either the commit is acknowledged, and p' has the updated state; or a write or a sync failed, and p'
   -- has the state before the update
   pub ends : ((answer ≡ Done) × (p'.state ≡ updated p.state requests) × IsAt facts p'.registry p'.state)
       ⊎ ((answer ≡ Refused Device) × (p'.state ≡ p.state) × IsTrue p'.registry.failed)
 
--- one update of a run: either it is applied, or a write or a sync failed before, and nothing is done
+-- one update of a run: either it is applied; or a write or a sync failed before, and then nothing is
+-- done
 abbrev pub Updates : {D : Type 0} → (D → DiskFacts) → Point D → List Request → Reply → Point D → Type 0
 Updates facts p requests answer p' = UpdatesAt facts p requests answer p' ⊎ (IsTrue p.registry.failed × (answer ≡ Refused Reopen) × (p' ≡ p))
 
--- An update is given up. The state stays the same, even if a write of the update's draft failed.
+-- An update is given up. Even if a write of the update's draft failed, the state is unchanged.
 pub record GivesUp {D : Type 0} (facts : D → DiskFacts) (p p' : Point D) : Type 0 where
   pub at : IsAt facts p.registry p.state
   pub same : p'.state ≡ p.state

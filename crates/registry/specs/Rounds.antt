@@ -41,8 +41,8 @@ fused_memory = fuse_facts memory_facts
 abbrev pub asked : Round → List Request
 asked round = map request_of round.commands.items
 
--- The disk of a round is the given disk in a new fuse. Call number `cut` and all calls after it fail.
--- The round's `late` is whether call number `cut` reaches the disk before it fails.
+-- `fuse` is new, and contains the disk `disk`. Call number `cut` of the round and all later calls fail.
+-- If the round's `late` is true, call number `cut` reaches the disk before it fails.
 pub record IsFused (disk : Memory) (round : Round) (fuse : Fuse Memory) : Type 0 where
   pub inner : inner_of fuse ≡ disk
   pub plan : plan_of fuse ≡ record { call = round.cut; forever = true; late = round.late }
@@ -50,13 +50,14 @@ pub record IsFused (disk : Memory) (round : Round) (fuse : Fuse Memory) : Type 0
   pub time : (fused_memory fuse).time ≡ 0
   pub failures : (fused_memory fuse).failures ≡ 0
 
--- The choice for sector number `at`. The list of picks is used over and over; if it is empty, the choice
--- is 0.
+-- The choice for sector number `at`. The picks are repeated as often as needed; if there are none, the
+-- choice is 0.
 abbrev pub picked : List ℕ → ℕ → ℕ
 picked picks at = slice_index picks (at % length picks)
 
--- A disk was stopped with these picks. Each sector holds one of its choices: the one whose number is the
--- sector's pick, modulo the number of choices. All sectors are synced.
+-- The disk `disk` was stopped with the picks `picks`, which left the disk `stopped`. Each sector holds
+-- one of its choices: the one whose number is the sector's pick, modulo the number of choices. All
+-- sectors are synced.
 pub record IsStoppedBy (picks : List ℕ) (disk stopped : Memory) : Type 0 where
   pub stop : IsStopped (memory_facts disk) (memory_facts stopped)
   pub each : (at : ℕ) → at < (memory_facts disk).sectors → sector (memory_facts stopped).now at
@@ -94,8 +95,8 @@ RoundTells first last s requests (Ran replies) s' = WasRun first last s requests
     × (taken : List Transaction) × AreAccepted (commanded requests replies.items) taken × (s' ≡ state_after s taken)
 RoundTells first last s requests (NotRun refusal) s' = WasNotRun first last refusal × (s' ≡ s)
 
--- A round changes a disk and its state to the next disk and state. The disk is put into a fuse, opened,
--- and takes the commands. Then the disk in the fuse is stopped by the round's picks.
+-- A round changes a disk and its state to the next disk and state. The disk is put into a fuse and
+-- opened, and the commands are applied. Then the disk in the fuse is stopped by the round's picks.
 pub record RoundLeads (before : Standing) (round : Round) (replies : RoundReplies) (after : Standing) : Type 0 where
   pub first : Fuse Memory
   pub last : Fuse Memory

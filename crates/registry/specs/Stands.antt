@@ -16,6 +16,6 @@ pub record StandsOld (m : List Sector) (s : State) : Type 0 where
   pub stored : store.StandsOld m s
   pub libraries : All IsLibrary s.libraries
 
--- the sectors hold the state by the new rules or by the old ones
+-- the sectors m hold state s by the rules of version 2 or by those of version 1
 abbrev pub StandsEither : List Sector → State → Type 0
 StandsEither m s = Stands m s ⊎ StandsOld m s

@@ -64,8 +64,8 @@ impl<D: Disk> Registry<D> {
         ensures applied { (s : State) → IsAt D.facts self.old s
             → Applies D.facts self.old self.new s (request_of command.now) result }
 
-        // The same holds if some files aren't libraries. A change reads no file, and a bind reads
-        // only the files that it needs.
+        // The files need not be libraries here. A change reads no file, and a bind reads only the
+        // files that it needs.
         ensures untested { (s : State) → stored.IsAt D.facts self.old s
             → AppliesUntested D.facts self.old self.new s (request_of command.now) result }
         ensures all_calls { (s : State) → stored.IsAt D.facts self.old s → IfAccepted result
@@ -80,17 +80,18 @@ impl<D: Disk> Registry<D> {
         reply
     }
 
-    /// Applies `commands` one after the other, and returns one reply for each. If memory for the
-    /// replies is refused, applies none.
+    /// Applies `commands` one after the other, and returns one reply for each command. If memory
+    /// for the replies is refused, applies none.
     pub fn run(&mut self, commands: &[Command<'_>]) -> Result<Vec<Reply>, AllocError>
         // Each command is applied to the registry that the command before it left. A stop at any
-        // moment leaves the state after a prefix of the accepted commands, which contains every
-        // command acknowledged by then. At the end it is the state after all accepted commands.
+        // moment leaves the state after a prefix of the accepted commands. This prefix contains
+        // every command acknowledged by then. After the last command, the registry is at the state
+        // after all accepted commands.
         ensures ok { IfOk result (λ replies. (s : State) → IsAt D.facts self.old s → RunsOver
             D.facts self.old self.new s (map request_of commands.now) replies.items) }
         ensures err { OnErr result (self.new ≡ self.old) }
 
-        // One answer for each command.
+        // On any disk, each command has one answer.
         ensures on_any_disk { IfOk result (λ replies. AreAnswered D.facts self.old self.new
             (map request_of commands.now) replies.items) }
     {

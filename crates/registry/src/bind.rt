@@ -90,8 +90,7 @@ impl<D: Disk> Registry<D> {
     /// Returns the reply to `Bind`. Reads the files of the program's load order, each once and one
     /// after the other, and no other file. Each file is admitted before the next one is read.
     pub(crate) fn bind(&mut self, program: &[u8], base: u64) -> Reply
-        // The answer is a step over files that weren't tested, and the state is unchanged at every
-        // moment.
+        // The answer is a step of `UntestedStep`, and the state is unchanged at every moment.
         ensures applied { (s : State) → IsAt D.facts self.old s
             → AppliedUntested D.facts self.old self.new s s (bind program.now base) result }
 

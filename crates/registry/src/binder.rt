@@ -197,7 +197,7 @@ impl<D: Disk> Registry<D> {
     pub fn begin(&mut self, program: &[u8], base: u64) -> Result<Binder, Refusal>
         ensures { Begins D.facts self.old self.new program.now base result }
     {
-        // No two libraries have the same name, and a held byte string is marked as listed exactly
+        // No two libraries have the same name. A held byte string is marked as listed if and only
         // if the state lists it.
         self.store.entries_are_sound();
         self.store.holds_are_sound();

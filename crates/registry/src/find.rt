@@ -42,7 +42,7 @@ impl FoundLibraries {
         FoundLibraries { files, missing }
     }
 
-    /// Returns the libraries. Each costs as much as a call of `Object::of_accepted`.
+    /// Returns the libraries. Making each library costs as much as a call of `Object::of_accepted`.
     pub fn libraries(&self, alloc: Global) -> Result<Vec<Library<'_>>, AllocError>
         ensures { IfOk result (λ libraries.
             libraries.items ≡ map object_of self.now.libraries) }
@@ -69,8 +69,8 @@ impl<D: Disk> Registry<D> {
     ghost use Rattle.registry.specs.Untested.{ReadsLibraries};
 
     /// Finds the libraries of an admitted program. Reads the files of the program's load order as
-    /// `bind` does, and goes on if a name is missing. Refuses with S1 (Device), S2 (Reopen), S5
-    /// (Damaged) or S11 (OutOfMemory).
+    /// `bind` does. If a name is missing, continues with the other names. Refuses with S1 (Device),
+    /// S2 (Reopen), S5 (Damaged) or S11 (OutOfMemory).
     pub fn find_libraries(&mut self, program: &Admitted<'_>) -> Result<FoundLibraries, Refusal>
         ensures read { IsRead D.facts self.old self.new }
         ensures ok { (s : State) → IsAt D.facts self.old s

@@ -40,7 +40,8 @@ impl<D: Disk> Registry<D> {
         // The registry has named byte strings, which need not be libraries.
         ensures opening { OpensByEntries D.facts disk result }
 
-        // If they are libraries, the registry is at their state, as after `open`.
+        // If the files are libraries, the registry is at the state that the disk holds, as after
+        // `open`.
         ensures registry { IsTrue (D.facts disk).honest → (s : State) → Stands (D.facts disk).now s
             → MatchResult result (λ registry. IsAt D.facts registry s) (λ e.
             (e.0 ≡ StoreRefusal.Device) ⊎ (e.0 ≡ StoreRefusal.OutOfMemory)) }

@@ -43,8 +43,8 @@ impl<D: Disk> Registry<D> {
     }
 
     /// Replaces the file of a library, which keeps its place, by `bytes`. The sectors of the old
-    /// file become unused only when the change is done. Makes as many calls of the disk as
-    /// `install`, except that the number of libraries, and so of catalogues, doesn't grow.
+    /// file become unused only when the change is done. Makes the calls of the disk that `install`
+    /// makes, with the catalogues for an unchanged number of libraries.
     pub(crate) fn replace(&mut self, bytes: &[u8]) -> Result<(), Refusal>
         ensures applied { (s : State) → IsAt D.facts self.old s
             → AppliesUntested D.facts self.old self.new s (replace bytes.now) (answer_of result) }

@@ -6,8 +6,8 @@ use std::alloc::{AllocError, Global};
 use store::StoreRefusal;
 
 /// A round: the disk is opened, takes commands, and is stopped. Call number `cut` of the round
-/// fails, and so do all later ones. With `late`, call number `cut` reaches the disk before it
-/// fails.
+/// fails, and so do all later calls. If `late` is true, call number `cut` reaches the disk before
+/// it fails.
 #[derive(Drop)]
 pub struct Round<'a> {
     /// The commands of the round, in their order.
@@ -53,7 +53,7 @@ fn behind_fuse(disk: Memory, round: &Round<'_>) -> Fuse<Memory>
     Fuse::new(disk, round.cut, true, round.late)
 }
 
-// Stops a disk with these picks, and returns it.
+// Stops `disk` with the picks `picks`, and returns the stopped disk.
 fn stop_by(disk: Memory, picks: &[usize]) -> Memory
     ensures { IsStoppedBy picks.now disk result }
 {
@@ -86,8 +86,8 @@ pub fn run_rounds(
     disk: Memory,
     rounds: Vec<Round<'_>>,
 ) -> Result<(Vec<RoundReplies>, Memory), (AllocError, Memory)>
-    // Suppose that the disk holds a state. Each round starts with the disk and the state that the
-    // round before it left. The disk that is returned is the last one, and holds its state.
+    // If the disk holds a state, each round starts with the disk and the state that the round
+    // before it left. The disk that is returned is the last one, and holds its state.
     ensures ok { (s : State) → AlwaysStands disk s → IfOk result (λ done. (s' : State)
         × Run RoundLeads (standing disk s) rounds.entry.items done.0.items (standing done.1 s')
         × AlwaysStands done.1 s') }

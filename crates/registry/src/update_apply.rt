@@ -34,7 +34,7 @@ impl<D: Disk> Update<D> {
 
     /// Applies `command` to the draft. The answer is a step of the step table in the draft's state.
     /// A change is planned or refused. A listing and a bind use the draft as it is. The current
-    /// state stays unchanged, and after a refusal the draft does too.
+    /// state stays unchanged. A refusal also leaves the draft unchanged.
     pub fn apply(&mut self, command: &Command<'_>) -> Reply
         ensures applied { (s d : State) → IsDraftedAt D.facts self.old s d
             → AppliesDraft D.facts self.old self.new s d (request_of command.now) result }

@@ -154,13 +154,13 @@ impl<D: Disk> Update<D> {
         self.bind_admitted(&program, base)
     }
 
-    /// Returns the reply to `Bind`, which is the one that a bind would get if the draft were
+    /// Returns the reply to `Bind`. It is the reply that a bind would get if the draft were
     /// committed now.
     pub(crate) fn bind(&mut self, program: &[u8], base: u64) -> Reply
         ensures applied { (s d : State) → IsDraftedAt D.facts self.old s d
             → AppliesDraft D.facts self.old self.new s d (bind program.now base) result }
 
-        // It makes at most the calls of a bind over the draft's state, and writes nothing.
+        // The bind makes at most the calls of a bind over the draft's state, and writes nothing.
         ensures bound { (s d : State) → IsDraftedAt D.facts self.old s d
             → IsBoundBeside D.facts self.old self.new d (bind program.now base) result }
 

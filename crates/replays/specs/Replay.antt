@@ -18,7 +18,7 @@ pub record IsStateOfBytes (s : State) : Type 0 where
   pub state : IsState s
   pub bytes : All (λ l. All (λ byte. byte < 256) l.bytes) s.libraries
 
--- the request that sets the preloads, if there are any
+-- the request that sets the preloads, or no request if there are no preloads
 abbrev pub preload_requests : List (List ℕ) → List Request
 preload_requests [] = []
 preload_requests (name ∷ names) = set_preloads (name ∷ names) ∷ []
@@ -28,7 +28,7 @@ preload_requests (name ∷ names) = set_preloads (name ∷ names) ∷ []
 abbrev pub requests_for : State → List Request
 requests_for s = map (λ l. install l.bytes) s.libraries ++ preload_requests s.preloads
 
--- the state with the same libraries and preloads, after as many changes as there are requests for it
+-- the state with the same libraries and preloads; its generation is the number of requests that make it
 abbrev pub copy_of : State → State
 copy_of s = record { generation = length (requests_for s); libraries = s.libraries; preloads = s.preloads }
 
@@ -36,7 +36,7 @@ copy_of s = record { generation = length (requests_for s); libraries = s.librari
 abbrev pub sectors_for : State → ℕ
 sectors_for s = root_sectors + taken_by s
 
--- the state of the phase is the one that the requests `front` make from an empty registry
+-- the state of the phase is the state that the requests `front` make from an empty registry
 abbrev pub IsBehind : List Request → Phase → Type 0
 IsBehind front p = p.state ≡ fold accepted empty_state front
 

@@ -8,7 +8,8 @@ use Rattle.scripts.specs.Asked.{request_meaning}
 use Rattle.scripts.specs.Line.{IsLine, ended}
 use Rattle.updates.specs.Lines.{commit_line}
 
--- A text consists of whole lines that ask for these requests, one each, and for nothing else.
+-- A text consists of whole lines. They ask for the requests `requests` in the order of this list, one
+-- request each, and for nothing else.
 pub record IsScript (text : List ℕ) (requests : List Request) : Type 0 where
   pub lines : List (List ℕ)
   pub each : All IsLine lines
@@ -19,8 +20,8 @@ pub record IsScript (text : List ℕ) (requests : List Request) : Type 0 where
   pub only : (others : List (List ℕ)) (cut : List ℕ) → All IsLine others → IsLine cut
       → text ≡ flat_map ended others ++ cut → (others ≡ lines) × (cut ≡ [])
 
--- A text consists of whole lines that ask for these requests of an update, one each, and then the line
--- `commit`, which asks for none.
+-- A text consists of whole lines that ask for the requests `requests` of an update, one request each,
+-- followed by the line `commit`, which asks for no request.
 pub record IsUpdateText (text : List ℕ) (requests : List Request) : Type 0 where
   pub lines : List (List ℕ)
   pub each : All IsLine lines

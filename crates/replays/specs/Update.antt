@@ -26,7 +26,7 @@ use Rattle.program_parts.specs.Streams.{Streams}
 use Rattle.updates.specs.Streams.{CannotWrite, SaysOnly, outputs_of}
 use Rattle.replays.specs.Replay.{IsFault, requests_for, sectors_for}
 
--- the state of the phase is the one that the requests `front` make in a draft of an empty registry
+-- the state of the phase is the state that the requests `front` make in a draft of an empty registry
 abbrev pub IsDraftBehind : List Request → Phase → Type 0
 IsDraftBehind front p = p.state ≡ drafted_by empty_state front
 
@@ -36,7 +36,8 @@ abbrev pub changes_by : List Request → ℕ
 changes_by [] = 0
 changes_by (request ∷ requests) = 1
 
--- the state with the same libraries and preloads, after the one change that makes it
+-- the state with the same libraries and preloads; its generation is the number of changes that an update
+-- makes for it
 abbrev pub renewed : State → State
 renewed s = record { generation = changes_by (requests_for s); libraries = s.libraries; preloads = s.preloads }
 
@@ -44,8 +45,8 @@ renewed s = record { generation = changes_by (requests_for s); libraries = s.lib
 abbrev pub LeavesAllOrNothing : {D : Type 0} → (D → DiskFacts) → State → D → D → Type 0
 LeavesAllOrNothing facts s disk left = LeavesOnly (facts disk) (facts left) (λ m. Mixture (facts disk) m ⊎ (Stands m empty_state ⊎ Stands m (renewed s)))
 
--- `refusal` may refuse a line or the commit on a disk of `sectors` sectors. S7 is possible only if these
--- are too few for the state. S8, S1, S2 and S11 are possible on any disk.
+-- `refusal` may refuse a line or the commit on a disk of `sectors` sectors. S7 is possible only if
+-- `sectors` is too small for the state. S8, S1, S2 and S11 are possible on any disk.
 abbrev pub IsHindrance : State → (sectors : ℕ) → Refusal → Type 0
 IsHindrance s sectors Full = sectors < sectors_for s
 IsHindrance s sectors Fragmented = Unit {0}

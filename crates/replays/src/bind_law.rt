@@ -9,7 +9,7 @@ ghost use Rattle.registry.specs.Updating.{drafted_by, updated};
 /// Does nothing. Its clauses are the law that a bind with the draft of an update has the same
 /// answer as a bind after the commit.
 pub fn planned_binds()
-    // After the commit, the bind is refused exactly if it was refused before, and for the same
+    // After the commit, the bind is refused if and only if it was refused before, and for the same
     // reason.
     ensures refusal { (s : State) (requests : List Request) (program : List ℕ) (base : ℕ)
         → binding_refusal (updated s requests) program base

@@ -31,7 +31,7 @@ pub fn dump_replays<D: Disk>()
     // preloads.
     ensures lines { (s : State) → IsStateOfBytes s → IsScript (dump_text s) (requests_for s) }
 
-    // After the requests before it, a request can be refused only for lack of room.
+    // A request, made after the requests before it, can be refused only for lack of room.
     ensures room { (s : State) → IsStateOfBytes s → (front rest : List Request)
         (request : Request) (p : Phase) → requests_for s ≡ front ++ request ∷ rest
         → IsBehind front p → LacksRoomAtMost s p request }

@@ -34,7 +34,7 @@ pub fn dump_updates<D: Disk, O: Write>()
     ensures lines { (s : State) → IsStateOfBytes s
         → IsUpdateText (script_text Update s) (requests_for s) }
 
-    // After the requests before it, a request can be refused only for lack of room.
+    // A request, planned after the requests before it, can be refused only for lack of room.
     ensures room { (s : State) → IsStateOfBytes s → (front rest : List Request)
         (request : Request) (p : Phase) → requests_for s ≡ front ++ request ∷ rest
         → IsDraftBehind front p → LacksRoomAtMost s p request }
@@ -56,9 +56,9 @@ pub fn dump_updates<D: Disk, O: Write>()
     ensures end { (s : State) → IsStateOfBytes s
         → updated empty_state (requests_for s) ≡ renewed s }
 
-    // Suppose that a disk held an empty registry, and an update reads the text. Then it ends with
-    // status 0, and the disk holds the same libraries, bytes, order and preloads, or it ends as
-    // `IsHindered` defines.
+    // If a disk held an empty registry, and an update reads the text, the update ends in one of two
+    // ways. Either it ends with status 0, and the disk holds the same libraries, bytes, order and
+    // preloads; or it ends as `IsHindered` defines.
     ensures program { (s : State) → IsStateOfBytes s → (disk left : D) (io : Streams)
         (ends : Status) → IsTrue (D.facts disk).honest → Stands (D.facts disk).now empty_state
         → io.unread ≡ Some (script_text Update s)

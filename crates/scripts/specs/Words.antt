@@ -6,7 +6,7 @@ use Rattle.std.specs.Result.{result_ok}
 use Rattle.hex.specs.Hex.{decode_of}
 use Rattle.program_parts.specs.Base.{base_of}
 
--- the bytes that HEX encodes, which is one or more pairs of hexadecimal digits of either case
+-- the bytes that HEX encodes; HEX is one or more pairs of hexadecimal digits of either case
 abbrev pub hex_bytes : List ℕ → Option (List ℕ)
 hex_bytes word = if length word == 0 then None else result_ok (decode_of word)
 

@@ -13,8 +13,8 @@ use memchr::memchr;
 use program_parts::Line;
 use std::io::{BufReader, Read, Write};
 
-/// Reads a line, and asks the reader for more bytes. No answer is buffered then, so a caller that
-/// writes line by line has received all answers.
+/// Reads a line, and asks the reader for more bytes. No answer is buffered at that point, so a
+/// process that sends one line at a time has received all answers.
 fn ask_line<R: Read>(
     pages: &mut BufReader<&mut R>,
     line: &mut Vec<u8>,

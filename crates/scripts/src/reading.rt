@@ -95,8 +95,8 @@ pub(crate) fn read_line<R: BufRead>(reader: &mut R, line: &mut Vec<u8>) -> Resul
     Err(ScriptFault::Read)
 }
 
-/// Takes the line whose newline is at position `end` of the bytes that were read before, and puts
-/// it into `line`, overwriting what `line` had. Doesn't ask the reader for more bytes.
+/// Replaces the contents of `line` by the line whose newline is at position `end` of the bytes that
+/// were read before. Doesn't ask the reader for more bytes.
 pub(crate) fn take_line<R: Read>(
     pages: &mut BufReader<&mut R>,
     end: usize,

@@ -28,16 +28,16 @@ InfoTells io status = (told : Info)
 
 -- The forms read byte strings, and their calls changed the disk's facts from `old` to `new`.
 module _ (old new : DiskFacts) where
-  -- `check`: findings for some libraries are written, and at least one call failed for each library that
-  -- can't be read; or memory was refused
+  -- `check`: either the findings for some libraries are written, and at least one call failed for each
+  -- library that can't be read; or memory was refused
   abbrev pub CheckTells : Streams → Status → Type 0
   CheckTells io status =
       ((libraries : List Library) × (findings : List Finding) × (length findings ≡ length libraries) × HaveFailed old new (count_by is_unreadable findings)
       × TellsOnly (check_status findings) (check_text libraries findings) io status)
       ⊎ SaysOnly NoMemory memory_line io status
 
-  -- `digest`: the digests of some bytes are written with the names of some libraries, and at least one
-  -- call failed for each library that can't be read; or memory was refused
+  -- `digest`: either the digests of some bytes are written with the names of some libraries, and at
+  -- least one call failed for each library that can't be read; or memory was refused
   abbrev pub DigestTells : Streams → Status → Type 0
   DigestTells io status =
       ((libraries : List Library) × (digests : List (Option (List ℕ))) × (length digests ≡ length libraries) × All IsDigestOfSome digests
@@ -62,8 +62,8 @@ module _ (old new : DiskFacts) where
       × (status ≡ cut_status finding) × Says io (said_line (finding_line name size finding)))
       ⊎ ((status ≡ NoMemory) × Says io memory_line)
 
-  -- `dump`: either the whole script for some libraries and preloads and this purpose is written, or a
-  -- script for some libraries that is cut, or the output failed
+  -- `dump`: either the whole script for some libraries, some preloads and this purpose is written; or a
+  -- cut script for some libraries is written; or the output failed
   abbrev pub DumpTells : Purpose → Streams → Status → Type 0
   DumpTells purpose io status =
       ((libraries : List Library) × (preloads : List (List ℕ)) × (status ≡ Done)

@@ -1,4 +1,4 @@
--- How a form ends that reports what the symbols of a program are bound to (own).
+-- How `bindings` ends, the form that reports what the symbols of a program are bound to (own).
 use Rattle.std.specs.Prelude.{◌≡◌, ◌≢◌, ◌⊎◌, ℕ, List, Option, None, Ok, Err, map, false, is_none, if◌then◌else◌}
 use Rattle.bindings.specs.Bindings.{bindings_text}
 use Rattle.bindings.specs.Dependencies.{dependencies_text}
@@ -26,7 +26,8 @@ use Rattle.store.specs.declared.refusal.StoreRefusal.{StoreRefusal}
 use Rattle.tool_parts.specs.Said.{memory_line, refusal_line, said_line}
 use Rattle.tool_parts.specs.Streams.{Streams, SaysOnly, TellsOnly}
 
--- standard error reports the refusal as one of a bind, and nothing is written to the output
+-- standard error reports `refusal` with the line of a refused command, nothing is written to the output,
+-- and the status is that of the refusal
 abbrev pub SaysRefusal : Refusal → Streams → Status → Type 0
 SaysRefusal refusal io status = SaysOnly (refusal_status refusal) (said_line (command_refusal_text refusal)) io status
 
@@ -52,8 +53,8 @@ abbrev pub LackingTells : List (List ℕ) → List Named → Streams → Status 
 LackingTells names objects io status = TellsOnly Refused (dependencies_text names objects) io status ⊎ SaysOnly NoMemory memory_line io status
 
 -- A report about `order`, the objects in load order, with the program at the address `base`. If no name
--- is missing, it has the bindings. Otherwise it has what the objects need, and the needed names that
--- aren't among `names`.
+-- is missing, the report lists the bindings. Otherwise it lists what the objects need, and the needed
+-- names that aren't among `names`.
 abbrev pub OrderTells : Option Need → List (List ℕ) → List Named → ℕ → Streams → Status → Type 0
 OrderTells lacks names order base io status =
     ((lacks ≡ None) × WholeTells (place base order) io status) ⊎ ((lacks ≢ None) × LackingTells names order io status)
@@ -94,8 +95,8 @@ BindingsEnd facts old new s program base io status =
     × (((refusal : Refusal) × IsFindRefusal facts old new refusal × (refusal ≡ Damaged → ReadsLibraries s program → ⊥) × SaysRefusal refusal io status)
     ⊎ (ReadsLibraries s program × ReadsAsBind facts old new s program × StateTells s program base io status)))
 
--- The form ends on any disk, even on one that lies. Either the program is refused by itself, or a
--- library can't be read, or a report with some libraries is written.
+-- How `bindings` ends on any disk, even on a disk that lies. Either the program is refused by itself, or
+-- a library can't be read, or a report with some libraries is written.
 abbrev pub BindingsTell : {D : Type 0} → (D → DiskFacts) → Opened D → Opened D → List ℕ → ℕ → Streams → Status → Type 0
 BindingsTell facts old new program base io status =
     IsRefusedUnread old new program base io status
@@ -109,7 +110,7 @@ pub record ToldBindings {D : Type 0} (facts : D → DiskFacts) (old new : Opened
   pub told : BindingsTell facts old new program base io status
 
 -- A disk was opened, whatever named byte strings it holds, and the bindings of a program were reported.
--- `left` is the disk after that.
+-- `left` is the disk afterwards.
 pub record IsAskedFor {D : Type 0} (facts : D → DiskFacts) (disk : D) (program : List ℕ) (base : ℕ) (io : Streams) (status : Status) (left : D) : Type 0 where
   pub old : Opened D
   -- opening the disk read no library's file
@@ -119,7 +120,7 @@ pub record IsAskedFor {D : Type 0} (facts : D → DiskFacts) (disk : D) (program
   pub back : left ≡ new.disk
 
 -- either the bindings of a program with the disk's libraries are reported, or standard error reports why
--- the disk was refused; `left` is the disk after that
+-- the disk was refused; `left` is the disk afterwards
 abbrev pub BindingsEnds : {D : Type 0} → (D → DiskFacts) → D → List ℕ → ℕ → Streams → Status → D → Type 0
 BindingsEnds facts disk program base io status left =
     IsAskedFor facts disk program base io status left

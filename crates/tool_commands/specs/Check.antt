@@ -18,7 +18,7 @@ use Rattle.tool_commands.specs.Lines.{lines_of}
 abbrev pub unreadable_line : (name : List ℕ) → List ℕ
 unreadable_line name = codes "unreadable " ++ name_text name ++ codes "\n"
 
--- the line for a library named `name` of `length` bytes with this finding
+-- the line with the finding for a library that has the name `name` and `length` bytes
 abbrev pub finding_line : (name : List ℕ) (length : ℕ) → Finding → List ℕ
 finding_line name length Sound = codes "ok " ++ name_text name ++ codes " " ++ decimal length ++ codes "\n"
 finding_line name length (Refused refusal) = codes "damaged " ++ name_text name ++ codes " " ++ file_refusal_text refusal ++ codes "\n"

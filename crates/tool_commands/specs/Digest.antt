@@ -59,8 +59,8 @@ are_read digests = list_all is_some digests
 abbrev pub digest_status : List (Option (List ℕ)) → Status
 digest_status digests = if are_read digests then Done else Refused
 
--- either exactly the lines for the digests were written, and standard error reports only the libraries
--- that can't be read, or the output failed
+-- Either exactly the lines for the digests were written, and standard error reports only the libraries
+-- that can't be read; or the output failed.
 abbrev pub TellsDigests : List Library → List (Option (List ℕ)) → Streams → Status → Type 0
 TellsDigests libraries digests io status =
     ((status ≡ digest_status digests) × Tells io (digests_text libraries digests)

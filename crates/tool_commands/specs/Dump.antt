@@ -22,7 +22,7 @@ install_text l = install_line l.bytes
 abbrev pub behind_space : List ℕ → List ℕ
 behind_space name = codes " " ++ name
 
--- the line that sets the preloads, if there are any
+-- the line that sets the preloads, or nothing if there are no preloads
 abbrev pub preload_text : List (List ℕ) → List ℕ
 preload_text [] = []
 preload_text (name ∷ names) = codes "preload" ++ flat_map behind_space (name ∷ names) ++ codes "\n"

@@ -35,8 +35,8 @@ use Rattle.tool_commands.specs.Said.{not_installed_line}
 use Rattle.tool_parts.specs.Streams.{Streams, CannotWrite, IsSilent, Says, SaysOnly, Tells, TellsOnly}
 use Rattle.tool_commands.specs.declared.form.Purpose.{Purpose}
 
--- A file with a new name is installed without a refusal exactly if it has at most `largest` bytes.
--- `largest` is 0 or a possible length of a file.
+-- An install of a file with a new name is refused with S7, S8, S9 or S10 if and only if the file has
+-- more than `largest` bytes. `largest` is 0 or a possible length of a file.
 pub record IsLargest {D : Type 0} (facts : D → DiskFacts) (store : Opened D) (s : State) (largest : ℕ) : Type 0 where
   pub exact : (bytes : List ℕ) → IsFileSize (length bytes)
       → (length bytes ≤ largest) ↔ (refusal_of_new (facts store.disk).sectors (longest_unused store) s bytes ≡ None)
@@ -50,17 +50,17 @@ InfoEnds facts store s io status = (largest : ℕ) × IsLargest facts store s la
 
 -- The forms read byte strings, and their calls changed the disk's facts from `old` to `new`.
 module _ (old new : DiskFacts) where
-  -- `check`: the finding for each library is written, and at least one call failed for each library that
-  -- can't be read; or memory was refused for a library's bytes before the library was read, or for a test
-  -- of a library
+  -- `check`: either the finding for each library is written, and at least one call failed for each
+  -- library that can't be read; or memory was refused for a library's bytes before the library was read,
+  -- or for a test of a library
   abbrev pub CheckEnds : List PlacedEntry → State → Streams → Status → Type 0
   CheckEnds entries s io status =
       ((findings : List Finding) × AreFindings s.libraries findings × HaveFailed old new (count_by is_unreadable findings)
       × TellsOnly (check_status findings) (check_text s.libraries findings) io status)
       ⊎ (LacksMemory old new entries s × SaysOnly NoMemory memory_line io status)
 
-  -- `digest`: the SHA-256 of each library's bytes is written, and at least one call failed for each
-  -- library that can't be read; or memory was refused
+  -- `digest`: either the SHA-256 of each library's bytes is written, and at least one call failed for
+  -- each library that can't be read; or memory was refused
   abbrev pub DigestEnds : State → Streams → Status → Type 0
   DigestEnds s io status =
       ((digests : List (Option (List ℕ))) × AreDigests s.libraries digests × HaveFailed old new (count_by is_none digests)
@@ -68,7 +68,7 @@ module _ (old new : DiskFacts) where
       ⊎ SaysOnly NoMemory memory_line io status
 
   -- `file`: either exactly the bytes of the library named `name` are written, or there is no such
-  -- library, or its bytes can't be read
+  -- library, or the bytes of the library can't be read
   abbrev pub FileEnds : State → List ℕ → Streams → Status → Type 0
   FileEnds s name io status =
       ((bytes : List ℕ) × HasFile s name bytes × TellsOnly Done bytes io status)
@@ -84,14 +84,15 @@ module _ (old new : DiskFacts) where
       ⊎ ((status ≡ NoMemory) × Says io memory_line)
 
   -- `dump`: either exactly the script for this purpose is written, and each file is a library with its
-  -- entry's name; or exactly the script up to some library is written, cut there; or the output failed
+  -- entry's name; or exactly the script up to some library is written, and is cut at this library; or
+  -- the output failed
   abbrev pub DumpEnds : Purpose → State → Streams → Status → Type 0
   DumpEnds purpose s io status =
       ((status ≡ Done) × All IsLibrary s.libraries × Tells io (script_text purpose s) × IsSilent io)
       ⊎ (((k : ℕ) × (k < length s.libraries) × IsCutFor (slice_index_or s.libraries k no_library) io status × Tells io (cut_text s k))
       ⊎ CannotWrite io status)
 
--- the question is answered for an opened disk in state s; `left` is the disk after that
+-- the question is answered for an opened disk in state s; `left` is the disk afterwards
 abbrev pub FormEnds : {D : Type 0} → (D → DiskFacts) → Opened D → D → State → Question → Streams → Status → Type 0
 FormEnds facts store left s info io status = InfoEnds facts store s io status
 FormEnds facts store left s check io status = CheckEnds (facts store.disk) (facts left) store.entries s io status
@@ -115,7 +116,7 @@ EndsUnopened (dump purpose) ends before after status = IsTold ends (codes "cut")
 EndsUnopened question ends before after status = (status ≡ ends) × (after ≡ before)
 
 -- A disk was opened, whatever named byte strings it holds, and the question was answered for it. `left`
--- is the disk after that.
+-- is the disk afterwards.
 pub record IsAsked {D : Type 0} (facts : D → DiskFacts) (disk : D) (question : Question) (io : Streams) (status : Status) (left : D) : Type 0 where
   pub store : Opened D
   -- opening the disk read no library's file
@@ -125,13 +126,13 @@ pub record IsAsked {D : Type 0} (facts : D → DiskFacts) (disk : D) (question :
   pub only_read : IsRead facts store read
   pub calls : FormReads (facts store.disk) (facts left) store.entries question
   pub back : left ≡ read.disk
-  -- an honest disk is at one state, and the answer is for that state
+  -- if the opened disk is at state s, the answer is for this state
   pub ends : (s : State) → IsAt facts store s → FormEnds facts store left s question io status
   -- the answer on any disk, even on a disk that lies
   pub told : FormTells (facts store.disk) (facts left) question io status
 
 -- either the question is answered for the disk, or standard error reports why the disk was refused;
--- `left` is the disk after that
+-- `left` is the disk afterwards
 abbrev pub DiskEnds : {D : Type 0} → (D → DiskFacts) → D → Question → Streams → Status → D → Type 0
 DiskEnds facts disk question io status left =
     IsAsked facts disk question io status left

@@ -26,11 +26,11 @@ abbrev pub executable_status : ExecutableRefusal → Status
 executable_status refusal.OutOfMemory = NoMemory
 executable_status other = Refused
 
--- exactly this file was written; or the output failed
+-- either exactly `file` was written, or the output failed
 abbrev pub TellsFile : List ℕ → Streams → Status → Type 0
 TellsFile file io status = ((status ≡ Done) × Tells io file × SaysBeside file io) ⊎ CannotWrite io status
 
--- either exactly the image's file was written, or there is no such file, and standard error reports why
+-- either exactly the image's file was written; or there is no such file, and standard error reports why
 abbrev pub TellsExecutable : MemoryImage → Streams → Status → Type 0
 TellsExecutable image io status =
     ((file : List ℕ) × IsExecutableOf image file × TellsFile file io status)

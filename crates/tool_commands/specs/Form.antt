@@ -10,7 +10,7 @@ use Rattle.tool_commands.specs.declared.form.Form.TheVariants as form
 use Rattle.tool_commands.specs.declared.form.Purpose.{Purpose}
 use Rattle.tool_commands.specs.declared.form.Purpose.TheVariants.{Script, Update}
 
--- A question about a disk. `file` has the name of a library, and `dump` the purpose of the script.
+-- A question about a disk. `file` has the name of a library, and `dump` has the purpose of the script.
 pub data Question : Type 0 where
   info : Question
   check : Question
@@ -18,8 +18,9 @@ pub data Question : Type 0 where
   file : List ℕ → Question
   dump : Purpose → Question
 
--- What to do: answer a question, replace a library by the file at a path, remove a library by its name,
--- or update. Or write the executable file of the program at a path, or what its symbols are bound to.
+-- What to do with a disk: answer a question, replace a library by the file at a path, remove a library
+-- by its name, or run an update; write the executable file of the program at a path, or report what the
+-- symbols of that program are bound to.
 pub data Deed : Type 0 where
   tell : Question → Deed
   replace : List ℕ → Deed
@@ -82,7 +83,7 @@ question_of form.Digest = digest
 question_of (form.File name) = file name.now
 question_of (form.Dump purpose) = dump purpose
 
--- what an action that the code has read is to do
+-- the deed of an action that the code has read
 abbrev pub deed_of : Action → Deed
 deed_of (action.Tell form) = tell (question_of form)
 deed_of (action.Replace path) = replace path.now
@@ -105,7 +106,7 @@ abbrev pub asks_for : (Deed → Bool) → Option CommandLine → Bool
 asks_for is_such (Some line) = is_such line.deed
 asks_for is_such None = false
 
--- the command line for the arguments of the process, if they could be read
+-- the command line for the arguments of the process, or none if the arguments couldn't be read
 abbrev pub line_read : {A Z E : Type 0} → Result (Vec (String A) Z) E → Option CommandLine
 line_read (Ok words) = command_line (map (λ word. string_bytes word) words.items)
 line_read (Err e) = None

@@ -60,7 +60,7 @@ SaysUnread read_file.OutOfMemory before after = AppendsFront before after memory
 abbrev pub SystemDisk : Type 0
 SystemDisk = FileDisk DiskFile ghosts
 
--- Either the question is answered for a new disk over a file, or no disk was opened, and standard error
+-- Either the question is answered for a new disk over a file; or no disk was opened, and standard error
 -- reports why. S6 (BadGeometry) is reported only of a length that no disk has.
 abbrev pub TellEnds : Question → Streams → Status → Type 0
 TellEnds question io status =
@@ -68,8 +68,8 @@ TellEnds question io status =
     ⊎ ((fault : OpenFault) × EndsUnopened question (open_status fault) io.before io.after status × SaysFault fault io.errors_before io.errors_after
     × IsLengthFault fault)
 
--- Either `Ends` holds for a new disk over a file, or no disk was opened, standard error reports why, and
--- nothing was written. S6 is reported only of a length that no disk has.
+-- Either `Ends` holds for a new disk over a file; or no disk was opened, standard error reports why, and
+-- nothing was written to the output. S6 is reported only of a length that no disk has.
 abbrev pub OpenEnds : (SystemDisk → SystemDisk → Type 0) → Streams → Status → Type 0
 OpenEnds Ends io status =
     ((disk : SystemDisk) × (left : SystemDisk) × IsNew disk × Ends disk left)
@@ -84,8 +84,8 @@ AskEnds asked telling io status = OpenEnds (λ disk left. RequestEnds file_facts
 abbrev pub BindingsAskEnds : List ℕ → ℕ → Streams → Status → Type 0
 BindingsAskEnds program base io status = OpenEnds (λ disk left. BindingsEnds file_facts disk program base io status left) io status
 
--- either the bytes of a file were read, and `Ends` holds for them, or they weren't read, standard error
--- reports why, and nothing was written
+-- either the bytes of a file were read, and `Ends` holds for them; or they weren't read, standard error
+-- reports why, and nothing was written to the output
 abbrev pub ReadEnds : (List ℕ → Type 0) → Streams → Status → Type 0
 ReadEnds Ends io status =
     ((bytes : List ℕ) × (length bytes < read_limit) × Ends bytes)
@@ -95,7 +95,7 @@ ReadEnds Ends io status =
 abbrev pub ExitsWith : (Status → Type 0) → ℕ → Type 0
 ExitsWith IsSo number = (status : Status) × IsSo status × (number ≡ status_number status)
 
--- `contents` is the bytes that an output holds, if its contract defines them.
+-- `contents` is the bytes that an output holds, or none if the output's contract doesn't define them.
 module _ {O : Type 0} (contents : O → Option (List ℕ)) where
   -- an update was run over the disk
   abbrev pub UpdateAskEnds : program.Streams → Status → Type 0
@@ -127,14 +127,15 @@ module _ {O : Type 0} (contents : O → Option (List ℕ)) where
   UnreadEnds why io number =
       (why ≡ OutOfMemory → ExitsWith (SaysOnly NoMemory memory_line (outputs_of io)) number) × (why ≢ OutOfMemory → LineEnds None io number)
 
--- whether standard error may get something although the status is Done, as it may when an executable
--- file is written
+-- whether something may be written to standard error although the status is Done; only writing an
+-- executable file may do this
 abbrev pub warns : Deed → Bool
 warns (executable path base) = true
 warns deed = false
 
--- Whether both streams may get something. This is possible for digests, if a library has none; for a
--- script that is cut; for an update whose lines a fault ended; and for an executable file.
+-- Whether both the output and standard error may be written to. This is possible for digests, if a
+-- library can't be read; for a script that is cut; for an update whose lines a fault ended; and for an
+-- executable file.
 abbrev pub says_beside : Deed → Bool
 says_beside (tell digest) = true
 says_beside (tell (dump purpose)) = true

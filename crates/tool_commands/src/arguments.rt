@@ -15,7 +15,7 @@ use std::rt::{Clock, Files};
 use store::StoreRefusal;
 use tool_parts::say_refusal;
 
-/// Does the same as `run_words` if the arguments could be read. If memory for them was refused,
+/// If the arguments could be read, does the same as `run_words`. If memory for them was refused,
 /// reports that. If they couldn't be read for another reason, reports the usage, as for arguments
 /// that have none of the forms.
 pub fn run_arguments<R: Files<File = File> + Clock, I: Read, O: Write, E: Write>(

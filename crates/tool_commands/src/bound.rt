@@ -19,7 +19,8 @@ use tool_parts::cannot_write;
 /// The maximum number of program headers in one page of 4,096 bytes.
 const MOST_IN_A_PAGE: u16 = 73;
 
-/// If `file` has more program headers than fit in a page, reports that not every kernel starts it.
+/// If `file` has more program headers than fit in a page, reports that not every kernel starts the
+/// file.
 fn say_many_headers<E: Write>(file: &Executable, errors: &mut E)
     ensures said { AppendsFront (E.contents errors.old) (E.contents errors.new)
         many_headers_line }
@@ -76,7 +77,7 @@ fn executable_status(refusal: &ExecutableRefusal) -> Status
     }
 }
 
-/// Reports why there is no executable file, if there is memory for the line. Returns the status.
+/// If there is memory for the line, reports why there is no executable file. Returns the status.
 fn say_executable_refusal<E: Write>(
     alloc: Global,
     refusal: &ExecutableRefusal,

@@ -123,8 +123,8 @@ fn tell_findings<D: Disk, O: Write, E: Write>(
     }
 }
 
-/// Reads each library, and writes a line with the finding for each, in their order. Then writes the
-/// line `end`.
+/// Reads each library, and writes a line with the finding for each library, in their order. Then
+/// writes the line `end`.
 pub fn run_check<D: Disk, O: Write, E: Write>(
     contents: &mut Contents<D>,
     alloc: Global,
@@ -149,7 +149,7 @@ pub fn run_check<D: Disk, O: Write, E: Write>(
       errors_after = E.contents errors.new;
     }) result }
 
-    // It makes at most one call of the disk for each sector of each library.
+    // The form makes at most one call of the disk for each sector of each library.
     ensures calls { AreCallsAtMost (sum_by file_sectors contents.old.entries)
         (D.facts contents.old.disk) (D.facts contents.new.disk) }
 {

@@ -55,7 +55,7 @@ pub fn run_words<R: Files<File = File> + Clock, I: Read, O: Write, E: Write>(
     ensures most { result ≤ 4 }
 
     // How the program ends with these arguments: its status, its output, and its messages on
-    // standard error. The status is 2 exactly if the arguments have none of the forms.
+    // standard error. The status is 2 if and only if the arguments have none of the forms.
     ensures ends { LineEnds O.contents (command_line (map (λ word. string_bytes word) words.now))
         (record {
           unread = I.remaining input.old;
@@ -78,8 +78,8 @@ pub fn run_words<R: Files<File = File> + Clock, I: Read, O: Write, E: Write>(
     ensures silent { asks_for warns (command_line (map (λ word. string_bytes word) words.now))
         ≡ false → result ≡ 0 → E.contents errors.new ≡ E.contents errors.old }
 
-    // Unless something failed, only one of standard error and the output is written to, except by
-    // the forms that may write to both.
+    // At most one of the output and standard error is written to, unless the status is 3 or the
+    // form is one of those that may write to both.
     ensures apart { asks_for says_beside (command_line (map (λ word. string_bytes word) words.now))
         ≡ false → result ≢ 3 → (E.contents errors.new ≡ E.contents errors.old)
         ⊎ (O.contents output.new ≡ O.contents output.old) }

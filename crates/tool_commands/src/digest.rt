@@ -88,7 +88,7 @@ fn unread_lines<D: Disk>(
     }
 }
 
-/// Reports which libraries can't be read, if there is memory for the lines.
+/// If there is memory for the lines, reports which libraries can't be read.
 fn say_unread<D: Disk, E: Write>(
     store: &Store<D>,
     alloc: Global,
@@ -106,7 +106,7 @@ fn say_unread<D: Disk, E: Write>(
     }
 }
 
-/// Reports which libraries can't be read, if there are any. Returns the status.
+/// If libraries can't be read, reports which ones. Returns the status.
 fn end_digests<D: Disk, E: Write>(
     store: &Store<D>,
     alloc: Global,
@@ -127,8 +127,8 @@ fn end_digests<D: Disk, E: Write>(
     Status::Refused
 }
 
-/// Writes the line for each library that could be read, and reports the others. If the output
-/// fails, reports that instead.
+/// Writes the line for each library that could be read, and reports the other libraries on standard
+/// error. If the output fails, reports only that.
 fn tell_digests<D: Disk, O: Write, E: Write>(
     store: &Store<D>,
     alloc: Global,
@@ -177,7 +177,7 @@ pub fn run_digest<D: Disk, O: Write, E: Write>(
       errors_after = E.contents errors.new;
     }) result }
 
-    // It makes at most one call of the disk for each sector of each library.
+    // The form makes at most one call of the disk for each sector of each library.
     ensures calls { AreCallsAtMost (sum_by file_sectors contents.old.entries)
         (D.facts contents.old.disk) (D.facts contents.new.disk) }
 {

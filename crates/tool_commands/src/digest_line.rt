@@ -89,7 +89,8 @@ fn put_sum<W: Write>(
 }
 
 /// Appends the line for a library named `name` on the stream `stream` to the buffered text. The
-/// output has a line if the library could be read, and standard error has one if it can't be read.
+/// output has a line only for a library that could be read, and standard error only for a library
+/// that couldn't be read.
 pub(crate) fn put_stream_line<W: Write>(
     stream: Stream,
     line: &mut Line,

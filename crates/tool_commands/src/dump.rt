@@ -106,7 +106,7 @@ fn put_preload_names<D: Disk, W: Write>(
     Ok(())
 }
 
-/// Appends the line that sets the preloads, if there are any, to the buffered text.
+/// If there are preloads, appends the line that sets them to the buffered text.
 fn put_preloads<D: Disk, W: Write>(
     store: &Store<D>,
     script: &mut PieceBuffer,
@@ -125,7 +125,7 @@ fn put_preloads<D: Disk, W: Write>(
     Ok(())
 }
 
-/// Appends the line `commit`, if the script is for an update, to the buffered text.
+/// If the script is for an update, appends the line `commit` to the buffered text.
 fn put_commit<W: Write>(
     purpose: Purpose,
     script: &mut PieceBuffer,
@@ -144,8 +144,8 @@ fn put_commit<W: Write>(
     }
 }
 
-/// Appends the text after the lines for the libraries: the preloads and, for an update, `commit`;
-/// or `cut` without a newline, if the script is cut.
+/// Appends the text after the lines for the libraries to the buffered text. If the script is cut,
+/// this text is `cut` without a newline. Otherwise it is the preloads and, for an update, `commit`.
 fn put_end<D: Disk, W: Write>(
     store: &Store<D>,
     purpose: Purpose,
@@ -191,7 +191,8 @@ fn write_script<D: Disk, W: Write>(
     Ok(cut)
 }
 
-/// Appends to `spelt` the line for a library named `name` of `length` bytes with this finding.
+/// Appends to `spelt` the line with this finding for a library that has the name `name` and
+/// `length` bytes.
 fn spell_finding(
     finding: Finding,
     name: &[u8],
@@ -207,7 +208,7 @@ fn spell_finding(
     line.send(spelt)
 }
 
-/// Reports the finding for a library, if there is memory for the line. Returns the status.
+/// If there is memory for the line, reports the finding for a library. Returns the status.
 fn say_finding<E: Write>(
     alloc: Global,
     finding: Finding,
@@ -258,7 +259,7 @@ fn say_cut<D: Disk, E: Write>(store: &Store<D>, alloc: Global, cut: Cut, errors:
     }
 }
 
-/// Reports why a script was cut, if it was cut. Returns the status.
+/// If a script was cut, reports why. Returns the status.
 fn end_dump<D: Disk, E: Write>(
     store: &Store<D>,
     alloc: Global,

@@ -69,8 +69,8 @@ fn put_refused<W: Write>(
     Ok(())
 }
 
-/// Appends the line for a library named `name` of `length` bytes with this finding to the buffered
-/// text.
+/// Appends to the buffered text the line with this finding for a library that has the name `name`
+/// and `length` bytes.
 pub(crate) fn put_finding<W: Write>(
     line: &mut Line,
     out: &mut W,

@@ -4,9 +4,9 @@
 //! much of it is unused, whether each file is a library, the digests of the files, the bytes of one
 //! library, and the script that makes the registry again.
 //!
-//! `run_form` opens any disk and calls one of these. `run_request` applies a command to a disk's
-//! registry, even if some files aren't libraries, and writes the reply as `Telling` determines.
-//! `run_bindings` writes what the symbols of a program are bound to.
+//! `run_form` opens any disk and calls one of these functions. `run_request` applies a command to a
+//! disk's registry, even if some files aren't libraries, and writes the reply as `Telling`
+//! determines. `run_bindings` writes what the symbols of a program are bound to.
 //!
 //! `run_words` reads the arguments of a command line and opens the disk's file, also for an update,
 //! which the crate `updates` runs. `run_arguments` does the same with the arguments of the process.

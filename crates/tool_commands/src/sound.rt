@@ -46,7 +46,7 @@ fn tested(alloc: Global, name: &[u8], file: Vec<u8>) -> Result<Vec<u8>, Lack>
 }
 
 /// Reads the file of the library at `position`, and returns it if it is a library with its entry's
-/// name. Reads each of its sectors once.
+/// name. Reads each sector of the file once.
 pub(crate) fn sound_file<D: Disk>(
     contents: &mut Contents<D>,
     alloc: Global,

@@ -151,7 +151,7 @@ fn tell_lacking<O: Write, E: Write>(
 }
 
 /// Writes what the symbols of a program are bound to, with the libraries in `found`. If names are
-/// missing, writes which ones instead.
+/// missing, writes instead which libraries are found and which names are missing.
 fn tell_found<O: Write, E: Write>(
     alloc: Global,
     program: &Admitted<'_>,
@@ -203,8 +203,8 @@ fn tell_admitted<D: Disk, O: Write, E: Write>(
     }
 }
 
-/// Writes what the symbols of a program at the address `base` are bound to, or reports why it
-/// can't.
+/// Writes what the symbols of a program at the address `base` are bound to, or reports why this
+/// isn't possible.
 fn tell_program<D: Disk, O: Write, E: Write>(
     registry: &mut Registry<D>,
     alloc: Global,

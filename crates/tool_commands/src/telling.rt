@@ -52,7 +52,8 @@ fn spell_reply(line: &mut Vec<u8>, reply: &Reply) -> Result<(), WriteFault>
     text.send(line)
 }
 
-/// Writes the line of a reply to standard error, if there is memory for it. Returns the status.
+/// If there is memory for the line, writes the line of a reply to standard error. Returns the
+/// status.
 pub(crate) fn say_reply<E: Write>(alloc: Global, reply: &Reply, errors: &mut E) -> Status
     ensures status { result ≡ reply_status reply.now }
     ensures said { AppendsFront (E.contents errors.old) (E.contents errors.new)

@@ -12,9 +12,9 @@ use requests::Command;
 /// A request to a registry that needs the bytes of a file.
 #[derive(Clone, Copy)]
 pub(crate) enum WithFile {
-    /// Writes the executable file of the program that is read from the file.
+    /// Replaces the library with the same name by the file.
     Replace,
-    /// Writes the executable file of the program whose file is read.
+    /// Writes the executable file of the program that is read from the file.
     Executable {
         /// The address at which the program is bound.
         base: u64,

@@ -33,11 +33,12 @@ Says io line = AppendsFront io.errors_before io.errors_after line
 abbrev pub CannotWrite : Streams → Status → Type 0
 CannotWrite io status = (status ≡ Failed) × Says io cannot_write_line
 
--- either exactly this text was written to the output, with this status, and nothing to standard error,
--- or the output failed
+-- Either exactly `text` was written to the output, nothing was written to standard error, and the status
+-- is `ends`; or the output failed.
 abbrev pub TellsOnly : Status → List ℕ → Streams → Status → Type 0
 TellsOnly ends text io status = ((status ≡ ends) × Tells io text × IsSilent io) ⊎ CannotWrite io status
 
--- nothing was written to the output, and at most this line to standard error, with this status
+-- nothing was written to the output, at most `line` was written to standard error, and the status is
+-- `ends`
 abbrev pub SaysOnly : Status → List ℕ → Streams → Status → Type 0
 SaysOnly ends line io status = (status ≡ ends) × IsUntold io × Says io line

@@ -23,7 +23,7 @@ pub record Commits {D : Type 0} (facts : D → DiskFacts) (u : Drafted D) (answe
   pub any_moment : (s d : State) → IsDraftedAt facts u s d → LeavesOnly (facts u.store.disk) (facts new.disk) (λ m. Stands m s ⊎ Stands m (committed u.touched s d))
   -- once the commit is acknowledged, the draft is on the disk
   pub ok : (s d : State) → IsDraftedAt facts u s d → OnOk answer (IsAt facts new (committed u.touched s d))
-  -- on a registry at a state, the update is one exchange of a run
+  -- if the registry is at state `s`, the update is one exchange of a run
   pub made : (old : Opened D) (s : State) (requests : List Request) (answers : List Reply) → registry.IsAt facts old s → Plans facts (begun old) u requests answers
       → (s' : State) × UpdatesAt facts (point old s) requests (answer_of answer) (point new s')
   -- the held byte strings stay unchanged

@@ -44,7 +44,7 @@ module _ {D : Type 0} (facts : D → DiskFacts) (disk : D) where
     -- opening the disk read no library's file
     pub opened : OpensByEntries facts disk (Ok old)
     pub planned : ArePlanned facts (begun old) u lines answers
-    -- the draft has a change exactly if a line asks for a change
+    -- the draft has a change if and only if a line asks for a change
     pub changed : (u.touched ≡ Nothing) ↔ (list_any asks_change (requests_of lines) ≡ false)
     -- on an honest disk the lines are an update of the state that the disk holds
     pub update : IsTrue (facts disk).honest → (s : State) → Stands (facts disk).now s → IsUpdate facts (begun old) u s (requests_of lines) answers
@@ -66,14 +66,15 @@ module _ {D : Type 0} (facts : D → DiskFacts) (disk : D) where
   LeavesUpdated Holds requests left = IsTrue (facts disk).honest → (s : State) → Holds (facts disk).now s
       → LeavesOnly (facts disk) (facts left) (λ m. Mixture (facts disk) m ⊎ (Holds m s ⊎ Holds m (updated s requests)))
 
-  -- If the disk held a registry, the update is one exchange of a run, from the registry that was opened.
+  -- If the disk held a registry, the update is one exchange of a run that begins with the registry that
+  -- was opened.
   abbrev pub IsExchange : Opened D → Exchange → Opened D → Type 0
   IsExchange old exchange new = IsTrue (facts disk).honest → (s : State) → registry.Stands (facts disk).now s
       → at.IsAt facts old s × RunsThrough facts old (new ∷ []) new s (exchange ∷ [])
 
-  -- `contents` is the bytes that an output holds, if its contract defines them.
+  -- `contents` is the bytes that an output holds, or none if the output's contract doesn't define them.
   module _ {O : Type 0} (contents : O → Option (List ℕ)) (io : Streams) (lines : List (List ℕ)) (answers : List Reply) (old : Opened D) (u : Drafted D) (status : Status) (left : D) where
-    -- After the lines came `commit`. The answers to the lines and to the commit were written, or
+    -- The lines were followed by `commit`. The answers to the lines and to the commit were written, or
     -- the output failed.
     pub record EndsInCommit : Type 0 where
       pub read : BeginsWith io.unread lines (ended commit_line)
@@ -95,8 +96,8 @@ module _ {D : Type 0} (facts : D → DiskFacts) (disk : D) where
       pub back : left ≡ new.disk
 
   module _ (io : Streams) (lines : List (List ℕ)) (answers : List Reply) (old : Opened D) (u : Drafted D) (status : Status) (left : D) where
-    -- After the lines came a reason to refuse the update. It was written after the answers, or the
-    -- output failed.
+    -- The lines were followed by a reason to refuse the update. This reason was written after the
+    -- answers, or the output failed.
     pub record EndsRefused : Type 0 where
       pub refusal : UpdateRefusal
       pub last : Drafted D
@@ -106,8 +107,8 @@ module _ {D : Type 0} (facts : D → DiskFacts) (disk : D) where
       pub told : TellsOnly (update_status refusal) (plan_texts answers ++ update_refusal_text refusal) io status
       pub back : left ≡ last.store.disk
 
-    -- After the lines came a fault: a stream failed or memory was refused. At most one more line
-    -- was read, and not answered.
+    -- The lines were followed by a fault: a stream failed or memory was refused. At most one more line
+    -- was read, and that line wasn't answered.
     pub record EndsBroken : Type 0 where
       pub fault : ScriptFault
       pub part : List ℕ
@@ -119,14 +120,14 @@ module _ {D : Type 0} (facts : D → DiskFacts) (disk : D) where
       pub back : left ≡ u.store.disk
 
   module _ {O : Type 0} (contents : O → Option (List ℕ)) where
-    -- the registry was opened, lines were planned in a draft, and then `commit`, a refusal or a fault
-    -- came
+    -- the registry was opened, lines were planned in a draft, and then the lines were ended by `commit`,
+    -- a refusal or a fault
     abbrev pub IsRun : Streams → Status → D → Type 0
     IsRun io status left = (lines : List (List ℕ)) × (answers : List Reply) × (u : Drafted D) × (begins : IsBegun lines answers u)
         × (EndsInCommit contents io lines answers begins.old u status left
         ⊎ (EndsRefused io lines answers begins.old u status left ⊎ EndsBroken io lines answers begins.old u status left))
 
-    -- either an update was run over the disk, or the disk was refused and returned, and standard error
+    -- either an update was run over the disk; or the disk was refused and returned, and standard error
     -- reports why
     abbrev pub UpdateEnds : Streams → Status → D → Type 0
     UpdateEnds io status left =

@@ -28,16 +28,17 @@ pub record ArePlanned {D : Type 0} (facts : D → DiskFacts) (old new : Drafted 
   pub run : Run (LineStep facts) old lines answers new
   pub accepted : All (λ answer. is_refusal answer ≡ false) answers
 
--- the bytes, if they are known, begin with these lines, each with its newline, and then `part`
+-- if the bytes are known, they begin with these lines, each with its newline, followed by `part`
 abbrev pub BeginsWith : Option (List ℕ) → List (List ℕ) → List ℕ → Type 0
 BeginsWith unread lines part = IfSome unread (λ text. (others : List ℕ) × (text ≡ flat_map ended lines ++ part ++ others))
 
--- the bytes, if they are known, are these lines, each with its newline, and then `rest`
+-- if the bytes are known, they are these lines, each with its newline, followed by `rest`
 abbrev pub AreJust : Option (List ℕ) → List (List ℕ) → List ℕ → Type 0
 AreJust unread lines rest = IfSome unread (λ text. text ≡ flat_map ended lines ++ rest)
 
--- After the answered lines came the reason that refuses the update: a line that asks for nothing, a line
--- without a newline, the end of the input, or a line whose command is refused. The draft is then `new`.
+-- The answered lines were followed by the reason that refuses the update: a line that asks for nothing,
+-- a line without a newline, the end of the input, or a line whose command is refused. `new` is the draft
+-- after the refusal.
 abbrev pub IsRefusedAt : {D : Type 0} → (D → DiskFacts) → Option (List ℕ) → List (List ℕ) → Drafted D → Drafted D → UpdateRefusal → Type 0
 IsRefusedAt facts unread lines old new BadLine = (new ≡ old) × (line : List ℕ) × IsLine line × (line ≢ commit_line) × (request_meaning line ≡ None)
     × BeginsWith unread lines (ended line)

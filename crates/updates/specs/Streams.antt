@@ -16,17 +16,18 @@ outputs_of io = record { before = io.before; after = io.after; errors_before = i
 abbrev pub CannotWrite : Streams → Status → Type 0
 CannotWrite io status = outputs.CannotWrite (outputs_of io) status
 
--- either exactly this text was written to the output, with this status, and nothing to standard error,
--- or the output failed
+-- Either exactly `text` was written to the output, nothing was written to standard error, and the status
+-- is `ends`; or the output failed.
 abbrev pub TellsOnly : Status → List ℕ → Streams → Status → Type 0
 TellsOnly ends text io status = outputs.TellsOnly ends text (outputs_of io) status
 
--- nothing was written to the output, and only this line to standard error, with this status
+-- nothing was written to the output, at most `line` was written to standard error, and the status is
+-- `ends`
 abbrev pub SaysOnly : Status → List ℕ → Streams → Status → Type 0
 SaysOnly ends line io status = outputs.SaysOnly ends line (outputs_of io) status
 
--- A fault ended the lines. Either exactly this text was written, standard error reports the fault, and
--- the status is that of the fault, or the output failed.
+-- A fault ended the lines. Either exactly `text` was written to the output, standard error reports the
+-- fault, and the status is that of the fault; or the output failed.
 abbrev pub BreaksOff : ScriptFault → List ℕ → Streams → Status → Type 0
 BreaksOff Write text io status = CannotWrite io status
 BreaksOff fault text io status =

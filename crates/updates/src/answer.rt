@@ -44,7 +44,7 @@ pub(crate) fn put_plan<W: Write>(
     Ok(())
 }
 
-/// Appends the text that reports why an update is refused to the buffered text. Returns the status.
+/// Appends to the buffered text the text that reports why an update is refused. Returns the status.
 pub(crate) fn put_refusal<W: Write>(
     waiting: &mut Line,
     out: &mut W,

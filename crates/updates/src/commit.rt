@@ -15,7 +15,8 @@ pub(crate) struct Committed {
     made: (),
 }
 
-/// Commits the draft of an update. It has no output, so nothing is written before the commit ends.
+/// Commits the draft of an update. The function has no output, so nothing is written before the
+/// commit ends.
 pub(crate) fn commit_draft<D: Disk>(update: Update<D>) -> (Result<Committed, Refusal>, Registry<D>)
     ensures { Commits D.facts update (commit_result result.0) result.1 }
 {

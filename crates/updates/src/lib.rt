@@ -1,9 +1,9 @@
 //! Updates of a registry on a disk: one commit makes all the changes that the lines of the input
 //! ask for.
 //!
-//! `run_update` opens the registry, reads lines up to `commit`, answers each, and commits the
-//! changes that they planned. The first refusal ends the update, and leaves the disk's contents
-//! unchanged.
+//! `run_update` opens the registry, reads lines up to `commit`, answers each line, and commits the
+//! changes that the lines planned. The first refusal ends the update, and leaves the disk's
+//! contents unchanged.
 #![tactic(auto)]
 
 mod answer;

@@ -34,7 +34,7 @@ fn asks_commit(line: &[u8]) -> bool
     line == b"commit".as_slice()
 }
 
-/// Returns the reply, or its refusal as an error.
+/// Returns `reply`. If it is a refusal, returns this refusal as an error.
 fn accepted(reply: Reply) -> Result<Reply, Refusal>
     ensures { MatchResult result (λ answer. (answer ≡ reply) × (is_refusal answer ≡ false))
         (λ why. reply ≡ Reply.Refused why) }
@@ -98,8 +98,8 @@ fn answer_line<D: Disk, O: Write>(
     }
 }
 
-/// Reads lines and answers each, until something ends them. Some answers may still be in the buffer
-/// when it returns.
+/// Reads lines and answers each line, until something ends them. Some answers may still be in the
+/// buffer when the function returns.
 fn read_lines<D: Disk, I: Read, O: Write>(
     alloc: Global,
     update: &mut Update<D>,
@@ -131,9 +131,9 @@ fn read_lines<D: Disk, I: Read, O: Write>(
     Err(ScriptFault::Read)
 }
 
-/// Reads lines and answers each, until something ends them, and reads no line after that. All
-/// answers have been written when it returns, unless the output failed. It can't commit: the caller
-/// keeps the update.
+/// Reads lines and answers each line, until something ends them, and reads no line after that. All
+/// answers have been written when the function returns, unless the output failed. The function
+/// can't commit, because the caller keeps the update.
 pub(crate) fn answer_lines<D: Disk, I: Read, O: Write>(
     alloc: Global,
     update: &mut Update<D>,

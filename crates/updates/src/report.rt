@@ -40,7 +40,7 @@ pub(crate) fn report_refusal<O: Write, E: Write>(
 }
 
 /// Writes the answer to a commit: `ok`, which no other function of an update writes, or why the
-/// commit was refused. It has no disk, update or registry, so it can't commit anything.
+/// commit was refused. The function has no disk, update or registry, so it can't commit anything.
 pub(crate) fn report_commit<O: Write, E: Write>(
     answer: Result<Committed, Refusal>,
     output: &mut O,

@@ -62,8 +62,8 @@ fn run_opened<D: Disk, I: Read, O: Write, E: Write>(
 /// that a library that is damaged or can't be read can be replaced or removed. Each line up to
 /// `commit` is answered: a change by `planned`, a listing by its text, and a bind by `bound`.
 /// `commit` makes all changes at once and is answered by `ok`; nothing after it is read. The first
-/// refusal is written, ends the update, and leaves the disk's contents unchanged. The same happens
-/// if a line asks for nothing, if a line has no newline, and if the input ends. Until `commit`
+/// refusal is written, ends the update, and leaves the disk's contents unchanged. A line that asks
+/// for nothing, a line without a newline and the end of the input are refused too. Until `commit`
 /// writes its root, a stop leaves the state that the disk held.
 ///
 /// If the disk is refused, memory for a line is refused, or a stream fails, reports that on

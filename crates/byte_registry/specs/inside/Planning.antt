@@ -1,4 +1,5 @@
--- The effect of an update on its draft, and of its commit on the registry, if the disk is bytes (own).
+-- The effect of an update on its draft, and of its commit on the registry, for a disk that is given
+-- bytes (own).
 use Rattle.std.specs.Prelude.{◌≡◌, ◌⊎◌, ◌<◌, ℕ, List, Result, Ok, Err, IfErr, OnOk}
 use Rattle.sector_disk.specs.Disk.{LeavesOnly}
 use Rattle.byte_disk.specs.declared.disk.ByteDisk.{ByteDisk}

@@ -33,8 +33,8 @@ ImageEnds asked before after BadWords = (asked ≡ None) × (after ≡ before)
 ImageEnds asked before after Failed = is_some asked ≡ true
 ImageEnds asked before after NoMemory = (is_some asked ≡ true) × Appends before after memory_text
 
--- The text on standard error. Either nothing was written. Or the output is unchanged, and standard error
--- got a prefix of the line for bad arguments, or a message about a file that can't be read.
+-- The text on standard error. Either nothing was written to it; or the output is unchanged, and standard
+-- error got a prefix of the line for bad arguments, or a message about a file that can't be read.
 abbrev pub IsSaid : List ℕ → Option (List ℕ) → Option (List ℕ) → Option (List ℕ) → Option (List ℕ) → Status → Type 0
 IsSaid text before after errors errors' status = (errors' ≡ errors)
     ⊎ ((after ≡ before) × (((status ≡ BadWords) × AppendsFront errors errors' text) ⊎ (status ≡ Failed)))

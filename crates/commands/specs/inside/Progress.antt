@@ -31,9 +31,9 @@ module _ {S : Type 0} (step : S → Happening → EventReply → S → Type 0) w
   abbrev pub Stepped : S → List ℕ → S → Type 0
   Stepped s line s' = (answer : Answer) × LineStep step s line answer s'
 
-  -- How a whole line can fail. `waits` and `now` are what the writer holds before and after, each
-  -- followed by the answers that aren't sent yet. If memory is refused, nothing was done. If the writer
-  -- failed, the line was applied first.
+  -- How a whole line can fail. `waits` is the text that the writer holds before the line, followed by
+  -- the answers that aren't sent yet; `now` is the same text after the line. If memory is refused,
+  -- nothing was done. If the writer failed, the line was applied first.
   abbrev pub Misses : S → S → Option (List ℕ) → Option (List ℕ) → List ℕ → ScriptFault → Type 0
   Misses s s' waits now line Write = Stepped s line s'
   Misses s s' waits now line fault = (s' ≡ s) × (now ≡ waits)

@@ -1,4 +1,5 @@
--- How it ends when a store of version 1 gets catalogues. Its files are admitted first.
+-- How relisting ends: the files of a store of version 1 are admitted, and then the store gets
+-- catalogues.
 use Rattle.std.specs.Prelude.{◌≡◌, ◌≢◌, ◌+◌, ◌<◌, ◌⊎◌, [], Result, All, IsTrue, IsFalse, IfOk, IfErr, length, sum_by}
 use Rattle.sector_disk.specs.Disk.{DiskFacts, Mixture, LeavesOnly, LogGrows, AreCalls, AreCallsExactly}
 use Rattle.states.specs.Cost.{catalogues_for}

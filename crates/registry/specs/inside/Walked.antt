@@ -90,7 +90,8 @@ pub record IsTestedBy {A : Type 0} (first : Option BindRefusal) (answer : Result
   pub accepted : OnOk answer (first ≡ None)
   pub refused : IfErr answer (IsFirstOrWantsMemory first)
 
--- the answer is the image of these objects if no test applies
+-- Either no test refuses, and the answer is the image of these objects; or the answer is the first
+-- refusal that applies, or refused memory.
 pub record IsImageOf (first : Option BindRefusal) (objects : List Placed) (answer : Result MemoryImage BindRefusal) : Type 0 where
   pub tested : IsTestedBy first answer
   pub ok : IfOk answer (λ image. image ≡ image_of objects)

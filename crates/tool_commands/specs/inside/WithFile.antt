@@ -30,7 +30,6 @@ telling_of (with.Executable base) = telling.Executable
 abbrev pub AskEndsWith : WithFile → Streams → Status → Type 0
 AskEndsWith asking io status = ReadEnds (λ bytes. AskEnds (request_with asking bytes) (telling_of asking) io status) io status
 
--- how a form ends that reports the bindings of a program; the program is a file, and is bound at the
--- address `base`
+-- how `bindings` ends if the program is read from a file and bound at the address `base`
 abbrev pub BindingsEndWith : ℕ → Streams → Status → Type 0
 BindingsEndWith base io status = ReadEnds (λ bytes. BindingsAskEnds bytes base io status) io status

@@ -23,23 +23,23 @@ use Rattle.updates.specs.declared.answer.UpdateRefusal.{UpdateRefusal}
 
 module _ {D O : Type 0} (facts : D → DiskFacts) (contents : O → Option (List ℕ)) where
   module _ (io : Streams) (lines : List (List ℕ)) (answers : List Reply) (u : Drafted D) (status : Status) (new : Opened D) where
-    -- after the planned lines came `commit`
+    -- the planned lines were followed by `commit`
     abbrev pub IsCommitted : Type 0
     IsCommitted = (held : O) × (answer : Result (Unit {0}) Refusal) × BeginsWith io.unread lines (ended commit_line)
         × Appends io.before (contents held) (plan_texts answers) × Commits facts u answer new
         × TellsOnly (reply_status (answer_of answer)) (plan_texts answers ++ reply_text (answer_of answer)) io status
 
-    -- after the lines came a refusal
+    -- the lines were followed by a refusal
     abbrev pub IsRefused : Type 0
     IsRefused = (refusal : UpdateRefusal) × (last : Drafted D) × IsRefusedAt facts io.unread lines u last refusal × (new ≡ last.store)
         × TellsOnly (update_status refusal) (plan_texts answers ++ update_refusal_text refusal) io status
 
-    -- after the lines came a fault
+    -- the lines were followed by a fault
     abbrev pub IsBroken : Type 0
     IsBroken = (fault : ScriptFault) × (part : List ℕ) × StopsAt part 10 × BeginsWith io.unread lines part × (new ≡ u.store)
         × BreaksOff fault (plan_texts answers) io status
 
-  -- Lines were answered and changed the draft, and then `commit`, a refusal or a fault came.
+  -- Lines were answered and changed the draft, and then `commit`, a refusal or a fault ended them.
   abbrev pub EndsBegun : Drafted D → Streams → Status → Opened D → Type 0
   EndsBegun old io status new = (lines : List (List ℕ)) × (answers : List Reply) × (u : Drafted D) × ArePlanned facts old u lines answers
       × (IsCommitted io lines answers u status new ⊎ (IsRefused io lines answers u status new ⊎ IsBroken io lines answers u status new))

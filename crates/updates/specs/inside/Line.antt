@@ -24,8 +24,8 @@ module _ {D : Type 0} (facts : D → DiskFacts) where
   IsAccepted old line answer new = LineStep facts old line answer new × (is_refusal answer ≡ false)
 
   -- The effects of a line's command. `waits` and `now` are the bytes that the writer holds before and
-  -- after, each followed by the buffered text. Either the command is answered, or it is refused, which
-  -- ends the update, and nothing is written.
+  -- after the command, each followed by the buffered text. Either the command is answered; or it is
+  -- refused, which ends the update, and then nothing is written.
   abbrev pub AskedEnds : Drafted D → Drafted D → Request → Option (List ℕ) → Option (List ℕ) → Option Ending → Type 0
   AskedEnds old new request waits now None = (answer : Reply) × DraftAnswers facts old request answer new × (is_refusal answer ≡ false)
       × Appends waits now (plan_text answer)
@@ -36,7 +36,7 @@ module _ {D : Type 0} (facts : D → DiskFacts) where
   abbrev pub MissesAsked : Drafted D → Drafted D → Request → ScriptFault → Type 0
   MissesAsked old new request fault = (fault ≡ Write) × (answer : Reply) × DraftAnswers facts old request answer new × (is_refusal answer ≡ false)
 
-  -- a whole line ends the update in this way
+  -- the whole line `line` ends the update with the ending `ending`
   abbrev pub EndsLine : Drafted D → Drafted D → List ℕ → Ending → Type 0
   EndsLine old new line Commit = (line ≡ commit_line) × (new ≡ old)
   EndsLine old new line (Refused refusal.BadLine) = (line ≢ commit_line) × (request_meaning line ≡ None) × (new ≡ old)
@@ -44,8 +44,8 @@ module _ {D : Type 0} (facts : D → DiskFacts) where
   EndsLine old new line (Refused other) = ⊥
 
   -- The effects of one whole line. `waits` and `now` are the bytes that the writer holds before and
-  -- after, each followed by the buffered text. Either the line is answered, or it ends the update, and
-  -- nothing is written.
+  -- after the line, each followed by the buffered text. Either the line is answered; or it ends the
+  -- update, and then nothing is written.
   abbrev pub LineEnds : Drafted D → Drafted D → List ℕ → Option (List ℕ) → Option (List ℕ) → Option Ending → Type 0
   LineEnds old new line waits now None = (answer : Reply) × IsAccepted old line answer new × Appends waits now (plan_text answer)
   LineEnds old new line waits now (Some ending) = EndsLine old new line ending × (now ≡ waits)
@@ -56,7 +56,7 @@ module _ {D : Type 0} (facts : D → DiskFacts) where
   MissesLine old new line waits now Write = (answer : Reply) × IsAccepted old line answer new
   MissesLine old new line waits now fault = (new ≡ old) × (now ≡ waits)
 
-  -- after the answered lines came what ended them: `commit`, or a refusal
+  -- the answered lines were ended by `commit` or by a refusal
   abbrev pub EndsLines : Option (List ℕ) → List (List ℕ) → Drafted D → Drafted D → Ending → Type 0
   EndsLines unread lines old new Commit = (new ≡ old) × BeginsWith unread lines (ended commit_line)
   EndsLines unread lines old new (Refused why) = IsRefusedAt facts unread lines old new why

@@ -19,8 +19,8 @@ module _ {D : Type 0} (facts : D → DiskFacts) where
   Ended unread before now old new ending = (lines : List (List ℕ)) × (answers : List Reply) × (mid : Drafted D) × ArePlanned facts old mid lines answers
       × EndsLines facts unread lines mid new ending × Appends before now (plan_texts answers)
 
-  -- Lines were answered, and then a fault came. At most one more line was read, and not answered.
-  -- Exactly the answers were written, unless the output failed.
+  -- Lines were answered, and then a fault ended them. At most one more line was read, and that line
+  -- wasn't answered. Exactly the answers were written, unless the output failed.
   abbrev pub Broken : (unread before now : Option (List ℕ)) → Drafted D → Drafted D → ScriptFault → Type 0
   Broken unread before now old new fault = (lines : List (List ℕ)) × (answers : List Reply) × (part : List ℕ) × ArePlanned facts old new lines answers × StopsAt part 10
       × BeginsWith unread lines part × (fault ≢ Write → Appends before now (plan_texts answers))
