@@ -27,7 +27,7 @@ pub(crate) fn string_at(table: &[u8], offset: usize) -> &[u8]
 }
 
 /// The names of the needed libraries that haven't been read yet, in the order of their entries.
-/// Contracts see the list of them.
+/// Contracts see the list of these names.
 #[derive(Drop)]
 pub struct NeededNames<'a> {
     strings: &'a [u8],

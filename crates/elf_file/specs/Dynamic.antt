@@ -137,7 +137,7 @@ has_missing_tag file =
 abbrev pub is_part : ℕ → Bool
 is_part size = not (size % RELOCATION_SIZE == 0)
 
--- E21: the symbols have another size; or relocations have another size or kind, or their table ends within a relocation
+-- E21: the size of symbols or the size or kind of relocations is wrong, or a table ends within a relocation
 abbrev pub has_bad_entry_size : List ℕ → Bool
 has_bad_entry_size file =
     not (tag_value file DT_SYMENT == SYMBOL_SIZE)

@@ -23,7 +23,8 @@ DT_INIT_ARRAY = 25
 abbrev pub DT_INIT_ARRAYSZ : ℕ
 DT_INIT_ARRAYSZ = 27
 
--- the same tags for finalizers: functions that are called at the end
+-- the tags of a finalizer, of an array of finalizers, and of the array's size in bytes; finalizers are functions that
+-- are called when the program ends
 abbrev pub DT_FINI : ℕ
 DT_FINI = 13
 
@@ -33,8 +34,8 @@ DT_FINI_ARRAY = 26
 abbrev pub DT_FINI_ARRAYSZ : ℕ
 DT_FINI_ARRAYSZ = 28
 
--- the tags of an array of pre-initializers, which are called before all other functions and which only a
--- program has, and of the array's size in bytes
+-- the tags of an array of pre-initializers and of the array's size in bytes; only a program has such an array, and its
+-- functions are called before all others
 abbrev pub DT_PREINIT_ARRAY : ℕ
 DT_PREINIT_ARRAY = 32
 
@@ -86,6 +87,6 @@ ARRAY_ENTRY_SIZE = 8
 abbrev pub LOWEST : ℕ
 LOWEST = 0x10000
 
--- the maximum number of program headers that the kernel accepts: as many as have 65,536 bytes
+-- the maximum number of program headers that the kernel accepts: as many as fit into 65,536 bytes
 abbrev pub MOST_HEADERS : ℕ
 MOST_HEADERS = 1170

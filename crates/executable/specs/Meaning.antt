@@ -50,8 +50,7 @@ pub record IsFileOf (segments : List ImageSegment) (file : List ℕ) : Type 0 wh
   pub table : program_headers file ≡ table_of place (pieces_of segments)
   pub loaded : loaded_by file ≡ put_in_order (is_below place (pieces_of segments)) (headers_at place (pieces_of segments) file) (pieces_of segments)
 
--- byte b at address a is one of the file's own headers, which are mapped where `place_of` finds room for
--- them
+-- byte `b` at address `a` is one of the file's own headers, which are mapped at the address that `place_of` finds
 pub record IsOfHeaders (segments : List ImageSegment) (file : List ℕ) (a b : ℕ) : Type 0 where
   pub place : ℕ
   pub free : place_of (pieces_of segments) ≡ Some place
@@ -63,8 +62,7 @@ pub record IsOfHeaders (segments : List ImageSegment) (file : List ℕ) (a b : �
 abbrev pub HasAny : List ImageSegment → ℕ → Type 0
 HasAny segments a = (b : ℕ) × (segments_byte segments a ≡ Some b)
 
--- address a lies between two addresses that have bytes in segments and whose pages are the same or
--- neighbours
+-- address `a` lies between two addresses that have bytes in segments and whose pages are the same or neighbours
 pub record IsBetween (segments : List ImageSegment) (a : ℕ) : Type 0 where
   pub below : ℕ
   pub above : ℕ
@@ -74,13 +72,13 @@ pub record IsBetween (segments : List ImageSegment) (a : ℕ) : Type 0 where
   pub has_above : HasAny segments above
   pub page : page_of above ≤ page_of below + PAGE
 
--- byte b at address a comes from the segments, or from the headers, or is a 0 between segments whose
+-- byte `b` at address `a` is a byte of the segments or of the headers, or it is a 0 between two bytes of segments whose
 -- pages are the same or neighbours
 abbrev pub IsFrom : List ImageSegment → List ℕ → ℕ → ℕ → Type 0
 IsFrom segments file a b = (segments_byte segments a ≡ Some b) ⊎ (IsOfHeaders segments file a b ⊎ ((b ≡ 0) × IsBetween segments a))
 
--- no two segments share a page: each begins in a page at or above the end of the one before it, the
--- first one at or above `from`
+-- no two segments share a page: the first one begins in a page at or above `from`, and each other one in a page at or
+-- above the end of the one before it
 abbrev pub IsApart : ℕ → List Loaded → Type 0
 IsApart from [] = Unit {0}
 IsApart from (s ∷ rest) = (from ≤ page_of s.heading.address) × IsApart (end_of s) rest

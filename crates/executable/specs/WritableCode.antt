@@ -17,8 +17,8 @@ abbrev pub is_unasked : List ImageSegment → Loaded → Bool
 is_unasked segments p =
     is_both p.heading.permissions && not (list_any (λ s. meets p s && is_both (permission_bits s.permissions)) segments)
 
--- the name of the first of these objects that has a segment with a byte in piece p; `segments` are those
--- of the objects, one object after the other
+-- the name of the first of these objects that has a segment with a byte in piece `p`; `segments` are those of the
+-- objects, one object after the other
 abbrev pub owner_among : Loaded → List ImageObject → List ImageSegment → List ℕ
 owner_among p [] segments = []
 owner_among p (o ∷ rest) segments =

@@ -24,7 +24,8 @@ const DT_INIT_ARRAY: u64 = 25;
 
 const DT_INIT_ARRAYSZ: u64 = 27;
 
-/// The same tags for finalizers: functions that are called at the end.
+/// The tags of a finalizer, of an array of finalizers, and of the array's size in bytes. Finalizers
+/// are functions that are called when the program ends.
 const DT_FINI: u64 = 13;
 
 const DT_FINI_ARRAY: u64 = 26;
@@ -40,7 +41,7 @@ const DT_PREINIT_ARRAYSZ: u64 = 33;
 /// The size in bytes of an entry of an array of functions.
 const ARRAY_ENTRY_SIZE: u64 = 8;
 
-/// The tags of a function, of an array of functions, and of its size.
+/// The tags of a function, of an array of functions, and of the array's size.
 #[derive(Drop)]
 struct Tags {
     function: u64,

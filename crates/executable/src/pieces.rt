@@ -86,8 +86,9 @@ fn put(done: &mut Vec<Piece>, piece: Piece, next: Piece) -> Result<Piece, AllocE
     put_page(done, upper, next, page)
 }
 
-/// Makes the piece of a segment with bytes, and the pieces of `last` and this piece if there is a
-/// last piece. Appends all of them except the last one to `done`, and returns the last one.
+/// Makes the piece of a segment that has bytes. If there is a last piece, `last`, makes the pieces
+/// of `last` and of the new piece. Appends all of them except the last one to `done`, and returns
+/// the last one.
 fn add(
     alloc: Global,
     done: &mut Vec<Piece>,

@@ -30,7 +30,8 @@ pub(crate) fn u32_in(memory: &Memory<'_>, at: usize) -> u32
     u32_at(&bytes, 0)
 }
 
-/// Returns whether a dynamic section says that its object is a position-independent executable.
+/// Returns whether the flags in a dynamic section mark its object as a position-independent
+/// executable.
 #[tactic(auto, unfolding(crate::specs::StaticPie::is_pie, elf_file::specs::Dynamic::entries_in, elf_file::specs::Dynamic::whole_entries))]
 fn is_pie(section: &Memory<'_>) -> bool
     ensures { result ≡ is_pie section.now }

@@ -64,7 +64,7 @@ abbrev pub IsRefusedBy : List ℕ → AdmitRefusal → Type 0
 IsRefusedBy file OutOfMemory = NeedsMemory file
 IsRefusedBy file refusal = admission_refusal file ≡ Some refusal
 
--- what a refusal means: two exported symbols share a name; or no two do, and the table can't be trusted;
+-- the reason for the refusal is true: two exported symbols share a name; or no two do, and the table can't be trusted;
 -- or memory may be needed
 abbrev pub Says : List ℕ → AdmitRefusal → Type 0
 Says file DuplicateDefinition = HasSharedName file

@@ -1,5 +1,5 @@
--- Why a file is refused: by the tests of its object, and then by those of admission (own: all of them in
--- one order).
+-- Why a file is refused: its object's own tests come first, then the tests of admission (own: the one order of all
+-- tests).
 use Rattle.std.specs.Prelude.{ℕ, List, [], ◌∷◌, Option, Some, None, ◌≡◌}
 use Rattle.std.specs.Option.{option_map}
 use Rattle.elf_file.specs.FirstOf.{◌when◌, first_of}

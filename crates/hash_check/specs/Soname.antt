@@ -8,7 +8,7 @@ use Rattle.elf_dynamic.specs.Strings.{soname}
 abbrev pub NAME_LIMIT : ℕ
 NAME_LIMIT = 240
 
--- a library's name may have the byte: a printable ASCII character, but no blank and no slash
+-- a library's name may contain the byte: a printable ASCII character, but no blank and no slash
 abbrev pub is_name_byte : ℕ → Bool
 is_name_byte b = nat_le 0x21 b && (nat_le b 0x7e && not (b == 0x2f))
 

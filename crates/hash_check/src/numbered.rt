@@ -103,7 +103,8 @@ fn all_short_names<'a>(
     Ok(Some(gathered))
 }
 
-/// Adds endings of names that come after `before` other names.
+/// Appends `endings` to `all`. The names of these endings come after `before` other names, so
+/// `before` is added to their numbers.
 #[tactic(auto, unfolding(crate::specs::inside::Numbered::behind))]
 fn add_endings<'a>(
     all: &mut Vec<Ending<'a>>,
@@ -152,7 +153,7 @@ fn all_names_by_place<'a>(
     Ok((gathered, all))
 }
 
-/// Returns the symbols with the numbers of their names.
+/// Returns `symbols` with the numbers of their names, which are in `numbers`.
 fn set_numbers(mut symbols: Vec<NumberedSymbol>, numbers: &[u32]) -> Vec<NumberedSymbol>
     requires { length numbers.now ≡ length symbols.items }
     ensures size { length result.items ≡ length symbols.items }

@@ -23,7 +23,8 @@ pub struct Found {
     pub compared: u32,
 }
 
-/// Returns the string at an offset of a string table, but at most `limit` bytes of it.
+/// Returns the string at `offset` of a string table. If the string has more than `limit` bytes,
+/// returns its first `limit` bytes.
 fn string_front(table: &[u8], offset: u32, limit: usize) -> &[u8]
     ensures { result.now ≡ take limit (string_at table.now offset) }
 {

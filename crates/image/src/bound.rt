@@ -19,9 +19,9 @@ use scope::Order;
 use std::alloc::{AllocError, Global};
 use std::marker::Model;
 
-/// An object at its base, with the values of the symbols that its relocations name. With these
-/// values, its segments are made from its file only. Contracts see the name, the base and the
-/// values.
+/// An object at its base, with the values of the symbols that its relocations name. Given these
+/// values, the object's segments are computed only from its file. Contracts see the name, the base
+/// and the values.
 #[derive(Drop)]
 pub struct BoundObject {
     name: Name,
@@ -149,7 +149,7 @@ pub fn bound_objects(
     requires { is_good_base (file_at order.now 0) base ≡ true }
 
     // Returns objects only if no test applies. Otherwise returns the refusal of the first test that
-    // applies, or refused memory if the program's own memory doesn't end too high.
+    // applies. If the program's own memory doesn't end too high, OutOfMemory is possible too.
     ensures accepted { OnOk result (placed_refusal (place base order.now) ≡ None) }
     ensures refused { IfErr result (IsPlacedAnswer (place base order.now)) }
 

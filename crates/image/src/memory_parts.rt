@@ -23,8 +23,8 @@ pub(crate) struct MemoryParts {
 }
 
 impl MemoryParts {
-    /// Makes the index of `segments`; it is empty if there are few. Makes one pass over the
-    /// segments. Allocates eight bytes for each part, at most 512 KiB.
+    /// Makes the index of `segments`. If there are few segments, the index is empty. Makes one pass
+    /// over the segments. Allocates eight bytes for each part, at most 512 KiB.
     pub(crate) fn of(alloc: Global, segments: &[Segment]) -> Result<MemoryParts, AllocError> {
         let mut parts = MemoryParts {
             first: 0,
@@ -56,8 +56,8 @@ impl MemoryParts {
         }
     }
 
-    /// Returns the number of the last segment that begins at or below `place`, if this is the index
-    /// of `segments`.
+    /// Guesses the number of the last segment that begins at or below `place`. The guess is right
+    /// if this is the index of `segments`.
     pub(crate) fn guess(&self, segments: &[Segment], place: u64) -> usize {
         let part = self.part_of(place);
         let low = self.begun_before(part, segments.len());

@@ -16,7 +16,7 @@ pub enum BindRefusal {
     Program(FileRefusal),
     /// B2: the base is no multiple of the program's unit.
     BadBase,
-    /// B3: an object needs a library that isn't there.
+    /// B3: an object needs a library that isn't among the given libraries.
     Missing {
         /// The name of the object that needs the library.
         needer: Name,

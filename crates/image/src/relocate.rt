@@ -22,8 +22,9 @@ use crate::value::written_value;
 use elf_dynamic::{Object, Relocation};
 use std::alloc::{AllocError, Global};
 
-/// Writes the value of a relocation of an object at `base`, if the relocation writes one. Returns
-/// the number of the segment that was found last.
+/// If `relocation`, which belongs to an object at `base`, writes a value, writes this value into
+/// the segments. Returns the number of the segment that has the value, or `near` if the relocation
+/// writes nothing.
 fn relocate_one(
     segments: &mut [Segment],
     parts: &MemoryParts,

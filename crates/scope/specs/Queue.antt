@@ -3,7 +3,7 @@ use Rattle.std.specs.Prelude.{ℕ, ◌<◌, List, [], ◌∷◌, ◌++◌, if◌
 use Rattle.std.specs.List.{All, IsDistinct}
 use Rattle.scope.specs.Levels.{is_among}
 
--- the places of a queue, in the order in which they were added, and a number that all of them are below
+-- the places of a queue, in the order in which they were added, and a limit that is above all of them
 pub record Queue : Type 0 where
   pub limit : ℕ
   pub places : List ℕ

@@ -54,7 +54,7 @@ pub record AreUpTo (all : List NumberedSymbol) (count place : ℕ) : Type 0 wher
   pub low : (k : ℕ) → k < count → (nth_symbol all k).object ≤ place
   pub high : (k : ℕ) → count ≤ k → k < length all → place < (nth_symbol all k).object
 
--- a definition, or none if it belongs to another object than the one at `place`
+-- a definition, or none if the definition belongs to an object that isn't the one at `place`
 unfoldable pub own_of : ℕ → Option Target → Option Target
 own_of place None = None
 own_of place (Some Zero) = None
@@ -73,7 +73,7 @@ AreOwn objects all own =
 abbrev pub nth_found : List (List (Option Target)) → ℕ → ℕ → Option Target
 nth_found rows place i = slice_index_or (slice_index_or rows place []) i None
 
--- there is a row for each object, with room for each of its symbols
+-- there is a row for each object, with an element for each of the object's symbols
 pub record HaveRoom (objects : List Named) (rows : List (List (Option Target))) : Type 0 where
   pub size : length rows ≡ length objects
   pub sizes : (p : ℕ) → p < length objects → length (slice_index_or rows p []) ≡ length (symbols (file_at objects p))
