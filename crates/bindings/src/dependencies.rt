@@ -62,7 +62,7 @@ impl<'a> Dependencies<'a> {
         })
     }
 
-    /// Returns whether one of the libraries has this name.
+    /// Returns whether one of the libraries has the name `name`.
     fn has(&self, name: &[u8]) -> bool
         ensures { result ≡ not (is_none (place_of (names_of self.now.libraries) name.now)) }
     {

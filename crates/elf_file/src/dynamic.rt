@@ -46,8 +46,8 @@ const SINGLE_TAGS: [Tag; 19] = [
 ];
 
 impl<'a> Headers<'a> {
-    /// Returns the bytes of the dynamic section, if exactly one PT_DYNAMIC is present and its bytes
-    /// are in the file.
+    /// Returns the bytes of the dynamic section. Returns `None` unless exactly one PT_DYNAMIC is
+    /// present and its bytes are in the file.
     #[tactic(auto, unfolding(crate::specs::Dynamic::dynamic_section))]
     fn dynamic_section(&self) -> Option<&'a [u8]>
         ensures { MatchOption result (has_dynamic self.now ≡ false)

@@ -19,7 +19,8 @@ pub enum ObjectRefusal {
     BadMachine,
     /// E9: `e_ehsize` isn't 64, or `e_phentsize` isn't 56.
     BadHeaderSize,
-    /// E10: the file has no program headers, or they don't lie in the file.
+    /// E10: the number of program headers is 0 or 0xffff, or the program headers run past the
+    /// file's end.
     BadProgramHeaders,
     /// E11: the file has a segment of thread-local data.
     TlsSegment,
@@ -57,7 +58,7 @@ pub enum ObjectRefusal {
     IfuncSymbol,
     /// E27: a symbol's binding is neither local, global nor weak.
     BadBinding,
-    /// E30: a relocation has this type, which isn't supported.
+    /// E30: a relocation has an unsupported type, which is the given number.
     RelocationType(u32),
     /// E31: a relocation names a symbol that doesn't exist.
     RelocationSymbol,

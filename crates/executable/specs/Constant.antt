@@ -5,11 +5,11 @@ use Rattle.std.specs.Prelude.{ℕ}
 abbrev pub ET_EXEC : ℕ
 ET_EXEC = 2
 
--- the segment of the program headers themselves, by p_type
+-- the p_type of the segment of the program headers themselves
 abbrev pub PT_PHDR : ℕ
 PT_PHDR = 6
 
--- the segment with the permissions of the stack, by p_type
+-- the p_type of the segment with the permissions of the stack
 abbrev pub PT_GNU_STACK : ℕ
 PT_GNU_STACK = 0x6474e551
 
@@ -49,11 +49,11 @@ DT_FLAGS_1 = 0x6ffffffb
 abbrev pub DF_1_PIE : ℕ
 DF_1_PIE = 0x08000000
 
--- the segment that names an interpreter, by p_type
+-- the p_type of the segment that names an interpreter
 abbrev pub PT_INTERP : ℕ
 PT_INTERP = 3
 
--- the segment of notes, by p_type
+-- the p_type of a segment of notes
 abbrev pub PT_NOTE : ℕ
 PT_NOTE = 4
 

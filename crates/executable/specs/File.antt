@@ -89,7 +89,7 @@ abbrev pub is_below : ℕ → List Loaded → Bool
 is_below place [] = true
 is_below place (p ∷ rest) = nat_lt place p.heading.address
 
--- `xs` with `x` before it if `below`, and otherwise with `x` after it
+-- if `below` is true, `x` followed by `xs`, and otherwise `xs` followed by `x`
 abbrev pub put_in_order : {X : Type 0} → Bool → X → List X → List X
 put_in_order below x xs = if below then x ∷ xs else xs ++ x ∷ []
 

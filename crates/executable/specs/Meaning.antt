@@ -18,7 +18,7 @@ use Rattle.executable.specs.Place.{header_count_of, headers_size, place_of}
 abbrev pub loaded_by : List ℕ → List Loaded
 loaded_by file = map (loaded_at 0 file) (loads file)
 
--- the byte that loading a file puts at an address
+-- the byte that is at an address after a file was loaded
 abbrev pub file_byte : List ℕ → ℕ → Option ℕ
 file_byte file address = loaded_byte_at (loaded_by file) address
 
@@ -35,8 +35,7 @@ pub record IsExecutable (file : List ℕ) : Type 0 where
   pub header_size : has_bad_header_size file ≡ false
   pub headers : has_bad_program_headers file ≡ false
 
--- the headers of a file in memory at address `place`, which may be read, but neither written nor
--- executed
+-- a file's headers in memory at address `place`; this memory may be read, but neither written nor executed
 abbrev pub headers_at : ℕ → List Loaded → List ℕ → Loaded
 headers_at place pieces file =
     let size = headers_size (header_count_of pieces) in

@@ -51,8 +51,8 @@ notes_among base own headers n = option_map_or (notes_by base own headers) (find
 abbrev pub notes_of : ImageObject → List ImageSegment → List ℕ
 notes_of object own = notes_among object.base own (section_memory object.base own object.addresses.headers) object.addresses.header_count
 
--- the program, which is the first of these objects, has the calls note; there can't be more notes than
--- bytes
+-- the program, which is the first of these objects, has the calls note; the number of bytes is a bound for the number
+-- of notes
 abbrev pub calls_among : List ImageObject → List ImageSegment → Bool
 calls_among [] segments = false
 calls_among (program ∷ libraries) segments =

@@ -1,5 +1,5 @@
--- Where a file's own headers are mapped: in pages that no piece has, because the kernel passes their address to the
--- program.
+-- Where a file's own headers are mapped: in pages that no piece has, because the kernel passes the headers' address to
+-- the program.
 use Rattle.std.specs.Prelude.{ℕ, ◌+◌, ◌-◌, ◌*◌, max, fold, nat_le, if◌then◌else◌, List, [], ◌∷◌, length, map, Option, Some, None}
 use Rattle.std.specs.Int.{next_multiple_of}
 use Rattle.elf_file.specs.Constant.{FILE_HEADER_SIZE, PROGRAM_HEADER_SIZE}

@@ -24,8 +24,8 @@ owner_among p [] segments = []
 owner_among p (o ∷ rest) segments =
     if list_any (meets p) (take o.segment_count segments) then o.name else owner_among p rest (drop o.segment_count segments)
 
--- the first piece that may be written and executed although no segment in it requests both: the name of
--- the object that it belongs to
+-- the name of the first object that has a segment with a byte in the first piece that may be written and executed
+-- although no segment in it requests both; none if there is no such piece
 abbrev pub first_unasked : MemoryImage → Option (List ℕ)
 first_unasked image =
     option_map (λ p. owner_among p image.objects image.segments) (find (is_unasked image.segments) (pieces_of image.segments))

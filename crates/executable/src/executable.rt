@@ -166,7 +166,7 @@ fn entry_to_call(alloc: Global, image: &Image) -> Result<u64, ExecutableRefusal>
     Ok(entry)
 }
 
-/// Makes the file of `pieces`, whose headers are mapped at address `place`.
+/// Makes the file that loads `pieces`, and whose headers are mapped at address `place`.
 fn file_of(
     alloc: Global,
     entry: u64,

@@ -13,7 +13,7 @@ use crate::segments::split;
 use crate::static_pie::{PROGRAM_HEADER_SIZE, u32_in};
 use image::{Image, ImageObject, Memory, Segment};
 
-/// The segment of notes, by `p_type`.
+/// The `p_type` of a segment of notes.
 const PT_NOTE: u32 = 4;
 /// The `p_align` of notes that are read. The name and the descriptor of a note are padded to
 /// multiples of it.

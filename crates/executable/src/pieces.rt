@@ -33,9 +33,9 @@ fn put_lower(done: &mut Vec<Piece>, mut piece: Piece, page: u64) -> Result<Piece
     Ok(rest)
 }
 
-/// Joins the part of `next` that lies in `page` to `piece`, which lies in `page`. If that is all of
-/// `next`, returns the joined piece. Otherwise appends the joined piece to `done`, and returns the
-/// rest of `next`.
+/// Joins the part of `next` that lies in `page` to `piece`, which lies in `page`. If this part is
+/// all of `next`, returns the joined piece. Otherwise appends the joined piece to `done`, and
+/// returns the rest of `next`.
 fn put_page(
     done: &mut Vec<Piece>,
     mut piece: Piece,

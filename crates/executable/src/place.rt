@@ -26,7 +26,7 @@ pub(crate) fn headers_size(count: usize) -> u64
     64 + 56 * count as u64
 }
 
-/// Returns the number of bytes from the end of `size` bytes to the end of their last page.
+/// Returns the number of padding bytes that extend `size` bytes to whole pages.
 pub(crate) fn padding(size: u64) -> u64
     ensures { result ≡ (PAGE - size % PAGE) % PAGE }
 {

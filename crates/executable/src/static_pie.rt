@@ -14,7 +14,7 @@ const DT_FLAGS_1: u64 = 0x6fff_fffb;
 
 const DF_1_PIE: u64 = 0x0800_0000;
 
-/// The segment that names an interpreter, by `p_type`.
+/// The `p_type` of the segment that names an interpreter.
 const PT_INTERP: u32 = 3;
 
 /// The size of a program header in bytes.

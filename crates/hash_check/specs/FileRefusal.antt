@@ -19,7 +19,7 @@ file_tests file =
     ∷ (BadHashTable when has_bad_hash_table file)
     ∷ []
 
--- the refusal of a file by the first of these tests, or none if the file is accepted
+-- the refusal of a file by the first test that applies, or none if the file is accepted
 unfoldable pub first_file_refusal : List ℕ → Option FileRefusal
 first_file_refusal file = first_of (file_tests file)
 

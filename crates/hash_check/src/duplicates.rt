@@ -31,8 +31,8 @@ fn are_own(numbers: &[u32]) -> bool
     true
 }
 
-/// Returns the names of `symbols`, and whether all of them differ. Puts the names into a table to
-/// find this out. The symbols may be in any order. Returns `None` if the table can't decide it.
+/// Returns the names of `symbols`, and whether all of these names differ. A table of the names
+/// decides this. The symbols may be in any order. Returns `None` if the table can't decide it.
 fn names_in_table<'a>(
     alloc: Global,
     object: &Object<'a>,

@@ -1,4 +1,5 @@
-// Numbers that distinguish names, for names that are tails of strings and share the bytes of these.
+// Numbers that distinguish names, for names that are tails of strings and share bytes of these
+// strings.
 
 ghost use Rattle.std.specs.Prelude.{ℕ, ◌≡◌, ◌≢◌, ◌<◌, ◌≤◌, ◌^◌, length, reverse, slice_index, IfOk};
 ghost use Rattle.std.specs.Cmp.Lexicographic.{slice_cmp};

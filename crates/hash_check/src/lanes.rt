@@ -63,8 +63,8 @@ impl Lanes {
         }
     }
 
-    /// Hashes the same number of bytes of each name: as many as the lane with the fewest bytes left
-    /// has. Returns the number of this lane.
+    /// Hashes the same number of bytes of each name: the number of bytes that are left in the lane
+    /// with the fewest bytes left. Returns the number of this lane.
     pub(crate) fn run(&mut self, object: &Object<'_>) -> usize
         requires { AreLanes object.now self.old }
         ensures within { result < 8 }

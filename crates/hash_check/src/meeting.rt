@@ -32,8 +32,8 @@ fn at_depth(places: &[Option<Place>], chains: &Chains<'_, '_>, from: u32, depth:
 }
 
 /// Returns whether the walk from `from` meets `index` before 0. Takes constant time if `head` of
-/// the place of `index` is `from`. If no two walks share an index, this is so for every index that
-/// the walk meets.
+/// the place of `index` is `from`. If no two walks share an index, the time is constant for every
+/// index that the walk meets.
 pub(crate) fn is_met(
     places: &[Option<Place>],
     chains: &Chains<'_, '_>,

@@ -6,7 +6,7 @@ use std::marker::Model;
 
 /// The number of bytes of names that may still be read one by one. If none of the names is a tail
 /// of another, all names together have no more bytes than their string tables. So if the names have
-/// more than twice as many bytes as the string tables, plus 64 KiB, many of them share bytes.
+/// more than twice as many bytes as the string tables, plus 64 KiB, many names share bytes.
 #[derive(Drop)]
 pub struct NameBudget {
     left: usize,

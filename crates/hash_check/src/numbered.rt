@@ -29,14 +29,14 @@ pub struct NumberedSymbol {
     pub number: u32,
 }
 
-/// Symbols of objects, without the numbers of their names, and the names of these symbols.
+/// Symbols of objects and the names of these symbols. The names have no numbers yet.
 #[derive(Drop)]
 struct Gathered<'a> {
     symbols: Vec<NumberedSymbol>,
     names: Vec<Name<'a>>,
 }
 
-/// Adds the symbols of object number `place`, and their names.
+/// Adds the symbols of object number `place`, and their names, to `gathered`.
 fn add_symbols<'a>(
     gathered: &mut Gathered<'a>,
     place: usize,
@@ -79,7 +79,8 @@ fn symbols_by_name_place(alloc: Global, object: &Object<'_>) -> Result<Vec<u32>,
 }
 
 /// Returns all symbols of the objects with their names, each read to its end. Returns `None` if the
-/// names of an object have so many bytes that many of them have to be tails of others.
+/// names of an object have so many bytes in total that many of the names have to be tails of
+/// others.
 fn all_short_names<'a>(
     alloc: Global,
     objects: &[&'a Admitted<'a>],

@@ -53,7 +53,7 @@ impl BoundObject {
         &self.values
     }
 
-    /// Returns this object as an image lists it. `object` is the object's file.
+    /// Returns the record of this object in an image. `object` is the object's file.
     pub(crate) fn image_object(
         &self,
         alloc: Global,

@@ -61,7 +61,7 @@ fn find_value(
 }
 
 /// If the type of `relocation`, which belongs to object number `own`, uses a symbol, finds the
-/// value of this symbol, unless it is undefined.
+/// value of this symbol, unless the symbol is undefined.
 pub(crate) fn find_value_of(
     objects: &PlacedOrder<'_>,
     own: usize,

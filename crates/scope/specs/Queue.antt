@@ -13,6 +13,6 @@ pub record AreApart (limit : ℕ) (places : List ℕ) : Type 0 where
   pub below : All (λ p. p < limit) places
   pub distinct : IsDistinct nat_eq places
 
--- the places, with `p` appended unless it is one of them
+-- the places `ps`, with `p` appended unless `p` is one of them
 abbrev pub grown_by : List ℕ → ℕ → List ℕ
 grown_by ps p = if is_among ps p then ps else ps ++ p ∷ []

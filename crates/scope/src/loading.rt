@@ -36,7 +36,7 @@ fn object_at<'a>(
     }
 }
 
-/// Returns the objects at these places, in the order of the places.
+/// Returns the objects at `places`, in the order of the places.
 fn objects_at<'a>(
     alloc: Global,
     program: &'a Admitted<'a>,

@@ -49,9 +49,9 @@ impl<'a> Model for Order<'a> {
 }
 
 impl<'a> Order<'a> {
-    /// Makes an order of these objects. If lookups by walks may cost more than finding all
-    /// definitions at once, finds the definitions of all symbols and stores them. If memory for
-    /// them is refused, the order does without them.
+    /// Makes an order of `objects`. If lookups by walks may cost more than finding all definitions
+    /// at once, finds the definitions of all symbols and stores them. If memory for them is
+    /// refused, the order does without them.
     pub(crate) fn new(alloc: Global, objects: Vec<LoadedObject<'a>>) -> Order<'a>
         requires { IsOrder objects.items }
         ensures { result ≡ objects.entry.items }

@@ -82,8 +82,8 @@ fn may_be_long(objects: &[LoadedObject<'_>]) -> bool {
 }
 
 /// Returns whether the names of the symbols that an object looks up have so many bytes in total
-/// that many of them are tails of others. Hashing such names one by one would cost the sum of their
-/// lengths.
+/// that many of the names are tails of others. Hashing such names one by one would cost the sum of
+/// their lengths.
 fn share_bytes(object: &Object<'_>) -> bool {
     let mut budget = NameBudget::new(object.string_table().len());
     for i in 0..object.rela_count() {

@@ -20,12 +20,12 @@ abbrev pub IsReady : Option Loaded → ℕ → Type 0
 IsReady None address = Unit {0}
 IsReady (Some p) address = IsFull p × (end_of p ≤ address)
 
--- a piece has no more contents than memory
+-- a piece has no more bytes of contents than bytes of memory
 abbrev pub IsShort : Loaded → Type 0
 IsShort p = length p.contents ≤ p.heading.size
 
--- the pieces are in ascending order from address `from`, they end at or below the limit, and none has more contents
--- than memory
+-- the pieces are in ascending order from address `from`, they end at or below the limit, and none has more bytes of
+-- contents than bytes of memory
 abbrev pub AreInRow : ℕ → List Loaded → Type 0
 AreInRow from [] = Unit {0}
 AreInRow from (p ∷ rest) = IsShort p × (from ≤ p.heading.address) × (end_of p ≤ MEMORY_LIMIT) × AreInRow (end_of p) rest

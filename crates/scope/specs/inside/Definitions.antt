@@ -36,13 +36,13 @@ pub record IsKept (objects : List Named) (all : List NumberedSymbol) (kept : Lis
 abbrev pub IsOneOf : List Named → List NumberedSymbol → ℕ → List (Option Target) → ℕ → Type 0
 IsOneOf objects all count kept n = (nth_target kept n ≡ None) ⊎ ((at : ℕ) × (at < count) × IsKept objects all kept n at)
 
--- among the first `count` symbols of the list, the kept definition of each number is the first one
+-- for each number, the kept definition is the first definition among the first `count` symbols of the list
 pub record AreFirst (objects : List Named) (all : List NumberedSymbol) (count : ℕ) (kept : List (Option Target)) : Type 0 where
   pub size : length kept ≡ length all + 1
   pub each : (n : ℕ) → IsOneOf objects all count kept n
   pub known : (k : ℕ) → k < count → IsExported objects (nth_symbol all k) → (at : ℕ) × (at ≤ k) × IsKept objects all kept (nth_symbol all k).number at
 
--- among the first `count` symbols of the list, the kept definition of each number is the last one
+-- for each number, the kept definition is the last definition among the first `count` symbols of the list
 pub record AreLast (objects : List Named) (all : List NumberedSymbol) (count : ℕ) (kept : List (Option Target)) : Type 0 where
   pub size : length kept ≡ length all + 1
   pub each : (n : ℕ) → IsOneOf objects all count kept n
