@@ -31,7 +31,7 @@ nth_symbol table i = symbol_at table (SYMBOL_SIZE * i)
 unfoldable pub symbols_in : List ℕ → List Symbol
 symbols_in table = map (nth_symbol table) (range_with_len 0 (length table / SYMBOL_SIZE))
 
--- the bytes of as many symbols as the hash table has chain words, if they can be read
+-- the bytes of the symbol table, if they can be read; it has as many symbols as the hash table has chain words
 unfoldable pub symbol_bytes : List ℕ → Option (List ℕ)
 symbol_bytes file = bytes_at file (tag_value file DT_SYMTAB) (SYMBOL_SIZE * chain_count file)
 

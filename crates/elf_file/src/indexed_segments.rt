@@ -10,9 +10,9 @@ use crate::load_index::LoadIndex;
 use crate::segment::ProgramHeader;
 use std::marker::Model;
 
-/// The same as `Segments`, with an index that finds the PT_LOAD at an address, for callers that look
-/// up many addresses. Other views have no index, so that they stay small. Contracts see the file's
-/// bytes.
+/// The same as `Segments`, with an index that finds the PT_LOAD at an address. It is for callers
+/// that look up many addresses. Other views have no index, so that they stay small. Contracts see
+/// the file's bytes.
 #[derive(Drop)]
 pub struct IndexedSegments<'a> {
     headers: Headers<'a>,

@@ -71,7 +71,7 @@ pub record IsBetween (segments : List ImageSegment) (a : ℕ) : Type 0 where
   pub has_above : HasAny segments above
   pub page : page_of above ≤ page_of below + PAGE
 
--- byte `b` at address `a` is a byte of the segments or of the headers, or it is a 0 between two bytes of segments whose
+-- byte `b` at address `a` belongs to the segments or to the headers, or is a 0 between two bytes of segments whose
 -- pages are the same or neighbours
 abbrev pub IsFrom : List ImageSegment → List ℕ → ℕ → ℕ → Type 0
 IsFrom segments file a b = (segments_byte segments a ≡ Some b) ⊎ (IsOfHeaders segments file a b ⊎ ((b ≡ 0) × IsBetween segments a))

@@ -32,8 +32,8 @@ const DT_FINI_ARRAY: u64 = 26;
 
 const DT_FINI_ARRAYSZ: u64 = 28;
 
-/// The tags of an array of pre-initializers, which are called before all other functions, and of
-/// the array's size in bytes. Only a program has such an array.
+/// The tags of an array of pre-initializers and of the array's size in bytes. Only a program has
+/// such an array. Its functions are called before all other functions.
 const DT_PREINIT_ARRAY: u64 = 32;
 
 const DT_PREINIT_ARRAYSZ: u64 = 33;

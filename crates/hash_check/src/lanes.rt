@@ -14,8 +14,8 @@ use crate::names::offset_of;
 use elf_dynamic::Object;
 
 /// Up to eight exported symbols whose names are hashed together. A lane has the symbol's number,
-/// the hash of the name's first bytes, and the place and the end, in the string table, of the
-/// name's other bytes. A lane with symbol number 0 is free.
+/// and the hash of the name's first bytes. It also has the place and the end, in the string table,
+/// of the name's other bytes. A lane with symbol number 0 is free.
 #[derive(Clone, Copy)]
 pub(crate) struct Lanes {
     pub(crate) symbols: [u32; LANES],

@@ -29,7 +29,7 @@ impl NameBudget {
         NameBudget { left }
     }
 
-    /// Takes the `length` bytes of a name from the budget, and returns whether the budget had enough
+    /// Takes the `length` bytes of a name from the budget. Returns whether the budget had enough
     /// bytes.
     pub fn take(&mut self, length: usize) -> bool
         ensures fits { IsTrue result ↔ length ≤ self.old }

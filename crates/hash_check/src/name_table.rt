@@ -55,7 +55,7 @@ fn put(names: &[Name<'_>], cells: &mut [u32], number: usize) -> Option<u32>
 
 /// Returns the numbers of names, or `None` if a name would be stored too far from its home. This
 /// happens in files that were made to cause it. While it runs, allocates 12 bytes for each name.
-/// Four of them remain in the result.
+/// Four of these 12 bytes remain in the result.
 pub(crate) fn numbers_in_table(
     alloc: Global,
     names: &[Name<'_>],

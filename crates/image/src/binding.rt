@@ -13,7 +13,8 @@ use crate::refusal::BindRefusal;
 use scope::Order;
 use std::alloc::Global;
 
-/// Binds a program and its libraries, which `order` has in load order, the program at `base`.
+/// Binds a program and its libraries. `order` has them in load order, and `base` is the program's
+/// base.
 ///
 /// Returns their image, or the first of these refusals: memory would end above 2^47 - 4,096 (B4); a
 /// relocation's symbol is undefined (B5).

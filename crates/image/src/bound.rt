@@ -73,8 +73,9 @@ impl BoundObject {
     }
 }
 
-/// Returns the values of the symbols that the relocations of object number `own` name, or the
-/// refusal for its first relocation whose symbol is undefined. Looks up each symbol once.
+/// Returns the values of the symbols that the relocations of object number `own` name. If a
+/// relocation's symbol is undefined, returns the refusal for the first such relocation. Looks up
+/// each symbol once.
 fn symbol_values(
     alloc: Global,
     objects: &PlacedOrder<'_>,
@@ -99,8 +100,8 @@ fn symbol_values(
     Ok(values)
 }
 
-/// Returns object number `own` with the values of its symbols, or the refusal for its first
-/// relocation whose symbol is undefined.
+/// Returns object number `own` with the values of its symbols. If the symbol of one of its
+/// relocations is undefined, returns the refusal for the first such relocation.
 fn bound_object(
     alloc: Global,
     objects: &PlacedOrder<'_>,
@@ -117,8 +118,8 @@ fn bound_object(
     Ok(BoundObject { name, base, values })
 }
 
-/// Returns all objects with the values of their symbols, or the refusal for the first relocation
-/// whose symbol is undefined.
+/// Returns all objects with the values of their symbols. If a relocation's symbol is undefined,
+/// returns the refusal for the first such relocation.
 fn all_bound(alloc: Global, objects: &PlacedOrder<'_>) -> Result<Vec<BoundObject>, BindRefusal>
     ensures ok { OnOk result (undefined_refusal objects.now ≡ None) }
     ensures bound { IfOk result (λ all. AreBound objects.now all.items) }
@@ -133,8 +134,8 @@ fn all_bound(alloc: Global, objects: &PlacedOrder<'_>) -> Result<Vec<BoundObject
     Ok(bound)
 }
 
-/// Places a program and its libraries, which `order` has in load order, the program at `base`, and
-/// finds the values of the symbols that their relocations name.
+/// Places a program and its libraries, and finds the values of the symbols that their relocations
+/// name. `order` has the program and the libraries in load order, and `base` is the program's base.
 ///
 /// Returns the objects, or the first of these refusals: memory would end above 2^47 - 4,096 (B4); a
 /// relocation's symbol is undefined (B5).

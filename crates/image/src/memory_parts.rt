@@ -13,9 +13,9 @@ const PART: u64 = 1024;
 const PARTS: u64 = 65536;
 
 /// Guesses which of an object's segments has an address. The index divides the memory from the
-/// first segment on into parts, and has for each part the number of segments that begin before it.
-/// A binary search is then needed only among the segments that begin in one part. The caller tests
-/// the guess, so this type's contracts say nothing about it.
+/// first segment on into parts. For each part, it has the number of segments that begin before the
+/// part. A binary search is then needed only among the segments that begin in one part. The caller
+/// tests the guess, so this type's contracts say nothing about it.
 #[derive(Drop)]
 pub(crate) struct MemoryParts {
     first: u64,

@@ -39,7 +39,7 @@ impl<'a> Model for PlacedOrder<'a> {
 }
 
 impl<'a> PlacedOrder<'a> {
-    /// Places the objects of `order`, the program at `base`. Costs what `place` costs.
+    /// Places the objects of `order`. The program's base is `base`. Costs what `place` costs.
     pub fn of(
         alloc: Global,
         order: &'a Order<'a>,

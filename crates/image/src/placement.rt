@@ -79,8 +79,8 @@ fn base_after(end: u64, unit: u64) -> Option<u64>
     }
 }
 
-/// Returns the base of an object that is placed after `end`, and the end of its memory, or `None`
-/// if one of them is above the limit.
+/// Returns the base of an object that is placed after `end`, and the end of the object's memory.
+/// Returns `None` if the base or the end is above the limit.
 #[tactic(auto, using(crate::proofs::Placing::unit_positive))]
 fn place_behind(object: &Object<'_>, end: u64) -> Option<(u64, u64)>
     requires { end ≤ MEMORY_LIMIT }

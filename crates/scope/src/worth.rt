@@ -65,11 +65,11 @@ fn longest_walk(object: &Object<'_>) -> u32 {
     longest
 }
 
-/// Returns whether walks may cost more than a table. The cost of walks is the number of lookups,
-/// multiplied by the sum over all objects of the longest walk and one step to reach it. This cost
-/// is compared with twice the number of names. So if walks are followed, they compare at most two
-/// symbols a name, and at most four if objects are symbolic. A table takes a constant time for each
-/// name, as the name's admission did.
+/// Returns whether walks may cost more than a table. For each object, add one step to the length of
+/// its longest walk. The cost of walks is the sum of these numbers, multiplied by the number of
+/// lookups. This cost is compared with twice the number of names. So if walks are followed, they
+/// compare at most two symbols a name, and at most four if objects are symbolic. A table takes a
+/// constant time for each name, as the name's admission did.
 fn may_be_long(objects: &[LoadedObject<'_>]) -> bool {
     let (mut lookups, mut steps, mut names) = (0u64, 0u64, 0u64);
     for loaded in objects {

@@ -12,8 +12,8 @@ use Rattle.hash_check.specs.declared.lanes.Lanes.{Lanes}
 abbrev pub between : List ℕ → ℕ → ℕ → List ℕ
 between table place end = take (end - place) (drop place table)
 
--- the lane is free, or has an exported symbol, the hash of the first bytes of its name, and the place and the end of
--- the name's other bytes
+-- the lane is free, or has an exported symbol, the hash of the first bytes of the symbol's name, and the place and the
+-- end of the name's other bytes
 pub record IsLane (file : List ℕ) (symbol hash place end : ℕ) : Type 0 where
   pub order : place ≤ end
   pub within : end ≤ length (string_table file)
