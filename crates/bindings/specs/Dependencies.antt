@@ -9,8 +9,8 @@ use Rattle.bindings.specs.Bindings.{name_line, names_line, needs_line}
 abbrev pub missing_line : Need → List ℕ
 missing_line need = names_line (codes "missing ") need.name need.needer
 
--- the line of a needed name, and after it the line of a missing name if no library has the needed one;
--- `names` has the libraries' names
+-- the line of a needed name, followed by the line of a missing name if no library has the needed name; `names` has the
+-- libraries' names
 abbrev pub need_text : List (List ℕ) → Need → List ℕ
 need_text names need = needs_line need.name ++ (if is_missing names need then missing_line need else [])
 

@@ -13,6 +13,6 @@ names_symbol i r = uses_symbol r.kind && r.symbol == i
 abbrev pub is_named : List ℕ → ℕ → Bool
 is_named file i = list_any (names_symbol i) (relocations file)
 
--- the numbers of the symbols that relocations of a file name, each only once, in rising order; 0 isn't the number of a symbol
+-- the numbers of the symbols that relocations of a file name, each only once, in rising order; number 0 is left out
 unfoldable pub named_symbols : List ℕ → List ℕ
 named_symbols file = filter (is_named file) (range_with_len 1 (length (symbols file) - 1))

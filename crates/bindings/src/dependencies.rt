@@ -62,15 +62,15 @@ impl<'a> Dependencies<'a> {
         })
     }
 
-    /// Returns whether one of the libraries has this name.
+    /// Returns whether one of the libraries has the name `name`.
     fn has(&self, name: &[u8]) -> bool
         ensures { result ≡ not (is_none (place_of (names_of self.now.libraries) name.now)) }
     {
         self.names.contains(name)
     }
 
-    /// Writes the line of a name that an object needs, and after it the line of a missing name if
-    /// no library has it.
+    /// Writes the line of a name that an object needs. If no library has this name, writes the line
+    /// of a missing name after it.
     fn put_need<W: Write>(
         &self,
         out: &mut W,
@@ -125,10 +125,11 @@ impl<'a> Dependencies<'a> {
         Ok(())
     }
 
-    /// Writes the text: each object, with a line for each name that it needs, and another line if
-    /// none of the libraries has this name. Uses 64 KiB of stack, allocates nothing, and passes the
-    /// text to the writer in pieces of 64 KiB. Makes one pass over the objects' dynamic sections,
-    /// with one search for each name. If the writer fails, the writer's contents are unspecified.
+    /// Writes the text. It has the line of each object, and a line for each name that the object
+    /// needs. If none of the libraries has a needed name, another line follows the name's line.
+    /// Uses 64 KiB of stack, allocates nothing, and passes the text to the writer in pieces of 64
+    /// KiB. Makes one pass over the objects' dynamic sections, with one search for each name. If
+    /// the writer fails, the writer's contents are unspecified.
     #[tactic(auto, unfolding(crate::specs::Dependencies::dependencies_text))]
     pub fn write_text<W: Write>(&self, out: &mut W) -> Result<(), WriteFault>
         ensures { OnOk result (Appends (W.contents out.old) (W.contents out.new)

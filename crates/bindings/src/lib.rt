@@ -1,8 +1,8 @@
 //! Writes, as text, what each symbol of a program and its libraries is bound to, and what each of
 //! these objects needs.
 //!
-//! `Bindings` is for placed objects. Its text has, for each object, the symbols that its
-//! relocations name, and what these are bound to. `Dependencies` is for a program that lacks
+//! `Bindings` is for placed objects. For each object, its text has the symbols that the object's
+//! relocations name, and the targets of these symbols. `Dependencies` is for a program that lacks
 //! libraries. Its text has the objects that were found, and each name that is missing.
 #![tactic(auto)]
 

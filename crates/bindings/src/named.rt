@@ -9,7 +9,7 @@ use elf_dynamic::{Object, Relocation, uses_symbol};
 use image::PlacedOrder;
 use std::alloc::{AllocError, Global};
 
-/// Sets the flag of the symbol whose value `relocation` uses, if it uses one.
+/// If `relocation` uses the value of a symbol, sets the flag of this symbol.
 fn note(flags: &mut [bool], relocation: Relocation)
     requires { uses_symbol relocation.kind ≡ true → relocation.symbol < length flags.old }
     ensures { (count : ℕ) → (rs : List Rela) → AreFlags count rs flags.old

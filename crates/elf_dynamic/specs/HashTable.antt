@@ -15,7 +15,7 @@ word table i = number_at 4 table (WORD_SIZE * i)
 unfoldable pub hash_head_bytes : List ℕ → Option (List ℕ)
 hash_head_bytes file = bytes_at file (tag_value file DT_HASH) (WORD_SIZE * 2)
 
--- the first two words, or no bytes if they can't be read, which BadRange refuses
+-- the first two words; no bytes if these words can't be read, and then the file is refused with BadRange
 abbrev pub hash_head : List ℕ → List ℕ
 hash_head file = unwrap_or (hash_head_bytes file) []
 
@@ -31,11 +31,11 @@ chain_count file = word (hash_head file) 1
 unfoldable pub hash_bytes : List ℕ → Option (List ℕ)
 hash_bytes file = bytes_at file (tag_value file DT_HASH) (WORD_SIZE * (2 + (bucket_count file + chain_count file)))
 
--- the whole table, or no bytes if it can't be read, which BadRange refuses
+-- the whole table; no bytes if the table can't be read, and then the file is refused with BadRange
 unfoldable pub hash_table : List ℕ → List ℕ
 hash_table file = unwrap_or (hash_bytes file) []
 
--- the words of the buckets: each is the index of the first symbol of a chain
+-- the words of the buckets: the word of a bucket is the index of the first symbol of its chain
 unfoldable pub buckets : List ℕ → List ℕ
 buckets file = map (word (hash_table file)) (range_with_len 2 (bucket_count file))
 

@@ -13,7 +13,7 @@ use Rattle.elf_dynamic.specs.Symbol.{symbols, tested_symbols}
 unfoldable pub string_bytes : List ℕ → Option (List ℕ)
 string_bytes file = bytes_at file (tag_value file DT_STRTAB) (tag_value file DT_STRSZ)
 
--- the string table, or no bytes if it can't be read, which BadRange refuses
+-- the string table; no bytes if it can't be read, and then the file is refused with BadRange
 unfoldable pub string_table : List ℕ → List ℕ
 string_table file = unwrap_or (string_bytes file) []
 

@@ -31,11 +31,11 @@ nth_symbol table i = symbol_at table (SYMBOL_SIZE * i)
 unfoldable pub symbols_in : List ℕ → List Symbol
 symbols_in table = map (nth_symbol table) (range_with_len 0 (length table / SYMBOL_SIZE))
 
--- the bytes of as many symbols as the hash table has chain words, if they can be read
+-- the bytes of the symbol table, if they can be read; it has as many symbols as the hash table has chain words
 unfoldable pub symbol_bytes : List ℕ → Option (List ℕ)
 symbol_bytes file = bytes_at file (tag_value file DT_SYMTAB) (SYMBOL_SIZE * chain_count file)
 
--- the symbol table, or no bytes if it can't be read, which BadRange refuses
+-- the symbol table; no bytes if it can't be read, and then the file is refused with BadRange
 unfoldable pub symbol_table : List ℕ → List ℕ
 symbol_table file = unwrap_or (symbol_bytes file) []
 
@@ -83,19 +83,19 @@ is_absolute s = s.section == SHN_ABS
 abbrev pub is_function_or_object : Symbol → Bool
 is_function_or_object s = (type_of s == STT_NOTYPE) || (type_of s == STT_OBJECT) || (type_of s == STT_FUNC)
 
--- other objects can see the symbol and replace it, by its visibility
+-- the symbol's visibility lets other objects see the symbol and replace it
 abbrev pub has_default_visibility : Symbol → Bool
 has_default_visibility s = visibility_of s == STV_DEFAULT
 
--- other objects can see the symbol, by its visibility
+-- the symbol's visibility lets other objects see the symbol
 abbrev pub is_visible : Symbol → Bool
 is_visible s = has_default_visibility s || (visibility_of s == STV_PROTECTED)
 
--- other objects can't see the symbol, by its visibility
+-- the symbol's visibility hides the symbol from other objects
 abbrev pub is_hidden : Symbol → Bool
 is_hidden s = (visibility_of s == STV_HIDDEN) || (visibility_of s == STV_INTERNAL)
 
--- the symbol is common, by its section or its type
+-- the symbol's section or its type is that of a common symbol
 abbrev pub is_common : Symbol → Bool
 is_common s = (s.section == SHN_COMMON) || (type_of s == STT_COMMON)
 
@@ -103,7 +103,7 @@ is_common s = (s.section == SHN_COMMON) || (type_of s == STT_COMMON)
 unfoldable pub has_common_symbol : List ℕ → Bool
 has_common_symbol file = list_any is_common (tested_symbols file)
 
--- the symbol is thread-local, by its type
+-- the symbol's type is that of thread-local data
 abbrev pub is_tls : Symbol → Bool
 is_tls s = type_of s == STT_TLS
 
@@ -111,7 +111,7 @@ is_tls s = type_of s == STT_TLS
 unfoldable pub has_tls_symbol : List ℕ → Bool
 has_tls_symbol file = list_any is_tls (tested_symbols file)
 
--- the symbol is an indirect function, by its type
+-- the symbol's type is that of an indirect function
 abbrev pub is_ifunc : Symbol → Bool
 is_ifunc s = type_of s == STT_GNU_IFUNC
 
@@ -119,10 +119,10 @@ is_ifunc s = type_of s == STT_GNU_IFUNC
 unfoldable pub has_ifunc_symbol : List ℕ → Bool
 has_ifunc_symbol file = list_any is_ifunc (tested_symbols file)
 
--- the symbol's binding is neither LOCAL, GLOBAL nor WEAK
+-- the symbol's binding is none of LOCAL, GLOBAL and WEAK
 abbrev pub is_badly_bound : Symbol → Bool
 is_badly_bound s = not (is_local s) && not (is_global s) && not (is_weak s)
 
--- E27: a symbol is present whose binding is neither LOCAL, GLOBAL nor WEAK
+-- E27: a symbol has a binding that is none of LOCAL, GLOBAL and WEAK
 unfoldable pub has_bad_binding : List ℕ → Bool
 has_bad_binding file = list_any is_badly_bound (tested_symbols file)

@@ -1,7 +1,7 @@
 //! A borrowed view of an ELF-64 shared object for x86-64 (System V gABI chapters 4 and 5, elf(5),
 //! psABI).
 //!
-//! `Object::read` accepts a file exactly if none of its tests applies. Otherwise it returns the
+//! `Object::read` accepts a file if and only if none of its tests applies. Otherwise it returns the
 //! refusal of the first test that applies. It allocates nothing and copies nothing: the names and
 //! contents that the view returns are parts of the file.
 #![tactic(auto)]

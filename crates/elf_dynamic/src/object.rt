@@ -53,9 +53,9 @@ impl<'a> Object<'a> {
         Ok(Object { tables })
     }
 
-    /// Makes the view of a file that no test refuses. Makes only one of the tests again, that of
-    /// the ranges of the tables (E22), because this test finds the tables. Makes a few passes over
-    /// the program headers, and one over the dynamic section.
+    /// Makes the view of a file that no test refuses. Repeats only the test of the ranges of the
+    /// tables (E22), because this test finds the tables. Makes a few passes over the program
+    /// headers, and one over the dynamic section.
     #[tactic(auto, using(crate::proofs::Accepted::accepted_parts))]
     pub fn of_accepted(file: &'a [u8]) -> Object<'a>
         requires { first_refusal file.now ≡ None }
@@ -118,7 +118,7 @@ impl<'a> Object<'a> {
     }
 
     /// Returns the bytes of the file that are loaded to the beginning of a PT_LOAD. For any other
-    /// header, returns those of its bytes that the file has. Takes constant time.
+    /// program header, returns as many of its bytes as the file has. Takes constant time.
     pub fn contents_of(&self, segment: ProgramHeader) -> &'a [u8]
         ensures contents { result.now ≡ contents self.now segment }
         ensures accepted { first_refusal self.now ≡ None }

@@ -13,9 +13,9 @@ ghost use Rattle.elf_dynamic.specs.inside.Tables.{HasParts, soname_offset};
 use crate::hash_table::HashTable;
 use elf_file::{Dynamic, SYMBOL_SIZE, Tag};
 
-/// The tables of a file, which are parts of its bytes, and three values of its tags. They are the
-/// number of needed libraries, the offset of the object's own name in the string table (if it has a
-/// name), and whether the object is symbolic.
+/// The tables of a file, which are parts of its bytes, and three more values: the number of needed
+/// libraries; the offset of the object's own name in the string table, if it has a name; and
+/// whether the object is symbolic.
 #[derive(Clone, Copy)]
 pub(crate) struct Parts<'a> {
     pub(crate) strings: &'a [u8],
@@ -55,8 +55,8 @@ fn symbol_table<'a>(dynamic: &Dynamic<'a>, count: u32) -> Option<&'a [u8]>
     )
 }
 
-/// Returns the table of relocations whose address is in the tag `place` and whose size is in the
-/// tag `size`, if it can be read. Returns no bytes if the tag `place` is absent.
+/// Returns the table of relocations, if it can be read. The tag `place` has the table's address,
+/// and the tag `size` has its size. Returns no bytes if the tag `place` is absent.
 fn table_bytes<'a>(dynamic: &Dynamic<'a>, place: Tag, size: Tag) -> Option<&'a [u8]>
     ensures { MatchOption result (table_bytes dynamic.now (number_of place) (number_of size) ≡ None)
         (λ bytes. table_bytes dynamic.now (number_of place) (number_of size) ≡ Some bytes.now) }

@@ -52,7 +52,7 @@ impl<'a> Tables<'a> {
         }
     }
 
-    /// Returns the first type of a relocation that isn't supported.
+    /// Returns the type of the first relocation whose type isn't supported, if there is one.
     fn first_unsupported_type(&self) -> Option<u32>
         ensures { result ≡ first_unsupported_type self.now }
     {

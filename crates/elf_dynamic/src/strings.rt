@@ -16,8 +16,8 @@ fn string_length(bytes: &[u8]) -> usize
     memchr(0, bytes).unwrap_or(bytes.len())
 }
 
-/// Returns the string at an offset of a table, up to its zero byte. The time is proportional to the
-/// string's length.
+/// Returns the string at an offset of a table: the bytes up to the next zero byte. The time is
+/// proportional to the string's length.
 #[tactic(auto, using(crate::proofs::StringEnds::ends), unfolding(crate::specs::Strings::string_at))]
 pub(crate) fn string_at(table: &[u8], offset: usize) -> &[u8]
     ensures { result.now ≡ string_at table.now offset }
@@ -27,7 +27,7 @@ pub(crate) fn string_at(table: &[u8], offset: usize) -> &[u8]
 }
 
 /// The names of the needed libraries that haven't been read yet, in the order of their entries.
-/// Contracts see the list of them.
+/// Contracts see the list of these names.
 #[derive(Drop)]
 pub struct NeededNames<'a> {
     strings: &'a [u8],

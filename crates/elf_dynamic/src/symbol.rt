@@ -97,7 +97,7 @@ impl Symbol {
         kind == STT_NOTYPE || kind == STT_OBJECT || kind == STT_FUNC
     }
 
-    /// Returns whether other objects can see the symbol and replace it, by its visibility
+    /// Returns whether the symbol's visibility lets other objects see the symbol and replace it
     /// (`STV_DEFAULT`).
     pub fn has_default_visibility(self) -> bool
         ensures { result ≡ has_default_visibility self }
@@ -105,7 +105,7 @@ impl Symbol {
         self.visibility() == STV_DEFAULT
     }
 
-    /// Returns whether other objects can see the symbol, by its visibility (`STV_DEFAULT`,
+    /// Returns whether the symbol's visibility lets other objects see the symbol (`STV_DEFAULT`,
     /// `STV_PROTECTED`).
     pub fn is_visible(self) -> bool
         ensures { result ≡ is_visible self }
@@ -113,7 +113,7 @@ impl Symbol {
         self.has_default_visibility() || self.visibility() == STV_PROTECTED
     }
 
-    /// Returns whether other objects can't see the symbol, by its visibility (`STV_HIDDEN`,
+    /// Returns whether the symbol's visibility hides the symbol from other objects (`STV_HIDDEN`,
     /// `STV_INTERNAL`).
     pub fn is_hidden(self) -> bool
         ensures { result ≡ is_hidden self }

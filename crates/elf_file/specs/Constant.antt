@@ -45,7 +45,7 @@ FILE_HEADER_SIZE = 64
 abbrev pub PROGRAM_HEADER_SIZE : ℕ
 PROGRAM_HEADER_SIZE = 56
 
--- types of segments, by p_type
+-- the p_type of each kind of segment that is read
 abbrev pub PT_LOAD : ℕ
 PT_LOAD = 1
 
@@ -67,7 +67,7 @@ SYMBOL_SIZE = 24
 abbrev pub RELOCATION_SIZE : ℕ
 RELOCATION_SIZE = 24
 
--- tags of the dynamic section, by d_tag
+-- the d_tag of each kind of entry of the dynamic section that is read
 abbrev pub DT_NULL : ℕ
 DT_NULL = 0
 

@@ -51,7 +51,7 @@ whole_entries section = map (entry section) (range_with_len 0 (length section / 
 abbrev pub is_null : Entry → Bool
 is_null e = e.tag == DT_NULL
 
--- the entry has this tag
+-- the entry has the tag `tag`
 abbrev pub has_tag : ℕ → Entry → Bool
 has_tag tag e = e.tag == tag
 
@@ -83,7 +83,8 @@ find_entry file tag = find (has_tag tag) (entries file)
 abbrev pub is_present : List ℕ → ℕ → Bool
 is_present file tag = is_some (find_entry file tag)
 
--- the value of the first entry with a tag, or 0 if the tag is absent; in that case no test and no accessor reads it
+-- the value of the first entry with a tag, or 0 if the tag is absent; in that case no test and no accessor reads the
+-- value
 unfoldable pub tag_value : List ℕ → ℕ → ℕ
 tag_value file tag = unwrap_or (option_map (λ e. e.value) (find_entry file tag)) 0
 
@@ -97,7 +98,7 @@ single_tags =
     DT_PLTRELSZ ∷ DT_HASH ∷ DT_STRTAB ∷ DT_SYMTAB ∷ DT_RELA ∷ DT_RELASZ ∷ DT_RELAENT ∷ DT_STRSZ ∷ DT_SYMENT ∷ DT_SONAME
     ∷ DT_SYMBOLIC ∷ DT_REL ∷ DT_PLTREL ∷ DT_JMPREL ∷ DT_FLAGS ∷ DT_RELR ∷ DT_VERSYM ∷ DT_VERDEF ∷ DT_VERNEED ∷ []
 
--- E16: one of these tags is present more than once
+-- E16: one of the tags that may be present only once is present more than once
 unfoldable pub has_duplicate_tag : List ℕ → Bool
 has_duplicate_tag file = list_any (λ tag. nat_lt 1 (tag_count file tag)) single_tags
 
@@ -126,7 +127,7 @@ abbrev pub lacks_symbol_tag : List ℕ → Bool
 lacks_symbol_tag file =
     not (is_present file DT_STRTAB) || not (is_present file DT_SYMTAB) || not (is_present file DT_STRSZ) || not (is_present file DT_SYMENT)
 
--- E20: a tag of the strings or the symbols is missing, or a tag that a table of relocations requires
+-- E20: a tag of the strings or the symbols is missing, or a tag that a present table of relocations requires is missing
 abbrev pub has_missing_tag : List ℕ → Bool
 has_missing_tag file =
     lacks_symbol_tag file
@@ -137,7 +138,7 @@ has_missing_tag file =
 abbrev pub is_part : ℕ → Bool
 is_part size = not (size % RELOCATION_SIZE == 0)
 
--- E21: the symbols have another size; or relocations have another size or kind, or their table ends within a relocation
+-- E21: the size of symbols or the size or kind of relocations is wrong, or a table ends within a relocation
 abbrev pub has_bad_entry_size : List ℕ → Bool
 has_bad_entry_size file =
     not (tag_value file DT_SYMENT == SYMBOL_SIZE)

@@ -48,7 +48,7 @@ has_bad_type file = not (number_at 2 file 16 == ET_DYN)
 abbrev pub has_bad_machine : List ℕ → Bool
 has_bad_machine file = not (number_at 2 file 18 == EM_X86_64)
 
--- E9: e_ehsize isn't the size of a file header, or e_phentsize isn't that of a program header
+-- E9: e_ehsize isn't the size of a file header, or e_phentsize isn't the size of a program header
 abbrev pub has_bad_header_size : List ℕ → Bool
 has_bad_header_size file = not (number_at 2 file 52 == FILE_HEADER_SIZE) || not (number_at 2 file 54 == PROGRAM_HEADER_SIZE)
 

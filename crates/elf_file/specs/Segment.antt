@@ -60,23 +60,23 @@ is_bad_load size h =
     || (nat_lt 0 h.file_size && nat_lt size (h.offset + h.file_size))
     || (nat_lt 1 h.alignment && (not (is_power_of_two h.alignment) || not (h.address % h.alignment == h.offset % h.alignment))))
 
--- some PT_LOAD breaks the rules
+-- some PT_LOAD has a wrong file size, file end or alignment
 unfoldable pub has_bad_load : List ℕ → Bool
 has_bad_load file = list_any (is_bad_load (length file)) (program_headers file)
 
--- E12: no PT_LOAD is present, or one breaks the rules
+-- E12: no PT_LOAD is present, or a PT_LOAD has a wrong file size, file end or alignment
 abbrev pub has_bad_segment : List ℕ → Bool
 has_bad_segment file = not (has_load file) || has_bad_load file
 
--- a PT_LOAD's memory ends too high
+-- the memory of a PT_LOAD ends above HIGHEST_END
 abbrev pub is_too_high : ProgramHeader → Bool
 is_too_high h = is_load h && nat_lt HIGHEST_END (h.address + h.memory_size)
 
--- some PT_LOAD's memory ends too high
+-- the memory of some PT_LOAD ends above HIGHEST_END
 unfoldable pub has_high_segment : List ℕ → Bool
 has_high_segment file = list_any is_too_high (program_headers file)
 
--- E13: the file is too long, or a PT_LOAD's memory ends too high
+-- E13: the file is longer than LARGEST_FILE, or the memory of a PT_LOAD ends above HIGHEST_END
 abbrev pub is_too_large : List ℕ → Bool
 is_too_large file = nat_lt LARGEST_FILE (length file) || has_high_segment file
 

@@ -1,4 +1,4 @@
--- Definitions of what the code keeps to be fast. None of them has to be believed.
+-- Definitions of the data that the code keeps to be fast. A reader doesn't have to believe these definitions.
 pub mod Index
 pub mod Tags
 pub mod Needed

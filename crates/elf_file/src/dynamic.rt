@@ -46,8 +46,8 @@ const SINGLE_TAGS: [Tag; 19] = [
 ];
 
 impl<'a> Headers<'a> {
-    /// Returns the bytes of the dynamic section, if exactly one PT_DYNAMIC is present and its bytes
-    /// are in the file.
+    /// Returns the bytes of the dynamic section. Returns `None` unless exactly one PT_DYNAMIC is
+    /// present and its bytes are in the file.
     #[tactic(auto, unfolding(crate::specs::Dynamic::dynamic_section))]
     fn dynamic_section(&self) -> Option<&'a [u8]>
         ensures { MatchOption result (has_dynamic self.now ≡ false)
@@ -68,8 +68,8 @@ impl<'a> Headers<'a> {
 }
 
 /// A file that none of the tests E1 to E15 refuses: its dynamic section is in the file and has an
-/// end. A view from `read` or `of_accepted` has passed E16 to E21 as well. Contracts see the file's
-/// bytes.
+/// end. If `read` or `of_accepted` made the view, the tests E16 to E21 don't refuse the file
+/// either. Contracts see the file's bytes.
 #[derive(Drop)]
 pub struct Dynamic<'a> {
     segments: Segments<'a>,
@@ -103,8 +103,8 @@ impl<'a> Dynamic<'a> {
         Dynamic::test(segments)
     }
 
-    /// Makes the view of a file that none of the tests E1 to E21 refuses, and makes none of these
-    /// tests again. Makes two passes over the program headers, and one over the dynamic section.
+    /// Makes the view of a file that none of the tests E1 to E21 refuses. Repeats none of these
+    /// tests. Makes two passes over the program headers, and one over the dynamic section.
     pub fn of_accepted(file: &'a [u8]) -> Dynamic<'a>
         requires { file_refusal file.now ≡ None }
         ensures { result ≡ file.now }
@@ -172,7 +172,7 @@ impl<'a> Dynamic<'a> {
         &self.segments
     }
 
-    /// Returns the table's slot for a tag.
+    /// Returns the slot of `tag` in the table of tags.
     #[tactic(auto, unfolding(crate::specs::Dynamic::entries))]
     fn slot(&self, tag: Tag) -> Slot
         ensures { result ≡ slot_of (entries self.now) (number_of tag) }
@@ -227,7 +227,8 @@ impl<'a> Dynamic<'a> {
             || self.is_present(Tag::VerNeed)
     }
 
-    /// Returns whether DT_FLAGS has the bit by which lookup begins in the object itself.
+    /// Returns whether `DT_FLAGS` has the bit `DF_SYMBOLIC`. Then the object's own references are
+    /// looked up in the object first.
     fn is_flagged_symbolic(&self) -> bool
         ensures { result ≡ is_flagged_symbolic self.now }
     {

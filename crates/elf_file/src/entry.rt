@@ -8,9 +8,9 @@ use crate::number::u64_at;
 /// An entry of the dynamic section (gABI chapter 5, `Elf64_Dyn`).
 #[derive(Clone, Copy, PartialEq, Eq)]
 pub struct Entry {
-    /// `d_tag`.
+    /// `d_tag`: the number of the entry's tag.
     pub tag: u64,
-    /// `d_val` or `d_ptr`.
+    /// `d_val` or `d_ptr`: the value of the entry.
     pub value: u64,
 }
 

@@ -57,8 +57,8 @@ impl<'a> Headers<'a> {
         Ok(Headers { file })
     }
 
-    /// Makes the view of a file that none of the tests E1 to E10 refuses, and makes none of these
-    /// tests again.
+    /// Makes the view of a file that none of the tests E1 to E10 refuses. Repeats none of these
+    /// tests.
     pub(crate) fn of_accepted(file: &'a [u8]) -> Headers<'a>
         requires { header_refusal file.now ≡ None }
         ensures { result ≡ file.now }
@@ -80,7 +80,7 @@ impl<'a> Headers<'a> {
         self.file
     }
 
-    /// `e_entry`.
+    /// `e_entry`: the address at which the object begins to run, or 0 if it has none.
     pub(crate) fn entry(&self) -> u64
         ensures { result ≡ entry_address self.now }
     {

@@ -10,9 +10,9 @@ use crate::load_index::LoadIndex;
 use crate::segment::ProgramHeader;
 use std::marker::Model;
 
-/// The same as `Segments`, with an index that finds the PT_LOAD at an address, for callers that look
-/// up many addresses. Other views have no index, so that they stay small. Contracts see the file's
-/// bytes.
+/// The same as `Segments`, with an index that finds the PT_LOAD at an address. It is for callers
+/// that look up many addresses. Other views have no index, so that they stay small. Contracts see
+/// the file's bytes.
 #[derive(Drop)]
 pub struct IndexedSegments<'a> {
     headers: Headers<'a>,
@@ -31,7 +31,8 @@ impl<'a> Model for IndexedSegments<'a> {
 }
 
 impl<'a> IndexedSegments<'a> {
-    /// Makes the index for a file whose PT_LOADs follow each other.
+    /// Makes the index for a file in which each PT_LOAD begins at or above the end of the one
+    /// before it.
     pub(crate) fn new(headers: Headers<'a>) -> IndexedSegments<'a>
         requires { has_bad_order headers ≡ false }
         ensures { result ≡ headers.entry }
@@ -40,7 +41,8 @@ impl<'a> IndexedSegments<'a> {
         IndexedSegments { headers, index }
     }
 
-    /// The headers. The contract also states that the PT_LOADs follow each other.
+    /// The headers. The contract also states that each PT_LOAD begins at or above the end of the
+    /// one before it.
     pub(crate) fn headers(&self) -> &Headers<'a>
         ensures same { result.now ≡ self.now }
         ensures order { has_bad_order self.now ≡ false }

@@ -1,8 +1,8 @@
 //! Reads the headers and the dynamic section of an ELF-64 file for x86-64 (System V gABI chapters 4
 //! and 5, elf(5)).
 //!
-//! `Dynamic::read` accepts a file exactly if none of the tests of its headers, segments and tags
-//! applies. Otherwise it returns the refusal of the first test that applies. The view that it
+//! `Dynamic::read` accepts a file if and only if none of the tests of its headers, segments and
+//! tags applies. Otherwise it returns the refusal of the first test that applies. The view that it
 //! returns has the values of the tags, the PT_LOADs, and the bytes of the file at an address. The
 //! crate allocates nothing and copies nothing.
 #![tactic(auto)]

@@ -12,7 +12,8 @@ use crate::segment::ProgramHeader;
 
 /// The number of program headers that a block spans.
 pub(crate) const BLOCK: usize = 1024;
-/// The maximum number of blocks of a file: its program headers are counted by 16 bits.
+/// The maximum number of blocks of a file. It suffices because the number of program headers has 16
+/// bits.
 const BLOCKS: usize = 64;
 
 /// The PT_LOADs in blocks. Each block begins with a PT_LOAD and spans 1,024 program headers from
@@ -49,8 +50,8 @@ impl LoadIndex {
         index
     }
 
-    /// Returns whether the last block spans program header number `i`, for an `i` after the block's
-    /// first header.
+    /// Returns whether the last block spans program header number `i`. The answer is right only if
+    /// `i` isn't before the block's first header.
     fn spans(&self, i: usize) -> bool
         requires { self.now.blocks ≤ BLOCKS }
         ensures { result ≡ is_spanned self.now i }
@@ -58,7 +59,7 @@ impl LoadIndex {
         self.blocks > 0 && i < usize::from(self.first[self.blocks - 1]) + BLOCK
     }
 
-    /// Begins a block with program header number `i`.
+    /// Adds a block that begins with program header number `i`.
     fn begin_block(&mut self, i: usize)
         requires room { self.old.blocks < BLOCKS }
         requires header { i < 65536 }
@@ -68,8 +69,8 @@ impl LoadIndex {
         self.blocks += 1;
     }
 
-    /// Begins a block with program header number `i` if that is a PT_LOAD and the last block
-    /// doesn't span it.
+    /// If program header number `i` is a PT_LOAD and the last block doesn't span it, adds a block
+    /// that begins with it.
     fn add(&mut self, headers: &Headers<'_>, i: usize)
         requires within { i < header_count headers.now }
         requires number { i < 65536 }
@@ -88,7 +89,8 @@ impl LoadIndex {
 impl IndexedSegments<'_> {
     /// Returns the header number of the first PT_LOAD of the last block that begins at or below
     /// `address`, or `None` if no block does. Each PT_LOAD before the returned one ends at or below
-    /// `address`, and each after its block begins above. Makes a binary search.
+    /// `address`. Each PT_LOAD after the returned one's block begins above `address`. Makes a
+    /// binary search.
     pub(crate) fn block_at(&self, address: u64) -> Option<usize>
         ensures { MatchOption result (AllAbove self.now address 0) (IsBlockAt self.now address) }
     {
@@ -133,10 +135,11 @@ impl IndexedSegments<'_> {
         first
     }
 
-    /// Returns a header number, not before `first`, that has the same property as `first`: each
-    /// PT_LOAD before it ends at or below `address`, and each PT_LOAD at least a block after it
-    /// begins above. Makes a binary search over a block. If all headers of the block are PT_LOADs,
-    /// or every second one is, the result is the last PT_LOAD that begins at or below `address`.
+    /// Returns the number of a header at or after `first`. Like `first`, this header has two
+    /// properties: each PT_LOAD before it ends at or below `address`, and each PT_LOAD at least a
+    /// block after it begins above `address`. Makes a binary search over a block. If all headers of
+    /// the block are PT_LOADs, or every second one is, the result is the last PT_LOAD that begins
+    /// at or below `address`.
     pub(crate) fn narrowed(&self, first: usize, address: u64) -> usize
         requires { IsBlockAt self.now address first }
         ensures { IsBlockAt self.now address result }

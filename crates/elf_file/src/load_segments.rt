@@ -9,7 +9,8 @@ use crate::headers::Headers;
 use crate::segment::ProgramHeader;
 use std::marker::Model;
 
-/// The PT_LOADs that are left, in the order of the program headers. Contracts see the list of them.
+/// The PT_LOADs that haven't been read yet, in the order of the program headers. Contracts see the
+/// list of these PT_LOADs.
 #[derive(Drop)]
 pub struct LoadSegments<'a> {
     headers: Headers<'a>,
@@ -30,8 +31,8 @@ impl<'a> Model for LoadSegments<'a> {
 }
 
 impl Headers<'_> {
-    /// Returns the number of the first PT_LOAD from program header number `from`, or the number of
-    /// program headers if there is none.
+    /// Returns the number of the first PT_LOAD at or after program header number `from`, or the
+    /// number of program headers if there is none.
     pub(crate) fn next_load(&self, from: usize) -> usize
         requires { from ≤ header_count self.now }
         ensures within { result ≤ header_count self.now }

@@ -8,8 +8,8 @@ use crate::entry::nth_entry;
 use crate::tag::DT_NEEDED;
 use std::marker::Model;
 
-/// The offsets of the needed libraries' names that are left, in the order of their entries.
-/// Contracts see the list of them.
+/// The offsets of the needed libraries' names that haven't been read yet, in the order of their
+/// entries. Contracts see the list of these offsets.
 #[derive(Drop)]
 pub struct NeededOffsets<'a> {
     section: &'a [u8],
@@ -28,8 +28,8 @@ impl<'a> Model for NeededOffsets<'a> {
     ghost invariant = { λ s. (s.next ≤ s.count) × (s.count ≤ length s.section.now / 16) };
 }
 
-/// Returns the number of the first DT_NEEDED from entry number `from`, or `count` if none of the
-/// first `count` entries from there is one.
+/// Returns the number of the first DT_NEEDED at or after entry number `from`, among the first
+/// `count` entries. If there is none, returns `count`.
 fn next_needed(bytes: &[u8], count: usize, from: usize) -> usize
     requires from { from ≤ count }
     requires count { count ≤ length bytes.now / 16 }
@@ -59,7 +59,7 @@ impl<'a> NeededOffsets<'a> {
         }
     }
 
-    /// Returns an iterator over the same offsets that are left.
+    /// Returns another view of the offsets that haven't been read yet.
     pub fn again(&self) -> NeededOffsets<'a>
         ensures { result ≡ self.now }
     {

@@ -22,7 +22,7 @@ pub struct ObjectAddresses {
     pub header_count: u64,
     /// The address of the dynamic section, if one PT_LOAD has all of its bytes.
     pub dynamic: Option<u64>,
-    /// `e_entry`.
+    /// `e_entry`: the address at which the object begins to run, or 0 if it has none.
     pub entry: u64,
 }
 

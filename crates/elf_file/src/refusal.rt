@@ -19,17 +19,19 @@ pub enum ObjectRefusal {
     BadMachine,
     /// E9: `e_ehsize` isn't 64, or `e_phentsize` isn't 56.
     BadHeaderSize,
-    /// E10: the file has no program headers, or they don't lie in the file.
+    /// E10: the number of program headers is 0 or 0xffff, or the program headers run past the
+    /// file's end.
     BadProgramHeaders,
     /// E11: the file has a segment of thread-local data.
     TlsSegment,
-    /// E12: the file has no PT_LOAD, or one that breaks the rules.
+    /// E12: the file has no PT_LOAD, or a PT_LOAD has a wrong file size, file end or alignment.
     BadSegment,
-    /// E13: the file is too long, or its memory ends too high.
+    /// E13: the file is longer than 16 MiB, or the memory of a PT_LOAD ends above address 64 MiB.
     TooLarge,
     /// E14: a PT_LOAD begins before the end of the one before it.
     SegmentOrder,
-    /// E15: the file hasn't exactly one dynamic section, or this section isn't whole or has no end.
+    /// E15: the file has no dynamic section or several, or the section runs past the file's end or
+    /// has no DT_NULL.
     BadDynamic,
     /// E16: a tag that may be present only once is present more often.
     DuplicateTag,
@@ -41,7 +43,8 @@ pub enum ObjectRefusal {
     NoHashTable,
     /// E20: a tag that has to be present is missing.
     MissingTag,
-    /// E21: symbols or relocations have a wrong size or kind, or a table ends within a relocation.
+    /// E21: the size of symbols or the size or kind of relocations is wrong, or a table ends within
+    /// a relocation.
     BadEntrySize,
     /// E22: a table doesn't lie in the file bytes of one PT_LOAD.
     BadRange,
@@ -55,7 +58,7 @@ pub enum ObjectRefusal {
     IfuncSymbol,
     /// E27: a symbol's binding is neither local, global nor weak.
     BadBinding,
-    /// E30: a relocation has this type, which isn't supported.
+    /// E30: a relocation has an unsupported type, which is the given number.
     RelocationType(u32),
     /// E31: a relocation names a symbol that doesn't exist.
     RelocationSymbol,

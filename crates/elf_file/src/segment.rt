@@ -40,7 +40,8 @@ const LARGEST_FILE: usize = 16_777_216;
 /// The highest address at which an object's memory may end.
 const HIGHEST_END: u64 = 67_108_864;
 
-/// Returns whether `h` is a PT_LOAD that breaks the rules, in a file of `size` bytes.
+/// Returns whether `h` is a PT_LOAD with a wrong file size, file end or alignment, in a file of
+/// `size` bytes.
 fn is_bad_load(size: usize, h: ProgramHeader) -> bool
     ensures { result ≡ is_bad_load size h }
 {

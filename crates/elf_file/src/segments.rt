@@ -14,8 +14,8 @@ use crate::load_segments::LoadSegments;
 use crate::segment::ProgramHeader;
 use std::marker::Model;
 
-/// A file that none of the tests E1 to E14 refuses: its PT_LOADs follow the rules and follow each
-/// other. Contracts see the file's bytes.
+/// A file that none of the tests E1 to E14 refuses. So each of its PT_LOADs begins at or above the
+/// end of the one before it. Contracts see the file's bytes.
 #[derive(Drop)]
 pub struct Segments<'a> {
     headers: Headers<'a>,
@@ -43,8 +43,8 @@ impl<'a> Segments<'a> {
         Ok(Segments { headers })
     }
 
-    /// Makes the view of a file that none of the tests E1 to E14 refuses, and makes none of these
-    /// tests again.
+    /// Makes the view of a file that none of the tests E1 to E14 refuses. Repeats none of these
+    /// tests.
     pub(crate) fn of_accepted(file: &'a [u8]) -> Segments<'a>
         requires headers { header_refusal file.now ≡ None }
         requires segments { segment_refusal file.now ≡ None }
@@ -83,7 +83,7 @@ impl<'a> Segments<'a> {
             .count()
     }
 
-    /// Returns PT_LOAD number `i`. Makes a pass over the program headers up to it.
+    /// Returns PT_LOAD number `i`. Makes a pass over the program headers up to this PT_LOAD.
     pub fn nth(&self, i: usize) -> ProgramHeader
         requires { i < length (loads self.now) }
         ensures { slice_get (loads self.now) i ≡ Some result }

@@ -5,7 +5,7 @@ ghost use Rattle.elf_file.specs.Tag.{number_of};
 
 /// The end of the dynamic section.
 pub(crate) const DT_NULL: u64 = 0;
-/// A library that the object needs: the offset of its name in the string table.
+/// The offset, in the string table, of the name of a library that the object needs.
 pub(crate) const DT_NEEDED: u64 = 1;
 /// The size of the relocations at `DT_JMPREL`, in bytes.
 pub(crate) const DT_PLTRELSZ: u64 = 2;
@@ -25,9 +25,9 @@ pub(crate) const DT_RELAENT: u64 = 9;
 pub(crate) const DT_STRSZ: u64 = 10;
 /// The size of one symbol, in bytes.
 pub(crate) const DT_SYMENT: u64 = 11;
-/// The object's own name: its offset in the string table.
+/// The offset, in the string table, of the object's own name.
 pub(crate) const DT_SONAME: u64 = 14;
-/// Its presence means that the object's own references are looked up in the object first.
+/// A tag that is present if the object's own references are looked up in the object first.
 pub(crate) const DT_SYMBOLIC: u64 = 16;
 /// The address of relocations without addends.
 pub(crate) const DT_REL: u64 = 17;
@@ -54,7 +54,7 @@ pub const SYMBOL_SIZE: u64 = 24;
 /// The size of a relocation with an addend, in bytes.
 pub const RELOCATION_SIZE: u64 = 24;
 
-/// A tag that is read.
+/// A tag that the crate reads.
 #[derive(Clone, Copy, PartialEq, Eq)]
 pub enum Tag {
     /// `DT_NEEDED`.

@@ -18,7 +18,7 @@ use crate::tag::{
 const PLACES: usize = 20;
 
 /// A tag's slot in the table: how often the tag is present, and the value of the first entry with
-/// it, or 0 if it is absent.
+/// the tag. The value is 0 if the tag is absent.
 #[derive(Clone, Copy)]
 pub(crate) struct Slot {
     pub(crate) count: usize,
@@ -73,7 +73,7 @@ pub(crate) fn place(tag: Tag) -> usize
 }
 
 impl Slot {
-    /// Returns the slot after one more entry with the tag, which has this value.
+    /// Returns the slot after one more entry with its tag. `value` is the entry's value.
     fn and(self, value: u64) -> Slot
         requires { self.count < 2 ^ 63 }
         ensures { result ≡ slot_more value self }

@@ -5,11 +5,11 @@ use Rattle.std.specs.Prelude.{ℕ}
 abbrev pub ET_EXEC : ℕ
 ET_EXEC = 2
 
--- the segment of the program headers themselves, by p_type
+-- the p_type of the segment of the program headers themselves
 abbrev pub PT_PHDR : ℕ
 PT_PHDR = 6
 
--- the segment with the permissions of the stack, by p_type
+-- the p_type of the segment with the permissions of the stack
 abbrev pub PT_GNU_STACK : ℕ
 PT_GNU_STACK = 0x6474e551
 
@@ -23,7 +23,8 @@ DT_INIT_ARRAY = 25
 abbrev pub DT_INIT_ARRAYSZ : ℕ
 DT_INIT_ARRAYSZ = 27
 
--- the same tags for finalizers: functions that are called at the end
+-- the tags of a finalizer, of an array of finalizers, and of the array's size in bytes; finalizers are functions that
+-- are called when the program ends
 abbrev pub DT_FINI : ℕ
 DT_FINI = 13
 
@@ -33,8 +34,8 @@ DT_FINI_ARRAY = 26
 abbrev pub DT_FINI_ARRAYSZ : ℕ
 DT_FINI_ARRAYSZ = 28
 
--- the tags of an array of pre-initializers, which are called before all other functions and which only a
--- program has, and of the array's size in bytes
+-- the tags of an array of pre-initializers and of the array's size in bytes; only a program has such an array, and its
+-- functions are called before all others
 abbrev pub DT_PREINIT_ARRAY : ℕ
 DT_PREINIT_ARRAY = 32
 
@@ -48,11 +49,11 @@ DT_FLAGS_1 = 0x6ffffffb
 abbrev pub DF_1_PIE : ℕ
 DF_1_PIE = 0x08000000
 
--- the segment that names an interpreter, by p_type
+-- the p_type of the segment that names an interpreter
 abbrev pub PT_INTERP : ℕ
 PT_INTERP = 3
 
--- the segment of notes, by p_type
+-- the p_type of a segment of notes
 abbrev pub PT_NOTE : ℕ
 PT_NOTE = 4
 
@@ -86,6 +87,6 @@ ARRAY_ENTRY_SIZE = 8
 abbrev pub LOWEST : ℕ
 LOWEST = 0x10000
 
--- the maximum number of program headers that the kernel accepts: as many as have 65,536 bytes
+-- the maximum number of program headers that the kernel accepts: as many as fit into 65,536 bytes
 abbrev pub MOST_HEADERS : ℕ
 MOST_HEADERS = 1170

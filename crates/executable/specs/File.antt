@@ -30,8 +30,8 @@ header_bytes h =
 abbrev pub padded : List ℕ → List ℕ
 padded bytes = bytes ++ replicate ((PAGE - length bytes % PAGE) % PAGE) 0
 
--- the pages of the file that have a piece's bytes: the bytes begin as far into their page as the piece's
--- address into its page
+-- the pages of the file that contain a piece's bytes; the first byte has the same offset in its page of the file as the
+-- piece's address has in its page of memory
 unfoldable pub piece_bytes : Loaded → List ℕ
 piece_bytes p = padded (replicate (p.heading.address % PAGE) 0 ++ p.contents)
 
@@ -48,13 +48,12 @@ load_header at p =
       alignment = PAGE;
     }
 
--- the PT_LOADs of pieces whose pages in the file follow one another; the first begin at offset `at`
+-- the PT_LOADs of pieces whose pages in the file follow one another from offset `at`
 abbrev pub load_headers : ℕ → List Loaded → List ProgramHeader
 load_headers at [] = []
 load_headers at (p ∷ rest) = load_header at p ∷ load_headers (at + length (piece_bytes p)) rest
 
--- the PT_LOAD of the headers, which are mapped at address `place`: the file header, and n program
--- headers after it
+-- the PT_LOAD of the headers, which are mapped at address `place`: the file header, and `n` program headers after it
 abbrev pub own_header : ℕ → ℕ → ProgramHeader
 own_header place n =
     record {
@@ -90,12 +89,12 @@ abbrev pub is_below : ℕ → List Loaded → Bool
 is_below place [] = true
 is_below place (p ∷ rest) = nat_lt place p.heading.address
 
--- `xs` with `x` before it if `below`, and otherwise with `x` after it
+-- if `below` is true, `x` followed by `xs`, and otherwise `xs` followed by `x`
 abbrev pub put_in_order : {X : Type 0} → Bool → X → List X → List X
 put_in_order below x xs = if below then x ∷ xs else xs ++ x ∷ []
 
--- all program headers of a file whose headers are mapped at address `place`; their PT_LOADs rise (gABI
--- chapter 5)
+-- all program headers of a file whose headers are mapped at address `place`; the PT_LOADs are in ascending order of
+-- address (gABI chapter 5)
 abbrev pub table_of : ℕ → List Loaded → List ProgramHeader
 table_of place pieces =
     let n = header_count_of pieces in

@@ -18,7 +18,7 @@ use Rattle.executable.specs.Place.{header_count_of, headers_size, place_of}
 abbrev pub loaded_by : List ℕ → List Loaded
 loaded_by file = map (loaded_at 0 file) (loads file)
 
--- the byte that loading a file puts at an address
+-- the byte that is at an address after a file was loaded
 abbrev pub file_byte : List ℕ → ℕ → Option ℕ
 file_byte file address = loaded_byte_at (loaded_by file) address
 
@@ -35,8 +35,7 @@ pub record IsExecutable (file : List ℕ) : Type 0 where
   pub header_size : has_bad_header_size file ≡ false
   pub headers : has_bad_program_headers file ≡ false
 
--- the headers of a file in memory at address `place`, which may be read, but neither written nor
--- executed
+-- a file's headers in memory at address `place`; this memory may be read, but neither written nor executed
 abbrev pub headers_at : ℕ → List Loaded → List ℕ → Loaded
 headers_at place pieces file =
     let size = headers_size (header_count_of pieces) in
@@ -50,8 +49,7 @@ pub record IsFileOf (segments : List ImageSegment) (file : List ℕ) : Type 0 wh
   pub table : program_headers file ≡ table_of place (pieces_of segments)
   pub loaded : loaded_by file ≡ put_in_order (is_below place (pieces_of segments)) (headers_at place (pieces_of segments) file) (pieces_of segments)
 
--- byte b at address a is one of the file's own headers, which are mapped where `place_of` finds room for
--- them
+-- byte `b` at address `a` is one of the file's own headers, which are mapped at the address that `place_of` finds
 pub record IsOfHeaders (segments : List ImageSegment) (file : List ℕ) (a b : ℕ) : Type 0 where
   pub place : ℕ
   pub free : place_of (pieces_of segments) ≡ Some place
@@ -63,8 +61,7 @@ pub record IsOfHeaders (segments : List ImageSegment) (file : List ℕ) (a b : �
 abbrev pub HasAny : List ImageSegment → ℕ → Type 0
 HasAny segments a = (b : ℕ) × (segments_byte segments a ≡ Some b)
 
--- address a lies between two addresses that have bytes in segments and whose pages are the same or
--- neighbours
+-- address `a` lies between two addresses that have bytes in segments and whose pages are the same or neighbours
 pub record IsBetween (segments : List ImageSegment) (a : ℕ) : Type 0 where
   pub below : ℕ
   pub above : ℕ
@@ -74,13 +71,13 @@ pub record IsBetween (segments : List ImageSegment) (a : ℕ) : Type 0 where
   pub has_above : HasAny segments above
   pub page : page_of above ≤ page_of below + PAGE
 
--- byte b at address a comes from the segments, or from the headers, or is a 0 between segments whose
+-- byte `b` at address `a` belongs to the segments or to the headers, or is a 0 between two bytes of segments whose
 -- pages are the same or neighbours
 abbrev pub IsFrom : List ImageSegment → List ℕ → ℕ → ℕ → Type 0
 IsFrom segments file a b = (segments_byte segments a ≡ Some b) ⊎ (IsOfHeaders segments file a b ⊎ ((b ≡ 0) × IsBetween segments a))
 
--- no two segments share a page: each begins in a page at or above the end of the one before it, the
--- first one at or above `from`
+-- no two segments share a page: the first one begins in a page at or above `from`, and each other one in a page at or
+-- above the end of the one before it
 abbrev pub IsApart : ℕ → List Loaded → Type 0
 IsApart from [] = Unit {0}
 IsApart from (s ∷ rest) = (from ≤ page_of s.heading.address) × IsApart (end_of s) rest

@@ -22,30 +22,28 @@ is_calls_note bytes =
     nat_le (NOTE_HEADER_SIZE + CALLS_NAME_SIZE) (length bytes) && (number_at 4 bytes 0 == CALLS_NAME_SIZE) && (number_at 4 bytes 4 == 0)
     && (number_at 4 bytes 8 == CALLS_TYPE) && (number_at 8 bytes NOTE_HEADER_SIZE == CALLS_NAME)
 
--- the calls note is one of the first n whole notes of these bytes; each note begins at the end of the
--- one before it
+-- the calls note is one of the first `n` whole notes of these bytes; each note begins at the end of the one before it
 abbrev pub has_calls_note : ℕ → List ℕ → Bool
 has_calls_note zero bytes = false
 has_calls_note (suc n) bytes = is_calls_note bytes || (nat_le (note_size bytes) (length bytes) && has_calls_note n (drop (note_size bytes) bytes))
 
--- program header number i is that of notes that are read: a PT_NOTE with the alignment 4
+-- program header number `i` describes notes that are read: it is a PT_NOTE with the alignment 4
 abbrev pub is_of_notes : List ℕ → ℕ → Bool
 is_of_notes headers i =
     (number_at 4 headers (PROGRAM_HEADER_SIZE * i) == PT_NOTE) && (number_at 8 headers (PROGRAM_HEADER_SIZE * i + 48) == NOTE_ALIGNMENT)
 
--- the number of the first such program header among the first n; only headers that are completely in
--- memory count
+-- the number of the first program header, among the first `n`, that describes notes that are read; only headers that
+-- are completely in memory count
 unfoldable pub find_notes : List ℕ → ℕ → Option ℕ
 find_notes headers n = find (is_of_notes headers) (range_with_len 0 (min (length headers / PROGRAM_HEADER_SIZE) n))
 
--- the notes of program header number i: p_filesz bytes from p_vaddr, or those of them that the segment
--- there has
+-- the notes of program header number `i`: p_filesz bytes from p_vaddr, or as many of them as the segment at that
+-- address has
 abbrev pub notes_by : ℕ → List ImageSegment → List ℕ → ℕ → List ℕ
 notes_by base own headers i =
     take (number_at 8 headers (PROGRAM_HEADER_SIZE * i + 32)) (section_memory base own (Some (number_at 8 headers (PROGRAM_HEADER_SIZE * i + 16))))
 
--- the notes of an object with these program headers; empty if no program header is that of notes that
--- are read
+-- the notes of an object with these program headers; empty if no program header describes notes that are read
 abbrev pub notes_among : ℕ → List ImageSegment → List ℕ → ℕ → List ℕ
 notes_among base own headers n = option_map_or (notes_by base own headers) (find_notes headers n) []
 
@@ -53,14 +51,15 @@ notes_among base own headers n = option_map_or (notes_by base own headers) (find
 abbrev pub notes_of : ImageObject → List ImageSegment → List ℕ
 notes_of object own = notes_among object.base own (section_memory object.base own object.addresses.headers) object.addresses.header_count
 
--- the program, which is the first of these objects, has the calls note; there can't be more notes than
--- bytes
+-- the program, which is the first of these objects, has the calls note; the number of bytes is a bound for the number
+-- of notes
 abbrev pub calls_among : List ImageObject → List ImageSegment → Bool
 calls_among [] segments = false
 calls_among (program ∷ libraries) segments =
     let notes = notes_of program (take program.segment_count segments) in
     has_calls_note (length notes) notes
 
--- the program of an image has the calls note: it calls the functions itself that a loader would call
+-- the program of an image has the calls note, which says that the program itself calls the functions that a loader
+-- would call
 abbrev pub calls_itself : MemoryImage → Bool
 calls_itself image = calls_among image.objects image.segments

@@ -10,8 +10,8 @@ use Rattle.executable.specs.Refusal.{executable_refusal}
 use Rattle.executable.specs.declared.refusal.ExecutableRefusal.{ExecutableRefusal}
 use Rattle.executable.specs.declared.refusal.ExecutableRefusal.TheVariants as refusal
 
--- No test refuses the image. The file loads the image's bytes. Besides them it loads only its own
--- headers, and zeros between segments whose pages are the same or neighbours.
+-- No test refuses the image. The file loads the image's bytes. Besides them it loads only its own headers, and zeros
+-- between two bytes of segments whose pages are the same or neighbours.
 pub record IsExecutableOf (image : MemoryImage) (file : List ℕ) : Type 0 where
   pub accepted : executable_refusal image ≡ None
   pub header : IsExecutable file
@@ -22,7 +22,7 @@ pub record IsExecutableOf (image : MemoryImage) (file : List ℕ) : Type 0 where
   pub only : (a b : ℕ) → file_byte file a ≡ Some b → IsFrom image.segments file a b
   pub apart : IsApart 0 (loaded_by file)
 
--- the line that begins with `says` and has the name of an object
+-- the line that consists of `says` and the name of an object
 abbrev pub object_text : (says name : List ℕ) → List ℕ
 object_text says name = says ++ name_text name ++ codes "\n"
 

@@ -24,11 +24,11 @@ piece_of s =
       contents = s.bytes;
     }
 
--- the last page of piece p is the first page of piece q, which comes after it
+-- the last page of piece `p` is the first page of piece `q`, which comes after it
 abbrev pub shares_page : Loaded → Loaded → Bool
 shares_page p q = nat_lt (page_of q.heading.address) (end_of p)
 
--- piece p and piece q after it as one piece: with zeros between them, and the permissions of both
+-- piece `p` and piece `q` after it as one piece: with zeros between them, and the permissions of both
 abbrev pub joined : Loaded → Loaded → Loaded
 joined p q =
     record {
@@ -40,7 +40,7 @@ joined p q =
       contents = p.contents ++ replicate (q.heading.address - p.heading.address - length p.contents) 0 ++ q.contents;
     }
 
--- the part of piece p below address `at`
+-- the part of piece `p` below address `at`
 abbrev pub below : ℕ → Loaded → Loaded
 below at p =
     record {
@@ -48,7 +48,7 @@ below at p =
       contents = take (at - p.heading.address) p.contents;
     }
 
--- the part of piece p from address `at` on
+-- the part of piece `p` from address `at` on
 abbrev pub above : ℕ → Loaded → Loaded
 above at p =
     record {
@@ -61,50 +61,50 @@ abbrev pub without_zeros : List ℕ → List ℕ
 without_zeros [] = []
 without_zeros (b ∷ rest) = let kept = without_zeros rest in if (b == 0) && (length kept == 0) then [] else b ∷ kept
 
--- a piece as the file has it: if it may be written, without the zeros at its end. The kernel clears the
--- rest of the last page only for such a piece.
+-- A piece in the form in which the file has it. If the piece may be written, the zeros at its end are left out. The
+-- kernel clears the rest of the last page only for such a piece.
 abbrev pub finished : Loaded → Loaded
 finished p =
     if bit_and p.heading.permissions PF_W == PF_W then record { heading = p.heading; contents = without_zeros p.contents } else p
 
--- the finished pieces, and the last piece, which may share a page with the next segment
+-- the pieces that are done, and the last piece, which may share a page with the next segment
 pub record Pieces : Type 0 where
   pub done : List Loaded
   pub last : Loaded
 
--- the part of piece p below `page`, or nothing if p doesn't begin below `page`
+-- the part of piece `p` below `page`, or nothing if `p` doesn't begin below `page`
 abbrev pub lower : ℕ → Loaded → List Loaded
 lower page p = if nat_lt p.heading.address page then below page p ∷ [] else []
 
--- the part of piece p from `page` on
+-- the part of piece `p` from `page` on
 abbrev pub upper : ℕ → Loaded → Loaded
 upper page p = if nat_lt p.heading.address page then above page p else p
 
--- piece q begins in `page`, in which piece p lies: p joined with the part of q in this page, and the
--- rest of q as a further piece if there is one
+-- Piece `q` begins in `page`, in which piece `p` lies. The result is `p` joined with the part of `q` in this page and,
+-- if there is a rest of `q`, this rest as a further piece.
 abbrev pub in_page : ℕ → Loaded → Loaded → Pieces
 in_page page p q =
     if nat_le (end_of q) (page + PAGE) then record { done = []; last = joined p q }
     else record { done = joined p (below (page + PAGE) q) ∷ []; last = above (page + PAGE) q }
 
--- the pieces made of piece p and of piece q after it, if q begins in p's last page, `page`
+-- the pieces made of piece `p` and of piece `q` after it, if `q` begins in the last page of `p`, which is `page`
 abbrev pub sharing : ℕ → Loaded → Loaded → Pieces
 sharing page p q =
     let more = in_page page (upper page p) q in
     record { done = lower page p ++ more.done; last = more.last }
 
--- the pieces made of piece p and of piece q after it
+-- the pieces made of piece `p` and of piece `q` after it
 abbrev pub followed : Loaded → Loaded → Pieces
 followed p q = if shares_page p q then sharing (page_of q.heading.address) p q else record { done = p ∷ []; last = q }
 
--- the pieces made of piece p and of the segments after it; a segment without bytes is skipped
+-- the pieces made of piece `p` and of the segments after it; a segment without bytes is skipped
 abbrev pub pieces_from : Loaded → List ImageSegment → List Loaded
 pieces_from p [] = p ∷ []
 pieces_from p (s ∷ rest) =
     if length s.bytes == 0 then pieces_from p rest
     else (followed p (piece_of s)).done ++ pieces_from (followed p (piece_of s)).last rest
 
--- the pieces made of segments, before any of them continues in the next one
+-- the pieces made of segments, before any piece that continues in the next one is joined to it
 abbrev pub cut_pieces : List ImageSegment → List Loaded
 cut_pieces [] = []
 cut_pieces (s ∷ rest) = if length s.bytes == 0 then cut_pieces rest else pieces_from (piece_of s) rest
@@ -113,18 +113,18 @@ cut_pieces (s ∷ rest) = if length s.bytes == 0 then cut_pieces rest else piece
 abbrev pub is_both : ℕ → Bool
 is_both flags = bit_and flags (PF_W + PF_X) == PF_W + PF_X
 
--- piece p continues in piece q after it: they have the same permissions, which aren't both writing and
--- executing, and no whole page lies between the file bytes of p and q
+-- piece `p` continues in piece `q` after it: they have the same permissions, which aren't both writing and executing,
+-- and no whole page lies between the file bytes of `p` and `q`
 abbrev pub goes_on : Loaded → Loaded → Bool
 goes_on p q =
     (p.heading.permissions == q.heading.permissions) && not (is_both p.heading.permissions)
     && nat_lt (page_of q.heading.address) (p.heading.address + length p.contents + PAGE)
 
--- piece p and piece q after it: joined, if p continues in q, and otherwise both as they are
+-- piece `p` and piece `q` after it: one joined piece if `p` continues in `q`, and otherwise both pieces as they are
 abbrev pub merging : Loaded → Loaded → Pieces
 merging p q = if goes_on p q then record { done = []; last = finished (joined p q) } else record { done = p ∷ []; last = q }
 
--- piece p and the pieces after it, where each piece that continues in the next one is joined to it
+-- piece `p` and the pieces after it, where each piece that continues in the next one is joined to it
 abbrev pub merged_from : Loaded → List Loaded → List Loaded
 merged_from p [] = p ∷ []
 merged_from p (q ∷ rest) = (merging p q).done ++ merged_from (merging p q).last rest
@@ -134,6 +134,6 @@ abbrev pub merged : List Loaded → List Loaded
 merged [] = []
 merged (p ∷ rest) = merged_from p rest
 
--- the pieces of segments, as the file has them
+-- the pieces of segments in the form in which the file has them
 abbrev pub pieces_of : List ImageSegment → List Loaded
 pieces_of segments = merged (map finished (cut_pieces segments))

@@ -1,5 +1,5 @@
--- Where a file's own headers are mapped: in pages that no piece has, because the kernel passes their address to the
--- program.
+-- Where a file's own headers are mapped: in pages that no piece has, because the kernel passes the headers' address to
+-- the program.
 use Rattle.std.specs.Prelude.{ℕ, ◌+◌, ◌-◌, ◌*◌, max, fold, nat_le, if◌then◌else◌, List, [], ◌∷◌, length, map, Option, Some, None}
 use Rattle.std.specs.Int.{next_multiple_of}
 use Rattle.elf_file.specs.Constant.{FILE_HEADER_SIZE, PROGRAM_HEADER_SIZE}
@@ -12,7 +12,7 @@ use Rattle.executable.specs.Piece.{page_of, end_of}
 abbrev pub header_count_of : List Loaded → ℕ
 header_count_of pieces = length pieces + 3
 
--- the size in bytes of the file header and of n program headers
+-- the size in bytes of the file header and of `n` program headers
 abbrev pub headers_size : ℕ → ℕ
 headers_size n = FILE_HEADER_SIZE + PROGRAM_HEADER_SIZE * n
 
@@ -24,7 +24,8 @@ headers_room n = next_multiple_of (headers_size n) PAGE
 abbrev pub highest_end : List Loaded → ℕ
 highest_end pieces = fold max 0 (map end_of pieces)
 
--- the first page at or above `end`, and not below LOWEST, if `room` bytes from there end below the limit
+-- the address of the first page that is below neither `end` nor LOWEST; none if `room` bytes from there would end above
+-- the limit
 abbrev pub place_above : ℕ → ℕ → Option ℕ
 place_above end room =
     let place = max LOWEST (next_multiple_of end PAGE) in

@@ -13,9 +13,9 @@ use Rattle.executable.specs.WritableCode.{first_unasked}
 use Rattle.executable.specs.declared.refusal.ExecutableRefusal.{ExecutableRefusal}
 use Rattle.executable.specs.declared.refusal.ExecutableRefusal.TheVariants.{NoEntry, StaticPie, PreInitializers, Initializers, Finalizers, TooManyHeaders, WritableCode, NoPages, OutOfMemory}
 
--- the tests: no entry in the program's own code; a static PIE; pre-initializers, initializers or
--- finalizers that nobody would call (three tests); too many headers; memory that may be written and
--- executed although no file requests it; no room
+-- the tests: no entry in the program's own code; a static PIE; pre-initializers, initializers or finalizers that nobody
+-- would call (three tests); too many headers; memory that may be written and executed although no file requests it; no
+-- room for the headers
 abbrev pub executable_tests : MemoryImage → List (Option ExecutableRefusal)
 executable_tests image =
     (NoEntry when is_none (entry_of image))
@@ -32,6 +32,6 @@ executable_tests image =
 unfoldable pub executable_refusal : MemoryImage → Option ExecutableRefusal
 executable_refusal image = first_of (executable_tests image)
 
--- `executable_of` may return this refusal: that of the first test that applies, or refused memory
+-- `executable_of` may return this refusal: it is that of the first test that applies, or OutOfMemory
 abbrev pub IsAnswer : MemoryImage → ExecutableRefusal → Type 0
 IsAnswer image answer = (executable_refusal image ≡ Some answer) ⊎ (answer ≡ OutOfMemory)

@@ -10,11 +10,11 @@ use Rattle.image.specs.declared.object.ImageObject.{ImageObject}
 use Rattle.executable.specs.Constant.{DT_FLAGS_1, DF_1_PIE, PT_INTERP}
 use Rattle.executable.specs.Initializers.{dynamic_memory, section_memory}
 
--- a dynamic section says that its object is a position-independent executable
+-- the flags in a dynamic section mark its object as a position-independent executable
 unfoldable pub is_pie : List ℕ → Bool
 is_pie section = list_any (λ e. has_tag DT_FLAGS_1 e && not (bit_and e.value DF_1_PIE == 0)) (entries_in section)
 
--- one of the first n program headers has type `kind`; only headers that are completely in `memory` count
+-- one of the first `n` program headers has type `kind`; only headers that are completely in `memory` count
 unfoldable pub has_header : List ℕ → ℕ → ℕ → Bool
 has_header memory n kind =
     list_any (λ i. number_at 4 memory (PROGRAM_HEADER_SIZE * i) == kind) (range_with_len 0 (min (length memory / PROGRAM_HEADER_SIZE) n))

@@ -136,9 +136,10 @@ fn writable_code(alloc: Global, name: &[u8]) -> ExecutableRefusal
     }
 }
 
-/// Returns the image's entry, if the program doesn't relocate itself, and no object has functions
-/// that nobody would call. Otherwise returns the refusal of the first of these tests that applies.
-/// A program may have a note that it calls these functions itself.
+/// Returns the image's entry if none of these tests applies: the program has no entry in its own
+/// code; it relocates itself; an object has functions that nobody would call. Otherwise returns the
+/// refusal of the first test that applies. If the program has a note that it calls these functions
+/// itself, the tests of functions don't apply.
 fn entry_to_call(alloc: Global, image: &Image) -> Result<u64, ExecutableRefusal>
     ensures entry { IfOk result (λ entry. entry_of image.now ≡ Some entry) }
     ensures called { OnOk result (HasNoCalls image.now) }
@@ -165,7 +166,7 @@ fn entry_to_call(alloc: Global, image: &Image) -> Result<u64, ExecutableRefusal>
     Ok(entry)
 }
 
-/// Makes the file of `pieces`, whose headers are mapped at address `place`.
+/// Makes the file that loads `pieces`, and whose headers are mapped at address `place`.
 fn file_of(
     alloc: Global,
     entry: u64,
@@ -185,18 +186,19 @@ fn file_of(
 
 /// Makes the static executable file of a bound program.
 ///
-/// Otherwise returns the first of these refusals: the program has no entry in code of its own; it
-/// is a static PIE; it has pre-initializers; a library has initializers; a library has finalizers;
-/// there are more program headers than the kernel accepts; memory may be written and executed
-/// although no segment in it requests both; no pages are free for the headers. The three refusals
-/// for functions don't apply if the program has a note that it calls these functions itself.
+/// Returns the file, or the first of these refusals: the program has no entry in code of its own;
+/// it is a static PIE; it has pre-initializers; a library has initializers; a library has
+/// finalizers; there are more program headers than the kernel accepts; memory may be written and
+/// executed although no segment in it requests both; no pages are free for the headers. The three
+/// refusals for functions don't apply if the program has a note that it calls these functions
+/// itself.
 ///
 /// Allocates as much memory as the image's bytes, and up to three times as much if segments are
 /// joined. Makes two passes over the bytes.
 pub fn executable_of(alloc: Global, image: &Image) -> Result<Executable, ExecutableRefusal>
 
     // Returns a file only if no test applies. Otherwise returns the refusal of the first test that
-    // applies, or refused memory.
+    // applies, or OutOfMemory.
     ensures accepted { OnOk result (executable_refusal image.now ≡ None) }
     ensures refused { IfErr result (IsAnswer image.now) }
 
@@ -216,12 +218,13 @@ pub fn executable_of(alloc: Global, image: &Image) -> Result<Executable, Executa
     ensures loads { IfOk result (λ file. (a b : ℕ) →
         image_byte image.now a ≡ Some b → file_byte file a ≡ Some b) }
 
-    // Besides these bytes it loads only its headers, and zeros between segments whose pages are the
-    // same or neighbours.
+    // Besides these bytes, the file loads only its own headers, and zeros between two bytes of
+    // segments whose pages are the same or neighbours.
     ensures only { IfOk result (λ file. (a b : ℕ) →
         file_byte file a ≡ Some b → IsFrom image.now.segments file a b) }
 
-    // The segments that the file loads rise, and no two of them share a page.
+    // The segments that the file loads are in ascending order of address, and no two of them share
+    // a page.
     ensures apart { IfOk result (λ file. IsApart 0 (loaded_by file)) }
 {
     let entry = entry_to_call(alloc, image)?;

@@ -104,7 +104,7 @@ pub(crate) fn front_of(
     Ok(bytes)
 }
 
-/// Returns the number of bytes of the file's pages that have the bytes of `piece`.
+/// Returns the size, in bytes, of the pages of the file that contain the bytes of `piece`.
 fn piece_size(piece: &Piece) -> u64
     requires { length piece.now.contents ≤ MEMORY_LIMIT }
     ensures { result ≡ length (piece_bytes piece.now) }

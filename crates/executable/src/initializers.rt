@@ -24,15 +24,16 @@ const DT_INIT_ARRAY: u64 = 25;
 
 const DT_INIT_ARRAYSZ: u64 = 27;
 
-/// The same tags for finalizers: functions that are called at the end.
+/// The tags of a finalizer, of an array of finalizers, and of the array's size in bytes. Finalizers
+/// are functions that are called when the program ends.
 const DT_FINI: u64 = 13;
 
 const DT_FINI_ARRAY: u64 = 26;
 
 const DT_FINI_ARRAYSZ: u64 = 28;
 
-/// The tags of an array of pre-initializers, which are called before all other functions, and of
-/// the array's size in bytes. Only a program has such an array.
+/// The tags of an array of pre-initializers and of the array's size in bytes. Only a program has
+/// such an array. Its functions are called before all other functions.
 const DT_PREINIT_ARRAY: u64 = 32;
 
 const DT_PREINIT_ARRAYSZ: u64 = 33;
@@ -40,7 +41,7 @@ const DT_PREINIT_ARRAYSZ: u64 = 33;
 /// The size in bytes of an entry of an array of functions.
 const ARRAY_ENTRY_SIZE: u64 = 8;
 
-/// The tags of a function, of an array of functions, and of its size.
+/// The tags of a function, of an array of functions, and of the array's size.
 #[derive(Drop)]
 struct Tags {
     function: u64,

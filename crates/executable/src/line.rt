@@ -13,7 +13,7 @@ use text_output::{LINE, OutputBuffer, WriteFault};
 /// The buffer for a line.
 type Line = OutputBuffer<LINE>;
 
-/// Puts the line of a refusal that names an object.
+/// Appends the line of a refusal that names an object to the buffered text.
 fn put_object<W: Write>(
     line: &mut Line,
     out: &mut W,
@@ -28,7 +28,7 @@ fn put_object<W: Write>(
     line.put(out, b"\n")
 }
 
-/// Puts the line of a refusal, such as `refused NoEntry`.
+/// Appends the line of a refusal, such as `refused NoEntry`, to the buffered text.
 pub fn put_executable_refusal<W: Write>(
     line: &mut OutputBuffer<LINE>,
     out: &mut W,

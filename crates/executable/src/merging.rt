@@ -31,7 +31,7 @@ fn merge(done: &mut Vec<Piece>, mut piece: Piece, next: Piece) -> Result<Piece, 
     Ok(next)
 }
 
-/// Returns the pieces, where each piece that continues in the next one is joined to it.
+/// Returns the pieces after each piece that continues in the next one was joined to it.
 fn merged(alloc: Global, pieces: Vec<Piece>) -> Result<Vec<Piece>, AllocError>
     requires { AreInRow 0 pieces.items }
     ensures { IfOk result (λ all. all.items ≡ merged pieces.items) }
@@ -48,7 +48,7 @@ fn merged(alloc: Global, pieces: Vec<Piece>) -> Result<Vec<Piece>, AllocError>
     Ok(done)
 }
 
-/// Returns the pieces of segments, as the file has them.
+/// Returns the pieces of segments in the form in which the file has them.
 pub(crate) fn pieces_of(alloc: Global, segments: &[Segment]) -> Result<Vec<Piece>, AllocError>
     requires { AreRising 0 segments.now }
     ensures { IfOk result (λ pieces. pieces.items ≡ pieces_of segments.now) }

@@ -1,4 +1,5 @@
-// The notes of a program. The calls note says that it calls its libraries' functions itself.
+// The notes of a program. One of them, the calls note, says that the program itself calls its
+// libraries' functions.
 
 ghost use Rattle.std.specs.Prelude.{◌≡◌, ◌+◌, ◌≤◌, ◌<◌, ◌/◌, ◌^◌, drop, length, take};
 ghost use Rattle.std.specs.Prelude.{MatchOption};
@@ -12,7 +13,7 @@ use crate::segments::split;
 use crate::static_pie::{PROGRAM_HEADER_SIZE, u32_in};
 use image::{Image, ImageObject, Memory, Segment};
 
-/// The segment of notes, by `p_type`.
+/// The `p_type` of a segment of notes.
 const PT_NOTE: u32 = 4;
 /// The `p_align` of notes that are read. The name and the descriptor of a note are padded to
 /// multiples of it.
@@ -90,7 +91,8 @@ fn has_calls_note(notes: &Memory<'_>) -> bool
     false
 }
 
-/// Returns whether program header number `i` is that of notes that are read.
+/// Returns whether program header number `i` describes notes that are read: a PT_NOTE with the
+/// alignment 4.
 fn is_of_notes(headers: &Memory<'_>, i: usize) -> bool
     requires small { length headers.now < 2 ^ 32 }
     requires within { i < length headers.now / 56 }
@@ -100,8 +102,8 @@ fn is_of_notes(headers: &Memory<'_>, i: usize) -> bool
         && u64_in(headers, PROGRAM_HEADER_SIZE * i + 48) == NOTE_ALIGNMENT
 }
 
-/// Returns the number of the first such program header among the first `count`. Makes one pass over
-/// them.
+/// Returns the number of the first program header, among the first `count`, that describes notes
+/// that are read. Makes one pass over the headers.
 #[tactic(auto, unfolding(crate::specs::Note::find_notes))]
 fn find_notes(headers: &Memory<'_>, count: u64) -> Option<usize>
     ensures found { result ≡ find_notes headers.now count }
@@ -123,7 +125,8 @@ fn notes_by<'a>(base: u64, own: &'a [Segment], headers: &Memory<'_>, i: usize) -
     first_bytes(&section_memory(base, own, Some(place)), size)
 }
 
-/// Returns the notes of an object, or no bytes if it has none that are read.
+/// Returns the notes of an object. If none of its program headers describes notes that are read,
+/// returns no bytes.
 fn notes_of<'a>(object: &ImageObject, own: &'a [Segment]) -> Memory<'a>
     ensures { result ≡ notes_of object.now own.now }
 {
@@ -134,8 +137,8 @@ fn notes_of<'a>(object: &ImageObject, own: &'a [Segment]) -> Memory<'a>
     }
 }
 
-/// Returns whether the program has the calls note: it calls the functions itself that a loader
-/// would call.
+/// Returns whether the program has the calls note, which says that the program itself calls the
+/// functions that a loader would call.
 pub(crate) fn calls_itself(image: &Image) -> bool
     ensures { result ≡ calls_itself image.now }
 {

@@ -116,7 +116,7 @@ impl Piece {
         &self.contents
     }
 
-    /// The address after the piece's last one.
+    /// The address after the piece's last byte.
     pub(crate) fn end(&self) -> u64
         requires { end_of self.now ≤ MEMORY_LIMIT }
         ensures { result ≡ end_of self.now }
@@ -182,7 +182,8 @@ impl Piece {
         Ok(rest)
     }
 
-    /// Returns the piece as the file has it: without the zeros at its end, if it may be written.
+    /// Returns the piece in the form in which the file has it. If the piece may be written, the
+    /// zeros at its end are left out.
     pub(crate) fn finish(mut self) -> Piece
         ensures { result ≡ finished self }
     {

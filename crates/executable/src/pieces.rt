@@ -33,9 +33,9 @@ fn put_lower(done: &mut Vec<Piece>, mut piece: Piece, page: u64) -> Result<Piece
     Ok(rest)
 }
 
-/// Joins the part of `next` that lies in `page` to `piece`, which lies in `page`. If that is all of
-/// `next`, returns the joined piece. Otherwise appends the joined piece to `done`, and returns the
-/// rest of `next`.
+/// Joins the part of `next` that lies in `page` to `piece`, which lies in `page`. If this part is
+/// all of `next`, returns the joined piece. Otherwise appends the joined piece to `done`, and
+/// returns the rest of `next`.
 fn put_page(
     done: &mut Vec<Piece>,
     mut piece: Piece,
@@ -86,8 +86,9 @@ fn put(done: &mut Vec<Piece>, piece: Piece, next: Piece) -> Result<Piece, AllocE
     put_page(done, upper, next, page)
 }
 
-/// Makes the piece of a segment with bytes, and the pieces of `last` and this piece if there is a
-/// last piece. Appends all of them except the last one to `done`, and returns the last one.
+/// Makes the piece of a segment that has bytes. If there is a last piece, `last`, makes the pieces
+/// of `last` and of the new piece. Appends all of them except the last one to `done`, and returns
+/// the last one.
 fn add(
     alloc: Global,
     done: &mut Vec<Piece>,

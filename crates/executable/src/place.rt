@@ -26,7 +26,7 @@ pub(crate) fn headers_size(count: usize) -> u64
     64 + 56 * count as u64
 }
 
-/// Returns the number of bytes from the end of `size` bytes to the end of their last page.
+/// Returns the number of padding bytes that extend `size` bytes to whole pages.
 pub(crate) fn padding(size: u64) -> u64
     ensures { result ≡ (PAGE - size % PAGE) % PAGE }
 {
@@ -41,8 +41,8 @@ pub(crate) fn whole_pages(size: u64) -> u64
     size + padding(size)
 }
 
-/// Returns the first page at or above `end`, and not below `LOWEST`, if `room` bytes from there end
-/// below the limit.
+/// Returns the address of the first page that is below neither `end` nor `LOWEST`. Returns `None`
+/// if `room` bytes from there would end above the limit.
 fn place_above(end: u64, room: u64) -> Option<u64>
     requires end { end ≤ MEMORY_LIMIT }
     requires room { room ≤ MEMORY_LIMIT }

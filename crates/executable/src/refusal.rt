@@ -13,16 +13,19 @@ pub enum ExecutableRefusal {
     /// The program is a static PIE: it has DF_1_PIE, and no PT_INTERP.
     #[error("the program relocates itself, for which it looks for what the file lacks")]
     StaticPie,
-    /// The program has a DT_PREINIT_ARRAY with entries, and no note that it calls them itself.
+    /// The program has a DT_PREINIT_ARRAY with entries, and no note that the program itself calls
+    /// these functions.
     #[error("the program has pre-initializers, which nobody would run")]
     PreInitializers,
-    /// A library has a DT_INIT, or a DT_INIT_ARRAY with entries, and the program has no such note.
+    /// A library has a DT_INIT, or a DT_INIT_ARRAY with entries, and the program has no note that
+    /// the program itself calls such functions.
     #[error("a library has initializers, which nobody would run")]
     Initializers {
         /// The library's name.
         name: Name,
     },
-    /// A library has a DT_FINI, or a DT_FINI_ARRAY with entries, and the program has no such note.
+    /// A library has a DT_FINI, or a DT_FINI_ARRAY with entries, and the program has no note that
+    /// the program itself calls such functions.
     #[error("a library has finalizers, which nobody would run")]
     Finalizers {
         /// The library's name.
@@ -37,7 +40,8 @@ pub enum ExecutableRefusal {
         /// The object's name.
         name: Name,
     },
-    /// The headers have room neither below the image, at 0x10000 or above, nor after the image.
+    /// There are no free pages for the headers, neither from 0x10000 to the image's beginning nor
+    /// after the image.
     #[error("there is no room for the headers")]
     NoPages,
     /// Memory was refused.

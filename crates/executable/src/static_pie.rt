@@ -14,7 +14,7 @@ const DT_FLAGS_1: u64 = 0x6fff_fffb;
 
 const DF_1_PIE: u64 = 0x0800_0000;
 
-/// The segment that names an interpreter, by `p_type`.
+/// The `p_type` of the segment that names an interpreter.
 const PT_INTERP: u32 = 3;
 
 /// The size of a program header in bytes.
@@ -30,7 +30,8 @@ pub(crate) fn u32_in(memory: &Memory<'_>, at: usize) -> u32
     u32_at(&bytes, 0)
 }
 
-/// Returns whether a dynamic section says that its object is a position-independent executable.
+/// Returns whether the flags in a dynamic section mark its object as a position-independent
+/// executable.
 #[tactic(auto, unfolding(crate::specs::StaticPie::is_pie, elf_file::specs::Dynamic::entries_in, elf_file::specs::Dynamic::whole_entries))]
 fn is_pie(section: &Memory<'_>) -> bool
     ensures { result ≡ is_pie section.now }

@@ -1,5 +1,5 @@
--- The tests of admission, which follow an object's own tests (own; of gABI chapter 5, "Hash Table"). A walk that ends does so in fewer steps than
--- there are chain words. So these tests decide the conditions of HashTable.antt.
+-- The tests of admission, which follow an object's own tests (own; of gABI chapter 5, "Hash Table"). If a walk ends, it
+-- ends in fewer steps than there are chain words. So these tests decide the conditions of HashTable.antt.
 use Rattle.std.specs.Prelude.{ℕ, List, [], ◌∷◌, Bool, true, Option, Some, ◌≡◌, ◌≤◌}
 use Rattle.std.specs.Prelude.{◌==◌, ◌&&◌, ◌⊎◌, not, nat_lt, length, map, take_while}
 use Rattle.std.specs.List.{list_any, list_all, range_with_len}
@@ -14,8 +14,8 @@ use Rattle.hash_check.specs.HashTable.{bucket_of, HasGoodTable}
 use Rattle.hash_check.specs.declared.refusal.AdmitRefusal.{AdmitRefusal}
 use Rattle.hash_check.specs.declared.refusal.AdmitRefusal.TheVariants.{DuplicateDefinition, BadHashTable, OutOfMemory}
 
--- the indices on the walk from `from` before it reaches 0, but no more of them than there are chain
--- words
+-- the indices on the walk from `from` before the walk reaches 0; if there are more indices than chain words, only as
+-- many as there are chain words
 unfoldable pub walked : List ℕ → ℕ → List ℕ
 walked words from = take_while (λ i. not (i == 0)) (map (walk words from) (range_with_len 0 (length words)))
 
@@ -48,7 +48,7 @@ meets_exports file = list_all (is_met file) (exported_symbols file)
 unfoldable pub has_bad_hash_table : List ℕ → Bool
 has_bad_hash_table file = not (has_good_words file && (has_ending_walks file && meets_exports file))
 
--- the refusal of an object by the first of these tests, or none if the object is admitted (own)
+-- the refusal of an object by the first test of admission that applies, or none if the object is admitted (own)
 unfoldable pub admission_refusal : List ℕ → Option AdmitRefusal
 admission_refusal file =
     first_of ((DuplicateDefinition when has_duplicate_definition file) ∷ (BadHashTable when has_bad_hash_table file) ∷ [])
@@ -64,7 +64,7 @@ abbrev pub IsRefusedBy : List ℕ → AdmitRefusal → Type 0
 IsRefusedBy file OutOfMemory = NeedsMemory file
 IsRefusedBy file refusal = admission_refusal file ≡ Some refusal
 
--- what a refusal means: two exported symbols share a name; or no two do, and the table can't be trusted;
+-- the reason for the refusal is true: two exported symbols share a name; or no two do, and the table can't be trusted;
 -- or memory may be needed
 abbrev pub Says : List ℕ → AdmitRefusal → Type 0
 Says file DuplicateDefinition = HasSharedName file

@@ -1,5 +1,5 @@
--- Why a file is refused: by the tests of its object, and then by those of admission (own: all of them in
--- one order).
+-- Why a file is refused: its object's own tests come first, then the tests of admission (own: the one order of all
+-- tests).
 use Rattle.std.specs.Prelude.{ℕ, List, [], ◌∷◌, Option, Some, None, ◌≡◌}
 use Rattle.std.specs.Option.{option_map}
 use Rattle.elf_file.specs.FirstOf.{◌when◌, first_of}
@@ -19,7 +19,7 @@ file_tests file =
     ∷ (BadHashTable when has_bad_hash_table file)
     ∷ []
 
--- the refusal of a file by the first of these tests, or none if the file is accepted
+-- the refusal of a file by the first test that applies, or none if the file is accepted
 unfoldable pub first_file_refusal : List ℕ → Option FileRefusal
 first_file_refusal file = first_of (file_tests file)
 

@@ -36,7 +36,7 @@ pub record AreSymbols (files : List (List ℕ)) (n : ℕ) (all : List NumberedSy
   pub every : (place i : ℕ) → place < n → 1 ≤ i → i < length (symbols (nth_file files place)) → HasSymbol all place i
   pub rising : (j k : ℕ) → j ≤ k → k < length all → (nth_symbol all j).object ≤ (nth_symbol all k).object
 
--- the list has all symbols of the objects; symbols have the same number exactly if they have the same name
+-- the list has all symbols of the objects; two symbols have the same number if and only if they have the same name
 pub record AreNumbered (files : List (List ℕ)) (all : List NumberedSymbol) : Type 0 where
   pub are : AreSymbols files (length files) all
   pub few : (k : ℕ) → k < length all → (nth_symbol all k).number ≤ length all

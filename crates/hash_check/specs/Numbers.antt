@@ -5,8 +5,8 @@ use Rattle.std.specs.Prelude.{ℕ, List, [], ◌≡◌, ◌<◌, ◌≤◌, ◌+
 abbrev pub nth_text : List (List ℕ) → ℕ → List ℕ
 nth_text names k = slice_index_or names k []
 
--- names have the same number exactly if they are the same, and the number of a name is the position,
--- counted from 1, of a name that is the same
+-- two names have the same number if and only if they are equal; the number of a name is the position, counted from 1,
+-- of an equal name
 pub record AreNumbers (names : List (List ℕ)) (numbers : List ℕ) : Type 0 where
   pub size : length numbers ≡ length names
   pub some : (k : ℕ) → k < length names → 1 ≤ slice_index numbers k

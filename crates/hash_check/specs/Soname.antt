@@ -8,11 +8,11 @@ use Rattle.elf_dynamic.specs.Strings.{soname}
 abbrev pub NAME_LIMIT : ℕ
 NAME_LIMIT = 240
 
--- a library's name may have the byte: a printable ASCII character, but no blank and no slash
+-- a library's name may contain the byte: a printable ASCII character, but no blank and no slash
 abbrev pub is_name_byte : ℕ → Bool
 is_name_byte b = nat_le 0x21 b && (nat_le b 0x7e && not (b == 0x2f))
 
--- the name has 1 to 240 bytes that a library's name may have
+-- the name has 1 to 240 bytes, and a library's name may contain each of them
 unfoldable pub is_library_name : List ℕ → Bool
 is_library_name name = nat_le 1 (length name) && nat_le (length name) NAME_LIMIT && list_all is_name_byte name
 

@@ -11,7 +11,8 @@ pub record Ends (chains : List ℕ) (from : ℕ) : Type 0 where
   pub steps : ℕ
   pub arrives : walk chains from steps ≡ 0
 
--- the walk reaches an index after some number of steps, and doesn't reach 0 before it or at it
+-- the walk from `from` reaches `index` after some number of steps; neither `index` nor any index before it on the walk
+-- is 0
 pub record Meets (chains : List ℕ) (from index : ℕ) : Type 0 where
   pub steps : ℕ
   pub arrives : walk chains from steps ≡ index

@@ -49,10 +49,10 @@ impl<'a> Model for Admitted<'a> {
 
 impl<'a> Admitted<'a> {
     /// Admits an object, or returns the refusal of the first test that applies. Allocates about 52
-    /// bytes a symbol, and frees them before it returns. Except for one step, the time is linear in
-    /// the file up to a logarithm. The exception is that an exported name is hashed unless the
-    /// walks from all buckets meet its symbol. So names that share bytes of the string table cost
-    /// the sum of their lengths.
+    /// bytes a symbol, and frees them before it returns. For a file of n bytes, the time is
+    /// proportional to at most n log n, with one exception: an exported name is hashed unless the
+    /// walks from all buckets meet its symbol. If such names share bytes of the string table,
+    /// hashing them costs the sum of their lengths.
     #[tactic(auto, unfolding(crate::specs::Admission::admission_refusal))]
     pub fn admit(alloc: Global, object: Object<'a>) -> Result<Admitted<'a>, AdmitRefusal>
         ensures ok { OnOk result (admission_refusal object.entry ≡ None) }
@@ -71,8 +71,8 @@ impl<'a> Admitted<'a> {
         Ok(Admitted { object })
     }
 
-    /// Makes the admitted object of a file that no test refuses. Makes only the test E22 again.
-    /// Costs as much as `Object::of_accepted`.
+    /// Makes the admitted object of a file that no test refuses. Repeats only the test E22. Costs
+    /// as much as `Object::of_accepted`.
     #[tactic(auto, using(crate::proofs::Reading::accepted_tests))]
     pub fn of_accepted(file: &'a [u8]) -> Admitted<'a>
         requires { first_file_refusal file.now ≡ None }
@@ -83,7 +83,7 @@ impl<'a> Admitted<'a> {
         }
     }
 
-    /// The object.
+    /// The object that was admitted.
     #[tactic(auto, using(crate::proofs::Deciding::admitted_unique))]
     pub fn object(&self) -> &Object<'a>
         ensures same { result.now ≡ self.now }
@@ -134,7 +134,7 @@ impl<'a> Admitted<'a> {
         self.find_hashed(name, elf_hash(name)).symbol
     }
 
-    /// Makes the search of `find` for a name whose hash is `hash`. Also returns the number of
+    /// Searches for `name`, whose hash is `hash`, as `find` does. Also returns the number of
     /// symbols that were compared.
     pub fn find_hashed(&self, name: &[u8], hash: u32) -> Found
         requires { hash ≡ elf_hash name.now }

@@ -6,7 +6,7 @@ ghost use Rattle.std.specs.Ordering.{nat_cmp};
 
 use std::cmp::Ordering;
 
-/// Returns how many bytes at their ends two strings have in common.
+/// Returns the number of bytes that the ends of `a` and `b` have in common.
 pub(crate) fn common_end(a: &[u8], b: &[u8]) -> usize
     ensures first { result ≤ length a.now }
     ensures second { result ≤ length b.now }

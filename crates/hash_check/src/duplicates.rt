@@ -19,7 +19,7 @@ use crate::strings::endings_of;
 use elf_dynamic::Object;
 use std::alloc::{AllocError, Global};
 
-/// Returns whether the number of each name is its own position, counted from 1.
+/// Returns whether each name has its own position, counted from 1, as its number.
 fn are_own(numbers: &[u32]) -> bool
     ensures { IsTrue result ↔ AreOwn numbers.now }
 {
@@ -31,8 +31,8 @@ fn are_own(numbers: &[u32]) -> bool
     true
 }
 
-/// Returns the names of `symbols`, and whether all of them differ. Puts the names into a table to
-/// find this out. The symbols may be in any order. Returns `None` if the table can't decide it.
+/// Returns the names of `symbols`, and whether all of these names differ. A table of the names
+/// decides this. The symbols may be in any order. Returns `None` if the table can't decide it.
 fn names_in_table<'a>(
     alloc: Global,
     object: &Object<'a>,
@@ -52,8 +52,8 @@ fn names_in_table<'a>(
     }
 }
 
-/// Returns whether each name is shorter than the one before it, as are tails of one string that are
-/// sorted by their places.
+/// Returns whether each name is shorter than the one before it. This is true of tails of one string
+/// that are sorted by their places.
 fn lengths_fall(names: &[Name<'_>]) -> bool
     ensures { IsTrue result → Fall names.now }
 {
@@ -105,9 +105,9 @@ fn few_exports<'a>(alloc: Global, object: &Object<'a>) -> Result<Option<Exports<
 
 /// Returns the exported symbols, or `None` if two of them share a name. If fewer than two symbols
 /// are exported, the list is empty. Usually a table of the names decides whether two are the same.
-/// It can't if many names are tails of others, or if the file was made to crowd the table. Then the
-/// strings that the names are tails of are compared. Allocates about 40 bytes an exported symbol
-/// while it runs, of which about 28 are kept.
+/// The table can't decide it if many names are tails of others, or if the file was made to crowd
+/// the table. Then the strings that the names are tails of are compared. While it runs, allocates
+/// about 40 bytes for each exported symbol. About 28 of them remain in the result.
 pub(crate) fn unique_exports<'a>(
     alloc: Global,
     object: &Object<'a>,

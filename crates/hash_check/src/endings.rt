@@ -1,4 +1,5 @@
-// Numbers that distinguish names, for names that are tails of strings and share the bytes of these.
+// Numbers that distinguish names, for names that are tails of strings and share bytes of these
+// strings.
 
 ghost use Rattle.std.specs.Prelude.{ℕ, ◌≡◌, ◌≢◌, ◌<◌, ◌≤◌, ◌^◌, length, reverse, slice_index, IfOk};
 ghost use Rattle.std.specs.Cmp.Lexicographic.{slice_cmp};
@@ -42,7 +43,8 @@ fn picked(own: u32, mark: u32) -> u32
     if mark == 0 { own } else { mark }
 }
 
-/// Gives the names of an ending their numbers, and marks each name's length with the name's number.
+/// Sets the numbers of the names of `ending` in `numbers`, and stores the number of each name in
+/// `marks`, at the index that is the name's length.
 fn number_ending(names: &[Name<'_>], ending: Ending<'_>, marks: &mut [u32], numbers: &mut [u32])
     requires few { length names.now < 2 ^ 32 }
     requires ending { IsEnding names.now ending }
@@ -60,9 +62,9 @@ fn number_ending(names: &[Name<'_>], ending: Ending<'_>, marks: &mut [u32], numb
     }
 }
 
-/// Gives all names their numbers, ending by ending. A mark is kept for the next ending if both
-/// strings have at least as many last bytes in common as the mark's length. So the marks are the
-/// numbers of the names that are tails of the next string too.
+/// Sets the numbers of all names, ending by ending. A mark for a length stays if the string of the
+/// next ending has at least that many last bytes in common with the string of this ending. So the
+/// marks are the numbers of the names that are tails of the next string too.
 fn number_all(names: &[Name<'_>], endings: &[Ending<'_>], marks: &mut [u32], numbers: &mut [u32])
     requires few { length names.now < 2 ^ 32 }
     requires endings { AreSorted names.now endings.now }
@@ -94,10 +96,11 @@ fn count_of_lengths(endings: &[Ending<'_>]) -> usize
     count
 }
 
-/// Returns the numbers of names that are tails of strings. The time depends on the strings and on
-/// the number of names, not on how many bytes the names share. If n strings share no bytes, each of
-/// them is compared about log n times. Allocates 4 bytes a name, and while it runs 4 bytes more for
-/// each byte of the longest string. Returns an error if there are 2^32 names or more.
+/// Returns the numbers of `names`, which are tails of the strings of `endings`. The time depends on
+/// the strings and on the number of names, not on how many bytes the names share. If n strings
+/// share no bytes, each of them is compared about log n times. Allocates 4 bytes for each name of
+/// the result. While it runs, allocates 4 more bytes for each byte of the longest string. Returns
+/// an error if there are 2^32 names or more.
 pub(crate) fn numbers_of_endings(
     alloc: Global,
     names: &[Name<'_>],

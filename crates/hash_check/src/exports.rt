@@ -9,8 +9,9 @@ use crate::names::names_of;
 use elf_dynamic::Object;
 use std::alloc::{AllocError, Global};
 
-/// Exported symbols of an object with their names. These are all of them, or none if fewer than two
-/// are exported and nothing has been allocated for them yet.
+/// Exported symbols of an object, with their names. The list has all exported symbols, or none. It
+/// has none only if fewer than two symbols are exported, and nothing has been allocated for them
+/// yet.
 #[derive(Drop)]
 pub(crate) struct Exports<'a> {
     pub(crate) symbols: Vec<u32>,

@@ -14,8 +14,8 @@ use crate::names::offset_of;
 use elf_dynamic::Object;
 
 /// Up to eight exported symbols whose names are hashed together. A lane has the symbol's number,
-/// the hash of the name's first bytes, and the place and the end of the bytes that are left in the
-/// string table. A lane with symbol number 0 is free.
+/// and the hash of the name's first bytes. It also has the place and the end, in the string table,
+/// of the name's other bytes. A lane with symbol number 0 is free.
 #[derive(Clone, Copy)]
 pub(crate) struct Lanes {
     pub(crate) symbols: [u32; LANES],
@@ -24,7 +24,7 @@ pub(crate) struct Lanes {
     ends: [usize; LANES],
 }
 
-/// Returns the number of a lane that has the fewest bytes left.
+/// Returns the number of a lane with the fewest bytes that aren't hashed yet.
 fn shortest(places: &[usize; LANES], ends: &[usize; LANES]) -> usize
     requires { AreOrdered places.now ends.now }
     ensures within { result < 8 }
@@ -63,8 +63,8 @@ impl Lanes {
         }
     }
 
-    /// Hashes the same number of bytes of each name: as many as the lane with the fewest bytes left
-    /// has. Returns the number of this lane.
+    /// Hashes the same number of bytes of each name: the number of bytes that are left in the lane
+    /// with the fewest bytes left. Returns the number of this lane.
     pub(crate) fn run(&mut self, object: &Object<'_>) -> usize
         requires { AreLanes object.now self.old }
         ensures within { result < 8 }

@@ -1,9 +1,9 @@
 //! Admission of a shared object, and the search for a name by its hash table (System V gABI
 //! chapters 4 and 5).
 //!
-//! `Admitted::admit` accepts an object exactly if it exports no name twice and its hash table can
-//! be trusted. Then `find` returns, for every list of bytes, the symbol that the object exports
-//! under that name.
+//! `Admitted::admit` accepts an object if and only if the object exports no name twice and its hash
+//! table can be trusted. Then `find` returns, for every list of bytes, the symbol that the object
+//! exports under that name.
 #![tactic(auto)]
 
 mod admitted;

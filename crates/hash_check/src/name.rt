@@ -25,7 +25,7 @@ impl<'a> Model for Name<'a> {
 }
 
 impl<'a> Name<'a> {
-    /// Returns the name with these bytes.
+    /// Returns the name whose bytes are `bytes`.
     pub(crate) fn new(bytes: &'a [u8]) -> Name<'a>
         ensures { result ≡ bytes.now }
     {
@@ -49,8 +49,8 @@ impl<'a> Name<'a> {
         self.key
     }
 
-    /// Returns whether another name has the same bytes. Compares them only if the keys are the
-    /// same.
+    /// Returns whether `other` has the same bytes. Compares the bytes only if the keys of both
+    /// names are the same.
     pub(crate) fn is(&self, other: &Name<'_>) -> bool
         ensures { IsTrue result ↔ (self.now ≡ other.now) }
     {

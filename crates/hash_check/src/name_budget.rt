@@ -5,8 +5,8 @@ ghost use Rattle.std.specs.Prelude.{◌≡◌, ◌≤◌, ◌↔◌, ◌-◌, Is
 use std::marker::Model;
 
 /// The number of bytes of names that may still be read one by one. If none of the names is a tail
-/// of another, they have no more bytes than their string tables. So if names have more than twice
-/// as many bytes, plus 64 KiB, many of them share bytes.
+/// of another, all names together have no more bytes than their string tables. So if the names have
+/// more than twice as many bytes as the string tables, plus 64 KiB, many names share bytes.
 #[derive(Drop)]
 pub struct NameBudget {
     left: usize,
@@ -29,7 +29,7 @@ impl NameBudget {
         NameBudget { left }
     }
 
-    /// Takes the `length` bytes of a name from the budget, and returns whether the budget had enough
+    /// Takes the `length` bytes of a name from the budget. Returns whether the budget had enough
     /// bytes.
     pub fn take(&mut self, length: usize) -> bool
         ensures fits { IsTrue result ↔ length ≤ self.old }

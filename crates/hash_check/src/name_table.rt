@@ -26,9 +26,9 @@ fn home(count: usize, key: u64) -> usize
     (spread * cells >> 32) as usize
 }
 
-/// Puts name number `number` into a table of the names before it, unless the table has an equal
-/// name. Returns the number in the name's cell, or `None` if the name would be stored too far from
-/// its home.
+/// Adds name number `number` to a table of the names before it, unless the table has an equal name.
+/// Returns the number in the name's cell, or `None` if the name would be stored too far from its
+/// home.
 fn put(names: &[Name<'_>], cells: &mut [u32], number: usize) -> Option<u32>
     requires number { number < length names.now }
     requires many { length names.now < 2 ^ 32 }
@@ -54,8 +54,8 @@ fn put(names: &[Name<'_>], cells: &mut [u32], number: usize) -> Option<u32>
 }
 
 /// Returns the numbers of names, or `None` if a name would be stored too far from its home. This
-/// happens in files that were made for it. Allocates 12 bytes a name while it runs; the result has
-/// 4 of them.
+/// happens in files that were made to cause it. While it runs, allocates 12 bytes for each name.
+/// Four of these 12 bytes remain in the result.
 pub(crate) fn numbers_in_table(
     alloc: Global,
     names: &[Name<'_>],

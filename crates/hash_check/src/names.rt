@@ -70,7 +70,7 @@ pub(crate) fn names_of<'a>(
 }
 
 /// Returns the names of symbols in any order, each read to its end. Returns `None` if the names
-/// have so many bytes that many of them have to be tails of others.
+/// have so many bytes in total that many of the names have to be tails of others.
 pub(crate) fn short_names<'a>(
     alloc: Global,
     object: &Object<'a>,

@@ -29,14 +29,14 @@ pub struct NumberedSymbol {
     pub number: u32,
 }
 
-/// Symbols of objects, without the numbers of their names, and the names of these symbols.
+/// Symbols of objects and the names of these symbols. The names have no numbers yet.
 #[derive(Drop)]
 struct Gathered<'a> {
     symbols: Vec<NumberedSymbol>,
     names: Vec<Name<'a>>,
 }
 
-/// Adds the symbols of object number `place`, and their names.
+/// Adds the symbols of object number `place`, and their names, to `gathered`.
 fn add_symbols<'a>(
     gathered: &mut Gathered<'a>,
     place: usize,
@@ -79,7 +79,8 @@ fn symbols_by_name_place(alloc: Global, object: &Object<'_>) -> Result<Vec<u32>,
 }
 
 /// Returns all symbols of the objects with their names, each read to its end. Returns `None` if the
-/// names of an object have so many bytes that many of them have to be tails of others.
+/// names of an object have so many bytes in total that many of the names have to be tails of
+/// others.
 fn all_short_names<'a>(
     alloc: Global,
     objects: &[&'a Admitted<'a>],
@@ -103,7 +104,8 @@ fn all_short_names<'a>(
     Ok(Some(gathered))
 }
 
-/// Adds endings of names that come after `before` other names.
+/// Appends `endings` to `all`. The names of these endings come after `before` other names, so
+/// `before` is added to their numbers.
 #[tactic(auto, unfolding(crate::specs::inside::Numbered::behind))]
 fn add_endings<'a>(
     all: &mut Vec<Ending<'a>>,
@@ -152,7 +154,7 @@ fn all_names_by_place<'a>(
     Ok((gathered, all))
 }
 
-/// Returns the symbols with the numbers of their names.
+/// Returns `symbols` with the numbers of their names, which are in `numbers`.
 fn set_numbers(mut symbols: Vec<NumberedSymbol>, numbers: &[u32]) -> Vec<NumberedSymbol>
     requires { length numbers.now ≡ length symbols.items }
     ensures size { length result.items ≡ length symbols.items }

@@ -14,16 +14,17 @@ use crate::chains::Chains;
 use crate::export::is_exported;
 use elf_dynamic::Object;
 
-/// The result of a search, and the number of symbols that it compared.
+/// The result of a search, and the number of symbols that the search compared.
 #[derive(Clone, Copy, PartialEq, Eq)]
 pub struct Found {
     /// The number of the symbol that is exported under the name, if there is one.
     pub symbol: Option<u32>,
-    /// The number of symbols of the walk that were compared, including the one that was found.
+    /// The number of symbols that were compared on the walk, including the one that was found.
     pub compared: u32,
 }
 
-/// Returns the string at an offset of a string table, but at most `limit` bytes of it.
+/// Returns the string at `offset` of a string table. If the string has more than `limit` bytes,
+/// returns its first `limit` bytes.
 fn string_front(table: &[u8], offset: u32, limit: usize) -> &[u8]
     ensures { result.now ≡ take limit (string_at table.now offset) }
 {

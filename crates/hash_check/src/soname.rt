@@ -7,7 +7,7 @@ ghost use Rattle.hash_check.specs.Soname.{is_name_byte, is_library_name};
 /// The maximum length of a library's name, in bytes.
 const NAME_LIMIT: usize = 240;
 
-/// Returns whether a library's name may have this byte: a printable ASCII character, but no blank
+/// Returns whether a library's name may contain `byte`: a printable ASCII character, but no blank
 /// and no slash.
 fn is_name_byte(byte: u8) -> bool
     ensures { result ≡ is_name_byte byte }
@@ -15,15 +15,15 @@ fn is_name_byte(byte: u8) -> bool
     byte >= 0x21 && byte <= 0x7e && byte != b'/'
 }
 
-/// Returns whether a library's name may have each byte of `name`.
+/// Returns whether a library's name may contain each byte of `name`.
 fn are_name_bytes(name: &[u8]) -> bool
     ensures { result ≡ list_all is_name_byte name.now }
 {
     name.iter().all(|byte| is_name_byte(*byte))
 }
 
-/// Returns whether `name` may be the name of a library: it has 1 to 240 bytes, each of which a
-/// library's name may have.
+/// Returns whether `name` may be the name of a library: it has 1 to 240 bytes, and a library's name
+/// may contain each of them.
 #[tactic(auto, unfolding(crate::specs::Soname::is_library_name))]
 pub(crate) fn is_library_name(name: &[u8]) -> bool
     ensures { result ≡ is_library_name name.now }

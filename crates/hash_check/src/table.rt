@@ -138,9 +138,9 @@ fn take_in(
     met
 }
 
-/// Tests exported symbol `i` by its name's hash: at once if the name is short, and otherwise in a
-/// lane, when its hash is finished. Returns whether each symbol that this call tested is met on the
-/// walk from its bucket.
+/// Tests exported symbol `i` by its name's hash. A short name is hashed at once. A long name gets a
+/// lane, and its symbol is tested when its hash is finished. Returns whether each symbol that this
+/// call tested is met on the walk from its bucket.
 fn test_by_name(
     object: &Object<'_>,
     places: &[Option<Place>],
@@ -230,8 +230,8 @@ fn has_good_table<'a>(
 
 /// Returns whether the hash table can't be trusted. Allocates about 24 bytes a symbol while it
 /// runs, and follows each chain word once. An exported symbol is looked up in one step on the walk
-/// that met it first, and in about log n steps on other walks of n steps. Hashes its name only if
-/// it isn't met on all walks.
+/// that met it first, and in about log n steps on other walks of n steps. A symbol's name is hashed
+/// only if the symbol isn't met on all walks.
 #[tactic(auto, using(crate::proofs::Deciding::bad_test, crate::proofs::Deciding::words_test))]
 pub(crate) fn has_bad_hash_table<'a>(
     alloc: Global,

@@ -11,8 +11,8 @@ use crate::jump::place_before;
 use crate::place::{Place, place_of};
 use std::alloc::AllocError;
 
-/// Follows the walk from `from` up to an index that has a place, and puts the indices before it on
-/// the path. Returns whether the walk ends. A walk that doesn't end fills the path with as many
+/// Follows the walk from `from` up to an index that has a place, and appends the indices before it
+/// to `path`. Returns whether the walk ends. A walk that doesn't end fills `path` with as many
 /// indices as there are chain words.
 fn climb(
     places: &[Option<Place>],
@@ -41,8 +41,8 @@ fn climb(
     Ok(true)
 }
 
-/// Stores the places of the indices of the path, which begins at `from`. Begins with the last
-/// index, because each place is computed from the next index's place.
+/// Stores the places of the indices in `path`, which begins at `from`. Begins with the last index,
+/// because each place is computed from the next index's place.
 fn place_path(places: &mut [Option<Place>], path: &mut Vec<u32>, chains: &Chains<'_, '_>, from: u32)
     requires words { AreIndices (length chains.now) chains.now }
     requires size { length places.old ≡ length chains.now }

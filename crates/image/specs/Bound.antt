@@ -15,8 +15,7 @@ value_in values symbol = Some (slice_index values symbol)
 abbrev pub IsKnown : List Placed → ℕ → List ℕ → ℕ → Type 0
 IsKnown objects own values symbol = symbol_value objects own symbol ≡ value_in values symbol
 
--- if the type of relocation r of object number `own` uses a symbol, `values` has the value of this
--- symbol
+-- if the type of relocation `r` of object number `own` uses a symbol, `values` has the value of this symbol
 abbrev pub IsReady : List Placed → ℕ → List ℕ → Relocation → Type 0
 IsReady objects own values r = uses_symbol r.kind ≡ true → IsKnown objects own values r.symbol
 

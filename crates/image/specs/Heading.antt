@@ -1,7 +1,7 @@
 -- The fields of a segment of memory except its bytes.
 use Rattle.std.specs.Prelude.{ℕ, ◌+◌, Bool, ◌&&◌, nat_le, nat_lt}
 
--- `address` is one of the n addresses that begin at `from`
+-- `address` is one of the `n` addresses that begin at `from`
 abbrev pub within : ℕ → ℕ → ℕ → Bool
 within from n address = nat_le from address && nat_lt address (from + n)
 

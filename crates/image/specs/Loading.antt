@@ -29,7 +29,7 @@ loaded_of object = map (loaded_at object.base object.file) (loads object.file)
 abbrev pub all_loaded : List Placed → List Loaded
 all_loaded objects = flat_map loaded_of objects
 
--- byte i of a PT_LOAD: the file's byte, or 0 if i is past the file's bytes
+-- byte `i` of a PT_LOAD: the file's byte, or 0 if `i` is past the file's bytes
 abbrev pub loaded_byte : Loaded → ℕ → ℕ
 loaded_byte s i = if nat_lt i (length s.contents) then slice_index s.contents i else 0
 

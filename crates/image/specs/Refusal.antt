@@ -1,4 +1,4 @@
--- Why a program isn't bound, and when a bind may answer that memory was refused.
+-- Why a program isn't bound, and when a bind may return OutOfMemory.
 use Rattle.std.specs.Prelude.{ℕ, ◌≡◌, ◌⊎◌, List, [], ◌∷◌, ◌++◌, map, length, take, not, true, false, Option, Some}
 use Rattle.std.specs.List.{range_with_len}
 use Rattle.std.specs.Option.{option_map}
@@ -15,8 +15,8 @@ use Rattle.image.specs.Relocating.{name_at, file_at, first_undefined}
 use Rattle.image.specs.declared.refusal.BindRefusal.{BindRefusal}
 use Rattle.image.specs.declared.refusal.BindRefusal.TheVariants.{Program, BadBase, Missing, NoRoom, Undefined, OutOfMemory}
 
--- the refusal for relocation r of object number `own`, whose value is undefined: the names of the object
--- and of the symbol
+-- the refusal for relocation `r` of object number `own`, whose value is undefined: the names of the object and of the
+-- symbol
 abbrev pub undefined_by : List Placed → ℕ → Relocation → BindRefusal
 undefined_by objects own r = Undefined (name_at objects own) (name_of (file_at objects own) r.symbol)
 
@@ -54,8 +54,8 @@ program_tests file base = option_map Program (first_file_refusal file) ∷ (BadB
 unfoldable pub program_refusal : List ℕ → ℕ → Option BindRefusal
 program_refusal file base = first_of (program_tests file base)
 
--- all tests of a bind: B1 and B2; then B3, the first needed library that isn't installed; then B4 and B5 of the placed
--- objects
+-- all tests of a bind: B1 and B2; then B3, the first needed library that isn't among `libraries`; then B4 and B5 of the
+-- placed objects
 abbrev pub bind_tests : List ℕ → ℕ → List Named → List ℕ → List (Option BindRefusal)
 bind_tests file base libraries preloads =
     program_tests file base
@@ -71,8 +71,7 @@ bind_refusal file base libraries preloads = first_of (bind_tests file base libra
 abbrev pub alone_refusal : List ℕ → ℕ → Option BindRefusal
 alone_refusal file base = bind_refusal file base [] []
 
--- a bind may answer that memory was refused: the tests before admission don't apply, and admission
--- allocates
+-- a bind may return OutOfMemory: the tests before admission don't apply, and admission allocates
 abbrev pub WantsMemory : List ℕ → Type 0
 WantsMemory file = ReadNeedsMemory file
 
@@ -81,30 +80,30 @@ abbrev pub IsProgramAnswer : List ℕ → ℕ → BindRefusal → Type 0
 IsProgramAnswer file base OutOfMemory = WantsMemory file
 IsProgramAnswer file base answer = program_refusal file base ≡ Some answer
 
--- a bind may return this refusal: it is that of the first test that applies, or refused memory if
--- `WantsMemory`
+-- a bind may return this refusal: it is that of the first test that applies, or it is OutOfMemory and `WantsMemory`
+-- holds
 abbrev pub IsAnswer : List ℕ → ℕ → List Named → List ℕ → BindRefusal → Type 0
 IsAnswer file base libraries preloads OutOfMemory = WantsMemory file
 IsAnswer file base libraries preloads answer = bind_refusal file base libraries preloads ≡ Some answer
 
--- the answer is the refusal, or refused memory, because the names of a refusal are allocated
+-- the answer is the refusal; or it is OutOfMemory, because the names in a refusal are allocated
 abbrev pub IsOrWantsMemory : BindRefusal → BindRefusal → Type 0
 IsOrWantsMemory refusal answer = (answer ≡ refusal) ⊎ (answer ≡ OutOfMemory)
 
--- a placement may answer that memory was refused: the first object doesn't end too high
+-- a placement may return OutOfMemory: the memory of the first object doesn't end too high
 abbrev pub PlacesWantMemory : List Placed → Type 0
 PlacesWantMemory objects = lacks_room (take 1 objects) ≡ false
 
--- a placement may return this refusal: there is no room for the objects, or memory was refused and
--- `PlacesWantMemory`
+-- a placement may return this refusal: there is no room for the objects; or it is OutOfMemory, and `PlacesWantMemory`
+-- holds
 abbrev pub IsPlaceAnswer : List Placed → BindRefusal → Type 0
 IsPlaceAnswer objects answer = ((answer ≡ NoRoom) × (lacks_room objects ≡ true)) ⊎ ((answer ≡ OutOfMemory) × PlacesWantMemory objects)
 
--- a bind of placed objects may return this refusal: that of the first test that applies, or refused
--- memory if `PlacesWantMemory`
+-- a bind of placed objects may return this refusal: it is that of the first test that applies, or it is OutOfMemory and
+-- `PlacesWantMemory` holds
 abbrev pub IsPlacedAnswer : List Placed → BindRefusal → Type 0
 IsPlacedAnswer objects answer = (placed_refusal objects ≡ Some answer) ⊎ ((answer ≡ OutOfMemory) × PlacesWantMemory objects)
 
--- the answer is the first refusal, or refused memory
+-- the answer is the refusal `first`, or it is OutOfMemory
 abbrev pub IsFirstOrWantsMemory : Option BindRefusal → BindRefusal → Type 0
 IsFirstOrWantsMemory first answer = (first ≡ Some answer) ⊎ (answer ≡ OutOfMemory)

@@ -53,19 +53,19 @@ target_value objects (At object symbol) = own_address objects object symbol
 unfoldable pub symbol_value : List Placed → ℕ → ℕ → Option ℕ
 symbol_value objects own symbol = option_map (target_value objects) (target (map named objects) own symbol)
 
--- the value that relocation r of an object at `base` writes, with the values that `values` returns for
--- symbols' numbers; none if the symbol has none or the type writes nothing
+-- The value that relocation `r` of an object at `base` writes; none if its symbol has no value, or if its type writes
+-- nothing. `values` returns the value of a symbol by the symbol's number.
 abbrev pub value_with : ℕ → (ℕ → Option ℕ) → Relocation → Option ℕ
 value_with base values r =
     if r.kind == R_X86_64_RELATIVE then Some ((base + r.addend) % 2 ^ 64)
     else (if r.kind == R_X86_64_64 then option_map (λ value. (value + r.addend) % 2 ^ 64) (values r.symbol)
     else (if uses_symbol r.kind then values r.symbol else None))
 
--- the value that relocation r of object number `own` writes
+-- the value that relocation `r` of object number `own` writes
 abbrev pub value_of : List Placed → ℕ → Relocation → Option ℕ
 value_of objects own r = value_with (base_at objects own) (symbol_value objects own) r
 
--- relocation r has a type that writes, and its value is undefined
+-- relocation `r` has a type that writes, and its value is undefined
 abbrev pub is_undefined : List Placed → ℕ → Relocation → Bool
 is_undefined objects own r = is_writing r.kind && is_none (value_of objects own r)
 
@@ -78,8 +78,7 @@ pub record Write : Type 0 where
   pub place : ℕ
   pub value : ℕ
 
--- the write of relocation r of an object at `base`, with the values that `values` returns for symbols'
--- numbers
+-- the write of relocation `r` of an object at `base`; `values` returns the value of a symbol by the symbol's number
 abbrev pub write_with : ℕ → (ℕ → Option ℕ) → Relocation → Option Write
 write_with base values r = option_map (λ value. record { place = base + r.offset; value = value }) (value_with base values r)
 
@@ -91,11 +90,11 @@ writes_of objects own = filter_map (write_with (base_at objects own) (symbol_val
 abbrev pub all_writes : List Placed → List Write
 all_writes objects = flat_map (writes_of objects) (range_with_len 0 (length objects))
 
--- the last of the writes that covers an address with its eight bytes
+-- the last write whose eight bytes include the byte at an address
 abbrev pub last_write_at : List Write → ℕ → Option Write
 last_write_at writes address = find (λ w. within w.place 8 address) (reverse writes)
 
--- the byte that the write puts at an address; if there is no write, the loaded byte
+-- the byte that the write stores at an address; if there is no write, the loaded byte
 abbrev pub written_or : Option Write → Option ℕ → ℕ → Option ℕ
 written_or (Some w) loaded address = Some (byte_at (address - w.place) w.value)
 written_or None loaded address = loaded

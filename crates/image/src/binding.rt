@@ -13,7 +13,8 @@ use crate::refusal::BindRefusal;
 use scope::Order;
 use std::alloc::Global;
 
-/// Binds a program and its libraries, which `order` has in load order, the program at `base`.
+/// Binds a program and its libraries. `order` has them in load order, and `base` is the program's
+/// base.
 ///
 /// Returns their image, or the first of these refusals: memory would end above 2^47 - 4,096 (B4); a
 /// relocation's symbol is undefined (B5).
@@ -25,7 +26,7 @@ pub fn bind(alloc: Global, order: &Order<'_>, base: u64) -> Result<Image, BindRe
     requires { is_good_base (file_at order.now 0) base ≡ true }
 
     // Returns an image only if no test applies. Otherwise returns the refusal of the first test
-    // that applies, or refused memory if the program's own memory doesn't end too high.
+    // that applies. If the program's own memory doesn't end too high, OutOfMemory is possible too.
     ensures accepted { OnOk result (placed_refusal (place base order.now) ≡ None) }
     ensures refused { IfErr result (IsPlacedAnswer (place base order.now)) }
 

@@ -19,9 +19,9 @@ use scope::Order;
 use std::alloc::{AllocError, Global};
 use std::marker::Model;
 
-/// An object at its base, with the values of the symbols that its relocations name. With these
-/// values, its segments are made from its file only. Contracts see the name, the base and the
-/// values.
+/// An object at its base, with the values of the symbols that its relocations name. Given these
+/// values, the object's segments are computed only from its file. Contracts see the name, the base
+/// and the values.
 #[derive(Drop)]
 pub struct BoundObject {
     name: Name,
@@ -53,7 +53,7 @@ impl BoundObject {
         &self.values
     }
 
-    /// Returns this object as an image lists it. `object` is the object's file.
+    /// Returns the record of this object in an image. `object` is the object's file.
     pub(crate) fn image_object(
         &self,
         alloc: Global,
@@ -73,8 +73,9 @@ impl BoundObject {
     }
 }
 
-/// Returns the values of the symbols that the relocations of object number `own` name, or the
-/// refusal for its first relocation whose symbol is undefined. Looks up each symbol once.
+/// Returns the values of the symbols that the relocations of object number `own` name. If a
+/// relocation's symbol is undefined, returns the refusal for the first such relocation. Looks up
+/// each symbol once.
 fn symbol_values(
     alloc: Global,
     objects: &PlacedOrder<'_>,
@@ -99,8 +100,8 @@ fn symbol_values(
     Ok(values)
 }
 
-/// Returns object number `own` with the values of its symbols, or the refusal for its first
-/// relocation whose symbol is undefined.
+/// Returns object number `own` with the values of its symbols. If the symbol of one of its
+/// relocations is undefined, returns the refusal for the first such relocation.
 fn bound_object(
     alloc: Global,
     objects: &PlacedOrder<'_>,
@@ -117,8 +118,8 @@ fn bound_object(
     Ok(BoundObject { name, base, values })
 }
 
-/// Returns all objects with the values of their symbols, or the refusal for the first relocation
-/// whose symbol is undefined.
+/// Returns all objects with the values of their symbols. If a relocation's symbol is undefined,
+/// returns the refusal for the first such relocation.
 fn all_bound(alloc: Global, objects: &PlacedOrder<'_>) -> Result<Vec<BoundObject>, BindRefusal>
     ensures ok { OnOk result (undefined_refusal objects.now ≡ None) }
     ensures bound { IfOk result (λ all. AreBound objects.now all.items) }
@@ -133,8 +134,8 @@ fn all_bound(alloc: Global, objects: &PlacedOrder<'_>) -> Result<Vec<BoundObject
     Ok(bound)
 }
 
-/// Places a program and its libraries, which `order` has in load order, the program at `base`, and
-/// finds the values of the symbols that their relocations name.
+/// Places a program and its libraries, and finds the values of the symbols that their relocations
+/// name. `order` has the program and the libraries in load order, and `base` is the program's base.
 ///
 /// Returns the objects, or the first of these refusals: memory would end above 2^47 - 4,096 (B4); a
 /// relocation's symbol is undefined (B5).
@@ -149,7 +150,7 @@ pub fn bound_objects(
     requires { is_good_base (file_at order.now 0) base ≡ true }
 
     // Returns objects only if no test applies. Otherwise returns the refusal of the first test that
-    // applies, or refused memory if the program's own memory doesn't end too high.
+    // applies. If the program's own memory doesn't end too high, OutOfMemory is possible too.
     ensures accepted { OnOk result (placed_refusal (place base order.now) ≡ None) }
     ensures refused { IfErr result (IsPlacedAnswer (place base order.now)) }
 

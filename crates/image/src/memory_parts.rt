@@ -13,9 +13,9 @@ const PART: u64 = 1024;
 const PARTS: u64 = 65536;
 
 /// Guesses which of an object's segments has an address. The index divides the memory from the
-/// first segment on into parts, and has for each part the number of segments that begin before it.
-/// A binary search is then needed only among the segments that begin in one part. The caller tests
-/// the guess, so this type's contracts say nothing about it.
+/// first segment on into parts. For each part, it has the number of segments that begin before the
+/// part. A binary search is then needed only among the segments that begin in one part. The caller
+/// tests the guess, so this type's contracts say nothing about it.
 #[derive(Drop)]
 pub(crate) struct MemoryParts {
     first: u64,
@@ -23,8 +23,8 @@ pub(crate) struct MemoryParts {
 }
 
 impl MemoryParts {
-    /// Makes the index of `segments`; it is empty if there are few. Makes one pass over the
-    /// segments. Allocates eight bytes for each part, at most 512 KiB.
+    /// Makes the index of `segments`. If there are few segments, the index is empty. Makes one pass
+    /// over the segments. Allocates eight bytes for each part, at most 512 KiB.
     pub(crate) fn of(alloc: Global, segments: &[Segment]) -> Result<MemoryParts, AllocError> {
         let mut parts = MemoryParts {
             first: 0,
@@ -56,8 +56,8 @@ impl MemoryParts {
         }
     }
 
-    /// Returns the number of the last segment that begins at or below `place`, if this is the index
-    /// of `segments`.
+    /// Guesses the number of the last segment that begins at or below `place`. The guess is right
+    /// if this is the index of `segments`.
     pub(crate) fn guess(&self, segments: &[Segment], place: u64) -> usize {
         let part = self.part_of(place);
         let low = self.begun_before(part, segments.len());

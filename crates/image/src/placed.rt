@@ -39,7 +39,7 @@ impl<'a> Model for PlacedOrder<'a> {
 }
 
 impl<'a> PlacedOrder<'a> {
-    /// Places the objects of `order`, the program at `base`. Costs what `place` costs.
+    /// Places the objects of `order`. The program's base is `base`. Costs what `place` costs.
     pub fn of(
         alloc: Global,
         order: &'a Order<'a>,
@@ -48,8 +48,9 @@ impl<'a> PlacedOrder<'a> {
         requires { is_good_base (ordered.file_at order.now 0) base ≡ true }
         ensures ok { IfOk result (λ placed. placed ≡ place base order.now) }
 
-        // Refuses if the memory of an object would end above 2^47 - 4,096. Memory may be refused
-        // only if the program's own memory doesn't end too high.
+        // Refuses if the memory of an object would end above 2^47 - 4,096. Otherwise returns the
+        // objects or OutOfMemory. OutOfMemory is possible only if the program's own memory doesn't
+        // end too high.
         ensures room { OnOk result (lacks_room (place base order.now) ≡ false) }
         ensures refused { IfErr result (IsPlaceAnswer (place base order.now)) }
     {
@@ -61,7 +62,7 @@ impl<'a> PlacedOrder<'a> {
     pub fn count(&self) -> usize
         ensures count { result ≡ length self.now }
 
-        // These facts hold of all objects.
+        // The following facts hold for all objects.
         ensures stacked { Stacked 0 self.now }
         ensures accepted { AllAccepted self.now }
     {
@@ -89,7 +90,7 @@ impl<'a> PlacedOrder<'a> {
         requires { i < length self.now }
         ensures file { result.now ≡ file_at self.now i }
 
-        // These facts hold of all objects.
+        // The following facts hold for all objects.
         ensures stacked { Stacked 0 self.now }
         ensures accepted { AllAccepted self.now }
     {

@@ -79,8 +79,8 @@ fn base_after(end: u64, unit: u64) -> Option<u64>
     }
 }
 
-/// Returns the base of an object that is placed after `end`, and the end of its memory, or `None`
-/// if one of them is above the limit.
+/// Returns the base of an object that is placed after `end`, and the end of the object's memory.
+/// Returns `None` if the base or the end is above the limit.
 #[tactic(auto, using(crate::proofs::Placing::unit_positive))]
 fn place_behind(object: &Object<'_>, end: u64) -> Option<(u64, u64)>
     requires { end ≤ MEMORY_LIMIT }
@@ -128,7 +128,7 @@ fn fitting_bases(
     Ok(Some(bases))
 }
 
-/// Returns the bases of the objects in load order. The program's base is `base`. Each next base is
+/// Returns the bases of the objects in load order. The program's base is `base`. Each later base is
 /// the least multiple of its object's unit that isn't below the end of the object before it.
 ///
 /// Makes one pass over the PT_LOADs of each object. Allocates eight bytes for each object.
@@ -137,8 +137,8 @@ pub fn place(alloc: Global, order: &Order<'_>, base: u64) -> Result<Vec<u64>, Bi
     ensures order { IsOrder order.now }
     ensures ok { IfOk result (λ bases. bases.items ≡ map (λ p. p.base) (place base order.now)) }
 
-    // Returns bases only if no memory ends above the limit. Otherwise returns that refusal, or
-    // refused memory if the program's own memory doesn't end too high.
+    // Returns bases only if no memory ends above the limit. Otherwise returns NoRoom. If the
+    // program's own memory doesn't end too high, OutOfMemory is possible too.
     ensures room { OnOk result (lacks_room (place base order.now) ≡ false) }
     ensures refused { IfErr result (IsPlaceAnswer (place base order.now)) }
 {

@@ -18,9 +18,9 @@ use hash_check::{Admitted, ReadRefusal};
 use scope::{Library, load_order};
 use std::alloc::Global;
 
-/// Reads and admits a program and tests its base, which needs none of the other objects. Returns
-/// the program, or the first of these refusals: its file is refused (B1); the base is no multiple
-/// of its unit (B2). Costs what `Admitted::read` costs.
+/// Reads and admits a program, and tests its base. These tests need none of the other objects.
+/// Returns the program, or the first of these refusals: its file is refused (B1); the base is no
+/// multiple of its unit (B2). Costs what `Admitted::read` costs.
 #[tactic(auto, unfolding(crate::specs::Refusal::program_refusal))]
 pub fn admit_program(alloc: Global, file: &[u8], base: u64) -> Result<Admitted<'_>, BindRefusal>
 
@@ -28,7 +28,7 @@ pub fn admit_program(alloc: Global, file: &[u8], base: u64) -> Result<Admitted<'
     ensures accepted { OnOk result (program_refusal file.now base ≡ None) }
     ensures same { IfOk result (λ program. program ≡ file.now) }
 
-    // Otherwise returns the refusal of the first test that applies, or refused memory if admission
+    // Otherwise returns the refusal of the first test that applies, or OutOfMemory if admission
     // allocates.
     ensures refused { IfErr result (IsProgramAnswer file.now base) }
 {
@@ -61,7 +61,7 @@ fn bind_admitted(
     ensures accepted { OnOk result
         (bind_refusal program.now base libraries.now preloads.now ≡ None) }
 
-    // Otherwise returns the refusal of the first test that applies, or refused memory.
+    // Otherwise returns the refusal of the first test that applies, or OutOfMemory.
     ensures refused { IfErr result (IsAnswer program.now base libraries.now preloads.now) }
 
     // The image has the defined objects and segments, and their defined bytes.
@@ -80,8 +80,8 @@ fn bind_admitted(
 /// libraries that come before the libraries that the program needs.
 ///
 /// Returns the image, or the first of these refusals: the file is refused (B1); the base is no
-/// multiple of the program's unit (B2); a needed library isn't there (B3); memory would end above
-/// 2^47 - 4,096 (B4); a relocation's symbol is undefined (B5).
+/// multiple of the program's unit (B2); a needed library isn't among `libraries` (B3); memory would
+/// end above 2^47 - 4,096 (B4); a relocation's symbol is undefined (B5).
 ///
 /// Admission costs what `Admitted::read` costs, the load order what `load_order` costs, and the
 /// rest what `bind` costs.
@@ -99,7 +99,7 @@ pub fn bind_program(
     // Returns an image only if no test applies.
     ensures accepted { OnOk result (bind_refusal file.now base libraries.now preloads.now ≡ None) }
 
-    // Otherwise returns the refusal of the first test that applies, or refused memory if admission
+    // Otherwise returns the refusal of the first test that applies, or OutOfMemory if admission
     // allocates. Admission comes after the tests of the file's bytes, and before all other tests.
     ensures refused { IfErr result (IsAnswer file.now base libraries.now preloads.now) }
 
@@ -115,14 +115,14 @@ pub fn bind_program(
     bind_admitted(alloc, &program, base, libraries, preloads)
 }
 
-/// Binds a program that needs no library, as `bind_program` does without libraries and preloads. If
-/// the program needs a library, it is missing (B3).
+/// Binds a program that needs no library, as `bind_program` does without libraries and preloads.
+/// Any library that the program needs is missing (B3).
 pub fn bind_alone(alloc: Global, file: &[u8], base: u64) -> Result<Image, BindRefusal>
 
     // Returns an image only if no test applies.
     ensures accepted { OnOk result (alone_refusal file.now base ≡ None) }
 
-    // Otherwise returns the refusal of the first test that applies, or refused memory if admission
+    // Otherwise returns the refusal of the first test that applies, or OutOfMemory if admission
     // allocates.
     ensures refused { IfErr result (IsAnswer file.now base [] []) }
 

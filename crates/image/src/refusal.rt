@@ -12,18 +12,18 @@ use std::alloc::{AllocError, Global};
 /// Why a program isn't bound at a base. The variants are in the order of the tests.
 #[derive(Debug, Drop, PartialEq, Eq)]
 pub enum BindRefusal {
-    /// B1: the file isn't accepted, for this reason.
+    /// B1: the file isn't accepted. The refusal is that of the first test that applies.
     Program(FileRefusal),
     /// B2: the base is no multiple of the program's unit.
     BadBase,
-    /// B3: an object needs a library that isn't there.
+    /// B3: an object needs a library that isn't among the given libraries.
     Missing {
         /// The name of the object that needs the library.
         needer: Name,
         /// The name of the library.
         name: Name,
     },
-    /// B4: the program's memory would end above 2^47 - 4,096.
+    /// B4: the memory of an object would end above 2^47 - 4,096.
     NoRoom,
     /// B5: an object's relocation names a symbol that no object defines.
     Undefined {

@@ -22,8 +22,9 @@ use crate::value::written_value;
 use elf_dynamic::{Object, Relocation};
 use std::alloc::{AllocError, Global};
 
-/// Writes the value of a relocation of an object at `base`, if the relocation writes one. Returns
-/// the number of the segment that was found last.
+/// If `relocation`, which belongs to an object at `base`, writes a value, writes this value into
+/// the segments. Returns the number of the segment that has the value, or `near` if the relocation
+/// writes nothing.
 fn relocate_one(
     segments: &mut [Segment],
     parts: &MemoryParts,
@@ -49,9 +50,9 @@ fn relocate_one(
 /// Writes the values of all relocations of `object`, which is at `base`, into its segments, in the
 /// order of the relocations.
 ///
-/// A relocation that goes to the same segment as the one before it takes constant time. Any other
-/// takes a binary search: over all segments if they are few, otherwise over the segments that begin
-/// in one part.
+/// A relocation that goes to the same segment as the relocation before it takes constant time. Any
+/// other relocation takes a binary search: over all segments if there are few segments, and
+/// otherwise over the segments that begin in one part of the index.
 fn relocate(
     segments: &mut [Segment],
     parts: &MemoryParts,

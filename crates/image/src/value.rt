@@ -36,8 +36,8 @@ impl Values {
     }
 }
 
-/// Finds the value of symbol number `symbol` of object number `own`, unless it is undefined. Looks
-/// the value up the first time, and keeps it.
+/// Finds the value of symbol number `symbol` of object number `own`, unless the symbol is
+/// undefined. Looks the value up the first time, and stores it in `found`.
 fn find_value(
     objects: &PlacedOrder<'_>,
     own: usize,
@@ -60,8 +60,8 @@ fn find_value(
     Ok(())
 }
 
-/// Finds the value of the symbol that a relocation of object number `own` names, if its type uses a
-/// symbol, unless the symbol is undefined.
+/// If the type of `relocation`, which belongs to object number `own`, uses a symbol, finds the
+/// value of this symbol, unless the symbol is undefined.
 pub(crate) fn find_value_of(
     objects: &PlacedOrder<'_>,
     own: usize,
@@ -97,8 +97,8 @@ fn value_in(values: &[u64], symbol: u32) -> u64
     }
 }
 
-/// Returns the value that a relocation of an object at `base` writes, if its type writes one.
-/// `values` has the values of the object's symbols.
+/// Returns the value that `relocation`, which belongs to an object at `base`, writes, or `None` if
+/// its type writes none. `values` has the values of the object's symbols.
 pub(crate) fn written_value(base: u64, values: &[u64], relocation: Relocation) -> Option<u64>
     ensures { result ≡ value_with base (value_in values.now) relocation }
 {

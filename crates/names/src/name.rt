@@ -22,7 +22,7 @@ impl Model for Name {
 }
 
 impl Name {
-    /// Returns a name with a copy of these bytes. The only error is that memory was refused.
+    /// Returns a name with a copy of `bytes`. The only error is that memory was refused.
     pub fn copy_of(alloc: Global, bytes: &[u8]) -> Result<Name, AllocError>
         ensures { IfOk result (λ name. name ≡ bytes.now) }
     {

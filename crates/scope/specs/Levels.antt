@@ -1,5 +1,5 @@
--- Levels of needed objects (gABI chapter 5, "Shared Object Dependencies": breadth first). Objects are identified by numbers here. `needs` is a
--- function from each object to the objects that it needs, in its order.
+-- Levels of needed objects (gABI chapter 5, "Shared Object Dependencies": breadth first). Objects are identified by
+-- numbers here. `needs` returns the objects that an object needs, in the order in which that object names them.
 use Rattle.std.specs.Prelude.{ℕ, zero, suc, ◌==◌, List, [], ◌∷◌, ◌++◌, Bool, not}
 use Rattle.std.specs.List.{list_any, filter, flat_map, concat}
 
@@ -16,8 +16,8 @@ first_occurrences (p ∷ ps) = p ∷ filter (λ q. not (q == p)) (first_occurren
 abbrev pub without : List ℕ → List ℕ → List ℕ
 without others ps = filter (λ p. not (is_among others p)) ps
 
--- The next level: the objects that the objects of `level` need, object by object, each in its order, and
--- each only once. Objects of the levels up to this one, which are in `earlier`, are left out.
+-- The next level: the objects that the objects of `level` need, object by object, in the order in which each object
+-- needs them, and each only once. Objects of the levels up to this one, which are in `earlier`, are left out.
 unfoldable pub next_level : (ℕ → List ℕ) → List ℕ → List ℕ → List ℕ
 next_level needs earlier level = without earlier (first_occurrences (flat_map needs level))
 

@@ -17,8 +17,7 @@ available program libraries = record { name = program_name; file = program } ∷
 abbrev pub names_of : List Named → List (List ℕ)
 names_of objects = map (λ o. o.name) objects
 
--- the place of the first library with this name, if one is installed; `names` has the names of the
--- libraries
+-- the place of the first library with the name `name`, if one is installed; `names` has the names of the libraries
 abbrev pub place_of : List (List ℕ) → List ℕ → Option ℕ
 place_of names name = option_map (λ p. p + 1) (position (bytes_eq name) names)
 
@@ -58,7 +57,7 @@ needed_by object = map (λ name. record { needer = object.name; name = name }) (
 abbrev pub is_missing : List (List ℕ) → Need → Bool
 is_missing names need = is_none (place_of names need.name)
 
--- the first needed name that isn't installed, by the load order of the objects and the order of the
--- entries of each
+-- the first needed name that isn't installed: the objects are taken in load order, and the names of each object in the
+-- order of its entries
 unfoldable pub missing : List ℕ → List Named → List ℕ → Option Need
 missing program libraries preloads = find (is_missing (names_of libraries)) (flat_map needed_by (load_order program libraries preloads))

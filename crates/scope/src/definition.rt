@@ -6,8 +6,9 @@ ghost use Rattle.scope.specs.declared.target.Target.TheVariants.{At};
 use crate::target::Target;
 use std::marker::Model;
 
-/// A definition in load order, or none, in eight bytes. There is one for each symbol. Symbol number
-/// 0 means that there is no definition. Contracts see the definition as a target, or none.
+/// A definition in load order, or no definition, in eight bytes. There is one such value for each
+/// symbol. Symbol number 0 means that there is no definition. Contracts see the definition as a
+/// target, or none.
 #[derive(Clone, Drop)]
 pub(crate) struct Definition {
     object: u32,

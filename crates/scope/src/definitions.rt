@@ -35,8 +35,8 @@ fn is_exported(objects: &[LoadedObject<'_>], symbol: NumberedSymbol) -> bool
     objects[symbol.object].object().is_exported(symbol.symbol)
 }
 
-/// Keeps the symbol at `at` as the definition of its number, if it is exported and the number has
-/// none yet.
+/// If symbol `at` of the list is exported, and its number has no definition yet, stores the symbol
+/// as the definition of its number.
 fn keep_first(
     objects: &[LoadedObject<'_>],
     symbols: &[NumberedSymbol],
@@ -74,7 +74,7 @@ pub(crate) fn first_definitions(
     Ok(first)
 }
 
-/// Keeps the symbol at `at` as the definition of its number, if it is exported.
+/// If symbol `at` of the list is exported, stores the symbol as the definition of its number.
 fn keep_last(
     objects: &[LoadedObject<'_>],
     symbols: &[NumberedSymbol],
@@ -93,8 +93,9 @@ fn keep_last(
     }
 }
 
-/// Keeps the definitions of the objects up to the one at `place`. Those of the first `kept` symbols
-/// are kept already. Returns the number of symbols whose definitions have been kept after the call.
+/// Stores the definitions of the objects up to the one at `place`. Those of the first `kept`
+/// symbols have been stored before. Returns the number of symbols whose definitions are stored
+/// after the call.
 fn keep_up_to(
     objects: &[LoadedObject<'_>],
     symbols: &[NumberedSymbol],

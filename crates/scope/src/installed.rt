@@ -43,8 +43,8 @@ impl<'a> Installed<'a> {
         Ok(Installed { names })
     }
 
-    /// Returns the place of the library with this name, if there is one. The first library is at
-    /// place 1.
+    /// Returns the place of the library with the name `name`, if there is one. The first library is
+    /// at place 1.
     pub(crate) fn place_of(&self, name: &[u8]) -> Option<usize>
         ensures place { result ≡ place_of self.now name.now }
         ensures within { IfSome result (λ place. place ≤ length self.now) }

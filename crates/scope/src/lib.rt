@@ -1,9 +1,9 @@
 //! Load order and lookup: which symbol each symbol of a program is bound to (System V gABI chapters
 //! 4 and 5, ld.so(8)).
 //!
-//! `load_order` puts a program, the preloads, and the libraries that these need into load order.
+//! `load_order` puts a program, the preloads, and the libraries that they need into load order.
 //! `resolve` returns the target of a symbol of one of these objects. The target is a symbol or 0.
-//! An undefined symbol has none.
+//! An undefined symbol has no target.
 #![tactic(auto)]
 
 mod definition;

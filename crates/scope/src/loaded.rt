@@ -7,8 +7,8 @@ ghost use Rattle.scope.specs.Objects.{IsTaken};
 use hash_check::Admitted;
 use std::marker::Model;
 
-/// An object in load order, with its name. The flag that says whether it is symbolic is read once
-/// here, and not once for each symbol. Contracts see the name and the file's bytes.
+/// An object in load order, with its name. Whether the object is symbolic is read once, when this
+/// value is made, and not once for each symbol. Contracts see the name and the file's bytes.
 #[derive(Drop)]
 pub(crate) struct LoadedObject<'a> {
     name: &'a [u8],

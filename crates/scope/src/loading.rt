@@ -36,7 +36,7 @@ fn object_at<'a>(
     }
 }
 
-/// Returns the objects at these places, in the order of the places.
+/// Returns the objects at `places`, in the order of the places.
 fn objects_at<'a>(
     alloc: Global,
     program: &'a Admitted<'a>,
@@ -55,8 +55,8 @@ fn objects_at<'a>(
     Ok(objects)
 }
 
-/// Returns the places of the objects in load order. Goes through a queue, and adds the libraries
-/// that each object needs to its end.
+/// Returns the places of the objects in load order. Goes through a queue of places. For each object
+/// in the queue, appends the libraries that the object needs to the queue.
 fn load_places<'a>(
     alloc: Global,
     program: &'a Admitted<'a>,
@@ -83,11 +83,11 @@ fn load_places<'a>(
     Ok(places.into_vec())
 }
 
-/// Puts a program, the preloads, and all libraries that these need into load order, or returns the
-/// first needed name that isn't installed. `preloads` are numbers of libraries. Makes one pass over
-/// the dynamic section of each object, with one search for each needed name. Allocates about 40
-/// bytes a library. Allocates more for each symbol if lookups by walks may cost more than finding
-/// all definitions at once.
+/// Puts a program, the preloads, and all libraries that they need into load order, or returns the
+/// first needed name that isn't installed. `preloads` has the preloads' numbers in the list of
+/// libraries. Makes one pass over the dynamic section of each object, with one search for each
+/// needed name. Allocates about 40 bytes a library. If lookups by walks may cost more than finding
+/// all definitions at once, also allocates memory for each symbol.
 pub fn load_order<'a>(
     alloc: Global,
     program: &'a Admitted<'a>,
@@ -102,7 +102,7 @@ pub fn load_order<'a>(
     // Returns an order only if every needed name is installed.
     ensures found { OnOk result (missing program.now libraries.now preloads.now ≡ None) }
 
-    // Otherwise returns the first needed name that isn't installed, or that memory was refused.
+    // Otherwise returns the first needed name that isn't installed, or OutOfMemory.
     ensures refused { IfErr result (IsRefusal (missing program.now libraries.now preloads.now)) }
 {
     let places = load_places(alloc, program, libraries, preloads)?;

@@ -44,8 +44,8 @@ fn first_by_walks(order: &Order<'_>, name: &[u8], hash: u32) -> Option<Target>
 }
 
 /// Returns the first definition, weak or not, of the name of symbol number `symbol` of the object
-/// at place `object`. If this object is symbolic, it is searched first. Then all objects are
-/// searched in load order.
+/// at place `object`. If this object is symbolic, the object itself is searched first. Then all
+/// objects are searched in load order.
 #[tactic(auto, unfolding(crate::specs::Lookup::lookup))]
 pub(crate) fn lookup(order: &Order<'_>, object: usize, symbol: u32) -> Option<Target>
     requires object { object < length order.now }

@@ -24,7 +24,7 @@ impl Model for NeededName {
 }
 
 impl NeededName {
-    /// Returns a needed name with copies of these names.
+    /// Returns a needed name with copies of `needer` and `name`.
     pub fn copy_of(alloc: Global, needer: &[u8], name: &[u8]) -> Result<NeededName, AllocError>
         ensures { IfOk result (λ need. need ≡ record { needer = needer.now; name = name.now }) }
     {

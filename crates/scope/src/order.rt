@@ -27,7 +27,8 @@ pub fn program_name<'a>() -> &'a [u8]
 
 /// A program and the libraries that are bound with it, in load order. The program is the first
 /// object, and its name is `/program`. Contracts see the names and the files' bytes. If lookups by
-/// walks may cost more, the order keeps the definitions found for all symbols.
+/// walks may cost more than finding all definitions at once, the order also has the definitions of
+/// all symbols.
 #[derive(Drop)]
 pub struct Order<'a> {
     objects: Vec<LoadedObject<'a>>,
@@ -48,8 +49,9 @@ impl<'a> Model for Order<'a> {
 }
 
 impl<'a> Order<'a> {
-    /// Makes an order of these objects. If lookups by walks may cost more, finds the definitions
-    /// for all symbols and keeps them. If memory for them is refused, the order does without them.
+    /// Makes an order of `objects`. If lookups by walks may cost more than finding all definitions
+    /// at once, finds the definitions of all symbols and stores them. If memory for them is
+    /// refused, the order does without them.
     pub(crate) fn new(alloc: Global, objects: Vec<LoadedObject<'a>>) -> Order<'a>
         requires { IsOrder objects.items }
         ensures { result ≡ objects.entry.items }
@@ -59,8 +61,9 @@ impl<'a> Order<'a> {
     }
 
     /// Makes the order of a program and of libraries that are in load order already, for callers
-    /// that have found this order themselves. Allocates about 30 bytes a library. Allocates more
-    /// for each symbol if lookups by walks may cost more than finding all definitions at once.
+    /// that have found this order themselves. Allocates about 30 bytes a library. If lookups by
+    /// walks may cost more than finding all definitions at once, also allocates memory for each
+    /// symbol.
     pub fn of(
         alloc: Global,
         program: &'a Admitted<'a>,

@@ -8,9 +8,9 @@ ghost use Rattle.scope.specs.Queue.{grown_by, AreApart};
 use std::alloc::{AllocError, Global};
 use std::marker::Model;
 
-/// A queue of places below a limit. Each place is in it at most once, in the order of adding. Load
-/// order is computed with it, also by callers that find the needed libraries one after the other.
-/// Contracts see the limit and the places.
+/// A queue of places below a limit. Each place is in the queue at most once, and the places are in
+/// the order in which they were added. Load order is computed with such a queue. Callers that find
+/// the needed libraries one after the other use it too. Contracts see the limit and the places.
 #[derive(Drop)]
 pub struct Places {
     places: Vec<usize>,

@@ -26,7 +26,7 @@ pub(crate) fn is_withheld(symbol: Symbol) -> bool
 
 /// Returns the target of symbol number `symbol` of the object at place `object`. Allocates nothing.
 /// If the symbol has to be looked up, hashes its name once, and follows one walk in each object up
-/// to the one that defines it. A symbolic object costs one more walk.
+/// to the object that defines the name. A symbolic object costs one more walk.
 #[tactic(auto, unfolding(crate::specs::Target::target))]
 pub fn resolve(order: &Order<'_>, object: usize, symbol: u32) -> Result<Target, Undefined>
     requires object { object < length order.now }

@@ -11,7 +11,7 @@ use elf_dynamic::{Object, R_X86_64_64, R_X86_64_GLOB_DAT, R_X86_64_JUMP_SLOT, Re
 use hash_check::NameBudget;
 use std::alloc::Global;
 
-/// The number of walk steps that take as long as putting one name into a table, or less.
+/// The number of walk steps that take no longer than putting one name into a table.
 const STEPS_OF_A_NAME: u64 = 2;
 
 /// Returns whether a relocation uses the value of its symbol.
@@ -49,8 +49,8 @@ fn walk_length(object: &Object<'_>, from: u32, most: u32) -> u32
 }
 
 /// Returns the number of symbols on the longest walk of an object. If all walks together have as
-/// many steps as the object has symbols, some walks share symbols. Then it stops, and returns the
-/// number of all symbols.
+/// many steps as the object has symbols, some walks share symbols. In this case the function stops,
+/// and returns the number of all symbols.
 fn longest_walk(object: &Object<'_>) -> u32 {
     let mut left = object.symbol_count();
     let mut longest = 0;
@@ -65,11 +65,11 @@ fn longest_walk(object: &Object<'_>) -> u32 {
     longest
 }
 
-/// Returns whether walks may cost more than a table. The cost of walks is the number of lookups,
-/// multiplied by the sum over all objects of the longest walk and one step to reach it. It is
-/// compared with twice the number of names. So if walks are followed, they compare at most two
-/// symbols a name, and at most four if objects are symbolic. A table takes a constant time for each
-/// name, as the name's admission did.
+/// Returns whether walks may cost more than a table. For each object, add one step to the length of
+/// its longest walk. The cost of walks is the sum of these numbers, multiplied by the number of
+/// lookups. This cost is compared with twice the number of names. So if walks are followed, they
+/// compare at most two symbols a name, and at most four if objects are symbolic. A table takes a
+/// constant time for each name, as the name's admission did.
 fn may_be_long(objects: &[LoadedObject<'_>]) -> bool {
     let (mut lookups, mut steps, mut names) = (0u64, 0u64, 0u64);
     for loaded in objects {
@@ -82,8 +82,8 @@ fn may_be_long(objects: &[LoadedObject<'_>]) -> bool {
 }
 
 /// Returns whether the names of the symbols that an object looks up have so many bytes in total
-/// that many of them are tails of others. Hashing such names one by one would cost the sum of their
-/// lengths.
+/// that many of the names are tails of others. Hashing such names one by one would cost the sum of
+/// their lengths.
 fn share_bytes(object: &Object<'_>) -> bool {
     let mut budget = NameBudget::new(object.string_table().len());
     for i in 0..object.rela_count() {
@@ -107,8 +107,8 @@ fn any_share_bytes(objects: &[LoadedObject<'_>]) -> bool {
     false
 }
 
-/// Finds the definitions of all symbols, if lookups by walks may cost more. Returns `None` if they
-/// don't, or if memory is refused.
+/// If lookups by walks may cost more than finding all definitions at once, finds the definitions of
+/// all symbols. Returns `None` if they don't cost more, or if memory is refused.
 pub(crate) fn worthy_table(alloc: Global, objects: &[LoadedObject<'_>]) -> Option<DefinitionTable>
     requires { All (λ o. IsTaken o.file) objects.now }
     ensures { IfSome result (λ t. IsFound objects.now (map (λ r. r.items) t.rows.items)) }

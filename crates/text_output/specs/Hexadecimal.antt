@@ -8,11 +8,11 @@ use Rattle.hex.specs.Hex.{encode_lower}
 abbrev pub address_text : ℕ → List ℕ
 address_text address = encode_lower (to_be_bytes w64 address)
 
--- line number k of `bytes` in hexadecimal: sixteen bytes, or the bytes that are left
+-- line number `k` of `bytes` in hexadecimal: sixteen bytes, or the bytes that are left
 abbrev pub line_at : List ℕ → ℕ → List ℕ
 line_at bytes k = encode_lower (take 16 (drop (16 * k) bytes)) ++ codes "\n"
 
--- the first n lines of `bytes` in hexadecimal
+-- the first `n` lines of `bytes` in hexadecimal
 abbrev pub first_lines : List ℕ → ℕ → List ℕ
 first_lines bytes n = flat_map (line_at bytes) (range_with_len 0 n)
 

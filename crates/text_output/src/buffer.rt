@@ -17,8 +17,8 @@ pub const PIECE: usize = 64;
 ///
 /// They are in the value itself, so writing allocates nothing. `OutputBuffer<LINE>` is enough for a
 /// line; a larger buffer is for a long text. After the writer has failed, the buffer writes nothing
-/// more to it, because nobody knows how many bytes it has accepted. Contracts see the waiting
-/// bytes, and whether the writer failed.
+/// more to it, because it is unknown how many bytes the writer has accepted. Contracts see the
+/// waiting bytes, and whether the writer failed.
 #[derive(Drop)]
 pub struct OutputBuffer<const SIZE: usize> {
     bytes: [u8; SIZE],
@@ -127,7 +127,7 @@ impl<const SIZE: usize> OutputBuffer<SIZE> {
         // After a fault the bytes still wait, and the failure is noted.
         ensures err { OnErr result
             (self.new ≡ record { waiting = self.old.waiting; failed = true }) }
-        // A writer that has failed gets nothing more.
+        // A writer that has failed receives nothing more.
         ensures failed { self.old.failed ≡ true → IsErr result × (out.new ≡ out.old) }
     {
         self.send_and_keep(out)?;
@@ -135,8 +135,8 @@ impl<const SIZE: usize> OutputBuffer<SIZE> {
         Ok(())
     }
 
-    /// Adds a short text to the waiting bytes. If it has no room there, sends the waiting bytes
-    /// first.
+    /// Adds a short text to the waiting bytes. If the buffer has no room for the text, sends the
+    /// waiting bytes first.
     pub(crate) fn put_piece<W: Write>(&mut self, out: &mut W, text: &[u8]) -> Result<(), WriteFault>
         requires { length text.now ≤ PIECE }
         ensures ok { OnOk result (Sends (W.contents out.old) self.old (W.contents out.new) self.new
@@ -154,7 +154,8 @@ impl<const SIZE: usize> OutputBuffer<SIZE> {
         Ok(())
     }
 
-    /// Adds a text to the waiting bytes, and sends these whenever there is no room for more.
+    /// Adds a text to the waiting bytes. Sends the waiting bytes whenever there is no room for
+    /// more.
     pub fn put<W: Write>(&mut self, out: &mut W, text: &[u8]) -> Result<(), WriteFault>
         ensures ok { OnOk result (Sends (W.contents out.old) self.old (W.contents out.new) self.new
             text.now) }

@@ -11,7 +11,7 @@ use crate::fault::WriteFault;
 use crate::zeros::{BLOCK, zeros_begin};
 use std::io::Write;
 
-/// The number of bytes that one line shows.
+/// The number of bytes that one line of text shows.
 pub(crate) const LINE_BYTES: usize = 16;
 
 /// The length of a whole line in bytes of text, with its newline.
@@ -59,8 +59,8 @@ impl<const SIZE: usize> OutputBuffer<SIZE> {
         self.put_piece(out, &digits)
     }
 
-    /// Adds the line of hexadecimal digits of `bytes`, which are fewer than sixteen, to the
-    /// buffered text.
+    /// Adds `bytes`, which are fewer than sixteen, to the waiting bytes, as one line of hexadecimal
+    /// digits.
     fn put_short_line<W: Write>(&mut self, out: &mut W, bytes: &[u8]) -> Result<(), WriteFault>
         requires { length bytes.now < LINE_BYTES }
         ensures ok { OnOk result (Sends (W.contents out.old) self.old (W.contents out.new) self.new

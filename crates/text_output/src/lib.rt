@@ -1,6 +1,6 @@
 //! Text on its way to a writer.
 //!
-//! `OutputBuffer` keeps the bytes that wait for a writer, on the stack. It formats numbers,
+//! `OutputBuffer` is a buffer on the stack for bytes that wait for a writer. It formats numbers,
 //! addresses, names, and lines of hexadecimal digits. It allocates nothing. `write_name` writes one
 //! name.
 #![tactic(auto)]

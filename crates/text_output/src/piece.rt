@@ -47,7 +47,7 @@ impl Model for PieceBuffer {
         × (length s.piece.waiting < most_piece) };
 }
 
-/// Writes a piece to the writer with one call of `write_all`. Another piece will follow.
+/// Writes a piece that isn't the last one to the writer, with one call of `write_all`.
 fn give<W: Write>(piece: &mut Piece, out: &mut W) -> Result<(), WriteFault>
     requires { IsFrontPiece piece.old.waiting }
     ensures ok { OnOk result (Appends (W.contents out.old) (W.contents out.new)

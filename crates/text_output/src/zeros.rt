@@ -72,8 +72,8 @@ impl<const SIZE: usize> OutputBuffer<SIZE> {
         Ok(())
     }
 
-    /// Adds `count` lines of zeros to the waiting bytes. If they are many, fills the buffer with
-    /// such lines once, and sends it repeatedly.
+    /// Adds `count` lines of zeros to the waiting bytes. If there are more than `FEW` lines, fills
+    /// the buffer with such lines once, and sends it repeatedly.
     pub(crate) fn put_zero_lines<W: Write>(
         &mut self,
         out: &mut W,

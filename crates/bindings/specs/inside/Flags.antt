@@ -8,7 +8,7 @@ use Rattle.image.specs.Placement.{Placed}
 use Rattle.image.specs.Relocating.{file_at}
 use Rattle.bindings.specs.Named.{names_symbol}
 
--- there are `count` flags, and the flag of a symbol says whether one of the relocations names the symbol
+-- there are `count` flags, and the flag of a symbol is true if and only if one of the relocations names the symbol
 pub record AreFlags (count : ℕ) (rs : List Relocation) (flags : List Bool) : Type 0 where
   pub counted : length flags ≡ count
   pub are : (i : ℕ) → i < count → get_or flags i false ≡ list_any (names_symbol i) rs

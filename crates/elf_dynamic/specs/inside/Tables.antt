@@ -22,7 +22,8 @@ pub record IsHashTable (file : List ℕ) (table : HashTable) : Type 0 where
 abbrev pub soname_offset : List ℕ → Option ℕ
 soname_offset file = if is_present file DT_SONAME then Some (tag_value file DT_SONAME) else None
 
--- `parts` has the tables of the file, and the right values of the tags that the code keeps
+-- `parts` has the tables of the file, the number of needed libraries, the offset of the object's own name, and whether
+-- the object is symbolic
 pub record HasParts (file : List ℕ) (parts : Parts) : Type 0 where
   pub strings : parts.strings.now ≡ string_table file
   pub strings_size : length parts.strings.now ≡ tag_value file DT_STRSZ

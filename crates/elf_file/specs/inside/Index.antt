@@ -29,13 +29,14 @@ pub record Indexes (file : List ℕ) (n : ℕ) (index : LoadIndex) : Type 0 wher
   pub apart : (a b : ℕ) → a < b → b < index.blocks → slice_index index.first a + BLOCK ≤ slice_index index.first b
   pub all : (j : ℕ) → j < n → is_load (program_header file j) ≡ true → InBlock index j
 
--- the PT_LOADs follow the rules and follow each other
+-- the file isn't too large, no PT_LOAD has a wrong file size, file end or alignment, and each one begins at or above
+-- the end of the one before it
 pub record HasSegments (file : List ℕ) : Type 0 where
   pub loads_fit : has_bad_load file ≡ false
   pub low : is_too_large file ≡ false
   pub in_order : has_bad_order file ≡ false
 
--- the PT_LOADs follow each other, and `index` is their index
+-- each PT_LOAD begins at or above the end of the one before it, and `index` is the index of the PT_LOADs
 pub record IsIndexed (file : List ℕ) (index : LoadIndex) : Type 0 where
   pub in_order : has_bad_order file ≡ false
   pub indexes : Indexes file (header_count file) index
@@ -44,7 +45,7 @@ pub record IsIndexed (file : List ℕ) (index : LoadIndex) : Type 0 where
 unfoldable pub loads_from : List ℕ → ℕ → List ProgramHeader
 loads_from file k = filter is_load (map (program_header file) (range_with_len k (header_count file - k)))
 
--- the last block spans program header number `i`, which isn't before it
+-- the last block spans program header number `i`, which isn't before the block
 abbrev pub is_spanned : LoadIndex → ℕ → Bool
 is_spanned index i = nat_lt 0 index.blocks && nat_lt i (slice_index index.first (index.blocks - 1) + BLOCK)
 

@@ -1,4 +1,4 @@
--- The values that the code keeps of the entries of the dynamic section.
+-- The values that the code stores for the tags of the dynamic section.
 use Rattle.std.specs.Prelude.{ℕ, ◌+◌, ◌/◌, ◌≤◌, ◌≡◌, map, length, List, Option, Some}
 use Rattle.std.specs.Prelude.{None, ◌==◌, count_by, slice_index_or, unwrap_or, if◌then◌else◌}
 use Rattle.std.specs.Option.{option_map}
@@ -51,13 +51,13 @@ slot_and tag e slot = if has_tag tag e then slot_more e.value slot else slot
 abbrev pub IsTable : List Entry → List Slot → Type 0
 IsTable es slots = (n k : ℕ) (d : Slot) → place_of n ≡ Some k → slice_index_or slots k d ≡ slot_of es n
 
--- `tags` is what the code keeps of the entries of a section
+-- `tags` has the values that the code stores for the tags of a section
 pub record IsTagsOf (section : List ℕ) (tags : Tags) : Type 0 where
   pub entries : entries_in section ≡ map (entry section) (range_with_len 0 tags.count)
   pub within : tags.count ≤ length section / DYNAMIC_ENTRY_SIZE
   pub table : IsTable (entries_in section) tags.table.slots
 
--- the section is the file's dynamic section, and `tags` is what the code keeps of its entries
+-- the section is the file's dynamic section, and `tags` has the values that the code stores for its tags
 pub record HasTags (file section : List ℕ) (tags : Tags) : Type 0 where
   pub same : section ≡ dynamic_section file
   pub kept : IsTagsOf section tags

@@ -1,4 +1,4 @@
--- What is true of an image that none of the tests for self-relocation and for functions to call refuses.
+-- The facts about an image that passes the tests for self-relocation and for functions that nobody would call.
 use Rattle.std.specs.Prelude.{◌≡◌, false, None}
 use Rattle.image.specs.Image.{MemoryImage}
 use Rattle.executable.specs.StaticPie.{is_static_pie}

@@ -5,7 +5,7 @@ use Rattle.image.specs.Image.{ImageSegment}
 use Rattle.image.specs.Loading.{Loaded}
 use Rattle.executable.specs.Piece.{end_of, pieces_from, cut_pieces}
 
--- the pieces of segments that follow piece p, or that follow no piece
+-- the pieces made of piece `p`, if there is one, and of the segments after it
 abbrev pub pieces_after : Option Loaded → List ImageSegment → List Loaded
 pieces_after None segments = cut_pieces segments
 pieces_after (Some p) segments = pieces_from p segments
@@ -20,11 +20,12 @@ abbrev pub IsReady : Option Loaded → ℕ → Type 0
 IsReady None address = Unit {0}
 IsReady (Some p) address = IsFull p × (end_of p ≤ address)
 
--- a piece has no more contents than memory
+-- a piece has no more bytes of contents than bytes of memory
 abbrev pub IsShort : Loaded → Type 0
 IsShort p = length p.contents ≤ p.heading.size
 
--- the pieces rise from an address and end at or below the limit, and none has more contents than memory
+-- the pieces are in ascending order from address `from`, they end at or below the limit, and none has more bytes of
+-- contents than bytes of memory
 abbrev pub AreInRow : ℕ → List Loaded → Type 0
 AreInRow from [] = Unit {0}
 AreInRow from (p ∷ rest) = IsShort p × (from ≤ p.heading.address) × (end_of p ≤ MEMORY_LIMIT) × AreInRow (end_of p) rest

@@ -12,8 +12,8 @@ use Rattle.hash_check.specs.declared.lanes.Lanes.{Lanes}
 abbrev pub between : List ℕ → ℕ → ℕ → List ℕ
 between table place end = take (end - place) (drop place table)
 
--- the lane is free, or has an exported symbol, the hash of the first bytes of its name, and the place
--- and the end of the bytes that are left
+-- the lane is free, or has an exported symbol, the hash of the first bytes of the symbol's name, and the place and the
+-- end of the name's other bytes
 pub record IsLane (file : List ℕ) (symbol hash place end : ℕ) : Type 0 where
   pub order : place ≤ end
   pub within : end ≤ length (string_table file)
@@ -23,7 +23,7 @@ pub record IsLane (file : List ℕ) (symbol hash place end : ℕ) : Type 0 where
 pub record AreLanes (file : List ℕ) (l : Lanes) : Type 0 where
   pub each : (k : ℕ) → k < 8 → IsLane file (slice_index l.symbols k) (slice_index l.hashes k) (slice_index l.places k) (slice_index l.ends k)
 
--- in none of the eight lanes is the end before the place
+-- in each of the eight lanes, the end isn't before the place
 pub record AreOrdered (places ends : List ℕ) : Type 0 where
   pub order : (k : ℕ) → k < 8 → slice_index places k ≤ slice_index ends k
 

@@ -4,16 +4,16 @@ use Rattle.std.specs.Prelude.{ℕ, List, ◌≡◌, ◌≢◌, ◌<◌, ◌≤�
 use Rattle.hash_check.specs.inside.Key.{key_of}
 use Rattle.hash_check.specs.Numbers.{nth_text}
 
--- the home of a key in a table of some size: the first cell in which a name with this key may be stored
+-- the home of a key in a table of `size` cells: the first cell in which a name with this key may be stored
 unfoldable pub home : ℕ → ℕ → ℕ
 home size key = (key * 0x9e3779b97f4a7c15) % 2 ^ 64 / 2 ^ 32 * (size - 128) / 2 ^ 32
 
--- the cell has the number of a name other than this one
+-- the cell has the number of a name that differs from `name`
 pub record IsOther (text : ℕ → List ℕ) (name : List ℕ) (cell : ℕ) : Type 0 where
   pub taken : cell ≢ 0
   pub differs : text (cell - 1) ≢ name
 
--- the cells from number `from` up to, but not including, number `at` have other names than this one
+-- the cells from number `from` up to, but not including, number `at` have names that differ from `name`
 abbrev pub HoldOthers : (ℕ → List ℕ) → List ℕ → List ℕ → ℕ → ℕ → Type 0
 HoldOthers text cells name from at = (k : ℕ) → from ≤ k → k < at → IsOther text name (slice_index cells k)
 

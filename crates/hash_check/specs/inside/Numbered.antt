@@ -11,7 +11,7 @@ unnumbered place i = record { object = place; symbol = i; number = 0 }
 abbrev pub with_number : NumberedSymbol → ℕ → NumberedSymbol
 with_number s n = record { object = s.object; symbol = s.symbol; number = n }
 
--- an ending after `before` other names were put in front of its names
+-- the ending `e` after `before` other names were put in front of the list of all names
 unfoldable pub behind : ℕ → Ending → Ending
 behind before e = record { string = e.string; first = before + e.first; past = before + e.past }
 

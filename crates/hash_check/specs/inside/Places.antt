@@ -1,5 +1,5 @@
--- The walks that the code has followed. For each index it keeps the number of steps to 0, and an index
--- further along the walk.
+-- The walks that the code has followed. For each index, the code keeps the number of steps to 0, and an index further
+-- along the walk.
 use Rattle.std.specs.Prelude.{ℕ, List, Option, Some, None, ◌≡◌, ◌≢◌, ◌<◌, ◌≤◌}
 use Rattle.std.specs.Prelude.{◌-◌, ◌+◌, length, slice_index, slice_index_or, set}
 use Rattle.std.proofs.Math.ListN.{replicate}
@@ -36,7 +36,7 @@ pub record Sound (chains : List ℕ) (places : List (Option Place)) : Type 0 whe
 pub record Keeps (old new : List (Option Place)) : Type 0 where
   pub known : (i : ℕ) → Known old i → Known new i
 
--- `new` is a right place for an index whose next index on the walk is `next`; the place of `next` is `p`
+-- `new` is a correct place for an index whose next index on the walk is `next`; the place of `next` is `p`
 pub record IsBefore (chains : List ℕ) (head next : ℕ) (p new : Place) : Type 0 where
   pub begins : new.head ≡ head
   pub depth : new.depth ≡ p.depth + 1
@@ -58,7 +58,7 @@ pub record Placed (buckets chains : List ℕ) (places : List (Option Place)) : T
   pub sound : Sound chains places
   pub known : All (Known places) buckets
 
--- the walks from all buckets meet the joint, unless it is 0
+-- the joint is 0, or the walks from all buckets meet it
 pub record IsJoint (buckets chains : List ℕ) (places : List (Option Place)) (joint : ℕ) : Type 0 where
   pub within : joint < length chains
   pub known : Known places joint

@@ -27,7 +27,7 @@ fresh s =
       bytes = padded s.contents s.heading.size;
     }
 
--- each segment begins at or above the end of the one before it, the first one at or above `from`
+-- the first segment begins at or above `from`, and each other one at or above the end of the one before it
 abbrev pub Rising : ℕ → List Heading → Type 0
 Rising from [] = Unit {0}
 Rising from (s ∷ rest) = (from ≤ s.address) × Rising (s.address + s.size) rest
@@ -58,14 +58,14 @@ after None old address = old
 abbrev pub Lands : List Heading → Write → Type 0
 Lands headings w = (w.place < 2 ^ 64) × (list_any (room_in w.place) headings ≡ true)
 
--- the segments rise, none of them ends above the limit, and the objects' numbers of segments add up to
--- all of them
+-- the segments are in ascending order and don't overlap, none of them ends above the limit, and the sum of the objects'
+-- `segment_count` is the number of segments
 pub record IsWhole (objects : List ImageObject) (segments : List ImageSegment) : Type 0 where
   pub rising : Rising 0 (map heading segments)
   pub low : All (λ s. s.address + length s.bytes ≤ MEMORY_LIMIT) segments
   pub counted : sum_by (λ o. o.segment_count) objects ≡ length segments
 
--- each object at the base with the same number in the list
+-- each object of the order, at the base with the same position in `bases`
 abbrev pub with_bases : List Named → List ℕ → List Placed
 with_bases [] bases = []
 with_bases (o ∷ os) [] = []

@@ -36,13 +36,13 @@ pub record IsKept (objects : List Named) (all : List NumberedSymbol) (kept : Lis
 abbrev pub IsOneOf : List Named → List NumberedSymbol → ℕ → List (Option Target) → ℕ → Type 0
 IsOneOf objects all count kept n = (nth_target kept n ≡ None) ⊎ ((at : ℕ) × (at < count) × IsKept objects all kept n at)
 
--- among the first `count` symbols of the list, the kept definition of each number is the first one
+-- for each number, the kept definition is the first definition among the first `count` symbols of the list
 pub record AreFirst (objects : List Named) (all : List NumberedSymbol) (count : ℕ) (kept : List (Option Target)) : Type 0 where
   pub size : length kept ≡ length all + 1
   pub each : (n : ℕ) → IsOneOf objects all count kept n
   pub known : (k : ℕ) → k < count → IsExported objects (nth_symbol all k) → (at : ℕ) × (at ≤ k) × IsKept objects all kept (nth_symbol all k).number at
 
--- among the first `count` symbols of the list, the kept definition of each number is the last one
+-- for each number, the kept definition is the last definition among the first `count` symbols of the list
 pub record AreLast (objects : List Named) (all : List NumberedSymbol) (count : ℕ) (kept : List (Option Target)) : Type 0 where
   pub size : length kept ≡ length all + 1
   pub each : (n : ℕ) → IsOneOf objects all count kept n
@@ -54,7 +54,7 @@ pub record AreUpTo (all : List NumberedSymbol) (count place : ℕ) : Type 0 wher
   pub low : (k : ℕ) → k < count → (nth_symbol all k).object ≤ place
   pub high : (k : ℕ) → count ≤ k → k < length all → place < (nth_symbol all k).object
 
--- a definition, or none if it belongs to another object than the one at `place`
+-- a definition, or none if the definition belongs to an object that isn't the one at `place`
 unfoldable pub own_of : ℕ → Option Target → Option Target
 own_of place None = None
 own_of place (Some Zero) = None
@@ -73,7 +73,7 @@ AreOwn objects all own =
 abbrev pub nth_found : List (List (Option Target)) → ℕ → ℕ → Option Target
 nth_found rows place i = slice_index_or (slice_index_or rows place []) i None
 
--- there is a row for each object, with room for each of its symbols
+-- there is a row for each object, with an element for each of the object's symbols
 pub record HaveRoom (objects : List Named) (rows : List (List (Option Target))) : Type 0 where
   pub size : length rows ≡ length objects
   pub sizes : (p : ℕ) → p < length objects → length (slice_index_or rows p []) ≡ length (symbols (file_at objects p))

@@ -3,7 +3,7 @@ use Rattle.std.specs.Prelude.{ℕ, ◌≡◌, ◌<◌, List, Bool, false, length
 use Rattle.scope.specs.Levels.{is_among}
 use Rattle.scope.specs.Queue.{AreApart}
 
--- flag number p says whether place p is in the queue, for each place below the limit
+-- for each place `p` below the limit, flag number `p` is true if and only if place `p` is in the queue
 pub record AreTold (flags : List Bool) (places : List ℕ) : Type 0 where
   pub told : (p : ℕ) → p < length flags → get_or flags p false ≡ is_among places p
   pub apart : AreApart (length flags) places
