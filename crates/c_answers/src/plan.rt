@@ -30,7 +30,7 @@ fn step_bytes(step: &Step) -> u64
     }
 }
 
-/// Returns the number of bytes as a `u64`.
+/// Returns the length of `bytes` as a `u64`.
 fn length_of(bytes: &[u8]) -> u64
     ensures { result ≡ length bytes.now }
 {
