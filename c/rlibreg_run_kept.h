@@ -176,7 +176,8 @@ enum { NAME_ROOM = 17 };
 struct keeping {
     const char *path; /* path of the folder, or null: no image is taken or kept */
     int says_more;    /* whether to print to standard error what is done */
-    /* Prints `what` or, if it is null, the text of `error`. Null until there is a C library. */
+    /* Prints `what` or, if it is null, the text of `error`. The pointer is null until there is a C
+     * library. */
     void (*say)(const struct keeping *it, const char *what, int error);
     uid_t user;       /* effective user id */
     int folder;       /* descriptor of the folder; -1 if images aren't kept there */

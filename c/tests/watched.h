@@ -59,7 +59,7 @@ struct watched {
     int wipes_nothing;        /* whether the kernel refuses MADV_WIPEONFORK */
     int watches_no_forks;     /* whether a handler of forks is refused for want of memory */
 
-    /* Called before each call; or null. */
+    /* The function that is called before each watched call, or null. */
     void (*before)(const char *word);
 };
 extern struct watched watched;
