@@ -33,8 +33,8 @@ NAME = re.compile(r'[A-Za-z_][\w]*(?:::[A-Za-z_]\w*)*')
 PATH = re.compile(r'^[\w.{},*-]+(?:/[\w.{},*-]+)+/?$')
 BRACES = re.compile(r'\{([^{}]*)\}')
 OF_THE_ROOT, IN_A_CRATE = ('crates', 'docs', 'bench', 'c', 'python', '.ci'), ('src', 'specs', 'proofs', 'data', 'must-fail')
-# The folder that a build makes; and the form of a path that represents many paths of a crate, because one of its names
-# is a word in capitals.
+# MADE: the folder that a build makes. PATTERN: a path with a word in capitals, such as must-fail/THE_MISTAKE.edit, which
+# represents many paths of a crate.
 MADE, PATTERN = 'out', re.compile(r'(?:src|specs|proofs|must-fail)/.*\b[A-Z_]{4,}\b')
 
 
@@ -113,7 +113,7 @@ def unknown_names(text, words, crate):
 
 
 def unlisted():
-    """Returns the files of this folder that its list doesn't name exactly once."""
+    """Returns the files of this folder that the list of bench/README.md doesn't name exactly once."""
     named = QUOTED.findall((ROOT / 'bench' / 'README.md').read_text())
     return sorted(path.name for path in (ROOT / 'bench').iterdir()
                   if path.is_file() and path.name != 'README.md' and named.count(path.name) != 1)

@@ -83,7 +83,7 @@ class Devices:
                 self.registries.make(device, ONE)
 
     def partitions(self):
-        """Gives the device number of a partition to another place."""
+        """Makes a partition again at another place, with the same device number."""
         with loop(self.image(bytes(64 * SECTOR) + self.one + self.other)) as device, part(device, 64, SECTORS) as path:
             for start in (64 + SECTORS, 64):
                 with self.changed('a partition whose number has another place', path):

@@ -492,7 +492,7 @@ class Media:
                 self.want(kind, self.answers(device) == wanted, self.answers(device)[0], 'and not', wanted[0])
 
     def eight_at_once(self):
-        """Does the same again and again, with eight lists at once."""
+        """Changes the medium again and again while the system still has the bytes from before, with eight lists at once."""
         kind = 'eight lists of a device whose medium has changed'
         with loop(zeros(self.image, 64)) as device:
             self.make(device, 64, 'a.so', 'b.so')

@@ -25,7 +25,7 @@ done
 want 'what the shared library needs' libc.so \
     "$(readelf -dW musl/librlibreg.so | sed -n 's/.*Shared library: \[\(.*\)\]/\1/p')"
 
-# `root` has only musl, and `other` has the other builds.
+# The folder `root` has only musl, and the folder `other` has the other builds.
 mkdir -p root/lib root/bin other
 cp "$(readlink -f /lib/ld-musl-x86_64.so.1)" root/lib/ld-musl-x86_64.so.1
 ln -s ld-musl-x86_64.so.1 root/lib/libc.so

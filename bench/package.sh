@@ -81,7 +81,7 @@ plugin_tree() {
     changelog | sed "1s/^rlibreg /rlibreg-gcc-$gcc /" | gzip -9n > "$doc/changelog.gz"
 }
 
-# plugin_control FOLDER: writes its files for dpkg.
+# plugin_control FOLDER: writes the files that dpkg reads about the package of gcc's plugin.
 plugin_control() {
     local release=${plugin##*/rlibreg_tls-} using
     release=${release%.so}
