@@ -77,7 +77,7 @@ class Status(enum.IntEnum):
     PRE_INITIALIZERS = 403
     INITIALIZERS = 404
     FINALIZERS = 405
-    # 406 isn't used again.
+    # The number 406 isn't used again.
     TOO_MANY_HEADERS = 407
     WRITABLE_CODE = 408
     NO_PAGES = 409
@@ -179,8 +179,8 @@ class BoundObject(NamedTuple):
 
 
 class Bindings(NamedTuple):
-    """The bindings of the symbols of a program and its libraries, object by object in load order.
-    If names are missing, only the objects that were found."""
+    """The bindings of the symbols of a program and its libraries, object by object in load order. If names are missing, it
+    has only the objects that were found."""
 
     status: Status  # the status of a bind: DONE, MISSING or UNDEFINED
     objects: list[BoundObject]
