@@ -165,7 +165,7 @@ class Devices:
             forget(device)
 
     def tables(self):
-        """Gives a device of device mapper another table. Its number, length and sequence stay."""
+        """Gives a device of device mapper another table. The device's number, length and sequence stay the same."""
         with contextlib.ExitStack() as stack:
             devices = [stack.enter_context(loop(self.image(it, f'image-{k}'))) for k, it in enumerate((self.one, self.other))]
             device = stack.enter_context(mapped([linear(SECTORS, devices[0])]))

@@ -259,7 +259,7 @@ class Making:
         self.want(kind, self.by.unread(ended, 'n' * 256) and not self.names(), ended)
 
     def paths(self):
-        """Tries a DISK in other folders, and paths that lead to none."""
+        """Tries a DISK in other folders, and paths that lead to no folder."""
         good = {'./disk': 'disk', 'sub/disk': 'sub/disk', 'sub/../disk': 'disk', str(self.disk): 'disk', 'link/disk': 'sub/disk'}
         for path, there in good.items():
             self.clear()

@@ -290,8 +290,8 @@ class Media:
         return path if path.is_block_device() else None
 
     def unseen(self):
-        """Tries a loop device without direct I/O, and its partition, through which the medium can't be seen. Each
-        change there writes the roots to the medium; on other devices none does if nothing differs."""
+        """Tries a loop device without direct I/O, and its partition, through which the medium can't be seen. Each change
+        there writes the roots to the medium; on other devices, no change does so if nothing differs."""
         for option, wanted in (('off', True), ('on', False)):
             kind = f'a change over a loop device, direct I/O {option}'
             try:

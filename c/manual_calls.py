@@ -1,9 +1,9 @@
 #!/usr/bin/env python3
-"""manual_calls.py FOLDER VERSION makes the manual pages of section 3 from the comments of rlibreg.h: one page for each call,
-and rlibreg.h.3 for what applies to all calls.
+"""manual_calls.py FOLDER VERSION makes the manual pages of section 3 from the comments of rlibreg.h: one
+page for each call, and rlibreg.h.3 for what applies to all calls.
 
-A comment at the beginning of a line, and the declarations after it up to the next such comment, are a group. A comment that
-begins with `----` begins a section, whose text applies to each call after it.
+A comment at the beginning of a line, and the declarations after it up to the next such comment, are a
+group. A comment that begins with `----` begins a section, whose text applies to each call after it.
 """
 
 import re
@@ -47,8 +47,9 @@ class Group:
                           for name, number, text in CONSTANT.findall(code)}
 
     def is_told_of_by(self, prototypes, words):
-        """Returns whether a page has to contain this group. The group about plans belongs to the pages of calls that return
-        a plan. Any other group without calls belongs to the pages that name one of its constants."""
+        """Returns whether a page has to contain this group. The group about plans belongs to the pages
+        of calls that return a plan. Any other group without calls belongs to the pages that name one of
+        its constants."""
         if self.text.startswith('PLANS.'):
             return '*plan,' in prototypes
         return not self.calls and any(re.search(rf'\b{it}\b', words) for it in self.constants)
@@ -65,7 +66,8 @@ class Header:
         self.defined = dict(re.findall(r'^#define (RLIBREG_\w+) (\w+)$', text, re.M))
 
     def structures_of(self, words):
-        """Returns the structures that `words` name, and those that the fields of these structures name."""
+        """Returns the structures that `words` name, and those that the fields of these structures
+        name."""
         named = [it for it in self.structures if re.search(rf'\b{it}\b', words)]
         for it in named:
             fields = ' '.join(field for field, _ in self.structures[it].structures[it])
@@ -123,7 +125,8 @@ class Page:
         self.lines += ['.PP', '.RS 4', '.nf', *written, '.fi', '.RE']
 
     def paragraphs(self, text):
-        """Appends paragraphs, lists and code. The first paragraph after a heading needs no macro of its own."""
+        """Appends paragraphs, lists and code. The first paragraph after a heading needs no macro of its
+        own."""
         for block in text.split('\n\n'):
             if all(line.startswith('    ') for line in block.split('\n')):
                 self.code(block.split('\n'))

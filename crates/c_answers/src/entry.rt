@@ -38,8 +38,8 @@ pub(crate) fn name_bytes(name: &Name) -> u64
     (name.as_bytes().len() as u64).saturating_add(1)
 }
 
-/// Puts a name and a byte 0 into a buffer at the offset `at`, if it has room. Returns the offset
-/// after them.
+/// If the buffer `names` has room, puts a name and a byte 0 into it at the offset `at`. Returns the
+/// offset after them, or `None` if the buffer is too small.
 pub(crate) fn put_name(name: &Name, at: usize, names: &mut [u8]) -> Option<usize>
     ensures end { IfSome result (λ end. end ≡ at + length name.now + 1) }
     ensures front { IfSome result (λ end. take end names.new
@@ -51,8 +51,8 @@ pub(crate) fn put_name(name: &Name, at: usize, names: &mut [u8]) -> Option<usize
     put(names, at, b"\0")
 }
 
-/// Puts entry number `index` into the two buffers, if they have room. Writes the entry's name at
-/// the offset `at`. Returns the offset for the next name.
+/// If the two buffers have room, puts entry number `index` into them, with the entry's name at the
+/// offset `at`. Returns the offset for the next name, or `None` if a buffer is too small.
 pub(crate) fn put_entry(
     name: &Name,
     file_length: u32,

@@ -8,7 +8,8 @@ use std::fs;
 /// The name of the file that is the disk.
 const DISK: &str = "disk";
 
-/// Returns the disk that `words` describe: none for `none`, or else a file with its changes.
+/// Returns the disk that `words` describe: no disk for `none`, and otherwise a file with its
+/// changes.
 fn disk_of(rt: &HostRuntime, words: &str) -> Result<Option<Vec<u8>>> {
     if words == "none" {
         return Ok(None);

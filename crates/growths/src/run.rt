@@ -120,7 +120,7 @@ fn go(alloc: Global, disk: &Memory, step: Step, at: usize) -> Result<Went, Alloc
     }
 }
 
-// Gives all commands.
+// Gives each command of `STEPS` to the registry on the disk.
 fn steps(alloc: Global, disk: Memory) -> Result<Went, AllocError> {
     let mut disk = disk;
     for (at, step) in STEPS.iter().enumerate() {

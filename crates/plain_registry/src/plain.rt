@@ -132,7 +132,7 @@ impl PlainRegistry {
         taken <= self.sectors as usize
     }
 
-    // Adds a library after the others.
+    // Adds a library after all other libraries.
     fn add(&mut self, name: &[u8], file: &[u8]) -> Result<(), AllocError> {
         let name = name.to_vec(self.alloc)?;
         let bytes = file.to_vec(self.alloc)?;

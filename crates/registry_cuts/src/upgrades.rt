@@ -112,7 +112,7 @@ impl<'a> Trial<'a> {
         Ok(())
     }
 
-    // Opens the disk that a cut has left once more: with each call of the opening cut, or with its
+    // Opens once more the disk that a cut has left: with each call of the opening cut, or with its
     // fuse.
     fn open_again(&self, tally: &mut Tally, disk: &Memory, wanted: Wanted) -> Result<()> {
         if wanted.cut.forever {

@@ -109,7 +109,8 @@ fn is_order(order: &Order<'_>) -> bool {
         && resolve(order, 1, 0) == Ok(Target::Zero)
 }
 
-/// Returns whether the objects of `order` are placed one after the other, and bound there.
+/// Returns whether the objects of `order` are placed one after the other, and bound at these
+/// places.
 fn is_placed(alloc: Global, order: &Order<'_>) -> bool {
     if Order::count(order) != 2 || !good_base(Order::object(order, 0), BASE) {
         return false;
