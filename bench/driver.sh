@@ -3,7 +3,8 @@
 # for thread-local data, which it makes, and trees of folders by libtool and meson. It prints what an access
 # to thread-local data costs. What this machine lacks is left out, with a line that says so.
 #
-# It needs musl-tools, g++, and gcc-12-plugin-dev for gcc 12; and automake, libtool and meson.
+# The script needs musl-tools, g++, and gcc-12-plugin-dev for gcc 12; and automake, libtool and
+# meson.
 set -eu
 cd "$(dirname "$0")/.."
 here=$PWD/c/tests bench=$PWD/bench musl=

@@ -637,7 +637,7 @@ int rlibreg_stream_of(const char *path);
  * regular file or a block device. FLAGS is 0 or a sum of RLIBREG_READ_WRITE and RLIBREG_WAIT. The
  * call doesn't test what the file holds: the calls after it do.
  *
- * It returns 0 if the file is open, and otherwise one of these:
+ * The call returns 0 if the file is open, and otherwise one of these:
  *
  * - RLIBREG_LOCKED: another struct, of this process or another, has locked the file, and either
  *   FLAGS lacks RLIBREG_WAIT or the wait has reached its limit. With RLIBREG_WAIT the call returns
@@ -666,7 +666,7 @@ uint32_t rlibreg_open(rlibreg *registry, const char *path, unsigned flags);
  * After a refusal or a failure the struct has no file. After every refusal except S1, nothing was
  * made, and a file that existed is as it was.
  *
- * It returns 0 if the registry was made, and otherwise one of these:
+ * The call returns 0 if the registry was made, and otherwise one of these:
  *
  * - RLIBREG_BAD_ARGUMENT: SECTORS isn't 8 to 4,194,304, or the struct already has a file.
  * - RLIBREG_LOCKED: the disk or the file with the other name is locked.
