@@ -5,7 +5,8 @@
         image = registry.bind(Path('program'), 1 << 40)
 
 The module calls librlibreg.so by ctypes. docs/PYTHON.md introduces the module. rlibreg.h describes
-what each call does, its limits and its refusals. """
+what each call does, its limits and its refusals.
+"""
 
 from __future__ import annotations
 
