@@ -28,7 +28,7 @@ def empty(folder):
 
 @contextlib.contextmanager
 def writer(folder):
-    """Runs a process that keeps writing and syncing a file of the folder."""
+    """Runs a process that keeps writing and syncing a file of a folder."""
     it = subprocess.Popen([shutil.which('sh'), '-c', WRITING, str(folder / 'written')], start_new_session=True)
     try:
         yield

@@ -66,7 +66,8 @@ def part(device, start, sectors):
 
 
 def move(device, start, sectors):
-    """Gives the device number of partition 1 to another place. The kernel frees the number a moment after it removes the partition."""
+    """Makes partition 1 again at another place, with the same device number. The kernel frees the number a moment after it
+    removes the partition."""
     number = os.stat(f'{device}p1').st_rdev
     for _ in range(TRIES):
         insist(lambda: system('delpart', device, 1))

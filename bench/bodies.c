@@ -115,7 +115,7 @@ static void name_it(void) {
     named = !NEXT(int, "link", const char *, const char *)(path, getenv("MEDIUM_DISK"));
 }
 
-/* Returns whether the sync of this number of a file is left out. */
+/* Returns whether sync number `number` of a file is left out. */
 static bool is_left_out(int number) {
     return (is("no_sync") && number == 2) || (is("no_last_sync") && number > 2);
 }

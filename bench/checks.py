@@ -59,7 +59,7 @@ class Program:
 
 
 class CLibrary(Program):
-    """The program over the C library, c/tests/tool.c, which takes the same arguments."""
+    """The program over the C library, c/tests/tool.c, which takes the same arguments as `rlibreg`."""
 
     # For a program with the sanitizer of addresses: under strace, it must not look for leaks.
     name, more = 'C library', {'ASAN_OPTIONS': 'detect_leaks=0'}

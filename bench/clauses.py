@@ -168,7 +168,7 @@ def groups_of(lines, path):
 
 
 def end_of_header(lines, number):
-    """Returns the line after a function's clauses: its body begins there, or it has none."""
+    """Returns the line after a function's clauses: the function's body begins at this line, or the function has no body."""
     depth = 0
     for k in range(number, len(lines)):
         line = lines[k].split('//')[0].rstrip()

@@ -7,8 +7,8 @@ toolchain's own. PLAIN has a plain sentence in place of a comment that can't be 
 ends with what is wrong if a clause or a definition of READING or PLAIN no longer exists, if no clause uses a definition of
 READING, or if CRATES doesn't name each crate that has definitions once.
 
-The first definition of a file may have the file's own comment. Constants share the comment of the first of them; any
-other definition without one is reported.
+The first definition of a file may have the file's own comment. Constants share the comment of the first of them; any other
+definition without a comment is reported.
 """
 
 import re

@@ -3,8 +3,8 @@
 
     python3 bench/disks.py PROGRAM FOLDER
 
-It prints the least real time of some runs and the least user + system time, in seconds; the maximum memory in MiB; and
-the number of system calls that the program makes (counted by strace). FOLDER should lie on the file system that is to be
+The script prints the least real time of some runs and the least user + system time, in seconds; the maximum memory in MiB;
+and the number of system calls that the program makes (counted by strace). FOLDER should lie on the file system that is to be
 measured.
 """
 

@@ -4,13 +4,13 @@
     python3 bench/documents.py            writes the generated pages again
     python3 bench/documents.py --check    writes nothing, and fails if a page would change
 
-It fails if a name between backquotes isn't in the tree, if the list of bench/README.md doesn't name each file of bench/
-once, if a source file has no comment at its head, if a picture would change (pictures.py), if a refusal code comes before
-its name on a page, if a command of a page doesn't exist (page_checks.py), if a crate doesn't export a name of
-docs/PROMISED_CALLS.txt, or if no test calls it by its path. A name is a path,
-or a word of the code: a word with `_`, `::` or a capital letter within it. In a crate's page, a path that begins with
-`src/`, `specs/`, `proofs/`, `data/` or `must-fail/` is a path of that crate; in any other page it is a path of some
-crate. All other paths begin at the root of the repository.
+The script fails if a name between backquotes isn't in the tree, if the list of bench/README.md doesn't name each file of
+bench/ once, if a source file has no comment at its head, if a picture would change (pictures.py), if a refusal code comes
+before its name on a page, if a command of a page doesn't exist (page_checks.py), if a crate doesn't export a name of
+docs/PROMISED_CALLS.txt, or if no test calls it by its path. A name is a path, or a word of the code: a word with `_`, `::`
+or a capital letter within it. In a crate's page, a path that begins with `src/`, `specs/`, `proofs/`, `data/` or
+`must-fail/` is a path of that crate; in any other page it is a path of some crate. All other paths begin at the root of the
+repository.
 """
 
 import re
@@ -33,8 +33,8 @@ NAME = re.compile(r'[A-Za-z_][\w]*(?:::[A-Za-z_]\w*)*')
 PATH = re.compile(r'^[\w.{},*-]+(?:/[\w.{},*-]+)+/?$')
 BRACES = re.compile(r'\{([^{}]*)\}')
 OF_THE_ROOT, IN_A_CRATE = ('crates', 'docs', 'bench', 'c', 'python', '.ci'), ('src', 'specs', 'proofs', 'data', 'must-fail')
-# The folder that a build makes; and the form of a path that represents many paths of a crate, because one of its names
-# is a word in capitals.
+# MADE: the folder that a build makes. PATTERN: a path with a word in capitals, such as must-fail/THE_MISTAKE.edit, which
+# represents many paths of a crate.
 MADE, PATTERN = 'out', re.compile(r'(?:src|specs|proofs|must-fail)/.*\b[A-Z_]{4,}\b')
 
 
@@ -113,7 +113,7 @@ def unknown_names(text, words, crate):
 
 
 def unlisted():
-    """Returns the files of this folder that its list doesn't name exactly once."""
+    """Returns the files of this folder that the list of bench/README.md doesn't name exactly once."""
     named = QUOTED.findall((ROOT / 'bench' / 'README.md').read_text())
     return sorted(path.name for path in (ROOT / 'bench').iterdir()
                   if path.is_file() and path.name != 'README.md' and named.count(path.name) != 1)

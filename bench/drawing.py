@@ -46,7 +46,7 @@ class Picture:
                               f'{font} text-anchor="{anchor}">{escape(line.strip("`"))}</text>')
 
     def path(self, points, has_head=True, is_dashed=False):
-        """Draws a line through points; with a head, an arrow to the last of them."""
+        """Draws a line through points. With a head, the line is an arrow to the last point."""
         steps = ' '.join(f'{"L" if number else "M"}{x:g} {y:g}' for number, (x, y) in enumerate(points))
         dashes = ' stroke-dasharray="4 4"' if is_dashed else ''
         head = ' marker-end="url(#head)"' if has_head else ''

@@ -3,7 +3,8 @@
 # for thread-local data, which it makes, and trees of folders by libtool and meson. It prints what an access
 # to thread-local data costs. What this machine lacks is left out, with a line that says so.
 #
-# It wants musl-tools, g++, and gcc-12-plugin-dev for gcc 12; and automake, libtool and meson.
+# The script needs musl-tools, g++, and gcc-12-plugin-dev for gcc 12; and automake, libtool and
+# meson.
 set -eu
 cd "$(dirname "$0")/.."
 here=$PWD/c/tests bench=$PWD/bench musl=
@@ -22,7 +23,8 @@ c/plugin.sh "$built"
 )
 PATH=$built:$PATH
 
-# A tree of folders: a program, a library, and another library that only this one needs.
+# A tree of folders: a program, a library that it needs, and another library that only the first
+# library needs.
 mkdir "$room/tree" "$room/tree/inner" "$room/tree/outer" "$room/tree/app"
 cd "$room/tree"
 echo 'int inner(void) { return qsort != 0; }' | sed '1i #include <stdlib.h>' > inner/inner.c

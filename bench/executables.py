@@ -3,12 +3,12 @@
 
     python3 bench/executables.py RLIBREG RLIBREG_TOOL FOLDER [--count 500] [--kernel VMLINUZ] [--accel tcg]
 
-Each is a program with up to 20 libraries, made by random linkers with random flags at random bases. It ends with the
-sum of the values that its libraries and their data return. In some programs, segments share pages: each page of the
-program has to have the permissions of all its segments, and there may not be two PT_LOADs if one would be enough. An
-object is refused if one of its pages may be both written and executed, as read from the files. Other programs have 71,
-75, 1,167 and 1,171 program headers, and the last is refused. All of them are started here, and with --kernel also in a
-guest of qemu; a kernel before 6.17 accepts at most 73 headers.
+Each executable has a program and up to 20 libraries, made by random linkers with random flags at random bases. The program
+ends with the sum of the values that its libraries and their data return. In some programs, segments share pages: each page
+of the program has to have the permissions of all its segments, and there may not be two PT_LOADs if one would be enough. An
+object is refused if one of its pages may be both written and executed, as read from the files. Other programs have 71, 75,
+1,167 and 1,171 program headers, and the last is refused. All of them are started here, and with --kernel also in a guest of
+qemu; a kernel before 6.17 accepts at most 73 headers.
 """
 
 import argparse
@@ -99,8 +99,8 @@ def pages(file, base=0):
 
 
 def are_one(first, second):
-    """Returns whether one PT_LOAD would be enough for two: they permit the same, not both writing and executing, and
-    no whole page lies between them."""
+    """Returns whether one PT_LOAD would be enough for two: the two have the same permissions, which aren't both writing and
+    executing, and no whole page lies between them."""
     (flags, _, address, size, _), (other, _, begin, _, _) = first, second
     return flags == other and flags & 3 != 3 and begin // PAGE * PAGE < address + size + PAGE
 

@@ -4,11 +4,11 @@ system call fails, or the program is killed at it. Needs strace.
 
     python3 bench/faults.py PROGRAM FOLDER [--tool RLIBREG_TOOL] [--dynamic DYNAMIC]
 
-After each run the script lists the disk, as the running machine shows it, and binds a program from it. Both results
-have to be those from before the command or those from after it, and those from after it if the command answered `ok`.
-So a `format` of a disk that doesn't exist leaves none, or a whole registry. The other name under which the disk is made
-may stay only after a kill, or if it can't be removed (`making.py` tries more of this). Finally, every two syncs of a
-command fail. For each command and each kind of fault, the script prints the number of runs for each way to end.
+After each run the script lists the disk, as the running machine shows it, and binds a program from it. Both results have to
+be those from before the command or those from after it, and those from after it if the command answered `ok`. So a `format`
+of a disk that doesn't exist leaves no disk or a whole registry. The other name under which the disk is made may stay only
+after a kill, or if it can't be removed (`making.py` tries more of this). Finally, every two syncs of a command fail. For
+each command and each kind of fault, the script prints the number of runs for each way to end.
 
 Before that, standard streams are closed or fail (`streams.py`), also those of RLIBREG_TOOL. After it, reads and writes
 transfer fewer bytes than the program asked for (`short.py`). Some of these runs need DYNAMIC, a folder that
@@ -40,7 +40,8 @@ TWO_SYNCS = 'two syncs'
 
 
 def made_files(folder):
-    """Makes two libraries, the second also with other bytes, a program that needs the first, and one that needs none."""
+    """Makes two libraries, another version of the second one, a program that needs the first one, and a program that needs
+    no library."""
     files = {
         'a.so': Made(b'a', exports=[b'fa'], data=600),
         'b.so': Made(b'b', exports=[b'fb'], data=900),

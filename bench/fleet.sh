@@ -11,8 +11,8 @@
 # - The power fails CUTS times (3) in each way, over and over: afterwards the device has the version that
 #   it had reached, or the next. The same is tried once more by a list, and the way goes on.
 #
-# It needs root, debootstrap, qemu-system-x86, fdisk, e2fsprogs, gcc and python3 (3.9 or later), and loads
-# some 300 MB from a mirror of Debian. ACCEL is qemu's -accel.
+# The script needs root, debootstrap, qemu-system-x86, fdisk, e2fsprogs, gcc and python3 (3.9 or later),
+# and loads some 300 MB from a mirror of Debian. ACCEL is qemu's -accel.
 set -eu
 built=$(cd "$1" && pwd)
 release=${2:-bookworm} cuts=${3:-3}

@@ -30,7 +30,8 @@ keys() {
     openssl req -x509 -newkey rsa:2048 -nodes -subj "/CN=$1" -days 3650 -keyout "$1.key" -out "$1.cert"
 } 2> /dev/null
 
-# as NAME FOLDER: signs what is in the folder with that key: the sum, a bundle of RAUC, casync's index.
+# as NAME FOLDER: signs the files of FOLDER with the key NAME: the sum, a bundle of RAUC, casync's
+# index.
 as() {
     export GNUPGHOME=/www/$1
     (

@@ -56,14 +56,14 @@ boot() {
     guest=$!
 }
 
-# begun TEXT: waits until the guest prints it, or ends.
+# begun TEXT: waits until the guest prints TEXT or ends.
 begun() {
     timeout "${PATIENCE:-1800}" sh -c \
         "until grep -aq '$1' '$room/console' || ! kill -0 $guest 2> /dev/null; do sleep 0.2; done" ||
         failed 'the guest goes on'
 }
 
-# power_cut SECONDS: cuts the guest's power after a random time, which is at most about this.
+# power_cut SECONDS: cuts the guest's power after a random time of at most about SECONDS seconds.
 power_cut() {
     sleep "$((RANDOM % $1)).$((RANDOM % 10))"
     kill -9 $guest || true

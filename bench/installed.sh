@@ -4,7 +4,7 @@
 # documents describe. It runs the commands exactly as the documents have them. Finally it checks that
 # nothing is left after the removal.
 #
-# It needs root and debootstrap, and loads some 150 MB from a mirror of Debian.
+# The script needs root and debootstrap, and loads some 150 MB from a mirror of Debian.
 set -eu
 built=$(cd "$1" && pwd)
 release=${2:-bookworm}

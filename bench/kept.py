@@ -4,7 +4,7 @@
     python3 bench/kept.py PROGRAMS [SECONDS [FOLDER [loop]]]
 
 PROGRAMS has rlibreg and rlibreg-run (c/build.sh). Disk and images lie in FOLDER, or in memory. With the word `loop`, which
-needs root, the disk is a loop device over a file there; images of a device are kept without waiting for a time without
+needs root, the disk is a loop device over a file in FOLDER; images of a device are kept without waiting for a time without
 changes.
 
 Twenty loops start a program that prints the version of its library, each time with `rlibreg-run -c`. Every second start

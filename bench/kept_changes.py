@@ -46,7 +46,7 @@ class Disk:
         self.made, self.recent, self.changes = [], [], []
 
     def begin(self, stack):
-        """Makes the disk. `stack` removes what is made."""
+        """Makes the disk. `stack` removes everything that is made."""
         self.write(self.registry())
 
     def registry(self):
@@ -98,7 +98,7 @@ class Disk:
         return f'update of {len(lines)}: {ended.stdout.decode().strip()}'
 
     def made_again(self):
-        """Makes a registry by commands in the place of the one that is there."""
+        """Makes a registry by commands in place of the existing registry."""
         self.write(bytes(2 * SECTOR))
         self.registries.make(self.path, [('a', self.choose.randrange(len(VERSIONS))), ('b', 0), ('c', 0), ('p', 0)])
         return 'made again'

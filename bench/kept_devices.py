@@ -83,7 +83,7 @@ class Devices:
                 self.registries.make(device, ONE)
 
     def partitions(self):
-        """Gives the device number of a partition to another place."""
+        """Makes a partition again at another place, with the same device number."""
         with loop(self.image(bytes(64 * SECTOR) + self.one + self.other)) as device, part(device, 64, SECTORS) as path:
             for start in (64 + SECTORS, 64):
                 with self.changed('a partition whose number has another place', path):
@@ -165,7 +165,7 @@ class Devices:
             forget(device)
 
     def tables(self):
-        """Gives a device of device mapper another table. Its number, length and sequence stay."""
+        """Gives a device of device mapper another table. The device's number, length and sequence stay the same."""
         with contextlib.ExitStack() as stack:
             devices = [stack.enter_context(loop(self.image(it, f'image-{k}'))) for k, it in enumerate((self.one, self.other))]
             device = stack.enter_context(mapped([linear(SECTORS, devices[0])]))

@@ -131,7 +131,7 @@ class Registries:
             self.done('preload', disk, *(f'lib{name}.so' for name in preloads))
 
     def image(self, versions, preloads=(), sectors=SECTORS):
-        """Returns the bytes of such a registry."""
+        """Returns the bytes of a registry that `make` makes with these versions and preloads."""
         key = tuple(versions), tuple(preloads), sectors
         if key not in self.kept:
             path = self.folder / 'image'
@@ -166,7 +166,7 @@ class Starts:
         return ended._replace(errors=errors), tells + b'its image is taken\n' in lines
 
     def compared(self, kind, kept, disk, program, *options, more=''):
-        """Starts a program without images, and three times with. Returns whether the last start took an image."""
+        """Starts a program without images, and three times with images. Returns whether the last start took an image."""
         wanted = self.start(disk, program, *options)
         first, was_taken = self.told(kept, disk, program, *options)
         second = self.start(disk, program, '-c', kept, *options)

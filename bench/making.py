@@ -259,7 +259,7 @@ class Making:
         self.want(kind, self.by.unread(ended, 'n' * 256) and not self.names(), ended)
 
     def paths(self):
-        """Tries a DISK in other folders, and paths that lead to none."""
+        """Tries a DISK in other folders, and paths that lead to no folder."""
         good = {'./disk': 'disk', 'sub/disk': 'sub/disk', 'sub/../disk': 'disk', str(self.disk): 'disk', 'link/disk': 'sub/disk'}
         for path, there in good.items():
             self.clear()
@@ -385,7 +385,7 @@ class Making:
     # A DISK that is no file.
 
     def odd_disks(self):
-        """Checks that the program answers at once for such a DISK, never opens it, and makes nothing."""
+        """Checks that the program answers at once for a DISK that is no file, never opens the DISK, and makes nothing."""
         (self.folder / 'program').write_bytes(Made().file)
         for kind, make in [*odd_things(self.folder), *linked_things(self.folder), ('a folder', lambda path: path.mkdir())]:
             for words in self.commands():
@@ -460,7 +460,7 @@ def odd_things(folder):
 
 
 def linked_things(folder):
-    """Returns symbolic links to such things."""
+    """Returns symbolic links to things that are neither a regular file nor a block device."""
     def linked(make):
         def both(path):
             make(path.with_name('target'))

@@ -290,8 +290,8 @@ class Media:
         return path if path.is_block_device() else None
 
     def unseen(self):
-        """Tries a loop device without direct I/O, and its partition, through which the medium can't be seen. Each
-        change there writes the roots to the medium; on other devices none does if nothing differs."""
+        """Tries a loop device without direct I/O, and its partition, through which the medium can't be seen. Each change
+        there writes the roots to the medium; on other devices, no change does so if nothing differs."""
         for option, wanted in (('off', True), ('on', False)):
             kind = f'a change over a loop device, direct I/O {option}'
             try:
@@ -492,7 +492,7 @@ class Media:
                 self.want(kind, self.answers(device) == wanted, self.answers(device)[0], 'and not', wanted[0])
 
     def eight_at_once(self):
-        """Does the same again and again, with eight lists at once."""
+        """Changes the medium again and again while the system still has the bytes from before, with eight lists at once."""
         kind = 'eight lists of a device whose medium has changed'
         with loop(zeros(self.image, 64)) as device:
             self.make(device, 64, 'a.so', 'b.so')

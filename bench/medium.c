@@ -222,7 +222,8 @@ static bool is_clean(off_t first) {
     return true;
 }
 
-/* Drops the clean pieces that lie whole in the range; the last piece of the file also if the range ends where the file does. */
+/* Drops the clean pieces that lie whole in the range. The last piece of the file is also dropped if the range ends where the
+ * file ends. */
 static void let_go(int descriptor, off_t from, off_t size) {
     int file = file_again(descriptor);
     off_t end = length_of(file), stop = size ? from + size : end;
@@ -235,7 +236,7 @@ static void let_go(int descriptor, off_t from, off_t size) {
     syscall(SYS_close, file);
 }
 
-/* Reads bytes past the cache: of each page at most what the file has of it. */
+/* Reads bytes past the cache. Of each page it reads at most the bytes that the file has. */
 static ssize_t bytes_past(int descriptor, char *into, size_t size, off_t from) {
     ssize_t length = syscall(SYS_pread64, descriptor, into, size, from);
     for (off_t at = 0; at < length; at += PAGE) {

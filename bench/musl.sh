@@ -3,8 +3,8 @@
 # form of the programs beside those that c/build.sh has put into BUILT, the updater of docs/C.md with both
 # libraries, and a program under rlibreg-run. Then come the tests of the C library over what was built.
 #
-# It needs root, and Debian's musl-tools. It takes two minutes in addition to what c/build.sh proves; the
-# variables RLIBREG_C, RLIBREG_O and RLIBREG_TOOL_O spare these proofs.
+# The script needs root, and Debian's musl-tools. It takes two minutes in addition to what c/build.sh
+# proves; the variables RLIBREG_C, RLIBREG_O and RLIBREG_TOOL_O spare these proofs.
 set -euo pipefail
 built=$(cd "$1" && pwd)
 cd "$(dirname "$0")/.."
@@ -25,7 +25,7 @@ done
 want 'what the shared library needs' libc.so \
     "$(readelf -dW musl/librlibreg.so | sed -n 's/.*Shared library: \[\(.*\)\]/\1/p')"
 
-# `root` has only musl, and `other` has the other builds.
+# The folder `root` has only musl, and the folder `other` has the other builds.
 mkdir -p root/lib root/bin other
 cp "$(readlink -f /lib/ld-musl-x86_64.so.1)" root/lib/ld-musl-x86_64.so.1
 ln -s ld-musl-x86_64.so.1 root/lib/libc.so

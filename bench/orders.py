@@ -28,7 +28,8 @@ class OpenFile:
 class Order:
     def __init__(self, log, shared):
         self.log, self.shared, self.files, self.faults = log, shared, {}, set()
-        # Whether a write still needs its sync, and a name the sync of its folder and the question after that.
+        # Whether a write still needs a sync, and whether a name still needs the sync of its folder and the question after
+        # that sync.
         self.waiting = self.unnamed = self.unasked = False
         self.letting_go = None
         self.last_sync = max([at for at, line in enumerate(log) if line[0] == 'sync'], default=-1)

@@ -7,7 +7,7 @@
 # If c/plugin.sh has put gcc's plugin into BUILT, the plugin gets a package of its own, because it has
 # another license. For gcc 12 this is rlibreg-gcc-12.
 #
-# It needs dpkg-dev, and pandoc for manual pages. The package's maintainer is DEBFULLNAME with DEBEMAIL or,
+# The script needs dpkg-dev, and pandoc for manual pages. The package's maintainer is DEBFULLNAME with DEBEMAIL or,
 # without these, the last commit's author. With a RELEASE it needs root and debootstrap, and loads some 50 MB from a
 # mirror.
 set -eu
@@ -81,7 +81,7 @@ plugin_tree() {
     changelog | sed "1s/^rlibreg /rlibreg-gcc-$gcc /" | gzip -9n > "$doc/changelog.gz"
 }
 
-# plugin_control FOLDER: writes its files for dpkg.
+# plugin_control FOLDER: writes the files that dpkg reads about the package of gcc's plugin.
 plugin_control() {
     local release=${plugin##*/rlibreg_tls-} using
     release=${release%.so}

@@ -16,8 +16,8 @@
 # - The power fails CUTS times (5) while rlibreg-switch goes to and fro: the link leads to one of the two
 #   partitions, whose registry is whole, and the next switch succeeds.
 #
-# It needs root, debootstrap, qemu-system-x86, fdisk, e2fsprogs and gcc, and loads some 250 MB from a
-# mirror of Debian. ACCEL is qemu's -accel.
+# The script needs root, debootstrap, qemu-system-x86, fdisk, e2fsprogs and gcc, and loads some 250
+# MB from a mirror of Debian. ACCEL is qemu's -accel.
 set -eu
 built=$(cd "$1" && pwd)
 PATH=$built:$PATH

@@ -148,7 +148,7 @@ def try_all(bench, sources, names):
 
 
 def asked_for():
-    """Returns what the command line asks for; FOLDER is emptied."""
+    """Returns what the command line asks for, and empties FOLDER."""
     asked = argparse.ArgumentParser()
     asked.add_argument('programs', type=Path)
     asked.add_argument('folder', type=Path)

@@ -204,7 +204,7 @@ def is_compiler_right(ended, place, preprocessed, compiled):
 
 def tcc_trials(it):
     place = it.place['static']
-    # 02: a statically linked tcc doesn't pass that test either.
+    # Test 02 is left out: a statically linked tcc doesn't pass it either.
     preprocessed, compiled = (
         {path.stem: path.with_suffix('.expect').read_bytes().split()
          for path in sorted((place / 'tests').glob(pattern)) if path.stem != '02'}

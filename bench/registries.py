@@ -9,7 +9,7 @@ SECTOR, PAGE = 512, 4096
 NO_FILE, ZEROS, OLD, REGISTRY, DAMAGED = 'no file', 'not formatted', 'version 1', 'registry', 'damaged'
 REFUSED = {ZEROS: b'refused S3 NotFormatted\n', OLD: b'refused S12 OldFormat\n', DAMAGED: b'refused S5 Damaged\n'}
 
-# libraries: pairs of a name and its bytes, in their order; preloads: names.
+# `libraries` has pairs of a name and the bytes of its file, in their order; `preloads` has names.
 State = collections.namedtuple('State', 'kind sectors libraries preloads')
 Root = collections.namedtuple('Root', 'version generation sectors libraries preloads listed')
 

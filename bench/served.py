@@ -2,9 +2,9 @@
 
     python3 bench/served.py FOLDER LOG
 
-It prints its port. LOG gets a line for each answer, with the path and how many bytes of a file were sent. The paths below
-/cut have the same files, but of a file of more than 8 KB only half is sent, and then the connection ends. Below /bad, one
-bit of such a file is changed.
+The script prints its port. LOG gets a line for each answer, with the path and how many bytes of a file were sent. The paths
+below /cut have the same files, but of a file of more than 8 KB only half is sent, and then the connection ends. Below /bad,
+one bit of such a file is changed.
 """
 
 import sys

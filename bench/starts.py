@@ -33,7 +33,7 @@ def run(*words, **more):
 
 
 def source(number, count, relocations, choose):
-    """Returns a library's functions, and its array of addresses of the others' functions."""
+    """Returns a library's functions, and its array with the addresses of functions of the other libraries."""
     own = ''.join(f'void f{number}_{k}(void) {{}}\n' for k in range(EXPORTS))
     others = [it for it in range(count) if it != number]
     named = [f'f{choose.choice(others)}_{choose.randrange(EXPORTS)}' for _ in range(relocations)]

@@ -131,7 +131,7 @@ class Streams:
                 self.closed_streams('closed, ' + start, words, start, self.plain(words, start))
 
     def numbered(self):
-        """Does the same with DISK, FILE and PROGRAM as the numbers of open files."""
+        """Tries the commands with DISK, FILE and PROGRAM as the numbers of open files: with all streams, and with closed ones."""
         for start in ('a registry', 'version 1', 'zeros'):
             for form in ('/dev/fd/%d', '/proc/self/fd/%d'):
                 for at, ordinary in enumerate(self.commands()):
@@ -372,7 +372,7 @@ def kinds(lines, no_lines):
 
 
 def try_streams(kind, program, folder, *disks):
-    """Tries everything for a program of this kind. Returns whether it was right."""
+    """Tries everything for a program of this kind. Returns whether everything was right."""
     streams = kind(program, folder, *disks)
     files = streams.others()
     for part in streams.parts():

@@ -17,9 +17,9 @@ shown. The script has its own record of the states (`registries.py`), and reads 
 between have an order: lock, sync, the roots compared with the medium's, the first read; all writes before the sync, and
 the sync before the reply; the lock until the last sync.
 
-It prints a line for each command, and exits with status 1 if something is wrong. --all tries more mixtures, parts and
-chains of faults. --body NAME makes the body NAME of `bodies.c` make other calls than PROGRAM does: then something has to be
-wrong, except with the body `right`.
+The script prints a line for each command, and exits with status 1 if something is wrong. --all tries more mixtures, parts
+and chains of faults. --body NAME makes the body NAME of `bodies.c` make other calls than PROGRAM does: then something has to
+be wrong, except with the body `right`.
 """
 
 import argparse

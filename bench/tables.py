@@ -36,9 +36,9 @@ def words(numbers):
 
 
 def library(strings, symbols, buckets, chains, needed=0):
-    """Returns a library named q. It has symbols from number 1 on as pairs (offset of the name, st_info), the strings
-    after the library's own, the buckets and the chain words, also that of symbol 0, and needs q `needed` times.
-    Addresses are offsets of the file."""
+    """Returns a library named `q`. It has symbols from number 1 on as pairs (offset of the name, st_info), the strings after
+    the library's own, the buckets and the chain words, also that of symbol 0, and names `q` `needed` times as a needed
+    library. Addresses are offsets of the file."""
     own = b'\0q\0'
     table = words([len(buckets), len(chains)]) + words(buckets) + words(chains)
     table += bytes(-len(table) % 8)
@@ -101,7 +101,7 @@ def own_buckets(count):
 
 
 def tree(count):
-    """Makes chains that merge: the word of i is i // 2. Each symbol whose bucket is free is exported, and its bucket
+    """Makes chains that merge: the word of symbol i is i // 2. Each symbol whose bucket is free is exported, and its bucket
     has an index as deep below it as there is."""
     names = numbered(count)
     strings, offsets = placed(names)

@@ -3,8 +3,8 @@
 
     python3 bench/tails.py FOLDER PROGRAM ..
 
-It makes the files in the folder. Each program installs the libraries on a disk of its own and binds. The programs take
-turns. The script prints the least user + system time of five binds of each program, in milliseconds. All images are the
+The script makes the files in the folder. Each program installs the libraries on a disk of its own and binds. The programs
+take turns. The script prints the least user + system time of five binds of each program, in milliseconds. All images are the
 same.
 """
 

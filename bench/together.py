@@ -70,8 +70,8 @@ class State:
             self.preloads = names
 
     def between(self, before, after):
-        """Returns whether this state may be found between `before` and `after`: the libraries that were installed on
-        the way, in the order of the end, are a first part of those installed in all."""
+        """Returns whether this state may be found between `before` and `after`: of the libraries that are installed in
+        between, in the order of `after`, it has the first ones."""
         kept = [it for it in before.libraries if it in self.libraries]
         grown = list(self.libraries)[len(kept):]
         good = self.whole and list(self.libraries)[:len(kept)] == kept
@@ -141,7 +141,7 @@ class Rounds:
         return State(ended.output if ended.status == 0 else b''), ended
 
     def at_once(self, asked):
-        """Runs all of them at the same time; each is a program, its arguments, and its input."""
+        """Runs all commands at the same time. Each command is a program, its arguments, and its input."""
         begun = [(by, words, given, by.begin(words)) for by, words, given in asked]
         return [(by, words, by.end(process, given)) for by, words, given, process in begun]
 
@@ -208,7 +208,7 @@ class Rounds:
         return self.tool if self.tool and i % 2 else self.program
 
     def commands(self):
-        """Returns all commands, to be run at once, each of which may be answered `ok` after each other."""
+        """Returns all commands, to be run at once. Each of them may be answered `ok` after any other one."""
         given = b'install ' + (self.folder / library(COUNT, 0)).read_bytes().hex().encode() + b'\nlist\n'
         words = [['install', 'disk', library(i, 0)] for i in (3, 4, 5)] + [['replace', 'disk', library(i, 1)] for i in (0, 1)]
         words += [['remove', 'disk', name(2).decode()], ['preload', 'disk', name(1).decode()], ['list', 'disk']]

@@ -56,7 +56,7 @@ down() {
     rm -f image copy
 }
 
-# Runs a `format` one of whose syncs fails, by its number, and prints its answer.
+# Runs a `format` whose sync of a given number fails, and prints its answer.
 failing_format() {
     rm -f trace
     strace -e trace=fsync -e "inject=fsync:delay_enter=${DELAY:-2000000}:when=$1" -o trace \

@@ -95,8 +95,8 @@ class Draft:
         return b'planned\n'
 
     def refused_first(self, command, words):
-        """Returns the refusal of a command by C1, C5 (RepeatedPreload) or C6 (TooManyPreloads), which CHANGES doesn't
-        have."""
+        """Returns the refusal of a command with C1, C5 (RepeatedPreload) or C6 (TooManyPreloads). CHANGES doesn't have these
+        refusals."""
         if command in ('install', 'replace') and words[0] is None:
             return b'refused C1 E2 BadMagic\n', None
         if command == 'preload' and len(words) > 16:

@@ -144,10 +144,11 @@ soname=librlibreg.so.${version%.*}
     ln -s "$soname" librlibreg.so
 )
 
-# The driver, with its specs, what links, where its programs begin, what they may ask for, what C++ asks
-# for, what reads version scripts and files of words, and the kernel's headers. Its programs have musl,
-# whatever this is compiled for. What they begin with is one object, which is small, since a start takes as
-# long as it touches pages. No stack protector is set up yet.
+# The parts of the driver: its specs, the script that links, the object at which programs begin, the
+# archives of what programs and C++ may ask for, the awk scripts for version scripts and files of words,
+# and the kernel's headers. The driver's programs contain musl, whichever C library CC is for. The object
+# at which they begin is small, because each page that a start touches takes time. It has no stack
+# protector, because none is set up at that time.
 (
     of_program="$flags -g0 -fno-stack-protector -U_FORTIFY_SOURCE"
     for part in begin begin_calls objects; do

@@ -28,7 +28,8 @@ add() {
     modes+=("$1") sources+=("$2") files+=("$3")
 }
 
-# put MODE SOURCE FILE: installs a file, under another name first.
+# put MODE SOURCE FILE: installs a file. Writes the file under another name first, and then gives it
+# its own.
 put() {
     local new=$root${3%/*}/.${3##*/}.new
     install -d "$root${3%/*}"

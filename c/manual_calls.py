@@ -1,9 +1,9 @@
 #!/usr/bin/env python3
-"""manual_calls.py FOLDER VERSION makes the manual pages of section 3 from rlibreg.h, whose comments are
-all that they say: one a call, and rlibreg.h.3 of what is said of all.
+"""manual_calls.py FOLDER VERSION makes the manual pages of section 3 from the comments of rlibreg.h: one
+page for each call, and rlibreg.h.3 for what applies to all calls.
 
-A comment at the beginning of a line and what is declared behind it, up to the next one, are a group. One
-that begins with `----` begins a section, which is said of each call behind it.
+A comment at the beginning of a line, and the declarations after it up to the next such comment, are a
+group. A comment that begins with `----` begins a section, whose text applies to each call after it.
 """
 
 import re
@@ -28,12 +28,12 @@ DOCUMENTS = {'docs/COMMANDS.md': 'rlibreg(1)', 'docs/C.md': 'rlibreg(3)'}
 
 
 def plain(comment):
-    """The text of a comment, without what begins its lines."""
+    """Returns the text of a comment, without the marks at the beginnings of its lines."""
     return '\n'.join(re.sub(r'^\s*\*(?: |$)', '', line) for line in (comment or '').split('\n')).strip()
 
 
 class Group:
-    """A comment, and what it is about."""
+    """A comment, and the declarations that it is about."""
 
     def __init__(self, comment, code, section):
         self.text, self.title, self.section = plain(comment), None, section
@@ -47,7 +47,9 @@ class Group:
                           for name, number, text in CONSTANT.findall(code)}
 
     def is_told_of_by(self, prototypes, words):
-        """Whether a page has to have it: of plans, where a call gives one, else of its constants."""
+        """Returns whether a page has to contain this group. The group about plans belongs to the pages
+        of calls that return a plan. Any other group without calls belongs to the pages that name one of
+        its constants."""
         if self.text.startswith('PLANS.'):
             return '*plan,' in prototypes
         return not self.calls and any(re.search(rf'\b{it}\b', words) for it in self.constants)
@@ -64,7 +66,8 @@ class Header:
         self.defined = dict(re.findall(r'^#define (RLIBREG_\w+) (\w+)$', text, re.M))
 
     def structures_of(self, words):
-        """The structures that words name, and those that these do."""
+        """Returns the structures that `words` name, and those that the fields of these structures
+        name."""
         named = [it for it in self.structures if re.search(rf'\b{it}\b', words)]
         for it in named:
             fields = ' '.join(field for field, _ in self.structures[it].structures[it])
@@ -72,7 +75,7 @@ class Header:
         return named
 
     def numbers_of(self, call):
-        """The numbers of the statuses that are said of a call."""
+        """Returns the numbers of the statuses that the comments name for a call."""
         group = self.calls[call]
         said = group.text + (group.section.text if group.section is not group else '')
         found = {int(self.statuses.constants[it][0]) for _, it in NAME.findall(said)
@@ -106,7 +109,7 @@ class Page:
         return text
 
     def marked(self, text):
-        """Text with its names in bold; a call has its section behind it."""
+        """Returns text with its names in bold. The name of a call is followed by its section."""
         for document, page in DOCUMENTS.items():
             text = text.replace(document, f'`{page}`')
         text = NAME.sub(lambda it: f'\0{it[1] or it[2]}\1' + '(3)' * (it[2] in self.calls), text)
@@ -117,12 +120,13 @@ class Page:
         self.lines.append(f'.SH {title}')
 
     def code(self, lines):
-        """Lines of code, as they stand."""
+        """Appends lines of code, without filling them."""
         written = (re.sub(r"^(?=[.'])", r'\\&', self.escaped(line[4:])) for line in lines)
         self.lines += ['.PP', '.RS 4', '.nf', *written, '.fi', '.RE']
 
     def paragraphs(self, text):
-        """Paragraphs, lists and code, of which the first is behind a head."""
+        """Appends paragraphs, lists and code. The first paragraph after a heading needs no macro of its
+        own."""
         for block in text.split('\n\n'):
             if all(line.startswith('    ') for line in block.split('\n')):
                 self.code(block.split('\n'))
@@ -144,12 +148,12 @@ class Page:
 
 
 def brief(group):
-    """The first sentence."""
+    """Returns the first sentence."""
     return re.split(r'[.;](?:\s|$)', group.text)[0].replace('\n', ' ').replace('`', '')
 
 
 def wrapped(prototype):
-    """A declaration in lines of 72 columns, each parameter on one."""
+    """Returns a declaration in lines of at most 72 columns. No parameter is split over two lines."""
     whole = ' '.join(prototype.split()).replace(', ', ',\0')
     lines = textwrap.wrap(re.sub(' ', '\1', whole).replace('\0', ' '), 72, subsequent_indent=' ' * 8)
     return '\n'.join(lines).replace('\1', ' ')
@@ -198,7 +202,7 @@ def page_of_call(header, name, version):
 
 
 def page_of_all(header, version):
-    """What is said of no call: how the library is used, and its statuses."""
+    """Returns the page about all calls: how the library is used, and its statuses."""
     first = header.groups[0]
     name, about = brief(first).split(': ', 1)
     page = Page(name, about, version, header.calls)

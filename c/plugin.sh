@@ -1,7 +1,8 @@
 #!/usr/bin/env bash
-# plugin.sh [FOLDER] puts into FOLDER (c/out) the plugin by which rlibreg-gcc has gcc emulate thread-local
-# data. It is for one version of gcc: that which musl-gcc starts, or COMPILER. This wants g++ and the
-# headers of that gcc's plugins, which are in Debian's gcc-12-plugin-dev for gcc 12.
+# plugin.sh [FOLDER] builds into FOLDER (c/out) the plugin with which gcc emulates thread-local data for
+# rlibreg-gcc. A plugin fits only one version of gcc: that of the gcc which musl-gcc starts, or of
+# COMPILER. The build needs g++ and the headers for plugins of that gcc. For gcc 12 they are in Debian's
+# gcc-12-plugin-dev.
 set -eu
 cd "$(dirname "$0")"
 folder=${1:-out}

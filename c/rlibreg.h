@@ -538,9 +538,9 @@ uint32_t rlibreg_plan_replace(const uint8_t *disk, size_t disk_length, const uin
                               size_t file_length, uint8_t *plan, size_t plan_room, char *text,
                               size_t text_room, rlibreg_answer *answer);
 
-/* Plans to remove a library. NAME has the NAME_LENGTH bytes of its name, without a byte 0 after
- * them. The call doesn't test whether programs need the library. Refusals: C3, C4, S10; S3, S5, S6,
- * S11, S12. */
+/* Plans to remove a library. NAME has the NAME_LENGTH bytes of the library's name, without a byte 0
+ * after them. The call doesn't test whether programs need the library. Refusals: C3, C4, S10; S3,
+ * S5, S6, S11, S12. */
 uint32_t rlibreg_plan_remove(const uint8_t *disk, size_t disk_length, const char *name,
                              size_t name_length, uint8_t *plan, size_t plan_room, char *text,
                              size_t text_room, rlibreg_answer *answer);
@@ -555,8 +555,9 @@ uint32_t rlibreg_plan_preload(const uint8_t *disk, size_t disk_length, const cha
 
 /* Plans an update: several changes in one plan, which makes all of them or none. CHANGES has
  * CHANGES_COUNT changes, which are planned in their order. BYTES has the BYTES_LENGTH bytes of all
- * of them: each change has its bytes at its place there, in the form in which the plan of a single
- * change has them. Each change is tested against the state to which the changes before it lead.
+ * of them: the bytes of a change are at the change's place in BYTES, in the same form as for the
+ * plan of a single change. Each change is tested against the state to which the changes before it
+ * lead.
  *
  * The update is one change of the registry. Without changes the plan writes nothing. The sectors of
  * a library that is installed now become unused only after the update, so there has to be room for
@@ -600,8 +601,9 @@ rlibreg *rlibreg_create(void);
  * a child of fork the parent keeps the lock. */
 void rlibreg_close(rlibreg *registry);
 
-/* Returns the text of the last call of this struct. It is the line or the reply of the program,
- * ended by a byte 0. The text belongs to the struct, and stays until its next call. */
+/* Returns the text of the last call of this struct. It is the line or the reply that the program
+ * `rlibreg` prints in the same case, ended by a byte 0. The text belongs to the struct, and stays
+ * until its next call. */
 const char *rlibreg_text(const rlibreg *registry);
 
 /* Returns the answer of the last call of this struct. It belongs to the struct, and stays until its
@@ -626,16 +628,16 @@ enum {
  * processes, and for other threads of this one. */
 void rlibreg_set_wait_limit(rlibreg *registry, int milliseconds);
 
-/* Returns the number of a standard stream that may be written and is the file of PATH. It is 2, 1
- * or 0, or -1 if there is none. A stream that isn't open is opened, as STANDARD STREAMS says. If
- * the result is 2, the caller can't report it on standard error. */
+/* Returns the number of a standard stream that may be written and is the file of PATH. The number
+ * is 2, 1 or 0. If there is no such stream, the result is -1. A stream that isn't open is opened,
+ * as STANDARD STREAMS says. If the result is 2, the caller can't report it on standard error. */
 int rlibreg_stream_of(const char *path);
 
 /* Opens the file of a registry, locks it, syncs it, and maps it as the medium has it. PATH names a
  * regular file or a block device. FLAGS is 0 or a sum of RLIBREG_READ_WRITE and RLIBREG_WAIT. The
  * call doesn't test what the file holds: the calls after it do.
  *
- * It returns 0 if the file is open, and otherwise one of these:
+ * The call returns 0 if the file is open, and otherwise one of these:
  *
  * - RLIBREG_LOCKED: another struct, of this process or another, has locked the file, and either
  *   FLAGS lacks RLIBREG_WAIT or the wait has reached its limit. With RLIBREG_WAIT the call returns
@@ -664,7 +666,7 @@ uint32_t rlibreg_open(rlibreg *registry, const char *path, unsigned flags);
  * After a refusal or a failure the struct has no file. After every refusal except S1, nothing was
  * made, and a file that existed is as it was.
  *
- * It returns 0 if the registry was made, and otherwise one of these:
+ * The call returns 0 if the registry was made, and otherwise one of these:
  *
  * - RLIBREG_BAD_ARGUMENT: SECTORS isn't 8 to 4,194,304, or the struct already has a file.
  * - RLIBREG_LOCKED: the disk or the file with the other name is locked.
@@ -696,24 +698,25 @@ uint32_t rlibreg_format(rlibreg *registry, const char *path, uint32_t sectors, u
 /* Turns a registry of version 1 into one of version 2. Refusals: those of the plan; S1, S2. */
 uint32_t rlibreg_upgrade(rlibreg *registry);
 
-/* Installs a library under its SONAME, after the others. FILE has the LENGTH bytes of its file.
- * Refusals: those of the plan; S1, S2. */
+/* Installs a library under its SONAME, after the others. FILE has the LENGTH bytes of the library's
+ * file. Refusals: those of the plan; S1, S2. */
 uint32_t rlibreg_install(rlibreg *registry, const void *file, size_t length);
 
 /* Puts a library in the place of the one that has its SONAME. FILE has the LENGTH bytes of the new
  * file. Refusals: those of the plan; S1, S2. */
 uint32_t rlibreg_replace(rlibreg *registry, const void *file, size_t length);
 
-/* Removes a library. NAME is its name, ended by a byte 0. Refusals: those of the plan; S1, S2. */
+/* Removes a library. NAME is the library's name, ended by a byte 0. Refusals: those of the plan;
+ * S1, S2. */
 uint32_t rlibreg_remove(rlibreg *registry, const char *name);
 
-/* Sets the preloads. NAMES has the COUNT names in their order, each ended by a byte 0. It may be
- * null if there are none. Refusals: those of the plan; S1, S2. */
+/* Sets the preloads. NAMES has the COUNT names in their order, each ended by a byte 0. NAMES may be
+ * null if COUNT is 0. Refusals: those of the plan; S1, S2. */
 uint32_t rlibreg_preload(rlibreg *registry, const char *const *names, size_t count);
 
 /* Makes an update, as rlibreg_plan_update plans it. CHANGES has COUNT changes, which are one change
  * of the registry: all of them are made or none. BYTES has the LENGTH bytes of all changes. CHANGES
- * may be null if there are none, and BYTES if it has no bytes. If a change is refused,
+ * may be null if COUNT is 0, and BYTES may be null if LENGTH is 0. If a change is refused,
  * rlibreg_last_answer has in `count` the number of changes before it. Refusals: those of the plan;
  * S1, S2. */
 uint32_t rlibreg_update(rlibreg *registry, const rlibreg_change *changes, size_t count,
@@ -746,13 +749,13 @@ void rlibreg_listing_free(rlibreg_listing *listing);
  * *BYTES is null. Both are written in every case. Other refusals: S1, S2. */
 uint32_t rlibreg_get_file(rlibreg *registry, const char *name, void **bytes, size_t *length);
 
-/* Returns the SHA-256 of a library's bytes, as rlibreg_digest does. NAME ends with a byte 0. DIGEST
- * is left as it was if the status isn't 0. Other refusals: S1, S2. */
+/* Returns the SHA-256 of a library's bytes, as rlibreg_digest does. NAME ends with a byte 0. If the
+ * status isn't 0, DIGEST is left as it was. Other refusals: S1, S2. */
 uint32_t rlibreg_get_digest(rlibreg *registry, const char *name,
                             uint8_t digest[RLIBREG_DIGEST_BYTES]);
 
-/* Returns information on the registry as a whole, as rlibreg_info does. INFORMATION is left as it
- * was if the status isn't 0. Other refusals: S1, S2. */
+/* Returns information on the registry as a whole, as rlibreg_info does. If the status isn't 0,
+ * INFORMATION is left as it was. Other refusals: S1, S2. */
 uint32_t rlibreg_get_info(rlibreg *registry, rlibreg_information *information);
 
 /* Tests each library's file, as rlibreg_check does. FINDINGS is written in every case. The caller

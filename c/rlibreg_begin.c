@@ -35,16 +35,17 @@ __asm__(".pushsection .note.rlibreg, \"a\", @note\n"
 
 static void set_up(int count, char **words, char **environment) {
     (void)count;
-    /* If the page were read first, it would take a second fault to write it. */
+    /* The exchange writes the page at once. A read before the write would cause a second page
+     * fault. */
     if (!__atomic_exchange_n(&is_set_up, 1, __ATOMIC_RELAXED)) __init_libc(environment, words[0]);
 }
 
 /* This file is linked first, so `set_up` is the first function of the array. */
 __attribute__((section(".preinit_array"), used)) static initializer *const first = set_up;
 
-/* Starts the program. `stack` is the stack as the program finds it. `end` is what the program finds
- * in rdx. From rlibreg-run it is a function that finalizes the libraries, or null; from musl's
- * loader it means nothing. */
+/* Starts the program. `stack` is the stack as the program finds it. `end` is the value that the
+ * program finds in rdx. From rlibreg-run it is a function that finalizes the libraries, or null;
+ * from musl's loader it means nothing. */
 __attribute__((used)) static _Noreturn void begin(long *stack, void (*end)(void)) {
     int count = (int)*stack;
     char **words = (char **)(stack + 1);

@@ -1,4 +1,5 @@
-/* The calls that a program makes before its own functions and after them if no loader makes them.
+/* If no loader calls the initializers and finalizers of a program's libraries, the program makes
+ * these calls itself, before and after its own functions.
  */
 #ifndef RLIBREG_BEGIN_H
 #define RLIBREG_BEGIN_H
@@ -10,7 +11,7 @@
  * one of them names a function that isn't in its own code. */
 void rlibreg_initialize(int count, char **words, char **environment);
 
-/* Calls the libraries' finalizers, in the opposite order. */
+/* Calls the libraries' finalizers, in the order opposite to that of the initializers. */
 void rlibreg_finalize(void);
 
 #pragma GCC visibility pop

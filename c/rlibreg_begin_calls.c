@@ -42,7 +42,8 @@ static _Noreturn void refuse(const struct rlibreg_object *it, const char *tag, c
     _exit(REFUSED);
 }
 
-/* Enters a library, then those that it needs, and appends it to the order when it leaves it. */
+/* Enters library number `number`, and then the libraries that it needs. When the walk leaves the
+ * library, its number is appended to the order. */
 static void enter(struct walk *walk, size_t number) {
     const struct rlibreg_object *it = &walk->objects.at[number], *needed;
     if (walk->was_entered[number]) return;
@@ -55,7 +56,8 @@ static void enter(struct walk *walk, size_t number) {
     walk->order[walk->ordered++] = (uint16_t)number;
 }
 
-/* Returns whether an address is one of an object's segments that permit all of `flags`. */
+/* Returns whether an address lies in a segment of an object, and the segment permits all of
+ * `flags`. */
 static int is_within(const struct rlibreg_object *it, uintptr_t address, uint32_t flags) {
     for (size_t i = 0; i < it->header_count; i++)
         if (it->headers[i].p_type == PT_LOAD && (it->headers[i].p_flags & flags) == flags &&
@@ -147,7 +149,7 @@ void rlibreg_initialize(int count, char **words, char **environment) {
             initialize(&objects[walk->order[i]], count, words, environment);
 }
 
-/* Returns the next finalizer, or 0 if each of them was called. */
+/* Returns the next finalizer, or 0 if all finalizers were called. */
 static uintptr_t next_finalizer(struct walk *walk) {
     while (!walk->finalizers.count && !walk->last && walk->ordered) {
         const struct rlibreg_object *it = &walk->objects.at[walk->order[--walk->ordered]];

@@ -210,8 +210,8 @@ static uint32_t claim(struct disk_file *it, const char *path, unsigned flags,
     return is_read_only ? RLIBREG_SYSTEM : RLIBREG_DONE;
 }
 
-/* Opens the file of `path` and locks it. Returns a status: if the path names another file at each
- * try, RLIBREG_LOCKED. */
+/* Opens the file of `path` and locks it. Returns a status, which is RLIBREG_LOCKED if the path
+ * names another file at each try. */
 static uint32_t open_locked(struct disk_file *it, const char *path, unsigned flags) {
     for (int tries = 0; tries < MOST_TRIES; tries++) {
         struct stat found;

@@ -33,7 +33,8 @@ struct disk_file {
 
 #define NO_DISK_FILE ((struct disk_file){ .fd = -1, .claim = -1 })
 
-/* The most times that a name is tried, if other processes give it to other files meanwhile. */
+/* The maximum number of times that a name is tried. Other processes may give the name to other
+ * files meanwhile. */
 enum { MOST_TRIES = 16 };
 
 /* Opens a file of a folder as openat does, but opens the standard streams first if they aren't
@@ -41,9 +42,9 @@ enum { MOST_TRIES = 16 };
  * or -1 with errno. */
 int rlibreg_open_apart(int folder, const char *path, int flags);
 
-/* Returns the number of a standard stream that may be written and is the file `file`, with errno
- * ETXTBSY, or of a stream about which the system reports nothing. If there are several such
- * streams, returns the last. Returns -1 if there is none. */
+/* Returns the number of a standard stream that may be written and is the file `file`; errno is then
+ * ETXTBSY. Also returns the number of a stream about which the system reports nothing. If there are
+ * several such streams, returns the last. Returns -1 if there is none. */
 int rlibreg_stream_of_file(const struct stat *file);
 
 /* Opens and locks the file of `path`, and maps its bytes as the medium has them. Returns a

@@ -1,10 +1,10 @@
-/* dlopen(3) and its like over the objects of the bound program. Everything that is bound can be opened by
- * its SONAME, or by a path that ends in its SONAME, and nothing else: all of it is in memory already, and its
- * constructors have run. Nothing is ever unloaded, so a closed handle still works.
+/* dlopen(3) and the related calls, for the objects of the bound program. Each of these objects can be opened
+ * by its SONAME, or by a path that ends in its SONAME. Nothing else can be opened. All objects are in memory
+ * already, and their constructors have run. Nothing is ever unloaded, so a closed handle still works.
  *
- * musl's dlerror, and its dlinfo, which take a handle for a `struct link_map`, work beside these. If all of
- * musl is linked, its dlsym and dlclose are taken in the place of the weak ones here, and call the hidden
- * functions here. */
+ * musl's dlerror works together with these functions. So does musl's dlinfo, which takes a handle for a
+ * `struct link_map`. If all of musl is linked, its dlsym and dlclose replace the weak ones of this file,
+ * and call the hidden functions of this file. */
 #define _GNU_SOURCE
 #include "rlibreg_objects.h"
 
@@ -21,7 +21,7 @@ int __dl_invalid_handle(void *handle);
 void *__dlsym(void *restrict handle, const char *restrict name, void *restrict caller);
 #pragma GCC visibility pop
 
-/* ---- Handles: the entry of an object has the object's number */
+/* ---- Handles: the handle of object number i is the address of maps[i] */
 
 static struct link_map maps[MOST];
 
@@ -31,7 +31,8 @@ static const char *path_of(const struct rlibreg_object *it) {
     return path ? path : "";
 }
 
-/* Fills all entries, which several threads may do at the same time: they write the same. */
+/* Returns the handle of an object. Fills all entries of `maps` each time. Several threads may do so
+ * at once, because they write the same values. */
 static struct link_map *handle_of(const struct rlibreg_object *it) {
     struct rlibreg_objects all = rlibreg_all_objects();
     for (size_t i = 0; i < all.count; i++) {
@@ -94,8 +95,8 @@ static void *address_of(const struct rlibreg_object *it, const Elf64_Sym *symbol
     return (void *)((symbol->st_shndx == SHN_ABS ? 0 : it->base) + symbol->st_value);
 }
 
-/* Returns an object's export of a name, or null. A library without a SYSV table, which only musl's loader
- * takes, has none. */
+/* Returns the symbol that an object exports under a name, or null. A library without a SYSV table, which
+ * only musl's loader accepts, exports nothing here. */
 static const Elf64_Sym *export_of(const struct rlibreg_object *it, const char *name, Elf64_Word hash) {
     if (!it->hash || !it->hash[0]) return NULL;
     const Elf64_Word *buckets = it->hash + 2, *chains = buckets + it->hash[0];
@@ -105,7 +106,8 @@ static const Elf64_Sym *export_of(const struct rlibreg_object *it, const char *n
     return NULL;
 }
 
-/* Finds a name in the objects from number `from` on, in load order. Returns whether it is there. */
+/* Finds a name in the objects from number `from` on, in load order. Returns whether one of them
+ * exports the name. */
 static int find_from(size_t from, const char *name, void **address) {
     struct rlibreg_objects all = rlibreg_all_objects();
     Elf64_Word hash = hash_of(name);
@@ -117,7 +119,7 @@ static int find_from(size_t from, const char *name, void **address) {
     return 0;
 }
 
-/* The libraries that a search goes through, by number, each once. */
+/* The numbers of the libraries that a search goes through, each number once. */
 struct search {
     size_t count;
     uint16_t order[MOST];
@@ -131,7 +133,7 @@ static void append(struct search *it, const struct rlibreg_object *object) {
     it->order[it->count++] = (uint16_t)number;
 }
 
-/* Finds a name in an object, then in those that it needs, level by level. */
+/* Finds a name in an object, and then in the libraries that it needs, level by level. */
 static int find_below(const struct rlibreg_object *first, const char *name, void **address) {
     struct search search = { 0 };
     Elf64_Word hash = hash_of(name);
@@ -176,8 +178,8 @@ __attribute__((weak)) void *dlsym(void *restrict handle, const char *restrict na
 
 /* ---- Objects */
 
-/* Returns the export that an address belongs to, or null: the last one that begins at it or before, unless
- * this ends before. */
+/* Returns the export to which an address belongs, or null. It is the last export that begins at or before
+ * the address, unless this export ends before the address. */
 static const Elf64_Sym *export_at(const struct rlibreg_object *it, uintptr_t address) {
     const Elf64_Sym *nearest = NULL;
     uintptr_t from = 0;

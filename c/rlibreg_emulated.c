@@ -1,11 +1,12 @@
 /* Thread-local data as gcc and clang emulate it: code calls `__emutls_get_address` for each access. A
  * program that rlibreg-gcc links has one such function, for itself and for its libraries.
  *
- * Each object has a control block, which the compiler makes, and gets a number when it is first used.
- * Each thread has a table of its copies, by number. A copy is made when its thread first asks for it, in
- * memory of mmap(2), because the program's malloc may have thread-local data itself. No lock is held, so
- * that no fork(2) beside a thread that makes its copy leaves one locked. Signals are blocked meanwhile:
- * their handlers may use thread-local data too. */
+ * Each object has a control block, which the compiler makes. The object gets a number when it is first
+ * used. Each thread has a table of its copies of the objects, by these numbers. A thread's copy is made
+ * when the thread first asks for it, in memory of mmap(2), because the program's malloc may have
+ * thread-local data itself. No lock is taken, so no lock stays locked in a child if another thread makes
+ * a copy during fork(2). Signals are blocked while a copy is made, because their handlers may use
+ * thread-local data too. */
 #define _GNU_SOURCE
 #include <limits.h>
 #include <pthread.h>
@@ -19,13 +20,14 @@
 
 enum { PIECE = 16384 };
 
-/* As the compilers make it. `number` is 0 until the object is used. */
+/* The control block of an object, as the compilers make it. `number` is 0 until the object is
+ * used. */
 struct control {
     size_t size, alignment, number;
     const void *first; /* the bytes of a new copy, or null for zeros */
 };
 
-/* Mapped memory, which begins with this. */
+/* Mapped memory. Each piece begins with this structure. */
 struct piece {
     struct piece *next;
     size_t length;
@@ -51,7 +53,7 @@ static void fail(void) {
     abort();
 }
 
-/* Maps a piece of at least `length` bytes behind its own. */
+/* Maps a piece that has at least `length` bytes after this structure. */
 static struct piece *map_piece(size_t length) {
     size_t whole = (length + sizeof(struct piece) + PIECE - 1) & -(size_t)PIECE;
     if (whole < length) fail();
@@ -76,7 +78,8 @@ static void *allocate(struct thread *thread, size_t size, size_t alignment) {
     return (void *)at;
 }
 
-/* Unmaps a thread's copies in the last round of destructors: until then others may use them. */
+/* Unmaps a thread's copies in the last round of destructors, because other destructors may use the
+ * copies until then. */
 static void end_thread(void *given) {
     struct thread *thread = given;
     if (++thread->rounds < PTHREAD_DESTRUCTOR_ITERATIONS) {
@@ -89,7 +92,8 @@ static void end_thread(void *given) {
     }
 }
 
-/* Makes the key, unless there is one. It is made before `main` too, since a program may use up all keys. */
+/* Makes the key, unless there is one already. The key is made before `main`, because the program may later
+ * use up all keys. */
 __attribute__((constructor(101))) static void make_key(void) {
     pthread_key_t none = 0, made;
     if (__atomic_load_n(&key_and_one, __ATOMIC_ACQUIRE)) return;
@@ -98,7 +102,7 @@ __attribute__((constructor(101))) static void make_key(void) {
         pthread_key_delete(made);
 }
 
-/* Returns an object's number, which it gets now if it has none. */
+/* Returns an object's number. An object without a number gets one now. */
 static size_t number_of(struct control *it) {
     size_t number = __atomic_load_n(&it->number, __ATOMIC_ACQUIRE), none = 0;
     if (number) return number;
@@ -126,7 +130,8 @@ static struct thread *thread_with(size_t room) {
     return thread;
 }
 
-/* Makes the calling thread's copy, unless a signal's handler has made it meanwhile. */
+/* Returns the calling thread's copy of an object. Makes the copy, unless a signal's handler has
+ * made it meanwhile. */
 static void *make_copy(struct control *it) {
     sigset_t all, before;
     sigfillset(&all);
@@ -155,8 +160,8 @@ void *__emutls_get_address(struct control *it) {
     return make_copy(it);
 }
 
-/* Constructors call this for data that `-fcommon` lets several objects define, each with its own size: the
- * largest is taken. */
+/* Constructors call this for data that `-fcommon` lets several objects define, each with its own size. The
+ * largest size counts. */
 void __emutls_register_common(struct control *it, size_t size, size_t alignment, const void *first) {
     if (it->size < size) {
         it->size = size;

@@ -27,9 +27,9 @@ struct rlibreg_objects {
     const struct rlibreg_object *at;
 };
 
-/* Returns the objects. The first call finds them. Threads may call it at once, also in a child
- * after fork(2). It ends the process with a message if the libraries that the program needs can't
- * be found. */
+/* Returns the objects. The first call finds them. Several threads may make this call at the same
+ * time, also in a child after fork(2). If the libraries that the program needs can't be found, the
+ * call ends the process with a message. */
 struct rlibreg_objects rlibreg_all_objects(void);
 
 /* Returns the library of a SONAME, or null. */
@@ -38,8 +38,8 @@ const struct rlibreg_object *rlibreg_object_named(const char *soname);
 /* Returns the object that has an address in a PT_LOAD, or null. */
 const struct rlibreg_object *rlibreg_object_at(uintptr_t address);
 
-/* Returns the value of an object's first entry with a tag in its dynamic section, or `otherwise`. A
- * value that is an address lacks the object's base. */
+/* Returns the value of an object's first entry with a tag in its dynamic section, or `otherwise`.
+ * If the value is an address, the object's base isn't added to it. */
 uint64_t rlibreg_tag_of(const struct rlibreg_object *, int64_t tag, uint64_t otherwise);
 
 #pragma GCC visibility pop

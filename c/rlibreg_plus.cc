@@ -1,6 +1,6 @@
 /* The functions of C++'s library that g++ uses for code without exceptions: memory, guards of local
- * statics, and what ends the process if a pure or deleted virtual function is called. rlibreg-g++
- * links those that a program needs. */
+ * statics, and the functions that end the process when a pure or deleted virtual function is
+ * called. rlibreg-g++ links those that a program needs. */
 typedef decltype(sizeof 0) size;
 extern "C" {
 void *malloc(size);
@@ -25,8 +25,8 @@ static void *or_abort(void *memory) {
     if (!memory) abort();
     return memory;
 }
-/* Allocates a block of at least one byte, so that its address is its own. The size isn't rounded up
- * to a multiple of `unit`: the sum could wrap, and musl doesn't require it. Returns null if size
+/* Allocates at least one byte, so that each block has an address of its own. The size isn't rounded
+ * up to a multiple of `unit`: the sum could wrap, and musl doesn't require it. Returns null if size
  * and unit exceed the address space. */
 static void *block(size bytes) { return malloc(bytes ? bytes : 1); }
 static void *block(size bytes, align_val_t unit) {

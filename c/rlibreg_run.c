@@ -1,13 +1,13 @@
 /* rlibreg-run [-x] [-b BASE] [-c FOLDER [-v]] DISK PROGRAM [WORD].. starts a program with the
  * libraries of a registry.
  *
- * It binds PROGRAM against the registry on DISK, and maps the image's segments at their addresses
- * with their permissions. Then it calls the initializers of the libraries, and jumps to PROGRAM's
- * entry as the kernel does. The stack has the arguments, PROGRAM first, the environment and the
- * auxiliary vector. rdx has the address of the function that calls the finalizers (System V ABI,
- * AMD64 supplement, section 3.4.1). With -c it takes the image that an earlier start has left in
- * FOLDER. It waits while another process has DISK locked for changes, and closes DISK before it
- * calls anything. docs/C.md is the manual. */
+ * The loader binds PROGRAM against the registry on DISK, and maps the image's segments at their
+ * addresses with their permissions. Then it calls the initializers of the libraries, and jumps to
+ * PROGRAM's entry as the kernel does. The stack has the arguments, PROGRAM first, the environment
+ * and the auxiliary vector. rdx has the address of the function that calls the finalizers (System V
+ * ABI, AMD64 supplement, section 3.4.1). With -c the loader takes the image that an earlier start
+ * has left in FOLDER. It waits while another process has DISK locked for changes, and closes DISK
+ * before it calls anything. docs/C.md is the manual. */
 #define _GNU_SOURCE
 #include "rlibreg_disk_file.h"
 #include "rlibreg_run_kept.h"

@@ -6,7 +6,7 @@
 
 #include <link.h>
 
-/* musl's header doesn't declare this. */
+/* musl's header doesn't declare `_DYNAMIC`. */
 extern ElfW(Dyn) _DYNAMIC[] __attribute__((visibility("hidden")));
 
 /* The data that a debugger is shown. The first three fields are used as long as no C library has a

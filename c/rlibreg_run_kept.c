@@ -55,8 +55,8 @@ static int is_of_key(const struct kept_file *it, const struct key *key) {
 
 /* ---- The pages of an image */
 
-/* Maps a piece. Returns 0, or an error, less than 0. A kernel before 4.17 maps other pages if these
- * are in use. */
+/* Maps a piece. Returns 0, or an error as a negative number. A kernel before 4.17 maps other pages
+ * if these are in use. */
 static int map_piece(const struct piece *it, int kept) {
     int kind = MAP_PRIVATE | MAP_FIXED_NOREPLACE | (it->from ? 0 : MAP_ANONYMOUS);
     int64_t map =
@@ -71,7 +71,7 @@ static void unmap_pieces(const struct piece *it, uint64_t count) {
     while (count-- > 0) kernel_unmap(it[count].address, it[count].length);
 }
 
-/* Maps all pieces, or none. Returns 0, or an error, less than 0. */
+/* Maps all pieces, or none. Returns 0, or an error as a negative number. */
 static int map_pieces(const struct kept_file *it, int kept) {
     for (uint64_t i = 0; i < it->head->counts.pieces; i++) {
         int error = map_piece(&it->pieces[i], kept);

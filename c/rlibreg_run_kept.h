@@ -176,7 +176,8 @@ enum { NAME_ROOM = 17 };
 struct keeping {
     const char *path; /* path of the folder, or null: no image is taken or kept */
     int says_more;    /* whether to print to standard error what is done */
-    /* Prints `what` or, if it is null, the text of `error`. Null until there is a C library. */
+    /* Prints `what` or, if it is null, the text of `error`. The pointer is null until there is a C
+     * library. */
     void (*say)(const struct keeping *it, const char *what, int error);
     uid_t user;       /* effective user id */
     int folder;       /* descriptor of the folder; -1 if images aren't kept there */
@@ -189,13 +190,13 @@ struct keeping {
     char name[NAME_ROOM]; /* name of an image that has this key */
 };
 
-/* Opens the folder, if it belongs to the user or to root, and nobody else may write it. Returns 0,
- * or an error, less than 0. */
+/* Opens the folder. The folder has to belong to the user or to root, and nobody else may write it.
+ * Returns 0, or an error as a negative number. */
 int open_folder(struct keeping *it);
 
 /* Opens the image with this name. The file has to meet the same conditions as the folder, and must
- * have no other name. Returns its descriptor, with its length in `length`, or an error, less than
- * 0. */
+ * have no other name. Returns the file's descriptor, and sets `length` to the file's length. If
+ * that fails, returns an error as a negative number. */
 int open_kept(const struct keeping *it, const char *name, uint64_t *length);
 
 /* give_name sets the name of the image. Images that replace each other have the same name.
@@ -267,7 +268,7 @@ int write_kept(int fd, const struct keeping *it, const struct program *program,
 /* ---- Comparing (rlibreg_run_compare.c)
  *
  * These functions return 0 if the bytes are those that were kept, and IS_OTHER if they aren't. If
- * the kept file can't be read, they return an error, less than 0. */
+ * the kept file can't be read, they return an error as a negative number. */
 
 enum { IS_OTHER = 1 };
 

@@ -50,7 +50,7 @@ uint64_t check_of(const struct head *head) {
     return number;
 }
 
-/* These limits also keep the sums above from wrapping. */
+/* The limits that this function tests also keep the sums of the functions above from wrapping. */
 int is_head(const struct head *it, uint64_t length) {
     const struct counts *counts = &it->counts;
     return !memcmp(it->form, kept_form, sizeof it->form) && it->length == length &&

@@ -20,7 +20,8 @@ void *memset(void *to, int byte, size_t length) __asm__("rlibreg_kernel_fill");
 int memcmp(const void *one, const void *other, size_t length) __asm__("rlibreg_kernel_compare");
 size_t strlen(const char *text) __asm__("rlibreg_kernel_length");
 
-/* Each returns what the kernel returns: if it fails, the number of the error, less than 0. */
+/* Each call returns what the kernel returns: if it fails, this is the number of the error,
+ * negated. */
 int kernel_open(int folder, const char *path, int flags);
 int kernel_close(int fd);
 int kernel_flags(int fd);

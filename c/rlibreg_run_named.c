@@ -36,8 +36,8 @@ int make_file(const struct keeping *it) {
     return -1;
 }
 
-/* Gives a file its name. Returns 0, or -1 with errno. To name a file by only its descriptor, a
- * process needs some rights, or Linux 6.10 or later. */
+/* Gives a file its name. Returns 0, or -1 with errno. Naming a file by its descriptor alone needs
+ * CAP_DAC_READ_SEARCH, or Linux 6.10 or later. Without them, the name is made through /proc. */
 static int link_file(const struct keeping *it, int fd) {
     char path[32];
     if (!linkat(fd, "", it->folder, it->name, AT_EMPTY_PATH)) return 0;

@@ -67,8 +67,8 @@ static uint64_t end_of(const rlibreg_image *image, const rlibreg_object *object)
 }
 
 /* As in other loaders, the fixed pages go from the page in which PT_GNU_RELRO begins to its last
- * whole page. None lies past the object's memory. A program that names no loader has none, because
- * the start of a static PIE relocates it once more. */
+ * whole page. No fixed page lies past the object's memory. A program that names no loader has no
+ * fixed pages, because the start of a static PIE relocates it once more. */
 struct pages fixed_pages(const rlibreg_image *image, const rlibreg_object *object) {
     Elf64_Phdr one;
     struct pages none = { object->base, object->base };

@@ -129,7 +129,7 @@ static void *room_for(size_t bytes) {
 }
 
 /* If the program's path is relative, writes the path of the current folder to `to`, with a slash at
- * its end. Returns the number of bytes that were written, or an error, less than 0. */
+ * its end. Returns the number of bytes that were written, or an error as a negative number. */
 static int64_t read_folder(const struct program *it, char *to, size_t room) {
     if (*it->path == '/') return 0;
     int64_t length = kernel_folder(to, room); /* with the byte 0 at the end */

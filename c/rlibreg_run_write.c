@@ -45,7 +45,8 @@ static void put(struct output *it, const void *bytes, uint64_t length) {
     it->parts[it->count++] = (struct iovec){ .iov_base = (void *)bytes, .iov_len = length };
 }
 
-/* Adds the stretches that are in no page of the image to the output. They are part of `bytes`. */
+/* Adds the stretches that are in no page of the image to the output. The bytes of these stretches
+ * are part of `bytes`. */
 static void put_others(struct output *it, const struct stretch *one, uint64_t count,
                        const uint8_t *bytes) {
     for (const struct stretch *end = one + count; one < end; one++)

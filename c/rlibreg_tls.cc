@@ -1,5 +1,5 @@
-/* A plugin of gcc, by which it emulates thread-local data, as it does for systems that have none: code
- * calls `__emutls_get_address` for each access. `rlibreg-gcc` gives it to gcc.
+/* A plugin that makes gcc emulate thread-local data, as gcc does for systems that have no such data:
+ * code calls `__emutls_get_address` for each access. `rlibreg-gcc` passes the plugin to gcc.
  *
  * Copyright 2026 The authors of rlibreg.
  *
@@ -9,7 +9,7 @@
  * WARRANTY; without even the implied warranty of MERCHANTABILITY or FITNESS FOR A PARTICULAR PURPOSE. See
  * the GNU General Public License for more details: <https://www.gnu.org/licenses/>.
  *
- * No other file of rlibreg is under this license. gcc loads this one alone. */
+ * No other file of rlibreg is under this license. gcc loads no other file of rlibreg. */
 #include "gcc-plugin.h"
 #include "plugin-version.h"
 #include "tm.h"

@@ -65,9 +65,9 @@ static int is_set(int fd, enum mark which) {
     return !over_mark(fd, F_OFD_GETLK, which, &it) && it.l_type == F_WRLCK;
 }
 
-/* Returns whether a file can be marked. Some file systems make a lock of flock out of a lock of all
- * bytes, as NFS, SMB, 9p, AFS and Lustre do. There the lock and the marks would exclude each
- * other. */
+/* Returns whether a file can be marked. Some file systems, such as NFS, SMB, 9p, AFS and Lustre,
+ * implement a lock of flock as a lock of all bytes. On these the lock and the marks would exclude
+ * each other. */
 static int has_marks(int fd) {
     static const uint32_t without[] = { 0x6969,     0x517b,     0xff534d42, 0xfe534d42,
                                         0x01021997, 0x5346414f, 0x6b414653, 0x0bd00bd0 };

@@ -397,7 +397,7 @@ static void try_not_given(char what, struct file program, uint64_t base, uint32_
     }
 }
 
-/* Checks that neither call returns anything, with the same line as a bind. */
+/* Checks that neither call returns anything, and that both report the same line as a bind. */
 static void try_none_given(struct file program, uint64_t base, uint32_t wanted, const char *line) {
     try_not_given('b', program, base, wanted, line);
     try_not_given('x', program, base, wanted, line);

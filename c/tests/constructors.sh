@@ -1,5 +1,6 @@
-# What libraries and programs of rlibreg-gcc may do before main and behind it: under rlibreg-run, from a kept
-# image, as an executable, and under musl's loader, where they are built. What is said is written by hand.
+# Tests what libraries and programs of rlibreg-gcc may do before and after main. Each program runs in four
+# ways: under rlibreg-run, from a kept image, as an executable file, and under musl's loader where it is
+# built. The expected outputs are written by hand.
 
 if ! command -v musl-gcc > /dev/null; then
     echo 'skipped: constructors, which need the musl-gcc of musl-tools'
@@ -16,7 +17,8 @@ gcc=rlibreg-gcc
 "$built/rlibreg" format disk 32768 > /dev/null
 ways='loader executable'
 
-# library NAME FILE WORD..: makes libNAME.so, which is installed, or put in the place of the old one.
+# library NAME FILE WORD..: makes libNAME.so, and installs it, or replaces the installed library of
+# this name.
 library() {
     local name=$1
     $gcc -shared -o "lib$name.so" "${@:2}"
@@ -24,7 +26,7 @@ library() {
         "$built/rlibreg" replace disk "lib$name.so" > told || { cat told; exit 1; }
 }
 
-# by WAY PROGRAM WORD..: runs it in one of the ways, and prints what it says and its status.
+# by WAY PROGRAM WORD..: runs PROGRAM in the way WAY, and prints its output and its status.
 by() {
     case $1 in
         loader) ended "$built/rlibreg-run" disk "./$2" "${@:3}" ;;
@@ -40,13 +42,15 @@ by() {
     esac
 }
 
-# says WHAT WANTED PROGRAM WORD..: in each way it says that, and ends with the status.
+# says WHAT WANTED PROGRAM WORD..: checks that PROGRAM has the output and the status WANTED in each
+# way.
 says() {
     local way
     for way in $ways; do want "$1, $way" "$2" "$(by $way "${@:3}")"; done
 }
 
-# Libraries in a circle, from b, the last that is read; then the program's own.
+# Libraries that need each other in a circle: their functions are called from `b` on, the last
+# library that is read. The program's own functions follow.
 for name in a b d; do
     $gcc -DNAME="\"$name\"" -DFUNCTION=$name -c -o $name.o named.c
     $gcc -shared -o lib$name.so $name.o
@@ -67,7 +71,7 @@ ways=${ways% built} # it has other words for preloads
 says 'preloads' 'before +d +b +a +main 11 -main -a -b -d = 4' named
 "$built/rlibreg" preload disk > told
 
-# What a constructor may do: memory, variables, threads, a child, the end of the process.
+# A constructor may use memory, variables and threads, make a child, and end the process.
 library busy busy.c
 $gcc -o busy busy_main.c libbusy.so
 export GIVEN=given
@@ -91,7 +95,8 @@ EOF
 library later later.c -Wl,-init,first
 says 'initializers in the next version' '= 61' later
 
-# A destructor that ends the process again: each is called once.
+# A destructor that calls `exit` while the process ends: each destructor is still called exactly
+# once.
 cat > again.c << 'EOF'
 #include <stdio.h>
 #include <stdlib.h>
@@ -105,7 +110,7 @@ $gcc -o again main.c $needs libagain.so
 says 'a destructor that ends the process' 'first again last
 = 9' again
 
-# Units of a library's own.
+# Libraries with units of 4 KiB, 64 KiB and 1 MiB.
 for size in 0x1000 0x10000 0x100000; do
     echo "int of_$size(void) { return 1; }" > plain.c
     $gcc -DNAME="\"$size\"" -DFUNCTION=said_$size -shared -Wl,-z,max-page-size=$size -o libwide$size.so named.c
@@ -116,7 +121,8 @@ echo 'int main(void) { return 0; }' > main.c
 $gcc -o wide main.c $needs lib{wide,plain}{0x10000,0x100000,0x1000}.so
 says 'units' '+0x1000 +0x100000 +0x10000 -0x10000 -0x100000 -0x1000 = 0' wide
 
-# Each linker keeps what the program begins with, also with what removes parts.
+# Each linker keeps the object at which the program begins, even with options that remove unused
+# parts.
 for linker in bfd gold lld; do
     command -v ld.$linker > told || continue
     for words in '' '-ffunction-sections -Wl,--gc-sections -s' '-Wl,-z,now,--build-id,-Bsymbolic'; do
@@ -137,7 +143,7 @@ else
     echo 'skipped: constructors in C++, for want of g++'
 fi
 
-# A program of another entry begins as it says, and makes no promise.
+# A program that is linked with another entry begins at that entry, and its file has no promise.
 for words in '-e first' -efirst --entry=first '--entry first'; do
     $gcc -o entered main.c -Wl,${words/ /,} -x c - <<< 'void _start(void); void first(void) { _start(); }'
     want "$words" '' "$(readelf -nW entered | grep rlibreg || true)"
@@ -145,7 +151,8 @@ done
 $gcc -rdynamic -o entered main.c -Wl,-enable-new-dtags,-exclude-libs,ALL
 want 'words that are no entry' 1 "$(readelf -nW entered | grep -c 'rlibreg ')"
 
-# wrong WHAT WANTED WORD..: the driver links no such library.
+# wrong WHAT WANTED WORD..: checks that the driver refuses to link such a library, with the message
+# WANTED.
 wrong() {
     want "$1" "$gcc: output: $2
 = 1" "$(ended $gcc -shared -o output "${@:3}")"
@@ -156,7 +163,8 @@ without -z initfirst" later.c -Wl,-z,initfirst
 wrong 'headers elsewhere' "its memory doesn't begin with its headers: link without -Ttext-segment, or \
 a linker script" later.c -Wl,-Ttext-segment=0x10000
 
-# Such libraries of another driver, and one whose array has the function of another.
+# Libraries of these kinds that another driver has linked, and a library whose array names a
+# function of another library.
 other='gcc -fPIC -shared -nostdlib -fno-stack-protector -Wl,--hash-style=sysv'
 $other -DNAME='"first"' -DFUNCTION=of_first -Wl,-z,initfirst,-soname,libfirst.so -o libfirst.so named.c
 $other -Wl,-Ttext-segment=0x10000,-soname,libhigh.so -o libhigh.so plain.c
@@ -181,7 +189,7 @@ its own code
 = 125" "$(by $way same)"
 done
 
-# From images that are kept, once the files are two seconds old.
+# Starts from kept images, once the files are two seconds old.
 sleep 2.1
 for program in named 'busy word'; do
     by kept $program > told

@@ -4,11 +4,11 @@
  * each two.
  *
  * Each sector that was written since the last sync has its old content, or any that was written to
- * it. A disk that is left has to be, as a whole, the one from before the change or the one after
- * it. The test judges this by the listing, with the generation, and by the image of a program that
- * is bound against the disk. `rlibreg` has to print for the disk what it prints for one of these
- * two. As a control, the test tries the plan without the sync before its last write: then some disk
- * has to be neither of the two. */
+ * it. A disk that a cut leaves has to be, as a whole, the disk from before the change or the disk
+ * after it. The test judges this by the listing, with the generation, and by the image of a program
+ * that is bound against the disk. `rlibreg` has to print for the disk what it prints for one of
+ * these two. As a control, the test tries the plan without the sync before its last write: then
+ * some disk has to be neither of the two. */
 #define _GNU_SOURCE
 #include "../rlibreg.h"
 

@@ -17,7 +17,8 @@ gcc $checked -o updating "$here/updating.c" updater.o $watched $beside
 mkdir updating.files
 (cd updating.files && ../updating "$data/strong.so" b)
 
-# Prints the lines `    $ COMMAND`, and after each its lines up to the next.
+# Runs the command of each line `    $ COMMAND`, and compares its output with the lines up to the
+# next command.
 rm -f disk
 command= wanted=
 count=0

@@ -1,5 +1,6 @@
-# rlibreg-gcc: what it makes of a project's usual commands, what it refuses, and that the loader runs
-# it. What programs print is written by hand from their sources (programs/driver_*).
+# Tests rlibreg-gcc: what it makes of a project's usual commands, what it refuses, and that the
+# loader runs its programs. The expected outputs of programs are written by hand from their sources
+# (programs/driver_*).
 
 if ! command -v musl-gcc > /dev/null; then
     echo 'skipped: rlibreg-gcc, which needs the musl-gcc of musl-tools'
@@ -15,8 +16,8 @@ gcc=rlibreg-gcc
 exported() {
     nm -D --defined-only "$1" 2> told | sed 's/^[^ ]* . //; /^_/d' | sort | tr '\n' ' '
 }
-# ends WHAT LEFT MESSAGE WORD..: the driver ends with 1 and a last line, and an old output is then LEFT:
-# `gone` or `old`.
+# ends WHAT LEFT MESSAGE WORD..: checks that the driver ends with status 1, and that MESSAGE is its last
+# line. LEFT says what then becomes of an old output: `gone` or `old`.
 ends() {
     echo old > output
     want "$1" "$3
@@ -25,7 +26,8 @@ ends() {
 }
 refused() { ends "$1" gone "${@:2}"; }
 
-# Version scripts, by each linker and in each spelling: what they export, and no version.
+# Version scripts, with each linker and in each form: they decide what is exported, and no version
+# is left.
 cat > two.map << 'END'
 # Two versions, the second of which has a pattern.
 TWO_1.0 { global: one; /* not
@@ -80,7 +82,7 @@ ends 'half a script' old "$gcc: both.map: it ends within a version" \
 ends 'no script' old "$gcc: none.map: there is no such file" \
     $gcc -shared -DNUMBER=1 source.c -Wl,-z,now,--version-script=none.map
 
-# What the product refuses.
+# Libraries and programs that the product refuses.
 cat > indirect.c << 'END'
 static int one(void) { return 1; }
 static int (*choose(void))(void) { return one; }
@@ -113,7 +115,7 @@ $gcc -specs=pie.specs -o copy copy.c libdata.so
 $gcc -o /dev/null copy.c libdata.so
 [ -c /dev/null ]
 
-# What a configure makes does run.
+# The programs that a configure script makes can be run.
 echo 'int main(void) { return 3; }' > conftest.c
 want 'what gcc has for another C library' 'collect2: error: ld returned 1 exit status
 = 1' "$(ended $gcc -fsanitize=address -o conftest conftest.c | tail -n 2)"
@@ -131,7 +133,7 @@ want 'all of musl' 'dlopen dlsym malloc qsort strtok ' "$(exported conftest | tr
 want "what a build system sees of the driver's own" '' \
     "$($gcc -v -o conftest conftest.c 2>&1 | tr ' ' '\n' | grep "^${TMPDIR:-/tmp}/.*\.a$" || true)"
 
-# As musl-gcc: an object file, a text and a static link.
+# With these words the driver works as musl-gcc does: for an object file, a text and a static link.
 $gcc --whole-libc -c -o conftest.o conftest.c
 musl-gcc -static -o static conftest.o
 $gcc -static -o linked conftest.o
@@ -139,7 +141,7 @@ cmp static linked
 want 'a text' "$(musl-gcc -fPIC -E conftest.c)" "$($gcc -E conftest.c)"
 want 'a question' "$(musl-gcc -print-prog-name=ld)" "$($gcc -print-prog-name=ld)"
 
-# Headers: the kernel's are found, and no other that isn't musl's.
+# The kernel's headers are found. All other headers that are found are musl's.
 cat > kernel.c << 'END'
 #include <linux/fs.h>
 int sharing = FICLONE != 0;
@@ -158,7 +160,8 @@ else
     echo "skipped: a machine without /proc ($(cat told))"
 fi
 
-# Two libraries whose inner names are the same, and a third that has a finalizer, from a registry.
+# Two libraries whose inner names are the same, and a third one that has a finalizer, all from a
+# registry.
 rm -f disk
 "$built/rlibreg" format disk 2048 > /dev/null
 $gcc -DNUMBER=1 -shared -Wl,-z,now,--version-script=two.map -o libone.so source.c

@@ -1,6 +1,7 @@
-# driver.sh: dlopen and its like, over what a program is bound to.
+# A part of driver.sh: tests dlopen and the related calls, for the libraries that a program is bound
+# to.
 
-# What a configure tries is found, in each way of linking.
+# The functions that a configure script tries are found, with each way of linking.
 for words in '' --whole-libc -ldl '-ldl -lc' -static; do
     for name in dlopen dlsym dlclose dlerror dladdr dl_iterate_phdr; do
         echo "char $name(void); int main(void) { return $name != 0; }" > conftest.c
@@ -49,10 +50,10 @@ wrong: 0
 = 0
 END_OF_FILE
 said=$(sed 's/@/no library of this name is bound to the program, which rlibreg-gcc links with --module FILE/' said)
-# opens WORD..: what the command prints, without addresses.
+# opens WORD..: prints the output of the command without addresses.
 opens() { ended timeout 60 "$@" | sed 's/ 0x[0-9a-f]*$/ 0x/'; }
 
-# Nothing of the program refers to the module; a linker is told to leave out what isn't used.
+# The program doesn't refer to the module, and the linker is told to leave out unused libraries.
 for linker in $linkers; do
     $gcc -fuse-ld=$linker -shared -o libbelow.so driver_below.c
     $gcc -fuse-ld=$linker -shared -o module.so driver_opened.c libbelow.so
@@ -85,7 +86,7 @@ want 'an image is made' "$said" "$(opens "$built/rlibreg-run" -c kept disk ./ope
 want 'from an image' "rlibreg-run: kept: its image is taken
 $said" "$(opens "$built/rlibreg-run" -v -c kept disk ./opens)"
 
-# A library that asks for dlopen has the program's; one without a C library has none to ask.
+# A library that calls dlopen gets the program's dlopen.
 $gcc -shared -o libasks.so -x c - << 'END_OF_FILE'
 void *dlopen(const char *, int), *dlsym(void *, const char *);
 int asks(void) { return ((int (*)(void))dlsym(dlopen("libbelow.so", 2), "below"))(); }

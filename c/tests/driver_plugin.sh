@@ -1,4 +1,4 @@
-# driver_threads.sh: what gcc makes by the plugin.
+# A part of driver_threads.sh: tests what gcc makes with the plugin.
 
 for linker in $linkers; do shares "gcc and $linker" $gcc $gcc $gcc -fuse-ld=$linker; done
 "$built/rlibreg-tool" executable thread.disk threads 0x10000000 > alone
@@ -13,7 +13,7 @@ if command -v clang > told; then
     shares "a library of clang's" by_clang $gcc $gcc
     shares "a program of clang's" $gcc $gcc by_clang
 fi
-# An object file that was linked of two; a static link, which has gcc's own emulation.
+# An object file that is linked from two others; and a static link, which has gcc's own emulation.
 $gcc -O1 -c driver_threads_one.c driver_threads_two.c driver_threads.c
 $gcc -r -o both.o driver_threads_one.o driver_threads_two.o
 $gcc -o threads both.o driver_threads.o
@@ -27,7 +27,7 @@ want 'a malloc that has thread-local data' '100 bytes of thread 0
 212 bytes of thread 2
 = 0' "$(ended "$built/rlibreg-run" thread.disk ./memory)"
 
-# A library has no emulation of its own, also if it asks for it.
+# A library has no emulation of its own, even if it asks for one.
 $gcc -O1 -shared -o libthreads1.so driver_threads_one.o -lgcc_eh
 want 'the emulation of a library' '                 U __emutls_get_address' \
     "$(nm libthreads1.so | grep emutls_get_address)"

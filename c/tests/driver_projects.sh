@@ -1,12 +1,12 @@
-# driver.sh: what projects ask for on the way: the C library in each spelling, libraries of gcc and of the
-# system, libraries that only other libraries need, headers of the kernel, coverage, and the commands of
-# build systems for a tree of folders.
+# A part of driver.sh: tests what projects ask for while they are built: the C library in each spelling,
+# libraries of gcc and of the system, libraries that only other libraries need, headers of the kernel,
+# coverage, and the commands of build systems for a tree of folders.
 
-# needs FILE: the names of the libraries that it needs.
+# needs FILE: prints the names of the libraries that FILE needs.
 needs() {
     readelf -dW "$1" | sed -n 's/.*(NEEDED).*\[\(.*\)\]$/\1/p' | sort | tr '\n' ' '
 }
-# runs FILE: what it prints, and its status, from the registry `disk`.
+# runs FILE: runs FILE from the registry `disk`, and prints its output and its status.
 runs() { ended "$built/rlibreg-run" disk "./$1"; }
 
 mkdir tree tree/inner tree/outer tree/app
@@ -39,7 +39,7 @@ ln -s ../disk disk
 ran='5 0.841
 = 0'
 
-# The C library, in each spelling, in front of the files and behind them: no file needs one.
+# The C library, in each spelling, before and after the files: no file needs a C library.
 for words in -lc '-l c' -Wl,-lc '-Wl,-l -Wl,c' '-Xlinker -lc' -Wl,-z,now,-lc -Wl,--library=c \
     -Wl,--library,c '-Wl,-Bstatic -lc -Wl,-Bdynamic' '-nodefaultlibs -lc' '-nolibc -Wl,-lc'; do
     $gcc $words -shared -o libinner.so inner/inner.c $words
@@ -57,7 +57,8 @@ want 'no C library' 'collect2: error: ld returned 1 exit status
 = 1' "$(ended $gcc -nodefaultlibs -o one -x c - <<< 'int puts(); int main(void) { return puts(""); }' |
     tail -n 2)"
 
-# Shared libraries of gcc's own aren't needed without use, and the system's C library never is.
+# A shared library of gcc's own is needed only if it is used, and the system's C library is never
+# needed.
 $gcc -lgcc_s -o one -x c - -lgcc_s <<< 'int main(void) { return 0; }'
 words=-lgcc_s
 for file in "$(dirname "$(gcc -print-libgcc-file-name)")"/lib{atomic,gomp,itm,quadmath}.so; do
@@ -74,7 +75,8 @@ for linker in $linkers; do
 done
 sed -i 's/, 5,/, outer(),/; s/^int main/int outer(void);\n&/' app/app.c
 
-# A library that only another library needs, and that nobody names. Its qsort is the program's.
+# A library that only another library needs, and that nobody names. This library uses the program's
+# qsort.
 build_tree() { # LINKER
     $gcc -fuse-ld=$1 -shared -o inner/libinner.so inner/inner.c
     $gcc -fuse-ld=$1 -shared -o outer/libouter.so outer/outer.c -Linner -linner
@@ -107,7 +109,7 @@ collect2: error: ld returned 1 exit status
 = 1" "$(ended $gcc -o app/app app/app.c outer/libouter.so -Linner | tail -n 3 | sed 's/.*libinner/libinner/')"
 build_tree bfd
 
-# Headers of the kernel, of each folder that is here.
+# Headers of the kernel, one from each folder that this machine has.
 for header in mtd/mtd-user.h sound/asound.h video/edid.h misc/pvpanic.h rdma/ib_user_verbs.h \
     xen/evtchn.h drm/drm.h scsi/scsi_bsg_fc.h linux/fs.h asm/types.h asm-generic/types.h; do
     [ -e "/usr/include/$header" ] || continue
@@ -131,7 +133,7 @@ mkdir covered
         "$(echo *.gcda) "
 )
 
-# pkg-config, for a library that needs another one, in folders where these are installed.
+# pkg-config, for an installed library that needs another installed library.
 if command -v pkg-config > told; then
     mkdir -p installed/lib/pkgconfig installed/inner
     build_tree bfd
@@ -150,7 +152,7 @@ else
     echo 'skipped: pkg-config, which is not here'
 fi
 
-# The words of meson and of libtool.
+# The options of meson and of libtool.
 $gcc -o app/app app/app.c -Wl,--as-needed -Wl,--no-undefined -Wl,-O1 \
     '-Wl,-rpath,$ORIGIN/../outer:$ORIGIN/../inner' -Wl,-rpath-link,$PWD/outer -Wl,-rpath-link,$PWD/inner \
     -Wl,--start-group outer/libouter.so -lm -ldl -Wl,--end-group -pthread
@@ -160,7 +162,8 @@ $gcc -shared -fPIC -DPIC outer/outer.c -Wl,-rpath -Wl,$PWD/inner inner/libinner.
 $gcc -o app/app app/app.c -O2 outer/libouter.so $PWD/inner/libinner.so -lm -Wl,-rpath -Wl,/usr/local/lib
 want 'libtool' "$ran" "$(runs app/app)"
 
-# CMake: what it finds of the system's C library by a path, a library that another one needs for itself.
+# CMake: a part of the system's C library that it names by a path, and a library that only another
+# library needs.
 if command -v cmake > told; then
     cat > CMakeLists.txt << 'END_OF_FILE'
 cmake_minimum_required(VERSION 3.13)

@@ -1,4 +1,5 @@
-# driver.sh: thread-local data, which gcc emulates by a plugin (c/plugin.sh), and clang by itself.
+# A part of driver.sh: tests thread-local data, which gcc emulates with a plugin (c/plugin.sh), and
+# clang without one.
 
 plugin=$built/rlibreg_tls-$(gcc -dumpfullversion).so
 musl-gcc -fPIC -c -o native.o -x c - <<< '__thread int number; int one(void) { return number++; }'
@@ -9,14 +10,14 @@ hint=$plain_hint
     hint='compile all of it by this driver, or by clang -femulated-tls, and none in assembly'
 refused 'thread-local data that is not emulated' \
     "$gcc: output: refused C1 E11 TlsSegment: thread-local data: $hint" $gcc -shared native.o
-# The attacks, over control blocks as compilers make them.
+# Attacks on the emulation, with control blocks as compilers make them.
 $gcc -O2 -o tried driver_threads_tried.c
 for word in many memory fork signals races keys errno threads; do
     want "attacks: $word" 'wrong: 0
 = 0' "$(ended timeout 60 "$built/rlibreg-run" disk ./tried $word | grep -v ' threads, not 10000$')"
 done
 
-# emulated WORD..: compiles by the driver if it has its plugin, otherwise by clang.
+# emulated WORD..: compiles with the driver if it has its plugin, and otherwise with clang.
 musl_headers=$(sed -n 's/.* -isystem \([^ ]*musl[^ ]*\) .*/\1/p' "$specs" | head -n 1)
 by_clang() {
     clang -femulated-tls -fPIC -fno-stack-protector -nostdinc -isystem "$musl_headers" \
@@ -30,8 +31,8 @@ wrong: 0
 = 0'
 rm -f thread.disk
 "$built/rlibreg" format thread.disk 4096 > told
-# shares WHAT COMPILER COMPILER COMPILER [WORD..]: two libraries and a program, each by its compiler, share
-# thread-local data.
+# shares WHAT COMPILER COMPILER COMPILER [WORD..]: checks that two libraries and a program, each compiled
+# with one of the COMPILERs, share thread-local data.
 shares() {
     local name
     $2 -O2 -c -o one.o driver_threads_one.c
@@ -53,7 +54,7 @@ else
 fi
 if [ -f "$plugin" ]; then . "$here/driver_plugin.sh"; else echo "left out: gcc's plugin for thread-local data"; fi
 
-# Without a plugin for this gcc the driver is as it was, also if several run at once.
+# Without a plugin for this gcc, the driver works as before, even if several drivers run at once.
 mkdir plain
 cp -a "$built"/rlibreg* plain
 rm -f plain/rlibreg_tls-*

@@ -1,4 +1,5 @@
-# driver.sh: words and names that a driver may read otherwise than gcc, or give to awk and sed.
+# A part of driver.sh: tests words and names that a driver could read differently from gcc, or pass
+# to awk and sed.
 
 # gcc decides what words ask for: no word keeps the product from reading what is linked.
 for words in '-dumpdir -c' '-dumpbase -E' '-dumpbase-ext .s' -dA '-MD -MT -M' '-I -S' -Wl,-rpath,-r \
@@ -7,7 +8,8 @@ for words in '-dumpdir -c' '-dumpbase -E' '-dumpbase-ext .s' -dA '-MD -MT -M' '-
 done
 refused "an argument that isn't known as one" "${indirect/C1/B1}" $gcc -shared indirect.c -Wl,--exclude-libs,-r
 
-# makes NAMES WORD..: in an empty folder the driver makes files of these names, and ends with 0.
+# makes NAMES WORD..: checks that the driver, in an empty folder, makes files of these names and
+# ends with status 0.
 makes() {
     mkdir made
     (cd made && $gcc "${@:2}" > ../told 2>&1) || { cat told; exit 1; }
@@ -42,7 +44,7 @@ done
 want '-name, refused' '= 1' "$(ended $gcc -shared indirect.c -o -name | tail -n 1)"
 want '-name, refused: what is left' '' "$(compgen -G '-*' || true)"
 
-# What is left of an old output is what gcc leaves.
+# After a failure, the driver leaves as much of an old output as gcc does.
 echo 'int one(' > wrong.c
 echo old > output
 want 'an error in C' '= 1' "$(ended $gcc -shared wrong.c -o output | tail -n 1)"
@@ -63,7 +65,7 @@ $gcc -Wl,--version > told 2>&1
 want 'an output that another made' 'not ours' "$(cat a.out)"
 rm a.out
 
-# Outputs that are no files get the bytes of a file, once they are read.
+# An output that isn't a regular file gets the bytes of a file, once they were read.
 plain="$gcc -shared -Wl,-soname,it plain.c"
 $plain -o it
 mkdir folder
@@ -84,7 +86,8 @@ want 'a link to nothing, refused' '= 1' "$(ended $gcc -shared indirect.c -o to |
 $plain -o to
 cmp it target
 [ -x target ] && [ -L to ]
-# A wrong driver would remove /dev/stdout, if that is a file: so this has a /dev of its own.
+# A wrong driver would remove /dev/stdout if that leads to a file. So this test has a /dev of its
+# own.
 if unshare -rm mount -t tmpfs none /mnt 2> told; then
     echo text > longer
     unshare -rm bash -c "mount -t tmpfs none /dev && ln -s /proc/self/fd/1 /dev/stdout && : > /dev/null
@@ -120,8 +123,8 @@ echo '-shared plain.o -o many.so' >> many
 (ulimit -s 512 && $gcc @many)
 want 'many words' 'one ' "$(exported many.so)"
 
-# Any name is a name, of folders, sources, outputs, scripts, parts of the driver, and of the folder of
-# temporary files. (lld itself writes no output with a `%`.)
+# Folders, sources, outputs, scripts, parts of the driver, and the folder of temporary files may have
+# any name. (lld itself writes no output with a `%`.)
 odd=$'sp ace\nnew\t"q\'u#&\\b=c*[x]$(y)`z`;|'
 mkdir "$odd" "$odd/parts" "$odd/temporary"
 for name in -gcc -ld .specs _begin.o _{dl,objects,emulated}.a _versions.awk _words.awk; do
@@ -154,7 +157,8 @@ ends 'two halves of a script' old "$gcc: half.map: it ends within a version" \
 ends 'a folder in the place of a script' old "$gcc: folder: it can't be read" \
     $gcc -shared plain.c -Wl,--version-script=folder
 
-# Folders of temporary files that can't be had, as for gcc, and that are full.
+# Folders of temporary files that can't be used, with which the driver does what gcc does, and a
+# full one.
 TMPDIR=/none $gcc -shared plain.c -o libone.so
 want 'another folder of temporary files' 'one ' "$(exported libone.so)"
 if unshare -rm mount -t tmpfs none /mnt 2> told; then
@@ -171,8 +175,8 @@ else
     echo "skipped: full folders of temporary files ($(cat told))"
 fi
 
-# A signal to all, or to what waits for the linker, leaves no output that wasn't read and no temporary
-# file of the driver.
+# A signal to all processes, or to the process that waits for the linker, leaves no output that wasn't
+# read and no temporary file of the driver.
 mkdir linkers temporary
 cat > linkers/ld << 'END'
 #!/usr/bin/env bash
@@ -200,7 +204,7 @@ for signalled in all one; do
     want "after a signal to $signalled" '' "$(ls -d output temporary/rlibreg.* 2> told || true)"
 done
 
-# Several at once, in one folder.
+# Several drivers at once, in one folder.
 mkdir made
 for at in 1 2 3 4 5 6 7 8; do
     (cd made && $gcc -shared -Done=one_$at ../plain.c -o lib$at.so) &

@@ -142,7 +142,7 @@ static void wait_for_parent(const char *path) {
 
 static void try_generations(struct way way, rlibreg **opened, int generation);
 
-/* Opens a disk, and makes the next generation, which finds it open. */
+/* Opens a disk, and makes the next generation, which finds this disk open. */
 static void open_own(struct way way, rlibreg **opened, int generation) {
     char path[16];
     disk_of(generation, path);

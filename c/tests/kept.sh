@@ -11,7 +11,7 @@ for name in words place both; do
     $compile -pie -Wl,-e,_start -o $name "$programs/$name.c" 2> warned
 done
 $compile -pie -Wl,-e,_start -o chain "$programs/chain.c" libtwo.so libone.so
-# disk_of FILE: makes a disk with these libraries, by the same commands.
+# disk_of FILE: makes a disk with the libraries, each time by the same commands.
 disk_of() {
     ./tool format "$1" 512 > /dev/null
     for name in one two; do ./tool install "$1" lib$name.so > /dev/null; done
@@ -126,7 +126,7 @@ if [ "$(id -u)" = 0 ] && cp before.disk first.disk && device=$(losetup -f --show
     start 'another disk that is written onto the device' "$other$keeps" "$changed" "$device" ./chain
     dd if=before.disk of="$device" conv=notrunc,fsync 2> lost
     start 'the first one, written onto it' "$other$keeps" "$said" "$device" ./chain
-    # An entry gets another name, and its library's bytes stay.
+    # An entry gets another name, and the bytes of its library stay the same.
     entry=$(LC_ALL=C grep -aboP 'LIBE[\s\S]{12}libone' before.disk | LC_ALL=C sed -n '1s/:.*//p')
     printf libuno | dd of="$device" bs=1 seek=$((entry + 16)) conv=notrunc,fsync 2> lost
     start 'another name in an entry' "$other" 'refused B3 Missing /program libone.so
@@ -213,7 +213,7 @@ nothing 'no folder' 'No such file or directory'
 ln -s moved kept
 nothing 'a link to a folder' 'Not a directory'
 # used FOLDER COMMAND..: runs a start by COMMAND. Prints 1 if it uses an image from FOLDER or keeps one
-# there, else 0.
+# there, and otherwise 0.
 used() {
     "${@:2}" ./run-kept -v -c "$1" disk ./chain 2>&1 | grep -c 'is taken$\|is kept$' || true
 }
@@ -234,7 +234,8 @@ mv moved kept
 chmod 755 kept
 chmod a+r disk chain
 mkdir -m 755 within_reach
-# of_mode WANTED WHAT [DISK]
+# of_mode WANTED WHAT [DISK]: checks that the image which a start over DISK keeps has the mode
+# WANTED.
 of_mode() {
     rm -f kept/*
     start "an image of mode $1: $2" "$none$keeps" "$changed" "${3:-within_reach/disk}" ./chain
@@ -311,7 +312,7 @@ done
 head -c "$(stat -c %s "$image")" /dev/zero > zeros
 cat zeros > "$image"
 replaced 'a file of zeros' "$other"
-# another_byte FILE PLACE: writes another byte there.
+# another_byte FILE PLACE: replaces the byte at the offset PLACE with another one.
 another_byte() {
     local byte=$(od -An -tu1 -j "$2" -N 1 "$1")
     printf "\\$(printf %o $((byte ^ 7)))" | dd of="$1" bs=1 seek="$2" conv=notrunc 2> lost
@@ -363,7 +364,8 @@ rm -r copies
 want 'a page that nobody gets' 'rlibreg-run: memory at the base: Operation not permitted
 = 126' "$(ended ./run-kept -c kept -b 0 disk ./words)"
 
-# Folders that are mounted: without permission to execute, and without space. mounted OPTIONS COMMAND
+# Folders that are mounted: without permission to execute, and without space. mounted OPTIONS
+# COMMAND: mounts a folder of images, runs COMMAND in it, and then a start.
 words=(./run-kept -v -c kept disk ./chain)
 mounted() {
     unshare -m "$BASH" -c 'mount -t tmpfs -o "$1" none kept && eval "$2"; "${@:3}"; ls -A kept | wc -l' \
@@ -476,7 +478,7 @@ done
 want 'a disk that it writes' 'rlibreg-run: disk: Text file busy
 = 126' "$($run disk ./chain 2>&1 >> disk || echo "= $?")"
 
-# Each call by which an image is kept fails, or the process is killed there.
+# Each call by which an image is kept fails, or the process is killed at that call.
 for how in DIE FAIL; do
     for call in {1..40}; do
         rm -f kept/*

@@ -161,8 +161,8 @@ static void try_two_faults(long calls) {
     }
 }
 
-/* Ends the process at each call. If `is_moved`, moves the disk that it left before the next one is
- * made. */
+/* Ends the process at each call. If `is_moved`, moves the disk that the process left, before the
+ * next one is made. */
 static void try_ends(long calls, int is_moved) {
     for (long n = 0; n < calls; n++) {
         int status;

@@ -57,7 +57,7 @@ for name in $(grep -ohE '\brlibreg[a-z_.]*\(3\)' manual/rlibreg*.3.shown | sed '
     [ -f "manual/$name" ] || [ ! -f manual/rlibreg.1 ] || { echo "a page names $name" >&2; exit 1; }
 done
 
-# The page about all calls: its heads, and the example, which has to be that of the header.
+# The page about all calls: its headings, and the example, which has to be that of the header.
 for head in EXAMPLE LAYERS LOCKS 'FAILED WRITES' 'STANDARD STREAMS' MEDIA 'THREADS AND MEMORY'; do
     grep -qx "$head" manual/rlibreg.h.3.shown || { echo "rlibreg.h.3 has no head '$head'" >&2; exit 1; }
 done

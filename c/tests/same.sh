@@ -4,8 +4,8 @@
 
 count=0
 
-# both COMMAND [WORD]..: runs a command by the program on the disk `theirs`, and by the library on
-# `ours`.
+# both COMMAND [WORD]..: runs COMMAND with the program on the disk `theirs`, and with the library on
+# the disk `ours`.
 both() {
     local theirs ours test=
     theirs=$("$rlibreg" "$1" theirs "${@:2}" && echo '= 0' || echo "= $?")

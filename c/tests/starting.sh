@@ -178,7 +178,8 @@ want 'a start beside a change' '' "$(cat waited)"
 let_go
 want 'a start after it' 'one 36 13 nobody' "$(cat waited)"
 
-# Alignments. aligned FILE NEW BYTE: the first segment gets an alignment of BYTE, hexadecimal, times 2^40.
+# Alignments. aligned FILE NEW BYTE: copies FILE to NEW, where the first segment has an alignment of BYTE
+# (hexadecimal) times 2^40.
 aligned() {
     number=$(readelf -lW "$1" | awk '$1 == "LOAD" {print seen + 0; exit} / 0x/ {seen++}')
     cp "$1" "$2"

@@ -9,7 +9,8 @@ export ROOM=$PWD
 lines() {
     printf '%s %s\n' "$1" "$(od -An -v -tx1 "$2" | tr -d ' \n')"
 }
-# digest FILE..: prints what rlibreg-tool prints of a registry of these libraries: b, and then a.
+# digest FILE..: prints what rlibreg-tool prints of a registry of these libraries: `b`, and then
+# `a`.
 digest() {
     local names=(b a) at
     for ((at = 1; at <= $#; at++)); do
@@ -128,8 +129,8 @@ rlibreg-switch: $PWD/fixed/disk still leads to $PWD/one
     cmp two start/two
 fi
 
-# stays STATUS WHAT WORD..: standard input or a command fails, so the link stays, and so does the disk
-# that it leads to.
+# stays STATUS WHAT WORD..: checks that a failure of standard input or of a command changes neither
+# the link nor the disk to which it leads.
 stays() {
     want "the status of $2" "$1" "$(ended change "${@:3}" 2>&1 | sed -n 's/^= //p')"
     leads "after $2" one "$old"
@@ -176,7 +177,7 @@ start
 printf '%-512s' rlibreg-switch | dd of=two conv=notrunc status=none
 stays 1 'a copy that was cut' --as-is one two
 
-# Two at once: the second waits, finds that the first has switched, and switches back.
+# Two switches at once: the second waits, finds that the first has switched, and switches back.
 start
 mkfifo begun
 change one two sh -c 'echo > begun; sleep 0.3; rlibreg-tool update "$RLIBREG_OTHER" < first' > waited &
@@ -251,9 +252,9 @@ ok
 done
 rm begun
 
-# Cuts. A step is a command of the script that locks, writes or syncs. `steps` has its stand-ins: they
-# count the steps, and kill all processes after the step of one number, or halfway through a copy or
-# `ln`.
+# Cuts. A step is a command of the script that locks, writes or syncs. The folder `steps` has
+# stand-ins for these commands: they count the steps, and kill all processes after the step of one
+# number, or halfway through a copy or `ln`.
 cat > steps/step << 'END'
 #!/bin/sh
 name=${0##*/}
@@ -297,7 +298,7 @@ keeps() {
     found=$(real/rlibreg-tool digest looked-at 2>&1) || true
     [ "$found" = "$OLD" ] || [ "$found" = "$NEW" ] || echo "in $step: $1: $found" >> wrong
 }
-# looks LINK: tries that the medium has some of the unsynced sectors of each disk.
+# looks LINK: tries media that have some of the unsynced sectors of each disk.
 looks() {
     local disk sectors
     keeps "$1" one two
@@ -341,8 +342,8 @@ stepped() {
     status=0
     { setsid --wait steps/rlibreg-switch --link "$PWD/disk" "${@:2}" < first > said 2> told || status=$?; } 2> lost
 }
-# again WORD..: checks that after a cut the old state or the new one is there. The same switch leaves the
-# new state, and another change is made to that. Each state of the files is tried once.
+# again WORD..: checks that a cut leaves the old state or the new one, that the same switch then leaves
+# the new state, and that a further change of this state succeeds. Each state of the files is tried once.
 again() {
     local found
     flock . flock one flock two true # once all that was killed has ended
@@ -358,7 +359,7 @@ again() {
     want "another change after $CUT" 0 "$(change "$@" < second > said 2> told; echo $?)"
     want "the state after $CUT and another change" "$both" "$(bin/rlibreg-tool digest disk)"
 }
-# way WORD..: tries all cuts of such a switch of one and two.
+# way WORD..: tries all cuts of such a switch between the disks `one` and `two`.
 cuts=0
 way() {
     local number steps halves

@@ -1,5 +1,5 @@
 /* together LIBRARY OTHER LONG plans updates over bytes, and carries them out. LIBRARY and OTHER
- * have the SONAME b, and LONG the SONAME a. */
+ * have the SONAME `b`, and LONG the SONAME `a`. */
 #include "../rlibreg.h"
 
 #include <stdio.h>
@@ -165,7 +165,7 @@ static void try_done(void) {
     want_done(3);
 }
 
-/* Tries a refusal of each change of an update. The disk has the library a, which is a preload. */
+/* Tries a refusal of each change of an update. The disk has the library `a`, which is a preload. */
 static void try_refusals(void) {
     begin();
     add(RLIBREG_REMOVE, "a", 1);

@@ -1,6 +1,6 @@
 /* updates LIBRARY OTHER LONG PROGRAM makes updates of a disk, in the folder where it is run, and
- * binds PROGRAM against disks before they are updated. LIBRARY and OTHER have the SONAME b, LONG
- * has the SONAME a, and PROGRAM needs b. Refused memory is tried only if the test is compiled
+ * binds PROGRAM against disks before they are updated. LIBRARY and OTHER have the SONAME `b`, LONG
+ * has the SONAME `a`, and PROGRAM needs `b`. Refused memory is tried only if the test is compiled
  * without the sanitizer of addresses, which needs much memory itself. */
 #define _GNU_SOURCE
 #include "watched.h"
@@ -41,7 +41,7 @@ static int is_as_before(void) {
     return !memcmp(before, after, sizeof before);
 }
 
-/* Returns a disk that has the library b and the preload b. */
+/* Returns a disk that has the library `b`, which is also a preload. */
 static rlibreg *formatted(uint32_t sectors) {
     const char *const names[] = { "b" };
     rlibreg *it = rlibreg_create();

@@ -1,6 +1,6 @@
-# Functions of the tests. `want` compares a result with the expected one.
+# Functions that the tests share.
 
-# want WHAT WANTED FOUND
+# want WHAT WANTED FOUND: if FOUND isn't WANTED, prints both with the name WHAT, and ends the test.
 want() {
     if [ "$2" != "$3" ]; then
         printf '%s: wanted:\n%s\nfound:\n%s\n' "$1" "$2" "$3" >&2

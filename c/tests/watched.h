@@ -1,5 +1,5 @@
 /* The calls of the system by which a disk is opened, locked and made, watched by a test. The test
- * is linked with --wrap of each, by the list in run.sh. */
+ * is linked with --wrap for each of these calls, by the list in run.sh. */
 #ifndef WATCHED_H
 #define WATCHED_H
 
@@ -59,7 +59,7 @@ struct watched {
     int wipes_nothing;        /* whether the kernel refuses MADV_WIPEONFORK */
     int watches_no_forks;     /* whether a handler of forks is refused for want of memory */
 
-    /* Called before each call; or null. */
+    /* The function that is called before each watched call, or null. */
     void (*before)(const char *word);
 };
 extern struct watched watched;

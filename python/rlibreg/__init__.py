@@ -4,8 +4,8 @@
         registry.install(Path('libone.so'))
         image = registry.bind(Path('program'), 1 << 40)
 
-It calls librlibreg.so by ctypes. docs/PYTHON.md introduces the module. rlibreg.h describes what
-each call does, its limits and its refusals.
+The module calls librlibreg.so by ctypes. docs/PYTHON.md introduces the module. rlibreg.h describes
+what each call does, its limits and its refusals.
 """
 
 from __future__ import annotations
@@ -77,7 +77,7 @@ class Status(enum.IntEnum):
     PRE_INITIALIZERS = 403
     INITIALIZERS = 404
     FINALIZERS = 405
-    # 406 isn't used again.
+    # The number 406 isn't used again.
     TOO_MANY_HEADERS = 407
     WRITABLE_CODE = 408
     NO_PAGES = 409
@@ -179,8 +179,8 @@ class BoundObject(NamedTuple):
 
 
 class Bindings(NamedTuple):
-    """The bindings of the symbols of a program and its libraries, object by object in load order.
-    If names are missing, only the objects that were found."""
+    """The bindings of the symbols of a program and its libraries, object by object in load order. If names are
+    missing, it has only the objects that were found."""
 
     status: Status  # the status of a bind: DONE, MISSING or UNDEFINED
     objects: list[BoundObject]
@@ -278,7 +278,8 @@ def _content(file: Content) -> bytes:
 
 
 def _word(word: PathName) -> bytes:
-    """Returns a path or a name for C. It has to be without a byte 0, which would end it there."""
+    """Returns a path or a name for C. The text must have no byte 0, because C would end the text at this
+    byte."""
     given = os.fsencode(word)
     if b'\0' in given:
         raise ValueError('embedded null byte')
@@ -808,10 +809,10 @@ class Registry:
             _library.rlibreg_findings_free(ctypes.byref(given))
 
     def dump(self) -> Iterator[bytes]:
-        """Yields the script by which `rlibreg script` makes the registry again, as rlibreg-tool
-        dumps it. It comes in pieces, each of which has to be taken before the next change. Only
-        the last piece ends a line, so a script of only some of the pieces is refused. If a library
-        is damaged, or a call fails, the last piece is `cut`, and then the exception is raised."""
+        """Yields the script by which `rlibreg script` makes the registry again, as rlibreg-tool dumps it. The
+        script is yielded in pieces, each of which has to be taken before the next change. Only the last piece
+        ends a line, so a script of only some of the pieces is refused. If a library is damaged, or a call fails,
+        the last piece is `cut`, and then the exception is raised."""
         begin = b''
         try:
             listing = self.list()

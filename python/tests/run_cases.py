@@ -165,7 +165,7 @@ def script_of(data):
 
 
 class Run(NamedTuple):
-    """`on BEFORE run WORD .. [< FILE] => STATUS ANSWER then AFTER`; or `tool` for `run`."""
+    """`on BEFORE run WORD .. [< FILE] => STATUS ANSWER then AFTER`. The word `tool` may replace `run`."""
 
     program: str  # `run` or `tool`
     before: bytes  # or None

@@ -558,7 +558,7 @@ class Processes(OnDisk):
 
 
 class GivingLock:
-    """A lock that goes to a waiting thread before the thread that had it can take it again."""
+    """A lock passes to a waiting thread before the thread that had the lock can take it again."""
 
     def __init__(self):
         self.lock = threading.Lock()

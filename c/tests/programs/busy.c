@@ -18,7 +18,7 @@ static void *work(void *it) {
     return it;
 }
 
-/* The child goes another way, and the parent has its status. */
+/* The child takes the other branch, and the parent gets the child's status. */
 static int of_child(void) {
     int status;
     pid_t child = fork();

@@ -1,4 +1,4 @@
-/* A module: nothing refers to it. Its constructor opens libraries. */
+/* A module, to which nothing refers. Its constructor opens libraries. */
 #define _GNU_SOURCE
 #include <dlfcn.h>
 #include <string.h>

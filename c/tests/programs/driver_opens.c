@@ -1,4 +1,4 @@
-/* Opens what it is bound to, and prints what it finds. */
+/* A program that opens the libraries that it is bound to, and prints what it finds in them. */
 #define _GNU_SOURCE
 #include <dlfcn.h>
 #include <link.h>

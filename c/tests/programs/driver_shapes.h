@@ -16,5 +16,6 @@ Counter &counter();
 
 Shape *square(int side);
 
-/* The numbers that constructors of static objects have noted: they run before printf can be used. */
+/* The numbers that constructors of static objects have noted. These constructors run before printf
+ * can be used. */
 extern int noted;

@@ -24,7 +24,7 @@ static void *check(void *given) {
     return (void *)wrong;
 }
 
-/* A destructor of this key runs twice: it finds what the thread left. */
+/* The destructor of this key runs twice, and finds the data that the thread left. */
 static void end(void *given) {
     if (of_program == 1003) pthread_setspecific(key, given);
     printf("thread %ld ends with %d, %d, %d\n", (long)given, of_program++, add_to_shared(0), block[4096]);

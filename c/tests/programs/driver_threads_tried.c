@@ -39,7 +39,8 @@ static size_t pages(void) {
     return all;
 }
 
-/* Copies are zero, aligned, apart, and stay where they are, while the table grows. */
+/* Copies are zero, aligned and apart from each other, and stay at their addresses while the table
+ * grows. */
 static void *many(void *given) {
     static long first = 77;
     struct control *large = calloc(1, sizeof *large);
@@ -71,7 +72,7 @@ static void try_many(void) {
     pthread_join(thread, NULL);
 }
 
-/* Each of many threads at once has its own copy. */
+/* Many threads exist at the same time, and each has its own copy. */
 static pthread_mutex_t lock = PTHREAD_MUTEX_INITIALIZER;
 static pthread_cond_t changed = PTHREAD_COND_INITIALIZER;
 static sem_t begun;
@@ -215,7 +216,7 @@ static void try_races(void) {
     }
 }
 
-/* All keys are used up, by a program whose first access comes later. */
+/* The program uses up all keys before its first access to thread-local data. */
 static void try_keys(void) {
     pthread_key_t key;
     while (!pthread_key_create(&key, NULL)) continue;

@@ -10,7 +10,7 @@ __attribute__((constructor)) static void keep(int argc, char **argv, char **vari
     all_variables = variables;
 }
 
-/* Returns whether the program has the same arguments. */
+/* Returns whether the program has the arguments that the initializer got. */
 int is_given(const uint64_t *stack) {
     char **own = (char **)(stack + 1);
     return (uint64_t)count == stack[0] && words == own && all_variables == own + count + 1;

@@ -76,11 +76,12 @@ pub record LacksRoom (steps : List Step) (buffer : List ℕ) (told_bytes told_co
 abbrev pub IsTold : Reply → List ℕ → Answer → ℕ → Type 0
 IsTold reply text answer status = Tells reply text answer.text answer.file_refusal status ⊎ WantsMemory text answer.text answer.file_refusal status
 
--- the reply is reported, or memory for the report was refused; all counts are 0
+-- the reply is reported, or memory for the report was refused; in either case all counts are 0
 abbrev pub IsToldAlone : Reply → List ℕ → Answer → ℕ → Type 0
 IsToldAlone reply text answer status = IsTold reply text answer status × IsUncounted answer
 
--- the call reports why there is no registry, or memory for the report was refused; all counts are 0
+-- the call reports why there is no registry, or memory for the report was refused; in either case all
+-- counts are 0
 abbrev pub IsTurnedAway : StoreRefusal → List ℕ → Answer → ℕ → Type 0
 IsTurnedAway refusal text answer status =
     (TurnsAway refusal text answer.text answer.file_refusal status ⊎ WantsMemory text answer.text answer.file_refusal status) × IsUncounted answer
@@ -97,8 +98,8 @@ abbrev pub IsLeft : List ℕ → List ℕ → ℕ → Type 0
 IsLeft old new status = status ≢ done → status ≢ no_room → status ≢ out_of_memory → new ≡ old
 
 -- The buffer has the plan of a change of the registry that the bytes hold. The plan leads from the
--- registry's state to the state after the accepted change. If each file was a library before, each file
--- is one after the plan. The bytes hold no other state.
+-- registry's state to the state after the accepted change. If each file of the registry was a library
+-- before the plan, each one is a library after it. The bytes hold no other state.
 pub record IsPlanOf (bytes : List ℕ) (request : Request) (buffer : List ℕ) (answer : Answer) : Type 0 where
   pub state : State
   pub steps : List Step
@@ -113,7 +114,7 @@ abbrev pub IsChangeTold : Reply → List Step → List ℕ → List ℕ → Answ
 IsChangeTold reply.Done steps plan text answer status = IsPlanned steps plan text answer status
 IsChangeTold other steps plan text answer status = IsToldAlone other text answer status
 
--- Either the registry that the bytes hold was asked for a change, and its reply is reported, or there is
+-- Either the registry that the bytes hold was asked for a change, and its reply is reported. Or there is
 -- no registry, and the call reports why.
 abbrev pub IsChangeAnswered : List ℕ → Request → List ℕ → List ℕ → Answer → ℕ → Type 0
 IsChangeAnswered bytes request plan text answer status =
@@ -125,7 +126,7 @@ abbrev pub IsBindTold : Reply → List ObjectPlace → List SegmentPlace → Lis
 IsBindTold (reply.Bound image) objects segments bytes text answer status = IsImageGiven image objects segments bytes answer status
 IsBindTold other objects segments bytes text answer status = IsToldAlone other text answer status
 
--- Either the registry that the bytes hold was asked for a bind, and its reply is reported, or there is
+-- Either the registry that the bytes hold was asked for a bind, and its reply is reported. Or there is
 -- no registry, and the call reports why.
 abbrev pub IsBindAnswered : List ℕ → Request → List ObjectPlace → List SegmentPlace → List ℕ → List ℕ → Answer → ℕ → Type 0
 IsBindAnswered disk request objects segments bytes text answer status =
@@ -138,8 +139,8 @@ pub record IsFormatPlan (bytes buffer : List ℕ) (answer : Answer) : Type 0 whe
   pub formatted : IsFormatted bytes steps
   pub plan : HasPlan steps buffer answer.bytes answer.count
 
--- either an empty registry is planned, and the buffer has its plan, or the call reports why none is
--- planned
+-- either an empty registry is planned, and the buffer has its plan or is too small; or the call reports
+-- why none is planned
 abbrev pub IsFormatAnswered : List ℕ → List ℕ → List ℕ → Answer → ℕ → Type 0
 IsFormatAnswered bytes plan text answer status =
     ((steps : List Step) × IsFormatted bytes steps × IsPlanned steps plan text answer status)
@@ -152,13 +153,14 @@ pub record IsUpgradePlan (bytes buffer : List ℕ) (answer : Answer) : Type 0 wh
   pub upgraded : IsUpgraded bytes state steps
   pub plan : HasPlan steps buffer answer.bytes answer.count
 
--- either an upgrade is planned, and the buffer has its plan, or the call reports why none is planned
+-- either an upgrade is planned, and the buffer has its plan or is too small; or the call reports why
+-- none is planned
 abbrev pub IsUpgradeAnswered : List ℕ → List ℕ → List ℕ → Answer → ℕ → Type 0
 IsUpgradeAnswered bytes plan text answer status =
     ((s : State) × (steps : List Step) × IsUpgraded bytes s steps × IsPlanned steps plan text answer status)
     ⊎ ((refusal : StoreRefusal) × IsUnupgraded bytes refusal × IsTurnedAway refusal text answer status)
 
--- either the buffers have the listing, and it is reported, or a buffer is too small
+-- either the buffers have the listing, which is reported, or a buffer is too small
 abbrev pub IsListGiven : Listed → List EntryPlace → List ℕ → List ℕ → Answer → ℕ → Type 0
 IsListGiven l entries names text answer status = (Counts l answer.count answer.preloads × IsUnbound answer)
     × ((AreListed (entries_of l) entries names answer.bytes × IsTold (reply.Listing l) text answer status)
@@ -169,15 +171,15 @@ abbrev pub IsListTold : State → Reply → List EntryPlace → List ℕ → Lis
 IsListTold s (reply.Listing l) entries names text answer status = IsListGiven l entries names text answer status × (answer.generation ≡ s.generation)
 IsListTold s other entries names text answer status = IsToldAlone other text answer status
 
--- Either the registry that the bytes hold was asked for a listing, and its reply is reported, or there
+-- Either the registry that the bytes hold was asked for a listing, and its reply is reported. Or there
 -- is no registry, and the call reports why.
 abbrev pub IsListAnswered : List ℕ → List EntryPlace → List ℕ → List ℕ → Answer → ℕ → Type 0
 IsListAnswered disk entries names text answer status =
     ((s : State) × (reply : Reply) × (steps : List Step) × IsAsked disk s list reply steps × IsListTold s reply entries names text answer status)
     ⊎ ((refusal : StoreRefusal) × IsUnopened disk refusal × IsTurnedAway refusal text answer status)
 
--- Either the argument has names in a row, and the answer is that of a change to these preloads, or it
--- doesn't have this form, or memory was refused.
+-- Either the argument has names in a row, and the answer is that of a change to these preloads. Or the
+-- argument doesn't have this form, or memory was refused.
 abbrev pub IsPreloadAnswered : List ℕ → List ℕ → List ℕ → List ℕ → Answer → ℕ → Type 0
 IsPreloadAnswered disk names plan text answer status =
     ((list : List (List ℕ)) × AreNames list names × IsChangeAnswered disk (set_preloads list) plan text answer status)

@@ -11,8 +11,9 @@ abbrev pub own_bytes : List ℕ → ChangePlace → List ℕ
 own_bytes bytes change = take change.length (drop change.from bytes)
 
 -- `request` is the request of a change with the bytes `own`. A change of kind 1 installs a library, and
--- one of kind 2 replaces one; `own` is the library's file. One of kind 3 removes the library whose name
--- is `own`. One of kind 4 sets the preloads to the names that `own` has in a row.
+-- a change of kind 2 replaces one; in both, `own` is the library's file. A change of kind 3 removes the
+-- library whose name is `own`. A change of kind 4 sets the preloads to the names that `own` has in a
+-- row.
 abbrev pub Asks : ℕ → List ℕ → Request → Type 0
 Asks kind own request =
     ((kind ≡ 1) × (request ≡ install own))

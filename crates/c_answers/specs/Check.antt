@@ -23,7 +23,8 @@ abbrev pub other_name : ℕ
 other_name = 100
 
 -- The number of a finding. For a file that is refused, it is the number n of the first test En that
--- refuses the file, which lies between the other two numbers. A library that can't be read has no number.
+-- refuses the file, which is greater than `sound` and less than `other_name`. A library that can't be
+-- read has no number.
 abbrev pub HasNumber : Finding → ℕ → Type 0
 HasNumber Sound number = number ≡ sound
 HasNumber (Refused why) number = number ≡ file_number why
@@ -42,7 +43,8 @@ library_names libraries = flat_map (λ l. l.name ++ 0 ∷ []) libraries
 abbrev pub name_start : List Library → ℕ → ℕ
 name_start libraries i = length (library_names (take i libraries))
 
--- The place of a library has the offset and the length of its name, and its finding.
+-- The place of a library has the offset `from` and the length of the library's name, and the number of
+-- the finding.
 pub record IsFoundAt (from : ℕ) (l : Library) (place : FindingPlace) : Type 0 where
   pub name : place.name ≡ from
   pub name_length : place.name_length ≡ length l.name
@@ -75,8 +77,8 @@ IsCheckTold libraries findings names text answer status =
     IsCheckGiven libraries findings names answer status
     ⊎ (WantsMemory text answer.text answer.file_refusal status × IsUncounted answer)
 
--- Either there is a registry, and the buffers have the finding of each library, or a buffer is too
--- small, or memory was refused. Or there is no registry, and the call reports why.
+-- Either the bytes hold a registry: then the buffers have the finding of each library, or a buffer is
+-- too small, or memory was refused. Or there is no registry, and the call reports why.
 abbrev pub IsCheckAnswered : (disk : List ℕ) → List FindingPlace → (names text : List ℕ) → Answer → ℕ → Type 0
 IsCheckAnswered disk findings names text answer status =
     ((s : State) × HoldStore disk s

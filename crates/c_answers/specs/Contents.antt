@@ -45,8 +45,8 @@ IsGiven given_status count given bytes answer status =
 abbrev pub IsFileGiven : List ℕ → List ℕ → Answer → ℕ → Type 0
 IsFileGiven file bytes answer status = IsGiven done 0 file bytes answer status
 
--- The reason why a library's file isn't returned. It is C3 (NotInstalled) exactly if no library has the
--- name, and never S1 (Device), because no read of bytes fails.
+-- The reason why a library's file isn't returned. It is C3 (NotInstalled) if and only if no library has
+-- the name. It is never S1 (Device), because no read of bytes fails.
 abbrev pub IsUnread : State → List ℕ → Unread → Type 0
 IsUnread s name unread.NotInstalled = All (λ library. library.name ≢ name) s.libraries
 IsUnread s name unread.Unreadable = ⊥

@@ -47,9 +47,9 @@ abbrev pub IsNoFileTold : ExecutableRefusal → List ℕ → Answer → ℕ → 
 IsNoFileTold refusal text answer status =
     (TellsNoFile refusal text answer.text answer.file_refusal status ⊎ WantsMemory text answer.text answer.file_refusal status) × IsUncounted answer
 
--- Either the buffer has the executable file of an image, with the number of its program headers, or is
--- too small. Or there is no file, because a test refuses the image or memory was refused, and the call
--- reports why.
+-- Either the image has an executable file: then the answer has the number of its program headers, and
+-- the buffer has the file or is too small. Or a test refuses the image or memory was refused, and the
+-- call reports why there is no file.
 abbrev pub IsExecutableTold : MemoryImage → (bytes text : List ℕ) → Answer → ℕ → Type 0
 IsExecutableTold image bytes text answer status =
     ((file : List ℕ) × IsExecutableOf image file × IsGiven done (header_count file) file bytes answer status)
@@ -60,8 +60,8 @@ abbrev pub IsBoundTold : Reply → (bytes text : List ℕ) → Answer → ℕ �
 IsBoundTold (reply.Bound image) bytes text answer status = IsExecutableTold image bytes text answer status
 IsBoundTold other bytes text answer status = IsToldAlone other text answer status
 
--- Either the registry that the bytes hold was asked for a bind, and its image's file is returned or the
--- call reports why there is none; or there is no registry, and the call reports why.
+-- Either the registry that the bytes hold was asked for a bind, and `IsBoundTold` holds for its reply.
+-- Or there is no registry, and the call reports why.
 abbrev pub IsExecutableAnswered : (disk : List ℕ) → Request → (bytes text : List ℕ) → Answer → ℕ → Type 0
 IsExecutableAnswered disk request bytes text answer status =
     ((s : State) × (reply : Reply) × (steps : List Step) × IsAsked disk s request reply steps × IsBoundTold reply bytes text answer status)

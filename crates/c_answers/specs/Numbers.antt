@@ -54,8 +54,8 @@ bind_number bind.NoRoom = 104
 bind_number (bind.Undefined object symbol) = 105
 bind_number bind.OutOfMemory = 311
 
--- The status of a refusal. For a refusal of a command it is 200 plus the refusal's number; for one of a
--- bind or a disk it is the number above.
+-- The status of a refusal. For a refusal of a command it is 200 plus the refusal's number, of a bind
+-- `bind_number`, and of a disk 300 plus the refusal's number.
 abbrev pub refusal_number : Refusal → ℕ
 refusal_number (refusal.Object why) = 201
 refusal_number refusal.AlreadyInstalled = 202
@@ -120,13 +120,15 @@ file_number (file.Object why) = object_number why
 file_number file.DuplicateDefinition = 28
 file_number file.BadHashTable = 29
 
--- the number n of the test En that refuses a file, if that is the reason of a refusal; otherwise 0
+-- the number n of the test En that refuses the file, if the reason of a refusal is a refused file;
+-- otherwise 0
 abbrev pub file_number_of : Refusal → ℕ
 file_number_of (refusal.Object why) = file_number why
 file_number_of (refusal.Bind (bind.Program why)) = file_number why
 file_number_of other = 0
 
--- the number n of the test En that refuses a file, if that is the reason of a reply's refusal; otherwise 0
+-- the number n of the test En that refuses the file, if the reason of a reply's refusal is a refused file;
+-- otherwise 0
 abbrev pub file_number_in : Reply → ℕ
 file_number_in (reply.Refused why) = file_number_of why
 file_number_in other = 0

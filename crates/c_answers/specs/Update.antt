@@ -23,8 +23,8 @@ use Rattle.c_answers.specs.Numbers.{bad_argument}
 use Rattle.c_answers.specs.Unsaid.{IsSilent, IsUnbound, IsUncounted, IsUnlisted}
 
 -- The buffer has the plan of an update of the registry that the bytes hold. The plan leads from the
--- registry's state to the state after all requests. If each file was a library before, each file is one
--- after the plan. The bytes hold no other state.
+-- registry's state to the state after all requests. If each file of the registry was a library before
+-- the plan, each one is a library after it. The bytes hold no other state.
 pub record IsUpdatePlan (bytes : List ℕ) (requests : List Request) (buffer : List ℕ) (answer : Answer) : Type 0 where
   pub state : State
   pub steps : List Step
@@ -35,7 +35,7 @@ pub record IsUpdatePlan (bytes : List ℕ) (requests : List Request) (buffer : L
   pub plan : HasPlan steps buffer answer.bytes answer.count
 
 -- A request of an update is refused. The answer reports the refusal like that of a single request, and
--- the number of requests before it.
+-- the number of requests before the refused one.
 pub record IsRefusedTold (before : ℕ) (refusal : Refusal) (text : List ℕ) (answer : Answer) (status : ℕ) : Type 0 where
   pub why : IsTold (Refused refusal) text answer status
   pub count : answer.count ≡ before

@@ -11,11 +11,11 @@ use std::alloc::{AllocError, Global};
 /// The command of a change. The list of names is in allocated memory.
 #[derive(Drop)]
 pub(crate) enum AskedChange<'a> {
-    /// Installs a library, whose file is given.
+    /// Installs the library whose file has these bytes.
     Install(&'a [u8]),
-    /// Replaces the library with the same name by the given file.
+    /// Replaces the library that has the same name by the file with these bytes.
     Replace(&'a [u8]),
-    /// Removes the library with the given name.
+    /// Removes the library with this name.
     Remove(&'a [u8]),
     /// Sets the preloads to these names, in their order.
     SetPreloads(Vec<&'a [u8]>),

@@ -36,8 +36,9 @@ fn objects_bytes(image: &Image) -> u64
     bytes
 }
 
-/// Puts the segments of an image into two buffers, if they have room. The bytes of the segments lie
-/// one after the other. Returns the number of these bytes.
+/// If the two buffers have room, puts the places of an image's segments into `places`, and the
+/// bytes of the segments, one after the other, into `bytes`. Returns the number of these bytes, or
+/// `None` if a buffer is too small.
 fn put_segments(image: &Image, places: &mut [SegmentPlace], bytes: &mut [u8]) -> Option<usize>
     ensures end { IfSome result (λ end. end ≡ length (segment_bytes image.now.segments)) }
     ensures bytes { IfSome result (λ end.
@@ -59,8 +60,9 @@ fn put_segments(image: &Image, places: &mut [SegmentPlace], bytes: &mut [u8]) ->
     Some(at)
 }
 
-/// Puts the objects of an image into two buffers, if they have room. Their names lie one after the
-/// other and begin at the offset `from`. Returns the offset after the last name.
+/// If the two buffers have room, puts the places of an image's objects into `places`, and the
+/// objects' names, from the offset `from` on, into `bytes`. Returns the offset after the last name,
+/// or `None` if a buffer is too small.
 fn put_objects(
     image: &Image,
     from: usize,
@@ -88,8 +90,8 @@ fn put_objects(
     Some(at)
 }
 
-/// Puts an image into the three buffers, if they have room. Returns the number of bytes that it has
-/// in the third buffer.
+/// If the three buffers have room, puts an image into them. Returns the number of bytes that the
+/// image has in `bytes`, or `None` if a buffer is too small.
 fn lay_out(
     image: &Image,
     objects: &mut [ObjectPlace],

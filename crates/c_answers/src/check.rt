@@ -36,8 +36,9 @@ fn names_bytes<D: Disk>(store: &Store<D>) -> u64
     bytes
 }
 
-/// Puts the findings of the libraries into the two buffers; the first of them has room. Returns the
-/// number of bytes of the names, or `None` if a library can't be read, or a name has no room.
+/// Puts the findings into `findings`, which has room for all of them, and the libraries' names into
+/// `names`. Returns the number of bytes of the names, or `None` if a library can't be read or a
+/// name has no room.
 fn put_findings<D: Disk>(
     store: &Store<D>,
     found: &[Finding],
@@ -65,8 +66,8 @@ fn put_findings<D: Disk>(
     Some(at)
 }
 
-/// Tests each library, and puts the findings into the two buffers. If the buffers have no room,
-/// reads no file.
+/// Tests each library, and puts the findings into the two buffers. If a buffer is too small, reads
+/// no file.
 fn look(
     alloc: Global,
     contents: &mut Contents<ReadOnlyDisk<'_>>,

@@ -11,9 +11,9 @@ use names::Name;
 #[repr(C)]
 #[derive(Clone, Copy)]
 pub struct EntryPlace {
-    /// The offset of its name in the buffer of names.
+    /// The offset of the library's or the preload's name in the buffer of names.
     pub name: u64,
-    /// The length of its name in bytes, without the byte 0 after it.
+    /// The length of this name in bytes, without the byte 0 after it.
     pub name_length: u32,
     /// The length of a library's file in bytes; 0 for a preload.
     pub file_length: u32,
@@ -38,8 +38,8 @@ pub(crate) fn name_bytes(name: &Name) -> u64
     (name.as_bytes().len() as u64).saturating_add(1)
 }
 
-/// Puts a name and a byte 0 into a buffer at the offset `at`, if it has room. Returns the offset
-/// after them.
+/// If the buffer `names` has room, puts a name and a byte 0 into it at the offset `at`. Returns the
+/// offset after them, or `None` if the buffer is too small.
 pub(crate) fn put_name(name: &Name, at: usize, names: &mut [u8]) -> Option<usize>
     ensures end { IfSome result (λ end. end ≡ at + length name.now + 1) }
     ensures front { IfSome result (λ end. take end names.new
@@ -51,8 +51,8 @@ pub(crate) fn put_name(name: &Name, at: usize, names: &mut [u8]) -> Option<usize
     put(names, at, b"\0")
 }
 
-/// Puts entry number `index` into the two buffers, if they have room. Its name goes to the offset
-/// `at`. Returns the offset for the next name.
+/// If the two buffers have room, puts entry number `index` into them, with the entry's name at the
+/// offset `at`. Returns the offset for the next name, or `None` if a buffer is too small.
 pub(crate) fn put_entry(
     name: &Name,
     file_length: u32,

@@ -16,9 +16,9 @@ const OTHER_NAME: u32 = 100;
 #[repr(C)]
 #[derive(Clone, Copy)]
 pub struct FindingPlace {
-    /// The offset of its name in the buffer of names.
+    /// The offset of the library's name in the buffer of names.
     pub name: u64,
-    /// The length of its name in bytes, without the byte 0 after it.
+    /// The length of the library's name in bytes, without the byte 0 after it.
     pub name_length: u32,
     /// The finding: 0 if the file is a library with its entry's name; n if En is the first test
     /// that refuses the file; 100 if the file is a library with another name.

@@ -41,8 +41,8 @@ fn names_bytes(listing: &Listing) -> u64
     library_bytes(&listing.libraries).saturating_add(preload_bytes(&listing.preloads))
 }
 
-/// Puts the libraries into the two buffers, if they have room. Returns the offset for the next
-/// name.
+/// If the two buffers have room, puts the libraries into them. Returns the offset for the next
+/// name, or `None` if a buffer is too small.
 fn put_libraries(
     libraries: &[(Name, u32)],
     entries: &mut [EntryPlace],
@@ -63,8 +63,9 @@ fn put_libraries(
     Some(at)
 }
 
-/// Puts the preloads after `libraries` libraries, if the buffers have room. Their names begin at
-/// the offset `from`. Returns the offset after the last name.
+/// If the two buffers have room, puts the preloads into them, after `libraries` libraries, with the
+/// names from the offset `from` on. Returns the offset after the last name, or `None` if a buffer
+/// is too small.
 fn put_preloads(
     preloads: &[Name],
     libraries: usize,
@@ -88,8 +89,8 @@ fn put_preloads(
     Some(at)
 }
 
-/// Puts first the libraries and then the preloads into the buffers, if they have room. Returns the
-/// number of bytes of the names.
+/// If the two buffers have room, puts first the libraries and then the preloads into them. Returns
+/// the number of bytes of the names, or `None` if a buffer is too small.
 fn put_entries(listing: &Listing, entries: &mut [EntryPlace], names: &mut [u8]) -> Option<usize>
     ensures end { IfSome result (λ end. end ≡ length (names_in_row (entries_of listing.now))) }
     ensures entries { IfSome result (λ _. take (length (entries_of listing.now)) entries.new

@@ -30,7 +30,7 @@ fn step_bytes(step: &Step) -> u64
     }
 }
 
-/// Returns the number of bytes as a `u64`.
+/// Returns the length of `bytes` as a `u64`.
 fn length_of(bytes: &[u8]) -> u64
     ensures { result ≡ length bytes.now }
 {
@@ -50,8 +50,8 @@ fn plan_bytes(steps: &[PlannedStep]) -> u64
     bytes
 }
 
-/// Encodes a step in a buffer at the offset `at`, if it has room. Returns the offset after the
-/// step.
+/// If the buffer `plan` has room, encodes a step in it at the offset `at`. Returns the offset after
+/// the step, or `None` if the buffer is too small.
 fn put_step(step: &Step, at: usize, plan: &mut [u8]) -> Option<usize>
     ensures end { IfSome result (λ end. end ≡ at + length (step_bytes step.now)) }
     ensures front { IfSome result (λ end. take end plan.new
@@ -71,8 +71,8 @@ fn put_step(step: &Step, at: usize, plan: &mut [u8]) -> Option<usize>
     }
 }
 
-/// Encodes a plan, which is a sync followed by `steps`, in a buffer, if it has room. Returns the
-/// number of bytes.
+/// If the buffer `plan` has room, encodes a plan in it, which is a sync followed by `steps`.
+/// Returns the number of bytes, or `None` if the buffer is too small.
 fn put_steps(steps: &[PlannedStep], plan: &mut [u8]) -> Option<usize>
     ensures end { IfSome result (λ end.
         end ≡ length (plan_bytes (Sync ∷ map (λ p. p.step) steps.now))) }

@@ -7,7 +7,8 @@ use image::Memory;
 /// The number of bytes that are compared at once: the size of a page.
 const PAGE: usize = 4096;
 
-/// Puts bytes into a buffer at the offset `at`, if it has room. Returns the offset after them.
+/// If the buffer `out` has room, puts `bytes` into it at the offset `at`. Returns the offset after
+/// them, or `None` if the buffer is too small.
 pub(crate) fn put(out: &mut [u8], at: usize, bytes: &[u8]) -> Option<usize>
     ensures end { IfSome result (λ end. end ≡ at + length bytes.now) }
     ensures inside { IfSome result (λ end. end ≤ length out.new) }
@@ -68,8 +69,8 @@ fn put_all(out: &mut [u8], memory: &Memory<'_>)
     clear(zeros);
 }
 
-/// Puts the bytes of a segment into a buffer at the offset `at`, if it has room. Returns the offset
-/// after them.
+/// If the buffer `out` has room, puts the bytes of a segment into it at the offset `at`. Returns
+/// the offset after them, or `None` if the buffer is too small.
 pub(crate) fn put_memory(out: &mut [u8], at: usize, memory: &Memory<'_>) -> Option<usize>
     ensures end { IfSome result (λ end. end ≡ at + length memory.now) }
     ensures inside { IfSome result (λ end. end ≤ length out.new) }

@@ -61,8 +61,8 @@ fn bind_status(refusal: &BindRefusal) -> u32
     }
 }
 
-/// Returns the status of a refusal. For a refusal of a command it is 200 plus the refusal's number;
-/// for one of a bind or a disk it is the number above.
+/// Returns the status of a refusal. For a refusal of a command it is 200 plus the refusal's number,
+/// of a bind 100 plus this number, and of a disk 300 plus this number.
 pub(crate) fn refusal_status(refusal: &Refusal) -> u32
     ensures { result ≡ refusal_number refusal.now }
 {
@@ -137,8 +137,8 @@ pub(crate) fn file_number(refusal: FileRefusal) -> u32
     }
 }
 
-/// Returns the number n of the test En that refuses a file, if that is the reason of `refusal`;
-/// otherwise 0.
+/// If the reason of `refusal` is a refused file, returns the number n of the test En that refuses
+/// the file. Otherwise returns 0.
 pub(crate) fn file_refusal_number(refusal: &Refusal) -> u32
     ensures { result ≡ file_number_of refusal.now }
 {

@@ -61,8 +61,8 @@ fn told_of_bindings(alloc: Global, bindings: &Bindings<'_>) -> Result<Told, Refu
     }
 }
 
-/// Returns the report of what the symbols of an order's objects are bound to, with the program at
-/// the address `base`.
+/// Returns the report of what the symbols of the objects in `order` are bound to, with the program
+/// at the address `base`.
 fn told_of_order(alloc: Global, order: &Order<'_>, base: u64) -> Result<Told, Refusal>
     requires { is_good_base (file_at order.now 0) base ≡ true }
     ensures ok { IfOk result (λ told.
@@ -154,7 +154,7 @@ fn told_of_found(
     }
 }
 
-/// Finds the libraries of an admitted program, and returns the report about it.
+/// Finds the libraries of an admitted program, and returns the report about the program.
 fn told_of_admitted(
     registry: &mut Registry<ReadOnlyDisk<'_>>,
     alloc: Global,
@@ -191,9 +191,9 @@ fn told_of_program(
     }
 }
 
-/// Puts into the buffer what the symbols of a program and its libraries are bound to. If libraries
-/// are missing, puts into it which were found and which are missing. If neither is possible,
-/// reports why.
+/// Puts into the buffer a text that states what the symbols of a program and its libraries are
+/// bound to. If libraries are missing, the text states which were found and which are missing. If
+/// there is no text, reports why.
 pub fn bindings_on(
     alloc: Global,
     disk: &[u8],

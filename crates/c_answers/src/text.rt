@@ -45,8 +45,8 @@ fn reply_status(reply: &Reply) -> u32
     }
 }
 
-/// Returns the number n of the test En that refuses a file, if that is the reason of the reply's
-/// refusal; otherwise 0.
+/// If the reason of the reply's refusal is a refused file, returns the number n of the test En that
+/// refuses the file. Otherwise returns 0.
 fn reply_file_refusal(reply: &Reply) -> u32
     ensures { result ≡ file_number_in reply.now }
 {

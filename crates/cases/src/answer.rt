@@ -4,7 +4,7 @@ use crate::file::changed_file;
 use anyhow::Result;
 
 /// Returns whether `answer` is the expected one. `wanted` is `file FILE` for the bytes of a file,
-/// `nothing` for no bytes, or else a line.
+/// `nothing` for no bytes, or otherwise a line.
 pub(crate) fn is_wanted(rt: &HostRuntime, answer: &[u8], wanted: &str) -> Result<bool> {
     if let Some(file) = wanted.strip_prefix("file ") {
         return Ok(answer == changed_file(rt, file)?.as_slice());

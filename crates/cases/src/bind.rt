@@ -15,15 +15,16 @@ use std::io::Write;
 /// The part of an image that a case asks for.
 #[derive(Clone, Copy)]
 pub(crate) enum Told {
-    /// Its whole text.
+    /// The whole text of the image.
     Text,
-    /// The bases and the names of its objects, in one line.
+    /// The bases and the names of the image's objects, in one line.
     Order,
     /// The number in the eight bytes at an address, or `none`.
     Word(u64),
 }
 
-/// Puts all that follows `object` in the lines of objects of an image's text, in one line.
+/// Appends to `text`, in one line, the rest of each line of `whole` that begins with `object`.
+/// `whole` is the text of an image.
 fn put_objects(text: &mut Vec<u8>, whole: &[u8]) -> Result<()> {
     text.extend_from_slice(b"objects")?;
     for line in whole.split(|byte| *byte == b'\n') {
@@ -44,14 +45,14 @@ fn word_at(image: &Image, address: u64) -> Option<u64> {
     Some(u64::from_le_bytes(word))
 }
 
-/// Puts the bases and the names of an image's objects, in one line.
+/// Appends to `text` the bases and the names of an image's objects, in one line.
 fn put_order(alloc: Global, text: &mut Vec<u8>, image: &Image) -> Result<()> {
     let mut whole = Vec::new(alloc);
     image.write_text(&mut whole)?;
     put_objects(text, &whole)
 }
 
-/// Puts a number, or `none`.
+/// Appends to `text` a number, or `none`.
 fn put_number(text: &mut Vec<u8>, word: Option<u64>) -> Result<()> {
     match word {
         Some(word) => writeln!(text, "{word:#x}")?,
@@ -60,7 +61,7 @@ fn put_number(text: &mut Vec<u8>, word: Option<u64>) -> Result<()> {
     Ok(())
 }
 
-/// Puts the part of an image that a case asks for.
+/// Appends to `text` the part of an image that a case asks for.
 fn put_image(alloc: Global, text: &mut Vec<u8>, image: &Image, told: Told) -> Result<()> {
     match told {
         Told::Text => Ok(image.write_text(text)?),
@@ -69,8 +70,8 @@ fn put_image(alloc: Global, text: &mut Vec<u8>, image: &Image, told: Told) -> Re
     }
 }
 
-/// Binds a program with libraries, and puts the part of its image that the case asks for, or the
-/// refusal.
+/// Binds a program with libraries, and appends to `text` the part of its image that the case asks
+/// for, or the refusal.
 fn put_bound(
     alloc: Global,
     text: &mut Vec<u8>,
@@ -106,8 +107,8 @@ fn put_with_files(
     put_bound(alloc, text, program, &libraries, &preloads, told)
 }
 
-/// Binds the program of `FILE BASE [preload NAME ..] [+ LIBRARY] ..`, and puts the part of its
-/// image that the case asks for, or the refusal.
+/// Binds the program of `FILE BASE [preload NAME ..] [+ LIBRARY] ..`, and appends to `text` the
+/// part of its image that the case asks for, or the refusal.
 pub(crate) fn put_bind(
     rt: &HostRuntime,
     text: &mut Vec<u8>,
@@ -122,8 +123,8 @@ pub(crate) fn put_bind(
     put_with_files(rt.alloc(), text, (&bytes, base), &files, names, told)
 }
 
-/// Answers `word ADDRESS FILE BASE ..`: puts the number in the eight bytes of the image at an
-/// address, or `none`, or the refusal.
+/// Answers `word ADDRESS FILE BASE ..`: appends to `text` the number in the eight bytes of the
+/// image at an address, or `none`, or the refusal.
 pub(crate) fn put_word(rt: &HostRuntime, text: &mut Vec<u8>, words: &str) -> Result<()> {
     let (address, words) = first_number(words)?;
     put_bind(rt, text, words, Told::Word(address))

@@ -14,14 +14,16 @@ use image::bind_alone;
 use std::alloc::Global;
 use std::io::Write;
 
-/// Answers `image FILE BASE`: puts the text of the image of a file, or the line of its refusal.
+/// Answers `image FILE BASE`: appends to `text` the text of the image of a file, or the line of its
+/// refusal.
 fn put_image(rt: &HostRuntime, text: &mut Vec<u8>, words: &str) -> Result<()> {
     let (file, base) = last_number(words)?;
     run_image(rt.alloc(), &changed_file(rt, file)?, base, text)?;
     Ok(())
 }
 
-/// Returns the byte of the image of a file at `address`, if it has one there.
+/// Returns the byte at `address` in the image of a file, or `None` if the image has no byte at this
+/// address.
 fn byte_of(alloc: Global, bytes: &[u8], base: u64, address: u64) -> Result<Option<u8>> {
     match bind_alone(alloc, bytes, base) {
         Ok(image) => Ok(image.byte(address)),
@@ -29,7 +31,7 @@ fn byte_of(alloc: Global, bytes: &[u8], base: u64, address: u64) -> Result<Optio
     }
 }
 
-/// Puts a byte in two hexadecimal digits, or `none`.
+/// Appends to `text` a byte in two hexadecimal digits, or `none`.
 fn put_digits(text: &mut Vec<u8>, byte: Option<u8>) -> Result<()> {
     match byte {
         Some(byte) => writeln!(text, "{byte:02x}")?,
@@ -38,8 +40,8 @@ fn put_digits(text: &mut Vec<u8>, byte: Option<u8>) -> Result<()> {
     Ok(())
 }
 
-/// Answers `byte FILE BASE ADDRESS`: puts the byte of the image of a file at an address in two
-/// hexadecimal digits, or `none`.
+/// Answers `byte FILE BASE ADDRESS`: appends to `text` the byte at an address of the image of a
+/// file, in two hexadecimal digits, or `none`.
 fn put_byte(rt: &HostRuntime, text: &mut Vec<u8>, words: &str) -> Result<()> {
     let (place, address) = last_number(words)?;
     let (file, base) = last_number(place)?;
@@ -47,7 +49,7 @@ fn put_byte(rt: &HostRuntime, text: &mut Vec<u8>, words: &str) -> Result<()> {
     put_digits(text, byte)
 }
 
-/// Puts the answer to a call. The call is a name followed by words.
+/// Appends to `text` the answer to a call. The call is a name followed by words.
 fn put_answer(rt: &HostRuntime, text: &mut Vec<u8>, call: &str) -> Result<()> {
     let (name, words) = call.split_once(' ').context("a call without words")?;
     match name {
@@ -81,8 +83,8 @@ fn gives(rt: &HostRuntime, call: &str, wanted: &str) -> Result<bool> {
     is_wanted(rt, &text, wanted)
 }
 
-/// Returns whether a case is right. It is `CALL => ANSWER`, or `CALL =/> ANSWER` if the call has to
-/// have another answer.
+/// Returns whether a case is right. `CALL => ANSWER` means that the call has to have this answer,
+/// and `CALL =/> ANSWER` that it has to have another one.
 pub(crate) fn stands(rt: &HostRuntime, case: &str) -> Result<bool> {
     if let Some((call, wanted)) = case.split_once(" => ") {
         return gives(rt, call, wanted);

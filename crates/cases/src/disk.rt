@@ -8,7 +8,8 @@ use std::fs;
 /// The name of the file that is the disk.
 const DISK: &str = "disk";
 
-/// Returns the disk that `words` describe: none for `none`, or else a file with its changes.
+/// Returns the disk that `words` describe: no disk for `none`, and otherwise a file with its
+/// changes.
 fn disk_of(rt: &HostRuntime, words: &str) -> Result<Option<Vec<u8>>> {
     if words == "none" {
         return Ok(None);
@@ -44,8 +45,8 @@ fn runs_to(rt: &HostRuntime, program: Program, words: &str, wanted: &str) -> Res
     }
 }
 
-/// Splits words at `run` or `tool`. Returns the words before it, the program that it means, and the
-/// words of the program.
+/// Splits words at `run` or `tool`. Returns the words before it, the program that this word names,
+/// and the words of the program.
 fn split_words(words: &str) -> Option<(&str, Program, &str)> {
     if let Some((before, words)) = words.split_once(" run") {
         return Some((before, Program::Registry, words));
@@ -71,8 +72,8 @@ fn is_left(rt: &HostRuntime, before: &str, after: &str) -> Result<bool> {
 }
 
 /// Returns whether a command line ends as `wanted` says, and leaves the disk that `wanted`
-/// describes. `words` is `BEFORE run WORD .. [< INPUT]`; with `tool` in place of `run` it is a
-/// command line of `rlibreg-tool`. `wanted` is `STATUS ANSWER then AFTER`. The file `disk` is the
+/// describes. `words` is `BEFORE run WORD .. [< INPUT]`; with `tool` in place of `run`, the command
+/// line is one of `rlibreg-tool`. `wanted` is `STATUS ANSWER then AFTER`. The file `disk` is the
 /// disk.
 pub(crate) fn leaves_so(rt: &HostRuntime, words: &str, wanted: &str) -> Result<bool> {
     let (before, program, words) = split_words(words).context("a disk without words")?;

@@ -1,5 +1,5 @@
-// The file of a case, and the changes to it. It is a file of the folder, or its bytes are written
-// in digits, or a text describes it.
+// The file of a case, and the changes to it. The bytes of the file are those of a file of the
+// folder, or are written in digits, or are described by a text.
 
 use crate::number::parse_number;
 use anyhow::{Context, Result, bail};
@@ -16,8 +16,8 @@ fn file_bytes(rt: &HostRuntime, name: &str) -> Result<Vec<u8>> {
     fs::read(rt, name).context(format_args!("the file {name}"))
 }
 
-/// Returns the text of the file `name` of the folder. If it can't be read, the error has its name,
-/// and says `what` it is.
+/// Returns the text of the file `name` of the folder. If it can't be read, the error has the file's
+/// name, and `what`, which says what the file is.
 pub(crate) fn text_of_file(rt: &HostRuntime, what: &str, name: &str) -> Result<String> {
     fs::read_to_string(rt, name).context(format_args!("{what} {name}"))
 }
@@ -82,7 +82,8 @@ fn made_bytes(rt: &HostRuntime, name: &str) -> Result<Vec<u8>> {
 }
 
 /// Returns the bytes of a file before its changes. For `made=NAME`, these are the bytes that the
-/// text NAME describes. Otherwise they are those of a file of the folder, or are written in digits.
+/// text NAME describes. Otherwise the bytes are those of a file of the folder, or are written in
+/// digits.
 fn first_bytes(rt: &HostRuntime, name: &str) -> Result<Vec<u8>> {
     match name.strip_prefix("made=") {
         Some(text) => made_bytes(rt, text),

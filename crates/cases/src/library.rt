@@ -11,17 +11,17 @@ use std::io::Write;
 /// The question of a case about an admitted file.
 #[derive(Clone, Copy)]
 pub(crate) enum Seen<'a> {
-    /// Whether it is admitted.
+    /// Whether the file is admitted.
     Admission,
-    /// Its name as a library.
+    /// The file's name as a library.
     Name,
-    /// Its names and symbols, as calls of the library report them.
+    /// The file's names and symbols, as calls of the library report them.
     View,
     /// The symbol that is exported under this name, and the number of names that a search compares.
     Export(&'a [u8]),
 }
 
-/// Puts the line of a file's refusal.
+/// Appends to `text` the line of a file's refusal.
 fn put_refused(text: &mut Vec<u8>, refusal: FileRefusal) -> Result<()> {
     text.extend_from_slice(b"refused ")?;
     write_file_refusal(text, refusal)?;
@@ -29,7 +29,8 @@ fn put_refused(text: &mut Vec<u8>, refusal: FileRefusal) -> Result<()> {
     Ok(())
 }
 
-/// Puts the name of a library, or its refusal if it has no name that a library may have.
+/// Appends to `text` the name of a library. If the file has no name that a library may have,
+/// appends the refusal instead.
 fn put_library(text: &mut Vec<u8>, object: &Admitted) -> Result<()> {
     match object.library_name() {
         Ok(name) => put_named(text, b"library ", name),
@@ -37,8 +38,8 @@ fn put_library(text: &mut Vec<u8>, object: &Admitted) -> Result<()> {
     }
 }
 
-/// Puts the symbol that `object` exports under `name`, and the number of names that a search
-/// compares.
+/// Appends to `text` the symbol that `object` exports under `name`, and the number of names that a
+/// search compares.
 fn put_export(text: &mut Vec<u8>, object: &Admitted, name: &[u8]) -> Result<()> {
     let found = object.find_hashed(name, elf_hash(name));
     if object.find(name) != found.symbol {
@@ -52,7 +53,7 @@ fn put_export(text: &mut Vec<u8>, object: &Admitted, name: &[u8]) -> Result<()> 
     Ok(())
 }
 
-/// Puts the answer to the question `seen` about an admitted file.
+/// Appends to `text` the answer to the question `seen` about an admitted file.
 fn put_seen(text: &mut Vec<u8>, object: &Admitted, seen: Seen<'_>) -> Result<()> {
     match seen {
         Seen::Admission => Ok(text.extend_from_slice(b"admitted\n")?),
@@ -62,7 +63,8 @@ fn put_seen(text: &mut Vec<u8>, object: &Admitted, seen: Seen<'_>) -> Result<()>
     }
 }
 
-/// Puts the answer to the question about the file in `words`, or the line of its refusal.
+/// Appends to `text` the answer to the question about the file in `words`. If the file is refused,
+/// appends the line of its refusal.
 pub(crate) fn put_file(
     rt: &HostRuntime,
     text: &mut Vec<u8>,
@@ -85,15 +87,15 @@ pub(crate) fn name_bytes(alloc: Global, word: &str) -> Result<Vec<u8>> {
     }
 }
 
-/// Answers `find FILE NAME`: puts the symbol that the file exports under a name, and the number of
-/// names that a search compares.
+/// Answers `find FILE NAME`: appends to `text` the symbol that the file exports under a name, and
+/// the number of names that a search compares.
 pub(crate) fn put_find(rt: &HostRuntime, text: &mut Vec<u8>, words: &str) -> Result<()> {
     let (file, word) = words.rsplit_once(' ').context("a search without a name")?;
     let name = name_bytes(rt.alloc(), word)?;
     put_file(rt, text, file, Seen::Export(&name))
 }
 
-/// Answers `hash NAME`: puts the hash of a name.
+/// Answers `hash NAME`: appends to `text` the hash of a name.
 pub(crate) fn put_hash(alloc: Global, text: &mut Vec<u8>, word: &str) -> Result<()> {
     let hash = elf_hash(&name_bytes(alloc, word)?);
     writeln!(text, "{hash:#x}")?;

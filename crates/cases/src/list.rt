@@ -12,7 +12,7 @@ pub(crate) struct Tally {
     pub(crate) differ: u64,
 }
 
-/// Runs a case, and prints it if its answer isn't the expected one.
+/// Runs a case. If the answer isn't the expected one, prints the case.
 fn run_case(rt: &HostRuntime, list: &str, case: &str, tally: &mut Tally) -> Result<()> {
     tally.count = tally.count.saturating_add(1);
     match stands(rt, case) {

@@ -6,7 +6,7 @@ use hash_check::Admitted;
 use std::io::Write;
 use text_output::write_name;
 
-/// Puts a line that begins with `front` and ends with a name.
+/// Appends to `text` a line that begins with `front` and ends with a name.
 pub(crate) fn put_named(text: &mut Vec<u8>, front: &[u8], name: &[u8]) -> Result<()> {
     text.extend_from_slice(front)?;
     write_name(text, name)?;
@@ -14,7 +14,7 @@ pub(crate) fn put_named(text: &mut Vec<u8>, front: &[u8], name: &[u8]) -> Result
     Ok(())
 }
 
-/// Puts the line of the SONAME, and the lines of the needed libraries.
+/// Appends to `text` the line of the SONAME, and the lines of the needed libraries.
 fn put_names(text: &mut Vec<u8>, object: &Object) -> Result<()> {
     match object.soname() {
         Some(name) => put_named(text, b"soname ", name)?,
@@ -26,7 +26,7 @@ fn put_names(text: &mut Vec<u8>, object: &Object) -> Result<()> {
     Ok(())
 }
 
-/// Puts the index of a symbol and the numbers in its fields.
+/// Appends to `text` the index of a symbol and the numbers in its fields.
 fn put_fields(text: &mut Vec<u8>, i: u32, symbol: Symbol) -> Result<()> {
     let Symbol {
         value,
@@ -42,7 +42,8 @@ fn put_fields(text: &mut Vec<u8>, i: u32, symbol: Symbol) -> Result<()> {
     Ok(())
 }
 
-/// Puts the line of symbol `i`, with the number of the symbol that is exported under its name.
+/// Appends to `text` the line of symbol `i`, with the number of the symbol that is exported under
+/// the same name.
 fn put_symbol(
     text: &mut Vec<u8>,
     i: u32,
@@ -59,7 +60,8 @@ fn put_symbol(
     Ok(())
 }
 
-/// Puts the SONAME, the needed names, and the lines of all symbols, including symbol 0.
+/// Appends to `text` the SONAME, the needed names, and the lines of all symbols, including symbol
+/// 0.
 pub(crate) fn put_view(text: &mut Vec<u8>, admitted: &Admitted) -> Result<()> {
     let object = admitted.object();
     put_names(text, object)?;

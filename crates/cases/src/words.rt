@@ -29,7 +29,7 @@ fn run_words(
     }
 }
 
-/// Returns the words of a command line. In `words` a space comes before each of them.
+/// Returns the words of a command line. In `words` there is a space before each word.
 fn listed(alloc: Global, words: &str) -> Result<Vec<String>> {
     let mut list = Vec::new(alloc);
     for word in words.split(' ').skip(1) {

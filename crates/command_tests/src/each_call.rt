@@ -17,10 +17,10 @@ use std::test::Fail;
 
 const BASE: u64 = 0x10000;
 
-// The address of the library's version byte in the image of a program that needs the library a.
+// The address of the version byte of library `a`, in the image of a program that needs `a`.
 const VERSION: u64 = 0x110dc;
 
-// Returns the version of the library a in an image.
+// Returns the version of the library `a` in an image.
 fn version_in(reply: &Reply) -> Option<u8> {
     match reply {
         Reply::Bound(image) => image.byte(VERSION),
@@ -28,7 +28,7 @@ fn version_in(reply: &Reply) -> Option<u8> {
     }
 }
 
-// Returns whether a reply lists the library a, and nothing else.
+// Returns whether a reply lists the library `a`, and nothing else.
 fn lists_a(reply: &Reply) -> bool {
     match reply {
         Reply::Listing(listing) => match listing.libraries.as_slice() {
@@ -43,7 +43,7 @@ fn lists_a(reply: &Reply) -> bool {
 }
 
 // Returns whether these are the replies to a listing and a bind on a registry that has only the
-// library a, in version `version`.
+// library `a`, in version `version`.
 fn are_of(replies: &[Reply], version: u8) -> bool {
     match replies {
         [listing, bound] => lists_a(listing) && version_in(bound) == Some(version),
@@ -62,7 +62,7 @@ fn asks(program: &[u8]) -> [Command<'_>; 2] {
     ]
 }
 
-// Returns whether a registry has only the library a, in version `version`.
+// Returns whether a registry has only the library `a`, in version `version`.
 fn has(registry: &mut Registry<Memory>, version: u8) -> bool {
     match Registry::run(registry, &asks(&program(b'a'))) {
         Ok(replies) => are_of(&replies, version),
@@ -70,7 +70,7 @@ fn has(registry: &mut Registry<Memory>, version: u8) -> bool {
     }
 }
 
-// Makes a new registry that has the library a in version 1.
+// Makes a new registry that has the library `a` in version 1.
 fn made(alloc: Global) -> Option<Registry<Memory>> {
     let Ok(mut registry) = Registry::format(alloc, Memory::new(alloc, 16).ok()?) else {
         return None;
@@ -83,7 +83,8 @@ fn made(alloc: Global) -> Option<Registry<Memory>> {
     None
 }
 
-// Makes such a registry, and opens its disk with each call that opens a registry.
+// Makes a new registry that has the library `a` in version 1, and opens its disk with each call
+// that opens a registry.
 fn opened(alloc: Global) -> Option<Registry<Memory>> {
     let disk = Registry::into_disk(made(alloc)?);
     let Ok(registry) = Registry::upgrade(alloc, disk) else {
@@ -95,7 +96,7 @@ fn opened(alloc: Global) -> Option<Registry<Memory>> {
     Registry::open(alloc, Registry::into_disk(registry)).ok()
 }
 
-// Returns whether a is the only library that was found, and none is missing.
+// Returns whether `a` is the only library that was found, and none is missing.
 fn are_found(alloc: Global, found: &FoundLibraries) -> bool {
     let Ok(libraries) = FoundLibraries::libraries(found, alloc) else {
         return false;
@@ -107,7 +108,7 @@ fn are_found(alloc: Global, found: &FoundLibraries) -> bool {
     is_a && !FoundLibraries::lacks_some(found)
 }
 
-// Returns whether the libraries of a program that needs a are found.
+// Returns whether the libraries of a program that needs `a` are found.
 fn finds(alloc: Global, registry: &mut Registry<Memory>) -> bool {
     let needing = program(b'a');
     let Ok(object) = Object::read(&needing) else {
@@ -134,7 +135,7 @@ fn a_registry_is_made_opened_and_asked(rt: HostRuntime) {
 }
 
 // Returns whether a step of a binder is its last one, and returns an image with version 1 of the
-// library a.
+// library `a`.
 fn is_bound(step: &Result<Step, Refusal>) -> bool {
     match step {
         Ok(Step::Final(reply)) => version_in(reply) == Some(1),
@@ -142,8 +143,8 @@ fn is_bound(step: &Result<Step, Refusal>) -> bool {
     }
 }
 
-// Returns whether a binder binds with version 1 of the library a, although a is replaced after the
-// binder begins.
+// Returns whether a binder binds with version 1 of the library `a`, although this library is
+// replaced after the binder begins.
 fn binds(registry: &mut Registry<Memory>) -> bool {
     let Ok(mut binder) = Registry::begin(registry, &program(b'a'), BASE) else {
         return false;
@@ -169,7 +170,7 @@ fn a_binder_of_a_registry_binds(rt: HostRuntime) {
     assert!(rt; is_right);
 }
 
-// Returns whether the binder in slot 0 binds a program that needs the library a, after another
+// Returns whether the binder in slot 0 binds a program that needs the library `a`, after another
 // binder in slot 0 was cancelled.
 fn advances(binders: &mut Binders<Memory>) -> bool {
     let needing = program(b'a');
@@ -201,7 +202,7 @@ fn are_replies(replies: &[EventReply]) -> bool {
     }
 }
 
-// Returns whether events bind the same program.
+// Returns whether events bind a program that needs the library `a`.
 fn runs_events(binders: &mut Binders<Memory>) -> bool {
     let program = program(b'a');
     let events = [
@@ -233,7 +234,7 @@ fn binders_bind_in_steps_and_by_events(rt: HostRuntime) {
     assert!(rt; is_bound && lists_a(&listing) && !has_failed);
 }
 
-// Replaces the library a in an update, and commits it if `commits` is true. Returns whether each
+// Replaces the library `a` in an update, and commits it if `commits` is true. Returns whether each
 // answer was right, and the registry after the update.
 fn updated(registry: Registry<Memory>, version: u8, commits: bool) -> (bool, Registry<Memory>) {
     let mut update = match Registry::update(registry) {

@@ -1,10 +1,10 @@
 // A script with every form of line. It is for a registry of eight sectors that is empty or has the
-// library a. On the disk of a liar, no library b can be read.
+// library `a`. On the disk of a liar, no library `b` can be read.
 use samples::{library, program};
 use std::alloc::{AllocError, Global};
 
 /// Returns the script. The answers to its first three lines depend on the registry. The file of the
-/// library b is also bound as a program, which needs no library.
+/// library `b` is also bound as a program, which needs no library.
 pub(crate) fn script(alloc: Global) -> Result<String, AllocError> {
     let a = hex::encode(alloc, library(b'a', 0).as_slice())?;
     let b = hex::encode(alloc, library(b'b', 0).as_slice())?;

@@ -1,5 +1,5 @@
-// Changes to a disk of eight sectors with the library a, and the results of a liar that returns the
-// changed sectors.
+// Changes to a disk of eight sectors with the library `a`, and the results of a liar that returns
+// the changed sectors.
 use crate::sectors::Harm;
 use crate::sectors::Harm::{Byte, Zeros};
 use store::StoreRefusal;
@@ -14,7 +14,7 @@ const S4: Wanted = Err(StoreRefusal::AlreadyFormatted);
 
 const S5: Wanted = Err(StoreRefusal::Damaged);
 
-// The library a is listed, and its bytes are zeros when they are read again.
+// The library `a` is listed. When its bytes are read again, they are zeros.
 const HELD: Wanted = Ok((
     "library a 344\nend\nrefused S5 Damaged\nrefused C2 AlreadyInstalled\n",
     9,

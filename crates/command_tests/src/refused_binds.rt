@@ -1,5 +1,5 @@
-// The number of sectors that a bind reads before it is refused because a library is missing. It
-// reads each library in its load order once.
+// The number of sectors that a bind reads before it is refused because a library is missing. A bind
+// reads each library of the program's load order once.
 use image::BindRefusal;
 use registry::Registry;
 use requests::{Command, Refusal, Reply};

@@ -136,15 +136,16 @@ const UNWRITTEN: Ended = Err(ScriptFault::Write);
 fn a_writer_fails_at_each_write(rt: HostRuntime) {
     let done = summary(7, 2);
     for (room, events, wanted) in [
-        // The first change was made. Its answer comes after the answers to three other lines.
+        // The first change was made. Its answer is written after the answers to three other lines.
         (0, 3, UNWRITTEN),
         (24, 3, UNWRITTEN),
         (25, 3, UNWRITTEN),
         (27, 3, UNWRITTEN),
-        // The second change was made. Its answer comes after the answer to one other line.
+        // The second change was made. Its answer is written after the answer to one other line.
         (28, 5, UNWRITTEN),
         (33, 5, UNWRITTEN),
-        // The last answer doesn't fit, and then it does.
+        // With room for 34 or 52 bytes, the last answer doesn't fit. With room for 53 bytes, it
+        // fits.
         (34, 5, UNWRITTEN),
         (52, 5, UNWRITTEN),
         (53, 5, Ok(done)),
@@ -178,7 +179,7 @@ fn run_stopped(
 }
 
 /// Returns whether a script ends with the fault of its writer, and only the beginning of its text
-/// is written. `room` has the numbers of `run_stopped`.
+/// is written. `room` has the numbers `writes` and `most` of `run_stopped`.
 fn is_front(alloc: Global, script: &[u8], text: &[u8], room: (usize, usize)) -> Result<bool, Fail> {
     let (ended, taken) = run_stopped(alloc, script, room)?;
     Ok(ended == UNWRITTEN && text.starts_with(&taken) && taken.len() < text.len())

@@ -10,13 +10,14 @@ pub(crate) type Sectors = [[u8; SECTOR_BYTES]; 8];
 pub(crate) enum Harm {
     /// All bytes of the sector with this number become zeros.
     Zeros(usize),
-    /// The fields are the number of a sector, an offset in it, and the new value of the byte there.
+    /// The fields are the number of a sector, an offset in it, and the new value of the byte at
+    /// this offset.
     Byte(usize, usize, u8),
 }
 
-/// Returns the sectors of a disk of version 1 or 2 whose registry has the library a. The library's
-/// bytes are in sector 2, its entry in sector 3, the catalogue of version 2 in sector 4, and the
-/// root of generation 1 in sector 1.
+/// Returns the sectors of a disk of version 1 or 2 whose registry has the library `a`. The
+/// library's bytes are in sector 2, its entry in sector 3, the catalogue of version 2 in sector 4,
+/// and the root of generation 1 in sector 1.
 pub(crate) fn one_library(version: u8) -> Sectors {
     let mut sectors = [[0; SECTOR_BYTES]; 8];
     put(&mut sectors[0], 0, b"RLIBREG1\0\0\0\0\0\0\0\0\x08");

@@ -18,7 +18,7 @@ fn words_or(rt: &HostRuntime, words: &[&str]) -> io::Result<Vec<String>> {
 
 /// Runs a command line whose output and standard error have room for `rooms` bytes. Returns the
 /// status, the room that is left in the output, the number of calls of standard error, and the room
-/// that is left there.
+/// that is left in standard error.
 fn told(rt: &HostRuntime, words: &[&str], rooms: (usize, usize)) -> (u8, usize, u64, usize) {
     let words = words_or(rt, words);
     let mut input = b"list\n".as_slice();

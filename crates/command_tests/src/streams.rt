@@ -6,15 +6,16 @@ use std::io::{ErrorKind, Read, Write};
 /// The effect of one call of a reader.
 #[derive(Clone, Copy)]
 pub(crate) enum Turn {
-    /// It returns this number of bytes, or fewer if fewer are requested.
+    /// The call returns this number of bytes, or fewer if fewer are requested.
     Gives(usize),
-    /// It returns this text.
+    /// The call returns this text.
     Says(&'static str),
-    /// It fails with an error of this kind.
+    /// The call fails with an error of this kind.
     Fails(ErrorKind),
 }
 
-/// A reader that has an effect for each call, and then reports the end of its input.
+/// A reader whose calls have these effects in turn. After the last of them, it reports the end of
+/// its input.
 #[derive(Drop)]
 pub(crate) struct Turns<'a>(pub(crate) &'a [Turn]);
 

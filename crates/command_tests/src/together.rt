@@ -12,8 +12,8 @@ use std::cell::Cell;
 use std::io;
 use std::io::{ErrorKind, Read, Write};
 
-/// A reader that returns these texts. It fails if a line that it has returned hasn't been answered
-/// when it is called again.
+/// A reader that returns these texts. If it is called again before every line that it has returned
+/// is answered, it fails.
 #[derive(Drop)]
 struct Asking<'a> {
     /// The texts, each with the number of lines that end in the texts before it.
@@ -64,8 +64,7 @@ impl Write for Answers<'_> {
 }
 
 /// Refuses to remove `a`, fails to remove `b`, and answers everything else with Done. Notes whether
-/// an event happens before the answer to an earlier change is written, if that change was made or
-/// failed.
+/// an event happens before the answer to an earlier change is written. Refused changes don't count.
 #[derive(Drop)]
 struct Watching<'a> {
     asked: usize,
@@ -94,10 +93,11 @@ impl TakesEvents for Watching<'_> {
     }
 }
 
-/// The texts that are read, each with the number of lines that end before it: one line; three
-/// lines, which are answered with one write; a change that is refused, between listings, and a
-/// change that is made, with one write, and then a change that fails, with the answer that waits
-/// before it; the rest of a line, two more lines, and one without a newline.
+/// The texts that are read, each with the number of lines that end before it. The first has one
+/// line, and the second three lines, which are answered with one write. In the third, the answers
+/// to a refused change, to the listings beside it and to a change that is made take one write; then
+/// a change fails, and its answer is written with the answer that waits before it. The fourth has
+/// the rest of a line, two more lines, and a line without a newline.
 static TEXTS: [(&str, usize); 4] = [
     ("list\n", 0),
     ("list\nlist\nlist\n", 1),

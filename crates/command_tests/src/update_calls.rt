@@ -8,7 +8,7 @@ use sector_disk::{Fuse, Memory};
 use std::alloc::Global;
 use std::test::Fail;
 
-// The number of calls that the opening of that disk makes: a sync, and reads of two roots, the
+// The number of calls of the disk that its opening makes: a sync, and reads of two roots, the
 // catalogue, an entry and a file.
 const OPENING: u64 = 6;
 
@@ -16,7 +16,7 @@ const OPENING: u64 = 6;
 // libraries on the disk afterwards.
 type Told = (Option<Refusal>, Option<Refusal>, usize);
 
-// Installs the library b in an update whose call number `call` fails. Returns the results of the
+// Installs the library `b` in an update whose call number `call` fails. Returns the results of the
 // update.
 fn cut(alloc: Global, call: u64, forever: bool, late: bool) -> Option<Told> {
     let fuse = Fuse::new(one(alloc)?, OPENING.saturating_add(call), forever, late);
@@ -39,8 +39,8 @@ fn cut(alloc: Global, call: u64, forever: bool, late: bool) -> Option<Told> {
     }
 }
 
-// Returns the expected results. The calls are the writes of the file, the entry and the catalogue,
-// a sync, the write of the root, and a sync.
+// Returns the expected results of `cut`. The calls of the update are the writes of the file, the
+// entry and the catalogue, a sync, the write of the root, and a sync.
 fn wanted(call: u64, late: bool) -> Told {
     match call {
         1 | 2 => (Some(Refusal::Device), Some(Refusal::Reopen), 1),
@@ -61,7 +61,7 @@ fn each_call_of_an_update_fails(rt: HostRuntime) {
     }
 }
 
-// Replaces the library a in an update, which is committed or given up. Returns whether that
+// Replaces the library `a` in an update, which is committed or given up. Returns whether that
 // succeeds, and the registry after the update.
 fn replaced(
     registry: Registry<Memory>,
@@ -84,7 +84,8 @@ fn replaced(
 
 #[test]
 fn what_an_update_replaced_is_free_behind_it(rt: HostRuntime) -> Result<(), Fail> {
-    // Besides the library a, two sectors are free: as many as another version of it needs.
+    // Besides the sectors of the library `a`, two sectors are free: as many as another version of
+    // `a` needs.
     let Ok(mut registry) = Registry::format(rt.alloc(), Memory::new(rt.alloc(), 8)?) else {
         panic!(rt; "no registry")
     };

@@ -10,7 +10,7 @@ use std::alloc::Global;
 use std::io::ErrorKind;
 use updates::run_update;
 
-/// Makes a disk whose registry has the library a.
+/// Makes a disk whose registry has the library `a`.
 pub(crate) fn one(alloc: Global) -> Option<Memory> {
     let Ok(mut registry) = Registry::format(alloc, Memory::new(alloc, 16).ok()?) else {
         return None;
@@ -62,7 +62,7 @@ static CUT: [(&[Turn], Wanted); 6] = [
         &[Says("remove a\ncommit")],
         (1, "planned\nrefused L2 CutLine\n", "", 1),
     ),
-    // The reader fails after the commit, but isn't called there.
+    // The reader fails after the commit, but isn't called after the commit.
     (
         &[Says("remove a\ncommit\n"), Fails(ErrorKind::Other)],
         (0, "planned\nok\n", "", 0),
@@ -100,7 +100,7 @@ fn full(alloc: Global, room: usize) -> Option<(u8, bool, usize)> {
 
 #[test]
 fn a_writer_fails_before_a_commit_and_behind_it(rt: HostRuntime) {
-    // The answers have 30 bytes without the last one, and are sent before the commit.
+    // The answers before the last one have 30 bytes, and are sent before the commit.
     for (room, wanted) in [
         (0, (3, true, 1)),
         (29, (3, true, 1)),

@@ -36,8 +36,8 @@ fn has_at(image: &Image, address: u64, file: &[u8; SIZE]) -> bool {
     same
 }
 
-// Returns whether an image is that of the program that needs a, with version 2 of a, and b as a
-// preload. Each file is in the image unchanged, one page after the other.
+// Returns whether an image is that of the program that needs `a`, with version 2 of `a`, and with
+// `b` as a preload. The files are unchanged in the image, each one page after the one before it.
 fn is_whole(image: &Image) -> bool {
     has_at(image, BASE, &program(b'a'))
         && has_at(image, BASE.wrapping_add(0x1000), &library(b'b', 0))
@@ -85,7 +85,7 @@ fn file_of(asked: Asked) -> [u8; SIZE] {
     }
 }
 
-// Returns the command as a registry accepts it. `file` is its file.
+// Returns the command as a registry accepts it. `file` is the file of the command.
 fn command_of(asked: Asked, file: &[u8]) -> Command<'_> {
     match asked {
         Asked::Install(_, _) => Command::Install(file),

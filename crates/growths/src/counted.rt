@@ -10,7 +10,8 @@ pub(crate) fn counted(disk: Memory) -> Fuse<Memory> {
     Fuse::new(disk, MANY, true, false)
 }
 
-/// Returns how many calls of a disk have been made. Reads the disk until it fails to find this out.
+/// Returns how many calls of a disk have been made. To find this out, reads the disk until a read
+/// fails.
 pub(crate) fn calls(disk: &mut Fuse<Memory>) -> u64 {
     let mut sector = [0; SECTOR_BYTES];
     for more in 1..=MANY {
@@ -21,7 +22,7 @@ pub(crate) fn calls(disk: &mut Fuse<Memory>) -> u64 {
     0
 }
 
-// The numbers of calls in words, by number.
+// The number of calls in words. The index is the number.
 const CALLS: [&str; 12] = [
     "no call of the disk,",
     "1 call of the disk,",

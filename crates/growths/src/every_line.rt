@@ -11,7 +11,8 @@ use samples::{library, program};
 use sector_disk::Memory;
 use std::alloc::{AllocError, Global};
 
-/// Puts a line that begins with the text `said` and ends with a file's bytes in hexadecimal.
+/// Appends to `lines` a line that begins with the text `said` and ends with a file's bytes in
+/// hexadecimal.
 pub(crate) fn put_line(
     alloc: Global,
     lines: &mut Vec<u8>,
@@ -127,7 +128,7 @@ fn end_word(fault: Option<ScriptFault>) -> &'static str {
     }
 }
 
-// Returns the report about a script with another answer than expected.
+// Returns the report about a script with an unexpected answer.
 fn otherwise(
     alloc: Global,
     lines: &[u8],

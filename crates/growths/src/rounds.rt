@@ -10,7 +10,7 @@ use samples::{library, program};
 use sector_disk::Memory;
 use std::alloc::{AllocError, Global};
 
-// Makes a round of two commands. Its call number `cut` is cut. At the stop each sector keeps its
+// Makes a round of two commands, whose call number `cut` is cut. At the stop each sector keeps its
 // last content.
 fn round<'a>(alloc: Global, commands: [Command<'a>; 2], cut: u64) -> Result<Round<'a>, AllocError> {
     Ok(Round {
@@ -80,7 +80,7 @@ fn is_whole(words: &[&'static str]) -> bool {
     same && wanted.next().is_none()
 }
 
-// Returns the report about rounds with other words than expected.
+// Returns the report about rounds with unexpected words.
 fn otherwise(
     alloc: Global,
     title: &'static str,
@@ -96,9 +96,9 @@ fn otherwise(
     Ok(said)
 }
 
-/// Runs three rounds. The first installs a library, and lists. The second removes it, and its last
-/// sync fails, but the stop keeps the new content of the root. The third shows the state with a
-/// listing and a bind.
+/// Runs three rounds. The first installs a library, and lists. The second removes it; the last sync
+/// of this round fails, but the stop keeps the new content of the root. The third shows the state
+/// with a listing and a bind.
 pub(crate) fn rounds(alloc: Global, disk: Memory) -> Result<Option<Words>, AllocError> {
     let file = library(b'c', 0);
     let needing = program(b'a');

@@ -49,8 +49,8 @@ fn again(alloc: Global, disk: Memory, at: usize) -> Result<&'static str, AllocEr
 }
 
 // Adds three facts to the report about a refused command or opening. They are the number of calls
-// of the disk after the first `opened_calls`, whether the registry is as before, and the answer if
-// the command is given again.
+// of the disk after the first `opened_calls`, whether the registry is as before, and the answer to
+// the same command when it is given again.
 fn tell(
     alloc: Global,
     words: Words,
@@ -120,7 +120,7 @@ fn go(alloc: Global, disk: &Memory, step: Step, at: usize) -> Result<Went, Alloc
     }
 }
 
-// Gives all commands.
+// Gives each command of `STEPS` to the registry on the disk.
 fn steps(alloc: Global, disk: Memory) -> Result<Went, AllocError> {
     let mut disk = disk;
     for (at, step) in STEPS.iter().enumerate() {

@@ -24,7 +24,7 @@ pub(crate) fn before(alloc: Global, at: usize) -> Result<Memory, AllocError> {
     Ok(registry.into_disk().into_inner())
 }
 
-// Returns a script of a listing and two binds: of a program that needs the library a, and of a
+// Returns a script of a listing and two binds: of a program that needs the library `a`, and of a
 // program that needs no library.
 fn looks(alloc: Global) -> Result<Vec<u8>, AllocError> {
     let mut lines = Vec::new(alloc);

@@ -7,7 +7,7 @@ use requests::Reply;
 use sector_disk::Memory;
 use std::alloc::{AllocError, Global};
 
-/// Writes the text of the image of the program that needs a. `write_text` allocates nothing: only
+/// Writes the text of the image of the program that needs `a`. `write_text` allocates nothing: only
 /// its writer does.
 pub(crate) fn text(alloc: Global, disk: Memory) -> Result<Option<Words>, AllocError> {
     let mut registry = opened(alloc, disk)?;

@@ -3,7 +3,7 @@
 // The maximum number of words in a report, which is more than any report needs.
 const MOST: usize = 48;
 
-/// Words, in their order. They allocate nothing, so the refused growth is never theirs.
+/// Words, in their order. They allocate nothing, so the refused growth never belongs to a report.
 #[derive(Clone, Copy)]
 pub(crate) struct Words {
     list: [&'static str; MOST],
@@ -21,7 +21,7 @@ impl Words {
         words
     }
 
-    /// Adds a word. If there is no room for it, the last word becomes one that says this.
+    /// Adds a word. If there is no room for it, replaces the last word with one that says so.
     pub(crate) fn push(&mut self, word: &'static str) {
         let count = self.count;
         match self.list.get_mut(count) {

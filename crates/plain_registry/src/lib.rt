@@ -1,8 +1,8 @@
 //! A registry as a plain list of names and bytes. Tests of stops compare a registry on a disk with
 //! it.
 //!
-//! It shares with the registry on a disk the types of commands and replies, and the code that
-//! admits a file and binds a program. It doesn't share the tests of a command or the step table, so
+//! The list and the registry on a disk share the types of commands and replies, and the code that
+//! admits a file and binds a program. They don't share the tests of a command or the step table, so
 //! the comparison shows faults in these.
 #![tactic(auto)]
 

@@ -22,7 +22,7 @@ fn are_distinct(numbers: &[usize]) -> bool
     differ(numbers)
 }
 
-/// Returns whether the numbers are distinct numbers of libraries, if there are `count` libraries.
+/// Returns whether the numbers are distinct and less than `count`, the number of libraries.
 pub fn are_preloads(numbers: &[usize], count: usize) -> bool
     ensures below { result ≡ true → All (λ p. p < count) numbers.now }
     ensures distinct { result ≡ true → IsDistinct nat_eq numbers.now }

@@ -19,8 +19,8 @@ struct File {
 /// A registry without a disk: the libraries in the order in which they were installed, and the
 /// names of the preloads in their order.
 ///
-/// It has only two limits: the room of a disk, and 2,048 libraries. The caller has to observe the
-/// other limits: at most 16 preloads and 2^64 - 1 changes.
+/// This registry has only two limits: the room of a disk, and 2,048 libraries. The caller has to
+/// observe the other limits: at most 16 preloads and 2^64 - 1 changes.
 pub struct PlainRegistry {
     alloc: Global,
     // The number of sectors of the disk.
@@ -132,7 +132,7 @@ impl PlainRegistry {
         taken <= self.sectors as usize
     }
 
-    // Adds a library after the others.
+    // Adds a library after all other libraries.
     fn add(&mut self, name: &[u8], file: &[u8]) -> Result<(), AllocError> {
         let name = name.to_vec(self.alloc)?;
         let bytes = file.to_vec(self.alloc)?;
@@ -207,7 +207,7 @@ impl PlainRegistry {
         Ok(listing)
     }
 
-    // Admits the files of all libraries, and returns these.
+    // Admits the files of all libraries, and returns the libraries.
     fn libraries(&self) -> Result<Vec<Library<'_>>, AllocError> {
         let mut libraries = Vec::new(self.alloc);
         for file in &self.files {

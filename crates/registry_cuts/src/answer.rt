@@ -14,7 +14,7 @@ pub(crate) const DEVICE: &[u8] = b"Device";
 
 pub(crate) const REOPEN: &[u8] = b"Reopen";
 
-// Puts the text of the reply to a command.
+// Appends to `text` the text of the reply to a command.
 fn put_answer(text: &mut Vec<u8>, reply: &Reply) -> Result<()> {
     match reply {
         Reply::Done => text.extend_from_slice(DONE)?,

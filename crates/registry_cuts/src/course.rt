@@ -15,8 +15,8 @@ use sector_disk::Memory;
 use std::alloc::Global;
 use std::rc::Rc;
 
-// The events on a disk that is opened again: at first there is no binder, and then a new binder
-// binds.
+// The events on a disk that is opened again. The first event finds no binder; the others begin a
+// new binder, which binds.
 const AGAIN: &str =
     "advance 0; begin a; advance 0; advance 0; advance 0; advance 0; advance 0; cancel 0";
 
@@ -29,7 +29,8 @@ pub(crate) struct Course {
     pub(crate) probe: Probe,
 }
 
-// Adds the cuts of each of an event's `calls` calls, which come after `before` calls.
+// Appends to `cuts` the cuts of each of the `calls` calls of event number `event`. `before` calls
+// come before them.
 fn put_cuts(cuts: &mut Vec<Cut>, event: usize, before: u64, calls: u64) -> Result<()> {
     for at in 0..Cut::count(calls) {
         cuts.push(Cut::nth(event, before, at))?;
@@ -106,10 +107,10 @@ impl Course {
         }
     }
 
-    // Makes the events happen with this cut, and opens what is left. A cut of only one call leaves
-    // the same as a cut of that call and all later ones: no call follows a change that failed, and
-    // a bind that failed changes nothing. A call that fails before it reaches the disk leaves the
-    // same as a late failure of the call before it.
+    // Makes the events happen with this cut, and opens the disk that the cut leaves. A cut of only
+    // one call leaves the same as a cut of that call and all later ones: no call follows a change
+    // that failed, and a bind that failed changes nothing. A call that fails before it reaches the
+    // disk leaves the same as a late failure of the call before it.
     fn cut_list_at(&self, tally: &mut Tally, cut: Cut) -> Result<()> {
         let (plain, disk) = self.leave(tally, self.run.events.len(), cut)?;
         let mut sides = plain.sides(&self.probe)?;
@@ -135,8 +136,9 @@ impl Course {
         }
     }
 
-    /// Cuts a list of commands at each of its calls, including those of its opening, and at one
-    /// call after them. Then cuts each opening of what is left, with and without a stop before it.
+    /// Cuts a list of commands at each of its calls, including those of the opening, and at one
+    /// call after them. Then cuts each opening of the disks that the cuts leave, with and without a
+    /// stop before it.
     pub(crate) fn cut_list(&self, tally: &mut Tally) -> Result<()> {
         let plain = self.plain(tally.rt.alloc(), true)?;
         let sides = plain.sides(&self.probe)?;
@@ -149,8 +151,8 @@ impl Course {
         Ok(())
     }
 
-    // Opens what the first `count` events leave. `before` is the disk before the last of these
-    // events. If that event isn't a change, it has to leave the disk unchanged.
+    // Opens the disk that the first `count` events leave. `before` is the disk before the last of
+    // these events. If that event isn't a change, it has to leave the disk unchanged.
     fn follow_one(&self, tally: &mut Tally, count: usize, before: &Memory) -> Result<Memory> {
         let (plain, disk) = self.leave(tally, count, Cut::NONE)?;
         self.open_flight(tally, &plain, &disk)?;
@@ -161,7 +163,7 @@ impl Course {
         Ok(disk)
     }
 
-    /// Opens what is left after each event, without a cut.
+    /// Opens the disk after each event, without a cut.
     pub(crate) fn follow(&self, tally: &mut Tally) -> Result<()> {
         let mut before = self.run.disk.copy()?;
         for count in 1..=self.run.events.len() {
@@ -170,7 +172,8 @@ impl Course {
         Ok(())
     }
 
-    // Opens the disk that is left once more. There is no binder then, and a new one binds.
+    // Opens once more the disk that the events leave. It has no binder at first, and then a new one
+    // binds.
     fn go_on(&self, tally: &mut Tally, plain: &Plain, disk: Memory) -> Result<()> {
         let alloc = tally.rt.alloc();
         let events = Event::all(alloc, AGAIN)?;
@@ -180,8 +183,8 @@ impl Course {
         Ok(())
     }
 
-    // Makes the events happen with this cut, and opens what is left. Events after a change that
-    // failed must not change the disk, and neither must a read that failed.
+    // Makes the events happen with this cut, and opens the disk that the cut leaves. The disk must
+    // not be changed by events after a failed change, nor by a failed read.
     fn cut_flight_at(&self, tally: &mut Tally, cut: Cut) -> Result<()> {
         let (plain, disk) = self.leave(tally, self.run.events.len(), cut)?;
         self.open_flight(tally, &plain, &disk)?;
@@ -200,8 +203,8 @@ impl Course {
         Ok(())
     }
 
-    // Compares the disk with the one that only the events up to the cut leave, without the event
-    // that was cut unless it is a change.
+    // Compares the disk with the one that only the events up to the cut leave. If the event that
+    // was cut isn't a change, it isn't among these events.
     fn compare_left(&self, tally: &mut Tally, disk: &Memory, cut: Cut) -> Result<()> {
         let is_change = self.is_change(cut.event);
         if cut.forever || is_change {
@@ -213,8 +216,8 @@ impl Course {
         Ok(())
     }
 
-    /// Opens what is left after each event. Then cuts each call of each event, and opens what is
-    /// left.
+    /// Opens the disk after each event. Then cuts each call of each event, and opens the disk that
+    /// the cut leaves.
     pub(crate) fn cut_flights(&self, tally: &mut Tally) -> Result<()> {
         self.follow(tally)?;
         for &cut in &self.cuts(tally.rt.alloc())? {

@@ -8,9 +8,9 @@ pub(crate) type Powered = Fuse<Memory>;
 /// A call of the disk that fails.
 #[derive(Clone, Copy, Debug)]
 pub(crate) struct Cut {
-    /// The event that makes the call, counted from 1; 0 is the opening.
+    /// The number of the event that makes the call, counted from 1, or 0 if the opening makes it.
     pub(crate) event: usize,
-    /// The number of the call among all calls, counted from 1; 0 if none fails.
+    /// The number of the call among all calls, counted from 1, or 0 if no call fails.
     pub(crate) number: u64,
     /// The number of the call among those of the event, counted from 1.
     pub(crate) call: u64,
@@ -40,8 +40,8 @@ impl Cut {
         self.event == 0 && self.call > 0
     }
 
-    /// Returns the cut of event number `event`, if one of its calls fails. After the event of a cut
-    /// for ever, this is its first call.
+    /// If a call of event number `event` fails, returns the cut of this call. In the events after a
+    /// cut for ever, this is the event's first call.
     pub(crate) fn at(self, event: usize) -> Option<Cut> {
         if event == self.event {
             Some(self)

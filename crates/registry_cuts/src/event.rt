@@ -1,4 +1,4 @@
-// Events, and their form in a row.
+// Events, and the words that describe them in a row.
 
 use anyhow::{Context, Result, bail};
 use requests::Command;
@@ -10,7 +10,7 @@ use std::rc::Rc;
 const BASE: u64 = 0x10000;
 
 /// The kind of an event of a registry with binders. `Begin` begins the binder of a program,
-/// `Advance` makes the next step of the binder in a slot, and `Cancel` ends it.
+/// `Advance` makes the next step of the binder in a slot, and `Cancel` ends this binder.
 #[derive(Clone, Copy, PartialEq, Eq)]
 pub(crate) enum What {
     Install,
@@ -27,7 +27,7 @@ pub(crate) enum What {
 // The names of preloads.
 const LETTERS: &[u8] = b"abcdefghijklmnopqrstuvwxyz";
 
-// The words for these kinds in rows.
+// The word for each kind of event in a row.
 const WORDS: [(&str, What); 9] = [
     ("install", What::Install),
     ("replace", What::Replace),
@@ -125,7 +125,7 @@ impl Event {
         })
     }
 
-    /// Reads events, which are separated by semicolons, or `nothing`.
+    /// Reads events, which are separated by semicolons. The text `nothing` means no events.
     pub(crate) fn all(alloc: Global, text: &str) -> Result<Vec<Rc<Event>>> {
         let mut events = Vec::new(alloc);
         if text != "nothing" {
@@ -161,10 +161,10 @@ impl Event {
         }
     }
 
-    /// Returns how many calls of the disk a change makes that leaves `libraries` libraries. It
-    /// writes the sectors of the file and its entry and the catalogues, makes a sync, writes the
-    /// root, and makes a sync. A removal writes no file, and a change of the preloads writes only
-    /// the root.
+    /// Returns how many calls of the disk a change makes after which there are `libraries`
+    /// libraries. A change writes the sectors of the file and its entry and the catalogues, makes a
+    /// sync, writes the root, and makes a sync. A removal writes no file, and a change of the
+    /// preloads writes only the root.
     pub(crate) fn calls(&self, libraries: usize) -> u64 {
         let catalogues = libraries.div_ceil(64) as u64;
         let file = self.bytes.len().div_ceil(512) as u64;
@@ -175,7 +175,7 @@ impl Event {
         }
     }
 
-    /// Returns whether the event is a change if it isn't refused.
+    /// Returns whether the event, if it isn't refused, is a change.
     pub(crate) fn is_change(&self) -> bool {
         matches!(
             self.what,

@@ -1,9 +1,9 @@
 //! The program `registry_cuts`: cuts the power of registries at every call of their disk, and opens
-//! every mixture that is left. It compares the listing and the binds of each with those of the
-//! states that may be left.
+//! every mixture that is left. It compares the listing and the binds of each mixture with those of
+//! the states that may be left.
 //!
-//! The arguments of the command line name the files that have the program's rows; its README has
-//! their format.
+//! The arguments of the command line name the files that have the program's rows; the README of
+//! this crate has their format.
 #![tactic(auto)]
 
 mod allowed;

@@ -32,8 +32,8 @@ pub(crate) fn all_picks(alloc: Global, disk: &Memory) -> Result<Vec<Vec<usize>>>
     Ok(all)
 }
 
-/// Returns the disk after a stop. Each sector keeps the content with the number in `picks`, which
-/// is repeated if there are more sectors.
+/// Returns the disk after a stop. Each sector keeps the content whose number is in `picks`. If
+/// there are more sectors than picks, the picks are repeated.
 pub(crate) fn stopped(disk: &Memory, picks: &[usize]) -> Result<Memory> {
     Ok(
         disk.copy()?.stop(|at, _| {

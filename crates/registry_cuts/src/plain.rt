@@ -15,8 +15,8 @@ use std::alloc::Global;
 use std::rc::Rc;
 
 // A library that a change has added: its name, the number of sectors that it takes, and the number
-// of changes that were made before it was added. If it was removed, also the number of changes that
-// were made by then.
+// of changes that were made before it was added. If the library was removed, also the number of
+// changes that were made before its removal.
 #[derive(Clone, Copy)]
 struct Hold {
     name: u8,
@@ -25,8 +25,8 @@ struct Hold {
     until: usize,
 }
 
-// A binder: the event that began it; the number of changes that were made by then; the number of
-// sectors that each of its steps reads, with the next step last; and its last answer.
+// A binder: the event that began it; the number of changes that were made before that event; the
+// number of sectors that each of its steps reads, with the next step last; and its last answer.
 #[derive(Drop)]
 struct Flight {
     event: Rc<Event>,
@@ -39,8 +39,8 @@ struct Flight {
 pub(crate) struct Plain {
     alloc: Global,
     sectors: u32,
-    // Whether binders keep the state in which they began. If not, which is wrong on purpose, they
-    // keep no libraries, and their answers are about the state at their last step.
+    // Whether binders keep the state in which they began. If they don't, they keep no libraries,
+    // and their answers are about the state at their last step; this is wrong on purpose.
     keeps: bool,
     registry: PlainRegistry,
     holds: Vec<Hold>,
@@ -82,7 +82,7 @@ fn refused(alloc: Global, refusal: Refusal) -> Result<Told> {
     told(alloc, EventReply::Replied(Reply::Refused(refusal)), 0)
 }
 
-// Appends the number of sectors of a library's file, if the library is listed.
+// If the library `name` is listed, appends to `steps` the number of sectors of its file.
 fn put_sectors(steps: &mut Vec<u64>, listing: &Listing, name: &[u8]) -> Result<()> {
     for (other, length) in &listing.libraries {
         if other.as_bytes() == name {
@@ -170,8 +170,8 @@ impl Plain {
     }
 
     // Returns how many sectors each step of a program's bind reads, with the first step last in the
-    // list. The first step reads none. Each step after it reads a library: first the preloads, and
-    // then the needed library. The last step reads none. Libraries need no libraries.
+    // list. The first step and the last step read no sectors. Each step between them reads a
+    // library: first the preloads, and then the needed library. Libraries need no libraries.
     fn steps(&self, needed: u8) -> Result<Vec<u64>> {
         let needed = [needed];
         let listing = self.registry.list()?;
@@ -210,7 +210,7 @@ impl Plain {
     }
 
     // Returns the answer to a command whose call is cut. If the plain registry has carried out the
-    // command, it is a change.
+    // command, the command is a change.
     fn fail(&mut self, event: &Rc<Event>, is_done: bool, calls: u64, cut: Cut) -> Result<Told> {
         if is_done {
             self.new.push(Rc::clone(event)?)?;

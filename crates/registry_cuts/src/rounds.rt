@@ -18,7 +18,7 @@ use std::alloc::Global;
 use std::rc::Rc;
 use store::StoreRefusal;
 
-// Lists of picks that are shorter than the disk. They are repeated.
+// Lists of picks that are shorter than the disk, so they are repeated.
 const SHORT: [&[usize]; 5] = [&[], &[0], &[1], &[1, 0], &[0, 1, 1]];
 
 // A round: its cut, its expected answers, and the content that each sector keeps at the stop.
@@ -37,8 +37,8 @@ struct Past {
     disk: Memory,
 }
 
-// A round with a cut, after other rounds: its expected answers, its disk, and the states that the
-// disk may have.
+// A round with a cut, after other rounds: the round's expected answers, the disk after it, and the
+// states that this disk may have.
 #[derive(Drop)]
 struct Ended<'a> {
     past: &'a Past,

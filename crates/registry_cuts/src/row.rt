@@ -77,7 +77,7 @@ fn run_lists(tally: &mut Tally, sizes: &str, start: &[Rc<Event>], file: &str) ->
     Ok(())
 }
 
-// Runs the events of a row as its word says, after the changes `start`.
+// Runs the events of a row in the way that the row's word names, after the changes `start`.
 fn run_word(
     tally: &mut Tally,
     word: &str,
@@ -99,7 +99,8 @@ fn run_word(
     }
 }
 
-// Runs a row, which has its word, its disk, the changes made before, and the events.
+// Runs a row, which has its word, its disk, the changes that are made before the events, and the
+// events.
 fn run_row(tally: &mut Tally, row: &str) -> Result<()> {
     let (front, rest) = row.split_once(" | ").unwrap_or((row, "nothing"));
     let (word, disk) = front.split_once(' ').context("a row without a disk")?;

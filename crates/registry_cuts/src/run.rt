@@ -28,7 +28,7 @@ pub(crate) enum Beginning {
 /// The answers to events, or the refusal if there is no registry.
 pub(crate) type Told = std::result::Result<Vec<Vec<u8>>, StoreRefusal>;
 
-/// A disk, how a registry is made on it, and the events that happen then.
+/// A disk, the way in which a registry is made on it, and the events that happen on this registry.
 #[derive(Drop)]
 pub(crate) struct Run {
     pub(crate) disk: Memory,

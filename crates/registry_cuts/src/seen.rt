@@ -14,7 +14,7 @@ use std::alloc::Global;
 use std::rc::Rc;
 use store::StoreRefusal;
 
-/// Commands that show the state of a registry. They bind a program that needs the library a and a
+/// Commands that show the state of a registry. They bind a program that needs the library `a` and a
 /// program that needs no library, and install libraries to find the number of free sectors.
 #[derive(Drop)]
 pub(crate) struct Probe {
@@ -23,7 +23,7 @@ pub(crate) struct Probe {
     fitting: Vec<Vec<u8>>,
 }
 
-/// The listing and the binds of the registry on a disk, or the refusal if there is none.
+/// The listing and the binds of the registry on a disk, or the refusal if there is no registry.
 #[derive(Drop, PartialEq)]
 pub(crate) struct Seen {
     /// The refusal of the opening. A registry of version 1 is upgraded to list it and to bind with
@@ -36,7 +36,7 @@ pub(crate) struct Seen {
 }
 
 impl Probe {
-    /// Makes a probe. It shows whether the library a is installed, and in which version. It also
+    /// Makes a probe. It shows whether the library `a` is installed, and in which version. It also
     /// shows how many of `sectors` sectors are free: it installs libraries, each of which takes one
     /// sector less than the one before it, until one fits. Roots and catalogues take four sectors,
     /// so the first library never fits.
@@ -64,9 +64,9 @@ impl Probe {
     }
 }
 
-// Returns what the answers of a registry show, with the number of calls of an opening. An opening
-// makes a sync, and reads two root sectors, the catalogues, and the entry and the file of each
-// library.
+// Returns the state that the answers of a registry show, with the number of calls of an opening. An
+// opening makes a sync, and reads two root sectors, the catalogues, and the entry and the file of
+// each library.
 fn seen_of(alloc: Global, replies: &[Reply]) -> Result<Seen> {
     let mut opening = 3u64;
     if let Some(Reply::Listing(listing)) = replies.first() {
@@ -93,7 +93,7 @@ fn make(plain: &mut PlainRegistry, changes: &[Rc<Event>]) -> Result<()> {
     Ok(())
 }
 
-// Runs these commands on a registry, if there is one.
+// If there is a registry, runs these commands on it.
 fn ask<D: Disk + Drop>(
     alloc: Global,
     made: std::result::Result<Registry<D>, (StoreRefusal, D)>,

@@ -1,5 +1,4 @@
-// Disks that a cut has left. They are opened at once and after each stop, and their openings are
-// cut.
+// Opens the disks that cuts have left, at once and after each stop, and cuts these openings too.
 
 use crate::cut::{Cut, Powered};
 use crate::mixture::{all_picks, stopped};
@@ -20,7 +19,7 @@ pub(crate) struct Sides<'a> {
     pub(crate) probe: &'a Probe,
 }
 
-// Opens a disk. Returns the refusal, if the opening is refused, and the disk.
+// Opens a disk. Returns the disk, and the refusal if the opening is refused.
 fn opened_once(alloc: Global, disk: Powered) -> (Option<StoreRefusal>, Powered) {
     match Registry::open(alloc, disk) {
         Ok(registry) => (None, registry.into_disk()),
@@ -82,7 +81,7 @@ impl Sides<'_> {
         self.open_mixtures(tally, disk, wanted)
     }
 
-    // Opens a disk with a cut in its opening, and opens what this leaves.
+    // Opens a disk with a cut in its opening, and opens the disk that this cut leaves.
     fn cut_one(&self, tally: &mut Tally, disk: &Memory, cut: Cut, wanted: Wanted) -> Result<()> {
         let (refusal, left) = opened_once(tally.rt.alloc(), cut.of(disk.copy()?));
         let right = refusal == Some(StoreRefusal::Device);
@@ -99,8 +98,8 @@ impl Sides<'_> {
         }
     }
 
-    /// Cuts each call of an opening of this disk. The opening has to return S1 (Device), and the
-    /// state has to be the same afterwards.
+    /// Cuts each call of an opening of this disk. The opening has to return S1 (Device), and has to
+    /// leave the state unchanged.
     pub(crate) fn cut_all(&self, tally: &mut Tally, disk: &Memory, wanted: Wanted) -> Result<()> {
         for at in 0..Cut::count(self.reopened(wanted).opening) {
             self.cut_one(tally, disk, Cut::nth(0, 0, at), wanted)?;
@@ -115,8 +114,8 @@ impl Sides<'_> {
         self.cut_all(tally, left, Wanted::only(stands))
     }
 
-    /// Cuts each call of an opening of every mixture that a stop of the disk may leave. The state
-    /// has to be the same afterwards.
+    /// Cuts each call of an opening of every mixture that a stop of the disk may leave. Each
+    /// opening has to leave the state unchanged.
     pub(crate) fn cut_stopped(&self, tally: &mut Tally, disk: &Memory) -> Result<()> {
         for picks in &all_picks(tally.rt.alloc(), disk)? {
             self.cut_left(tally, &stopped(disk, picks)?)?;

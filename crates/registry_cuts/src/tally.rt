@@ -1,4 +1,5 @@
-// The number of openings that the rows of a file make, and the number of wrong ones.
+// The number of openings that the rows of a file make, and the number of openings with an
+// unexpected result.
 
 use std::fmt::Debug;
 
@@ -22,7 +23,7 @@ impl<'a> Tally<'a> {
         }
     }
 
-    /// Counts an opening, and prints its place if it was wrong.
+    /// Counts an opening, and, if it was wrong, prints its place.
     pub(crate) fn count(&mut self, right: bool, place: &impl Debug, what: &str) {
         self.openings = self.openings.saturating_add(1);
         if right {
@@ -30,7 +31,8 @@ impl<'a> Tally<'a> {
         }
         self.wrong = self.wrong.saturating_add(1);
         if !self.on_purpose {
-            // If this call fails, printing the line of the file fails too.
+            // A failure of this call is ignored: if it fails, printing the line of the file fails
+            // too.
             let _ = println!(self.rt; "wrong: {what} at {place:?}");
         }
     }

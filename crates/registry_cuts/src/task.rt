@@ -11,7 +11,7 @@ use sector_disk::{Disk, Memory};
 use std::alloc::Global;
 use std::rc::Rc;
 
-/// The form in which the registry gets the events of a task.
+/// The form in which the events of a task are passed to the registry.
 #[derive(Clone, Copy, PartialEq, Eq)]
 pub(crate) enum Asked {
     /// Commands, each of which is accepted by itself.

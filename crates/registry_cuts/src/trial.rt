@@ -1,5 +1,5 @@
-// Tasks on a disk, or on a disk over a file, cut at each call. Each content that a stop may leave
-// is opened.
+// Tasks on a disk, or on a disk over a file, cut at each call. Each disk that a stop may leave is
+// opened.
 
 use crate::allowed::Allowed;
 use crate::cut::Cut;
@@ -27,7 +27,8 @@ enum Under {
 }
 
 // The ways to cut a call of a file: the maximum number of sectors that the call transfers, whether
-// it then fails, and whether all later calls fail. A sync with a maximum above 0 syncs the file.
+// the call then fails, and whether all later calls fail. A sync with a maximum above 0 syncs the
+// file.
 const TURNS: [(usize, bool, bool); 6] = [
     (0, true, false),
     (0, true, true),
@@ -153,8 +154,8 @@ impl<'a> Trial<'a> {
         bail!("more calls than {MOST_CALLS}")
     }
 
-    // Does the task over a file with this plan. Returns how many calls are left until the one that
-    // is cut.
+    // Does the task over a file with this plan. Returns the number of calls that remain before the
+    // one that is cut.
     fn cut_file(&mut self, tally: &mut Tally, plan: FilePlan) -> Result<u64> {
         let alloc = tally.rt.alloc();
         let disk = over(alloc, self.task.disk.copy()?, plan)?;
@@ -194,7 +195,7 @@ impl<'a> Trial<'a> {
     }
 }
 
-// Does the same with a task on one kind of disk.
+// Cuts each call of a task on one kind of disk, in each way.
 fn cut(tally: &mut Tally, task: &Task, under: Under) -> Result<()> {
     Trial::of(tally.rt.alloc(), task, under)?.cut_all(tally)
 }

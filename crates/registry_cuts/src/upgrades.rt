@@ -1,4 +1,4 @@
-// Formats and upgrades to version 2, cut at each of their calls.
+// Makes formats and upgrades to version 2, and cuts each of their calls.
 
 use crate::cut::{Cut, Powered};
 use crate::event::Event;
@@ -21,8 +21,8 @@ const FORMAT_CALLS: u64 = 5;
 // A number of sectors that is greater than any row's registry needs.
 const AMPLE: u32 = 64;
 
-// A format or an upgrade: the number of calls of the disk that it makes, its refusal if none of
-// them fails, and the states before and after it.
+// A format or an upgrade: the number of calls of the disk that it makes, its refusal if no call
+// fails, and the states before and after it.
 #[derive(Drop)]
 struct Trial<'a> {
     run: Run,
@@ -99,9 +99,9 @@ impl<'a> Trial<'a> {
         Ok(disk)
     }
 
-    // Cuts a call of the disk and opens what is left. If `further` is true, also cuts each call of
-    // this opening, or opens the disk with its fuse. No registry is left that could return S2
-    // (Reopen).
+    // Cuts a call of the disk, and opens the disk that the cut leaves. If `further` is true, also
+    // cuts each call of this opening, or opens the disk with its fuse. After a failed format or
+    // upgrade there is no open registry that could return S2 (Reopen).
     fn cut_at(&self, tally: &mut Tally, cut: Cut, further: bool) -> Result<()> {
         let wanted = by_table(cut, self.calls);
         let disk = self.cut(tally, cut)?.into_inner();
@@ -112,7 +112,7 @@ impl<'a> Trial<'a> {
         Ok(())
     }
 
-    // Opens the disk that a cut has left once more: with each call of the opening cut, or with its
+    // Opens once more the disk that a cut has left: with each call of the opening cut, or with its
     // fuse.
     fn open_again(&self, tally: &mut Tally, disk: &Memory, wanted: Wanted) -> Result<()> {
         if wanted.cut.forever {
@@ -125,7 +125,7 @@ impl<'a> Trial<'a> {
         }
     }
 
-    // Does this for each call of the disk, and for one call after them, which is never made.
+    // Calls `cut_at` for each call of the disk, and for one call after them, which is never made.
     fn cut_each(&self, tally: &mut Tally, further: bool) -> Result<()> {
         for at in 0..Cut::count(self.calls.saturating_add(1)) {
             self.cut_at(tally, Cut::nth(0, 0, at), further)?;
@@ -141,7 +141,7 @@ impl<'a> Trial<'a> {
         Ok(())
     }
 
-    // Upgrades the disk that is left, with a cut at each call.
+    // Upgrades `left`, the disk that an earlier cut left, and cuts this upgrade at each call.
     fn cut_again(&self, tally: &mut Tally, left: Memory, changes: &[Rc<Event>]) -> Result<()> {
         let alloc = tally.rt.alloc();
         let is_old = look(alloc, left.copy()?, self.sides.probe)? == self.sides.old;
@@ -166,7 +166,7 @@ impl<'a> Trial<'a> {
         Ok(())
     }
 
-    // Does this for each cut.
+    // Calls `cut_behind` for each cut.
     fn cut_further(&self, tally: &mut Tally, changes: &[Rc<Event>]) -> Result<()> {
         for at in 0..Cut::count(self.calls) {
             self.cut_behind(tally, Cut::nth(0, 0, at), changes)?;
@@ -189,7 +189,7 @@ impl<'a> Trial<'a> {
         self.look_on(tally)
     }
 
-    // Tests that nothing is written, with each cut.
+    // Tests, with each cut, that nothing is written.
     fn see_unwritten(&self, tally: &mut Tally) -> Result<()> {
         let alloc = tally.rt.alloc();
         for at in 0..Cut::count(self.calls.saturating_add(1)) {

@@ -11,7 +11,7 @@ pub(crate) enum Which {
 }
 
 /// The state that has to be found if the disk is opened again at once, and the states that may be
-/// found if a stop comes first.
+/// found if it is opened after a stop.
 #[derive(Clone, Copy)]
 pub(crate) struct Wanted {
     /// The cut that left the disk.
@@ -21,8 +21,8 @@ pub(crate) struct Wanted {
 }
 
 impl Which {
-    /// Returns whether a state may be found. `is_old` and `is_new` say whether it is the old one,
-    /// and whether it is the new one.
+    /// Returns whether a state may be found. `is_old` says whether it is the old state, and
+    /// `is_new` whether it is the new state.
     pub(crate) fn allows(self, is_old: bool, is_new: bool) -> bool {
         match self {
             Which::Old => is_old,
@@ -53,7 +53,7 @@ pub(crate) fn by_table(cut: Cut, calls: u64) -> Wanted {
 }
 
 impl Wanted {
-    /// Returns the value by which only this state may be found.
+    /// Returns the value that allows only the state `which`.
     pub(crate) fn only(which: Which) -> Wanted {
         Wanted {
             cut: Cut::NONE,

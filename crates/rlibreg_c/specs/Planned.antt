@@ -4,8 +4,8 @@ use Rattle.requests.specs.Request.{Request}
 use Rattle.c_answers.specs.Answers.{IsChangeAnswered, IsLeft, IsPlanOf}
 use Rattle.c_answers.specs.declared.answer.Answer.{Answer}
 
--- Either the buffer, which had `before`, has the plan of a change of the registry that the bytes hold,
--- or the call reports why not.
+-- A call has planned the change `request` of the registry that the bytes of `disk` hold, or reports why
+-- it can't. `before` and `after` are the contents of the plan's buffer before and after the call.
 pub record IsPlanned (disk : List ℕ) (request : Request) (before after text : List ℕ) (answer : Answer) (told : ℕ) : Type 0 where
   -- the plan leads from the state that the bytes hold to the state after the accepted change
   pub plan : told ≡ 0 → IsPlanOf disk request after answer

@@ -14,8 +14,8 @@ pub extern "C" fn rlibreg_plan_format(
     text: &mut [u8],
     answer: &mut Answer,
 ) -> u32
-    // A stop leaves the disk as it was or the empty registry. After the whole plan it leaves only
-    // the empty registry.
+    // A stop leaves either the disk as it was or the empty registry. After the whole plan it leaves
+    // only the empty registry.
     ensures plan { result ≡ 0 → IsFormatPlan disk.now plan.new answer.new }
     ensures answered { IsFormatAnswered disk.now plan.new text.new answer.new result }
     ensures left { IsLeft plan.old plan.new result }

@@ -15,8 +15,8 @@ pub extern "C" fn rlibreg_plan_upgrade(
     text: &mut [u8],
     answer: &mut Answer,
 ) -> u32
-    // A stop leaves the registry of version 1 or that of version 2. After the whole plan it leaves
-    // only that of version 2.
+    // A stop leaves either the registry of version 1 or that of version 2. After the whole plan it
+    // leaves only that of version 2.
     ensures plan { result ≡ 0 → IsUpgradePlan disk.now plan.new answer.new }
     ensures answered { IsUpgradeAnswered disk.now plan.new text.new answer.new result }
     ensures left { IsLeft plan.old plan.new result }

@@ -1,5 +1,5 @@
-//! The program `rlibreg-tool`: reports what the disk of a registry has, returns a library's bytes
-//! and the script that makes the registry again, repairs a registry with damaged libraries, and
+//! The program `rlibreg-tool`: reports what the disk of a registry has, returns a library's bytes,
+//! returns a script that makes the registry again, repairs a registry with damaged libraries, and
 //! makes several changes at once.
 #![tactic(auto)]
 

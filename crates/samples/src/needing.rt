@@ -2,8 +2,8 @@
 use crate::bytes::put;
 use std::alloc::{AllocError, Global};
 
-/// The bytes of a file up to its dynamic section. They have the names a, b, c, d, e, p, f and z,
-/// and a symbol f that the file exports.
+/// The bytes of a file up to its dynamic section. They have the names `a`, `b`, `c`, `d`, `e`, `p`,
+/// `f` and `z`, and a symbol `f` that the file exports.
 const FRONT: &[u8] =
     b"\x7fELF\x02\x01\x01\0\0\0\0\0\0\0\0\0\x03\0>\0\x01\0\0\0\0\0\0\0\0\0\0\0@\0\0\0\0\0\0\0\
       \0\0\0\0\0\0\0\0\0\0\0\0@\08\0\x02\0\0\0\0\0\0\0\x01\0\0\0\x06\0\0\0\0\0\0\0\0\0\0\0\0\0\
@@ -22,8 +22,8 @@ const TAIL: &[u8] =
 /// The names in `FRONT`, in their order.
 const LETTERS: &[u8] = b"abcdepfz";
 
-/// Returns an entry of the dynamic section whose value is a name of one letter. With tag 1 it is a
-/// needed library, and with tag 14 the library's own name.
+/// Returns an entry of the dynamic section whose value is a name of one letter. With tag 1 this is
+/// the name of a needed library, and with tag 14 the library's own name.
 pub fn named(tag: u64, letter: u8) -> [u8; 16] {
     let mut place = 1u64;
     for one in LETTERS {
@@ -50,8 +50,8 @@ fn put_sizes(file: &mut [u8]) {
 }
 
 /// Makes a file that needs the libraries `needs`, whose names have one letter. The entry `entry`,
-/// which may be empty, follows theirs. A file that is shorter than `size` bytes is padded with
-/// zeros to this size.
+/// which may be empty, follows the entries of these libraries. A file that is shorter than `size`
+/// bytes is padded with zeros to this size.
 pub fn needing_file(
     alloc: Global,
     needs: &[u8],

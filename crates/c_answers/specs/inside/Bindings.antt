@@ -31,14 +31,14 @@ found_objects program found = available program (map object_of found.libraries)
 abbrev pub found_text : List ℕ → Found → List ℕ
 found_text program found = dependencies_text (names_of (map object_of found.libraries)) (found_objects program found)
 
--- either no name is missing, and the text is about the placed objects, or the text is about the missing
--- libraries
+-- either no name is missing, and the text is about the placed objects; or a name is missing, and the
+-- text is about the found and missing libraries
 abbrev pub IsFoundText : List ℕ → ℕ → Found → ℕ → List ℕ → Type 0
 IsFoundText program base found number said =
     ((found.missing ≡ None) × IsPlacedText (place base (found_objects program found)) number said)
     ⊎ ((found.missing ≢ None) × (number ≡ 103) × (said ≡ found_text program found))
 
--- the reason why there is neither of these texts
+-- the reason why there is neither the text about the placed objects nor the text about missing libraries
 abbrev pub IsUnfoundText : List ℕ → ℕ → Found → Refusal → Type 0
 IsUnfoundText program base found why =
     ((found.missing ≡ None) × IsUnplaced (place base (found_objects program found)) why) ⊎ (why ≡ OutOfMemory)

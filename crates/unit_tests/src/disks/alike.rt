@@ -1,4 +1,4 @@
-// The same random calls of a disk and of a disk in memory.
+// Makes the same random calls on a disk and on a disk in memory, and compares the answers.
 use crate::disks::random::next;
 use crate::disks::stops::{read, write};
 use sector_disk::{Disk, Memory};
@@ -11,7 +11,7 @@ enum Call {
     Sync,
 }
 
-// Makes one call of both disks. Returns whether both answer it in the same way, and neither a write
+// Makes one call on both disks. Returns whether both answer it in the same way, and neither a write
 // nor a sync fails.
 fn is_alike<D: Disk>(disk: &mut D, memory: &mut Memory, at: u32, call: Call) -> bool {
     match call {
@@ -31,7 +31,7 @@ fn next_call(state: &mut u64) -> Call {
     }
 }
 
-/// Makes `calls` calls of both disks. About three in four use the sector after the last one used.
+/// Makes `calls` calls on both disks. About three in four use the sector after the last one used.
 /// Returns whether both disks answer all calls in the same way.
 pub(crate) fn call_both<D: Disk>(disk: &mut D, memory: &mut Memory, calls: u32) -> bool {
     let mut state = 88_172_645_463_325_252;

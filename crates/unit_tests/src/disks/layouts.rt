@@ -1,4 +1,4 @@
-// Which sectors a layout hands out and takes back.
+// Tests which sectors a layout hands out and takes back.
 
 use extents::{Extent, Layout, MOST_EXTENTS, MOST_SECTORS, TakeRefusal};
 use std::alloc::AllocError;

@@ -21,7 +21,7 @@ fn has_segment(object: &Object<'_>) -> bool {
         && Object::contents(object, 0) == library()
 }
 
-/// Returns whether symbol 1 of the library is f, and is the only symbol in the first of two
+/// Returns whether symbol 1 of the library is `f`, and is the only symbol in the first of two
 /// buckets.
 fn has_symbol(object: &Object<'_>) -> bool {
     Object::symbol_count(object) == 4
@@ -46,7 +46,7 @@ fn admitted(alloc: Global, file: &[u8]) -> Option<Admitted<'_>> {
     Admitted::admit(alloc, object).ok()
 }
 
-/// Returns whether f is found in the library, and whether the search compares one symbol.
+/// Returns whether `f` is found in the library, and whether the search compares one symbol.
 fn finds(admitted: &Admitted<'_>) -> bool {
     let hashed = Admitted::find_hashed(admitted, b"f", elf_hash(b"f"));
     let wanted = Found {
@@ -98,7 +98,7 @@ fn a_program_is_bound_alone(rt: HostRuntime) -> Result<(), Fail> {
     Ok(())
 }
 
-/// Returns whether `order` has a program and the library a, whose only symbol is number 0.
+/// Returns whether `order` has a program and the library `a`, whose only symbol is number 0.
 fn is_order(order: &Order<'_>) -> bool {
     if Order::count(order) != 2 {
         return false;
@@ -109,7 +109,8 @@ fn is_order(order: &Order<'_>) -> bool {
         && resolve(order, 1, 0) == Ok(Target::Zero)
 }
 
-/// Returns whether the objects of `order` are placed one after the other, and bound there.
+/// Returns whether the objects of `order` are placed one after the other, and bound at these
+/// places.
 fn is_placed(alloc: Global, order: &Order<'_>) -> bool {
     if Order::count(order) != 2 || !good_base(Order::object(order, 0), BASE) {
         return false;
@@ -124,7 +125,7 @@ fn is_placed(alloc: Global, order: &Order<'_>) -> bool {
     }
 }
 
-/// Returns whether a program that needs the library a is bound with it.
+/// Returns whether a program that needs the library `a` is bound with it.
 fn is_bound(alloc: Global, file: &[u8], own: &[u8]) -> bool {
     let Some(program) = admitted(alloc, file) else {
         return false;

@@ -84,7 +84,7 @@ fn put_segment(text: &mut Vec<u8>, address: u64) -> Result<(), Fail> {
     Ok(())
 }
 
-/// Returns the text of these segments and the line `end`.
+/// Returns the text of the 60,000 segments, followed by the line `end`.
 fn text_of_many(alloc: Global) -> Result<Vec<u8>, Fail> {
     let mut text = Vec::new(alloc);
     for i in 0..60_000u64 {
@@ -102,7 +102,7 @@ fn put_relocations(file: &mut Vec<u8>) -> Result<(), AllocError> {
     Ok(())
 }
 
-/// Returns the sample with these 20,000 relocations.
+/// Returns the sample with the 20,000 relocations of `put_relocations`.
 fn many_relocations(alloc: Global) -> Result<Vec<u8>, Fail> {
     let mut file = sample(alloc)?;
     put_relocations(&mut file)?;
@@ -137,8 +137,8 @@ fn text_of(alloc: Global, image: &Image) -> Result<Vec<u8>, Fail> {
     Ok(text)
 }
 
-/// Returns three bytes of an image with many segments: the first byte of the first of them, the
-/// last byte of the last one, and the byte after it.
+/// Returns three bytes of an image with many segments: the first byte of the first one, the last
+/// byte of the last one, and the byte after that.
 fn bytes_of_many(image: &Image) -> [Option<u8>; 3] {
     let last = 0x11000 + 32 * 59_999;
     [
@@ -148,8 +148,8 @@ fn bytes_of_many(image: &Image) -> [Option<u8>; 3] {
     ]
 }
 
-/// Returns these three bytes for a first segment of `size` bytes of memory, the length of the text,
-/// and whether the text ends with the line `end`.
+/// Returns the three bytes of `bytes_of_many` for a first segment of `size` bytes of memory, the
+/// length of the text, and whether the text ends with the line `end`.
 fn seen_of_many(
     alloc: Global,
     size: u64,
@@ -163,7 +163,7 @@ fn seen_of_many(
 
 // A segment's lines have 70 bytes, and the writer gets pieces of 65,536 bytes. So the pieces of
 // 60,000 segments end at every second offset within these lines. One more byte of memory in the
-// first segment adds three bytes of text, and gives the other offsets.
+// first segment adds three bytes of text, so that the pieces end at the other offsets.
 #[test]
 fn binds_sixty_thousand_segments(rt: HostRuntime) -> Result<(), Fail> {
     let alloc = rt.alloc();
@@ -211,7 +211,7 @@ fn fits(alloc: Global, image: &Image, room: usize) -> Result<bool, AllocError> {
     Ok(image.write_text(&mut out).is_ok())
 }
 
-/// Returns the first of these numbers of bytes in which the text of an image fits.
+/// Returns the first number of bytes in `ROOMS` in which the text of an image fits.
 fn first_fitting(alloc: Global, image: &Image) -> Result<Option<usize>, AllocError> {
     for &room in &ROOMS {
         if fits(alloc, image, room)? {

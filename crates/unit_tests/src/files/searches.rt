@@ -4,7 +4,7 @@ use elf_dynamic::Object;
 use hash_check::{AdmitRefusal, Admitted, elf_hash};
 use std::alloc::Global;
 
-/// A library named q with two buckets, which exports f and g and refers to u.
+/// A library named `q` with two buckets. It exports `f` and `g`, and refers to `u`.
 pub(crate) fn library() -> &'static [u8] {
     b"\x7fELF\x02\x01\x01\0\0\0\0\0\0\0\0\0\x03\0>\0\x01\0\0\0\0\0\0\0\0\0\0\0@\0\0\0\0\0\0\
         \0\0\0\0\0\0\0\0\0\0\0\0\0@\08\0\x02\0\0\0\0\0\0\0\x01\0\0\0\x06\0\0\0\0\0\0\0\0\0\0\

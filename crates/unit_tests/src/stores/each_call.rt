@@ -14,7 +14,7 @@ use std::alloc::Global;
 use std::process::Abort;
 use store::{Look, OldStore, Store};
 
-// Makes a disk of version 1 with one byte string, 344 zeros named a, which is a preload.
+// Makes a disk of version 1 with one byte string, 344 zeros with the name `a`, which is a preload.
 fn old_disk(rt: &(impl Abort + AllocGlobal)) -> Memory {
     let mut disk = memory(rt, 8);
     let extents = [Extent { start: 2, count: 1 }];
@@ -24,7 +24,7 @@ fn old_disk(rt: &(impl Abort + AllocGlobal)) -> Memory {
     disk
 }
 
-// Returns whether a store of version 1 reports that byte string.
+// Returns whether a store of version 1 reports the byte string `a`.
 fn tells_old(store: &OldStore<Memory>) -> bool {
     OldStore::count(store) == 1
         && OldStore::name(store, 0) == b"a".as_slice()
@@ -33,12 +33,12 @@ fn tells_old(store: &OldStore<Memory>) -> bool {
         && OldStore::preloads(store) == [0].as_slice()
 }
 
-// Returns whether a store of version 1 reads that byte string.
+// Returns whether a store of version 1 reads the byte string `a`.
 fn reads_old(alloc: Global, store: &mut OldStore<Memory>) -> bool {
     OldStore::count(store) == 1 && given(OldStore::read_blob(store, alloc, 0)) == Ok((344, Some(0)))
 }
 
-// Returns whether a store of version 2 reports that byte string.
+// Returns whether a store of version 2 reports the byte string `a`.
 fn tells(store: &Store<Memory>) -> bool {
     Store::count(store) == 1
         && Store::name(store, 0) == b"a".as_slice()
@@ -47,7 +47,7 @@ fn tells(store: &Store<Memory>) -> bool {
         && Store::preloads(store) == [0].as_slice()
 }
 
-// Returns whether a store of version 2 reads that byte string, both directly and through a hold.
+// Returns whether a store of version 2 reads the byte string `a`, both directly and through a hold.
 fn reads(alloc: Global, store: &mut Store<Memory>) -> bool {
     if Store::count(store) != 1 {
         return false;
@@ -61,7 +61,7 @@ fn reads(alloc: Global, store: &mut Store<Memory>) -> bool {
     read == Ok((344, Some(0))) && held_is == read
 }
 
-// Commits a store of version 1, if it reports and reads that byte string. Returns the new store.
+// If a store of version 1 reports and reads the byte string `a`, commits it. Returns the new store.
 fn committed(alloc: Global, old: OldStore<Memory>) -> Option<Store<Memory>> {
     let mut old = old;
     if tells_old(&old) && reads_old(alloc, &mut old) {
@@ -81,8 +81,8 @@ fn looked_and_committed(rt: &(impl Abort + AllocGlobal)) -> Option<Store<Memory>
     }
 }
 
-// Returns whether a store has that byte string and can be changed, and its disk can be opened
-// again.
+// Returns whether a store has the byte string `a` and can be changed, and whether its disk can be
+// opened again.
 fn is_whole(rt: &(impl Abort + AllocGlobal), store: Store<Memory>) -> bool {
     let mut store = store;
     let has = tells(&store) && reads(rt.alloc(), &mut store);

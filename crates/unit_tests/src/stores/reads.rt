@@ -29,7 +29,7 @@ fn opened_scattered(rt: &(impl Abort + AllocGlobal)) -> Store<Fuse<Memory>> {
     opened(rt, Fuse::new(scattered(rt), 6, false, false))
 }
 
-// Returns whether the store reports what the disk has.
+// Returns whether the store reports the one byte string of the disk, and that it is a preload.
 fn tells(store: &Store<Fuse<Memory>>) -> bool {
     store.count() == 1
         && store.name(0) == b"a".as_slice()
@@ -67,7 +67,7 @@ fn a_byte_string_is_told_and_read_in_the_order_of_its_extents(rt: HostRuntime) {
     let mut store = opened_scattered(&rt);
     let told = tells(&store);
 
-    // After a read that failed, the store still reads.
+    // After a failed read, the store can still be read.
     let first = read(&rt, &mut store);
     let second = read(&rt, &mut store);
     let _ = store.into_disk();

@@ -1,4 +1,4 @@
-// The same calls on a disk over a file and on a disk in memory.
+// Makes the same calls on a disk over a file and on a disk in memory, and compares the answers.
 
 use crate::disks::alike::{are_same, call_both};
 use crate::disks::files::fake::{Fake, Plan, WELL, disk, reopened};
@@ -16,7 +16,7 @@ fn holds(alloc: Global, file: Fake, memory: &mut Memory) -> bool {
 }
 
 // Returns whether a disk over a file with this plan answers `calls` calls as the disk in memory
-// does, and whether the file keeps the same contents.
+// does, and whether the file then has the same contents.
 fn is_as(alloc: Global, memory: &mut Memory, plan: Plan, calls: u32) -> bool {
     let Some(mut file) = disk(alloc, memory.sectors(), plan) else {
         return false;
@@ -50,8 +50,8 @@ fn the_buffers_give_what_a_disk_in_memory_gives(rt: HostRuntime) {
     assert!(rt; small && large);
 }
 
-// Reads a file of 5,000 sectors, and then its first 129 once more. Returns the number of calls of
-// the file, if each sector has the content with which it was filled.
+// Reads a file of 5,000 sectors, and then its first 129 once more. If each sector has the content
+// with which it was filled, returns the number of calls of the file.
 fn read_all(alloc: Global, file: Fake) -> Option<u64> {
     let mut disk = reopened(alloc, file)?;
     let mut filled = disk.sectors() == 5_000 && is_filled(&mut disk);
@@ -82,7 +82,7 @@ fn fill_and_read(alloc: Global) -> Option<[u64; 4]> {
 fn neighbours_go_out_together_and_are_read_together(rt: HostRuntime) {
     // Filling makes 19 writes of 128 KiB and one of the rest, and then the sync. Reading makes
     // reads of 8, 16, .. 128 sectors, 18 reads of 256, and one of the rest. After the return to the
-    // first sector, it makes one read of 128 sectors, and one more.
+    // first sector, it makes one read of 128 sectors and one more read.
     assert!(rt; fill_and_read(rt.alloc()) == Some([20, 20, 0, 26]));
 }
 
@@ -94,8 +94,8 @@ fn three_and_four(alloc: Global, file: Fake) -> [Option<u8>; 2] {
     }
 }
 
-// Writes sectors 3 and 4, makes a sync, and writes sector 4 again. Returns the content that sector
-// 4 then has, if all calls succeed.
+// Writes sectors 3 and 4, makes a sync, and writes sector 4 again. If all calls succeed, returns
+// the content that sector 4 then has.
 fn write_and_wait<D: Disk>(disk: &mut D) -> Option<u8> {
     let written = write(disk, 3, 7) && write(disk, 4, 8);
     let synced = disk.sync().is_ok() && write(disk, 4, 9);
@@ -147,7 +147,7 @@ fn over(alloc: Global, sectors: u32, call: u64) -> Result<u32, OpenFault> {
     Ok(disk.sectors())
 }
 
-// Returns the index of the first line of the table with another result.
+// Returns the index of the first row of `OVER` whose result isn't the expected one.
 fn over_otherwise(alloc: Global) -> Option<usize> {
     for (line, (sectors, call, answer)) in OVER.iter().enumerate() {
         if over(alloc, *sectors, *call) != *answer {

@@ -1,4 +1,4 @@
-// Files that fail.
+// Tests of disks over files that fail.
 
 use crate::disks::files::fake::{Fake, Plan, WELL, disk, reopened};
 use crate::disks::stops::{read, write};
@@ -90,7 +90,7 @@ const CALLS: [(u64, usize, [Option<u8>; 4]); 12] = [
     (0, 8, [Some(11), Some(12), Some(13), Some(16)]),
 ];
 
-// Returns the number of the first failing call in the table that has another effect.
+// Returns the number of the first failing call in `CALLS` whose effect isn't the expected one.
 fn fails_otherwise(alloc: Global) -> Option<u64> {
     for (fails, failed, contents) in &CALLS {
         if !fails_so(alloc, *fails, *failed, *contents) {

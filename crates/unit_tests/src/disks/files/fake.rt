@@ -60,8 +60,8 @@ impl Fake {
         }
     }
 
-    // Begins a read or a write. It is interrupted if the plan says so, and fails if it is the
-    // failing call.
+    // Begins a read or a write. If the plan says so, the call is interrupted. If it is the failing
+    // call, it fails.
     fn begin(&mut self) -> io::Result<()> {
         self.turn = !self.turn;
         if self.plan.interrupts && self.turn {

@@ -1,4 +1,4 @@
-// Files of the system.
+// Tests of disks over files of the system.
 
 use crate::disks::stops::{read, write};
 use file_disk::{Access, DiskFile, FileDisk, Made, OpenFault};
@@ -63,8 +63,8 @@ fn make_of_five(rt: &HostRuntime, path: &str) -> Result<bool, OpenFault> {
     Ok(write(&mut disk, 1, 5) && disk.sync().is_ok())
 }
 
-// Opens this disk for reading. Returns whether it can be read and synced and buffers a write, and
-// whether a sync after the write succeeds.
+// Opens the disk at `path` for reading. Returns two facts: whether the disk can be read and synced
+// and buffers a write; and whether a sync after the write succeeds.
 fn read_and_write(rt: &HostRuntime, path: &str) -> Result<(bool, bool), OpenFault> {
     let mut disk: FileDisk<DiskFile> = FileDisk::open(rt, rt.alloc(), path, Access::Reading)?;
     let reads = disk.sectors() == 8 && disk.sync().is_ok() && read(&mut disk, 1) == Some(5);
@@ -130,8 +130,8 @@ const RESIZED: [(&[u32], u64, Option<u32>); 7] = [
     (&[1], 9 * 512, Some(4)),
 ];
 
-// Makes and syncs a disk, writes the sectors `before`, and changes the length of its file. Returns
-// the disk, if all of that succeeded.
+// Makes and syncs a disk, writes the sectors `before`, and changes the length of its file. If all
+// of this succeeds, returns the disk.
 fn resized(
     rt: &HostRuntime,
     path: &str,
@@ -147,7 +147,7 @@ fn resized(
     Ok((begun && is_resized).then_some(disk))
 }
 
-// Returns whether the disk's next call fails, and its file then has only zeros.
+// Returns whether the disk's next call fails, and whether the disk's file then has only zeros.
 fn is_seen(
     rt: &HostRuntime,
     path: &str,
@@ -165,7 +165,7 @@ fn is_seen(
     Ok(!done && is_file(rt, path, length as usize, 0))
 }
 
-// Returns the first case whose next call succeeds, or writes into the file.
+// Returns the first case in `RESIZED` whose next call succeeds or writes into the file.
 fn unseen(rt: &HostRuntime, folder: &str, path: &str) -> Option<usize> {
     for (case, (before, length, next)) in RESIZED.iter().enumerate() {
         let begun = make_folder(rt, folder);
@@ -232,7 +232,7 @@ const LENGTHS: [(u64, Result<u32, OpenFault>); 8] = [
     ),
 ];
 
-// Returns the first path that is opened or made with another result.
+// Returns the first path whose opening or making doesn't have the expected result.
 fn opened_otherwise(rt: &HostRuntime) -> Option<&'static str> {
     for path in &OPENED {
         if sectors(rt, path) != Err(OpenFault::CannotOpen) {
@@ -247,7 +247,7 @@ fn opened_otherwise(rt: &HostRuntime) -> Option<&'static str> {
     None
 }
 
-// Returns the first length with another result.
+// Returns the first length in `LENGTHS` whose result isn't the expected one.
 fn measured_otherwise(rt: &HostRuntime, path: &str) -> Option<u64> {
     for (length, answer) in &LENGTHS {
         if !set_length(rt, path, *length) || sectors(rt, path) != *answer {
