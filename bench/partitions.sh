@@ -56,7 +56,7 @@ END
     $object -DFIRST "$room/program.c" "$room/made/libone.so" -pie -Wl,-e,_start -o "$room/made/first"
 }
 
-# The commands for a loop device, and the same registry in a file.
+# Runs the page's commands for a loop device, and compares with the same registry in a file.
 over_a_loop_device() {
     cd "$room/made"
     eval "$(of Partitions 'fallocate')"

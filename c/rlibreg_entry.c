@@ -1,9 +1,9 @@
 /* The entry of the loader and the programs, which runs before the entry of the C library. The start
  * of a static C library allocates memory. If memory is refused, the library ends the process by a
  * signal, or with a status of its own. So this entry asks the system for memory first. At this
- * point there is no C library, and nothing is relocated: no address is kept in data, and no
- * function has an array or a structure on its stack. build.sh defines OUT_OF_MEMORY, STREAM and
- * MESSAGE, and STARTS_EARLY for a loader that can start a program early. */
+ * point the C library hasn't started, and nothing is relocated. So the code here must not keep an
+ * address in data, nor an array or a structure on the stack. build.sh defines OUT_OF_MEMORY, STREAM
+ * and MESSAGE, and STARTS_EARLY for a loader that can start a program early. */
 #define _GNU_SOURCE
 #include "rlibreg_disk_file.h"
 #include "rlibreg_stack.h"

@@ -129,7 +129,7 @@ struct kept_file {
 uint64_t place_of_others(const struct counts *counts);
 uint64_t place_of_pages(const struct counts *counts);
 
-/* Returns the parts of a beginning, whose head has the number of each. */
+/* Returns the parts of the beginning of a kept file at `beginning`. Its head has the length of each. */
 struct kept_file parts_of(void *beginning);
 
 /* Returns the piece that has an address, or null. It is the last piece that begins at the address

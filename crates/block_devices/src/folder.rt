@@ -62,8 +62,8 @@ fn names_in<R: Files>(rt: &R, alloc: Global, folder: &str) -> io::Result<Vec<u8>
     Ok(names)
 }
 
-/// Returns whether a folder with these names contains more than itself and the folder above it.
-/// Each name is ended by a byte 0.
+/// Returns whether `names`, the names in a folder, has any name except `.` and `..`. Each name is
+/// ended by a byte 0.
 fn has_others(names: &[u8]) -> bool {
     for name in names.split(|byte| *byte == 0) {
         if !matches!(name, b"" | b"." | b"..") {

@@ -1,4 +1,5 @@
-// The status of a command line whose streams accept or return fewer bytes than there are.
+// Tests of the status of a command line whose output accepts fewer bytes than are written, or whose
+// input returns fewer bytes than are requested.
 
 use crate::runs::{ends, words_of};
 use crate::streams::{Full, Turn, Turns};

@@ -18,8 +18,8 @@ pub record IsMade (n : ℕ) (disk : SystemDisk) (registry : Opened SystemDisk) :
   pub sectors : (file_facts disk).sectors ≡ n
   pub making : EndsMaking file_facts disk (Ok registry)
 
--- a registry was opened or upgraded on a new disk with a valid number of sectors, without a failure and
--- by calls of that disk; no byte string is held
+-- a registry was opened or upgraded on a new disk with a valid number of sectors; only calls of that disk
+-- were made, and none failed; no byte string is held
 pub record IsUpgraded (disk : SystemDisk) (registry : Opened SystemDisk) : Type 0 where
   pub new : IsNew disk
   pub upgrading : EndsUpgrading file_facts disk (Ok registry)

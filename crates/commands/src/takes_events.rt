@@ -8,8 +8,8 @@ use crate::watched::Watched;
 use binders::{Binders, Event, EventReply};
 use sector_disk::Disk;
 
-/// A type that takes events: a registry on a disk with its binders, or any other type that answers
-/// by its own steps.
+/// A type that carries out events: a registry on a disk with its binders, or any other type that
+/// defines its own steps.
 pub trait TakesEvents {
     /// An event may be answered with this reply, and may change the first value to the second.
     ghost step: { Self → Happening → EventReply → Self → Type 0 };

@@ -20,8 +20,8 @@ fn has_offset_from(mut offsets: NeededOffsets<'_>, limit: u64) -> bool
     offsets.any(|offset| offset >= limit)
 }
 
-/// A file that none of the tests E1 to E22 refuses: its tables can be read. If `read` made the
-/// view, E23 doesn't refuse the file either. Contracts see the file's bytes.
+/// The tables of a file that none of the tests E1 to E22 refuses. If `read` made this value, E23
+/// doesn't refuse the file either. In contracts, the value is the file's bytes.
 #[derive(Drop)]
 pub(crate) struct Tables<'a> {
     segments: Segments<'a>,

@@ -122,9 +122,9 @@ module _ {F : Type 0} {g : Ghosts F} where
     pub each : (since u : ℕ) (m : List Sector) → since ≤ (file_facts disk).time → (file_facts disk).marks since ≤ u → u ≤ (facts_below disk).time
         → MediumAt (facts_below disk) u m → (v : ℕ) × IsMomentAt (file_facts disk) u v × MixtureAt (file_facts disk) v m
 
-  -- Let `P` hold for every list of sectors that a stop of the disk may leave, from the moment of `old`
-  -- to that of `new`. Then `P` holds for whatever the file's medium may have had at each moment of the
-  -- file between them.
+  -- Let `P` hold for every list of sectors that a stop of the disk may leave between the moments of `old`
+  -- and `new`. Then `P` also holds for everything that the file's medium may have at any moment of the
+  -- file in this time.
   abbrev pub HoldsOfTheMedium : FileDisk F g → (List Sector → Type 0) → Type 0
   HoldsOfTheMedium new P = (old : FileDisk F g) → LeavesOnly (file_facts old) (file_facts new) P
       → (u : ℕ) (m : List Sector) → (facts_below old).time ≤ u → u ≤ (facts_below new).time → MediumAt (facts_below new) u m → P m

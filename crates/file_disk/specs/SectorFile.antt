@@ -78,9 +78,9 @@ pub record IsFileWrite {E : Type 0} (old new : FileFacts) (at : ℕ) (given : Li
   pub medium : (k : ℕ) (c : Sector) → MayHave new k c → MayHave old k c ⊎ IsGivenTo at given k c
   pub now : old.sync_failed ≡ false → IsOldOrGiven at given (moved result) old.now new.now
 
--- A sync. The set of no sector grows. If the sync succeeds, and no sync has failed before, the set of
--- each sector contains only what reads return for it. If the sync fails, nothing states that a later
--- sync makes a set smaller.
+-- A sync. No sector's set grows. If the sync succeeds, and no sync has failed before, the set of
+-- each sector contains only what reads return for it. After a failed sync, a later sync needn't make
+-- any set smaller.
 pub record IsFileSync {T E : Type 0} (old new : FileFacts) (result : Result T E) : Type 0 where
   pub call : IsFileCall (is_err result) old new
   pub medium : (k : ℕ) (c : Sector) → MayHave new k c → MayHave old k c

@@ -27,9 +27,8 @@ pub enum OpenFault {
     /// block device, or it is a device in use.
     #[error("the file can't be opened")]
     CannotOpen,
-    /// The file's length in bytes, which isn't the length of the disk. Either it isn't a multiple
-    /// of 512; or the file has another number of sectors than was asked for, or 2^32 sectors or
-    /// more.
+    /// The file doesn't have the length of a disk. Holds this length in bytes: it isn't a multiple
+    /// of 512, it isn't the number of sectors that was asked for, or it is 2^32 sectors or more.
     #[error("the file hasn't the length of a disk")]
     BadLength(u64),
     /// Memory was refused.
@@ -137,8 +136,9 @@ impl FileDisk<DiskFile> {
     }
 
     /// Opens the file at `path` as a disk of `sectors` sectors, for changes, and syncs its folder,
-    /// so that the file's name is on the medium. If no file exists at `path`, makes a disk of
-    /// zeros. Its file gets its name by `UnnamedFile::publish`, once its contents are synced.
+    /// so that the file's name is on the medium. If no file exists at `path`, makes a disk of zeros
+    /// over a file without a name. The caller syncs this disk, and then names the file with
+    /// `UnnamedFile::publish`.
     pub fn make<'a, R: Files<File = File> + Clock>(
         rt: &R,
         alloc: Global,

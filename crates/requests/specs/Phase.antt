@@ -17,7 +17,7 @@ pub record Phase : Type 0 where
   pub failed : Bool
   pub state : State
 
--- what the tests of a command read of a registry
+-- the table of a registry: the facts that the tests of a command read
 abbrev pub table_of : Phase → Table
 table_of p = record {
   generation = p.state.generation;

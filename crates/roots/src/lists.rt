@@ -17,7 +17,7 @@ pub(crate) fn are_distinct<T: PartialEq>(values: &[T]) -> bool
     true
 }
 
-/// Returns `N` places that begin with `values`, and have `unused` in the others.
+/// Returns an array of `N` places: first `values`, and then `unused` in each remaining place.
 pub(crate) fn placed<T: Copy, const N: usize>(values: &[T], unused: T) -> [T; N]
     requires { length values.now ≤ N }
     ensures { result ≡ values.now ++ replicate (N - length values.now) unused }

@@ -1,4 +1,4 @@
--- Consequences of the facts of the two disks. A reader needn't believe them, because they are proved.
+-- Laws about the disk under a fuse and the disk in memory. They are proved, so a reader needn't check them.
 pub mod FuseLaws
 pub mod MemoryLaws
 pub mod WrittenLaws

@@ -6,9 +6,9 @@ ghost use Rattle.sector_disk.specs.Disk.{IsCall};
 use crate::disk::DiskFault;
 use crate::past::Past;
 
-/// Counts the calls that were made of a disk, and those of them that failed. It has no bytes at run
-/// time, and only clauses read it. A disk of another crate keeps a `CallCount`, and has each read,
-/// write and sync counted. So the disk meets the clauses `calls` of `Disk`.
+/// Counts the calls that were made to a disk, and how many of them failed. It has no bytes at run
+/// time, and only clauses read it. A disk of another crate contains a `CallCount`, and records each
+/// read, write and sync in it. So the disk meets the clauses `calls` of `Disk`.
 #[derive(Drop)]
 pub struct CallCount {
     // Whether each call failed, the oldest first.

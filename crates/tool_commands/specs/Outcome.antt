@@ -1,4 +1,4 @@
--- How the program ends, depending on its arguments, with the file of any disk (own).
+-- How the program ends, depending on its arguments, whatever disk the file DISK has (own).
 use Rattle.std.specs.Prelude.{◌≡◌, ◌≢◌, ◌⊎◌, ◌<◌, ℕ, List, Option, Some, None, Bool, true, false, length}
 use Rattle.std.specs.declared.io.ErrorKind.{ErrorKind}
 use Rattle.std.specs.declared.io.ErrorKind.TheVariants.{OutOfMemory}

@@ -16,7 +16,7 @@ use text_output::{LINE, OutputBuffer, WriteFault};
 /// The buffer of a line that goes to a writer.
 pub(crate) type Line = OutputBuffer<LINE>;
 
-/// Appends a name between two texts to the buffered text.
+/// Appends a text, then a name, then another text to the buffered text.
 pub(crate) fn put_around<W: Write>(
     line: &mut Line,
     out: &mut W,

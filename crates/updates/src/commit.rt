@@ -15,8 +15,8 @@ pub(crate) struct Committed {
     made: (),
 }
 
-/// Commits the draft of an update. The function has no output, so nothing is written before the
-/// commit ends.
+/// Commits the draft of an update. The function isn't passed an output stream, so no answer can be
+/// written before the commit has ended.
 pub(crate) fn commit_draft<D: Disk>(update: Update<D>) -> (Result<Committed, Refusal>, Registry<D>)
     ensures { Commits D.facts update (commit_result result.0) result.1 }
 {

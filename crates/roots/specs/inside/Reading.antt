@@ -25,7 +25,7 @@ extent_of bytes = record { start = from_le_bytes w32 bytes; count = from_le_byte
 unfoldable pub values_at : {A : Type 0} → (List ℕ → A) → ℕ → ℕ → ℕ → List ℕ → List A
 values_at read step n at bytes = map (λ k. read (drop (at + step * k) bytes)) (range_with_len 0 n)
 
--- the list in a root sector, which depends on its magic
+-- the list in a root sector: of catalogues or of entries, depending on the sector's magic
 unfoldable pub list_of : List ℕ → EntryList
 list_of bytes =
     if starts_with (λ a b. a == b) bytes magic_2

@@ -3,7 +3,7 @@ use crate::disks::stops::value_of;
 use sector_disk::Disk;
 use store::{Look, Store, StoreRefusal};
 
-/// An answer of `look`: the version of the disk, and its number of byte strings.
+/// The result of `look`: the version of the disk with its number of byte strings, or a refusal.
 #[derive(Clone, Copy, PartialEq)]
 pub(crate) enum Seen {
     Current(usize),

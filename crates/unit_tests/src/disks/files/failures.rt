@@ -72,9 +72,9 @@ fn fails_so(alloc: Global, fails: u64, failed: usize, contents: [Option<u8>; 4])
 // After the opening, the calls of the file are: length and write of sectors 1 and 2; write of 6;
 // length and write of 4, and sync; length and write of 3, and sync; length and sync.
 //
-// Each line has the number of the file's call that fails, and the first call of the disk that then
-// fails, counted from 0. The contents of sectors 1, 2, 3 and 6 afterwards follow. A sector in the
-// buffer can still be read.
+// Each row has the number of the file's call that fails, the index of the first call of the disk that
+// then fails, and what reads of sectors 1, 2, 3 and 6 return afterwards. Only sectors in the buffer
+// can then be read.
 const CALLS: [(u64, usize, [Option<u8>; 4]); 12] = [
     (2, 2, [Some(11), Some(12), None, None]),
     (3, 2, [Some(11), Some(12), None, None]),
