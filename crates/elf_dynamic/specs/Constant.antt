@@ -1,4 +1,4 @@
--- The numbers that symbols and relocations are encoded with (gABI chapter 4; psABI, relocation types).
+-- The numbers with which symbols and relocations are encoded (gABI chapter 4; psABI, relocation types).
 use Rattle.std.specs.Prelude.{ℕ}
 
 -- the size of a word of the hash table, in bytes

@@ -11,7 +11,7 @@ use Rattle.elf_dynamic.specs.Strings.{has_bad_string}
 use Rattle.elf_dynamic.specs.Symbol.{has_common_symbol, has_tls_symbol, has_ifunc_symbol, has_bad_binding}
 use Rattle.elf_dynamic.specs.Relocation.{first_unsupported_type, has_bad_relocation_symbol, has_bad_place}
 
--- the tests of the tables and the strings, E22 and E23, in their order
+-- the tests of the tables and the strings, in the order in which they are made: E22 and E23
 abbrev pub table_tests : List ℕ → List (Option ObjectRefusal)
 table_tests file = (BadRange when has_bad_range file) ∷ (BadString when has_bad_string file) ∷ []
 
@@ -19,7 +19,7 @@ table_tests file = (BadRange when has_bad_range file) ∷ (BadString when has_ba
 unfoldable pub table_refusal : List ℕ → Option ObjectRefusal
 table_refusal file = first_of (table_tests file)
 
--- the tests of the symbols, E24 to E27, in their order
+-- the tests of the symbols, in the order in which they are made: E24 to E27
 abbrev pub symbol_tests : List ℕ → List (Option ObjectRefusal)
 symbol_tests file =
     (CommonSymbol when has_common_symbol file)
@@ -32,7 +32,7 @@ symbol_tests file =
 unfoldable pub symbol_refusal : List ℕ → Option ObjectRefusal
 symbol_refusal file = first_of (symbol_tests file)
 
--- the tests of the relocations, E30 to E32, in their order
+-- the tests of the relocations, in the order in which they are made: E30 to E32
 abbrev pub relocation_tests : List ℕ → List (Option ObjectRefusal)
 relocation_tests file =
     option_map RelocationType (first_unsupported_type file)
@@ -44,7 +44,7 @@ relocation_tests file =
 unfoldable pub relocation_refusal : List ℕ → Option ObjectRefusal
 relocation_refusal file = first_of (relocation_tests file)
 
--- the tests of a file, E1 to E27 and E30 to E32, in their order
+-- the tests of a file, in the order in which they are made: E1 to E27, then E30 to E32
 abbrev pub object_tests : List ℕ → List (Option ObjectRefusal)
 object_tests file =
     header_tests file ++ segment_tests file ++ tag_tests file ++ table_tests file ++ symbol_tests file ++ relocation_tests file

@@ -21,7 +21,7 @@ string_table file = unwrap_or (string_bytes file) []
 unfoldable pub string_at : List ℕ → ℕ → List ℕ
 string_at table offset = take_while (λ b. not (b == 0)) (drop offset table)
 
--- the names of the needed libraries, in the order of their entries
+-- the names of the needed libraries, in the order of the DT_NEEDED entries
 unfoldable pub needed : List ℕ → List (List ℕ)
 needed file = map (string_at (string_table file)) (needed_offsets file)
 

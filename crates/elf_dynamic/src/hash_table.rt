@@ -1,4 +1,4 @@
-// The SYSV hash table (gABI chapter 5, hash table).
+// Finds and reads the SYSV hash table (gABI chapter 5, hash table).
 
 ghost use Rattle.std.specs.Prelude.{◌≡◌, ◌+◌, ◌*◌, ◌≤◌, length, true, false, None, Some};
 ghost use Rattle.std.specs.Prelude.{MatchOption};

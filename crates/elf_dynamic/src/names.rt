@@ -1,4 +1,4 @@
-// The names that the dynamic section refers to (gABI chapter 5, `DT_NEEDED` and `DT_SONAME`).
+// Reads the names that the dynamic section refers to (gABI chapter 5, `DT_NEEDED` and `DT_SONAME`).
 
 ghost use Rattle.std.specs.Prelude.{◌≡◌, ◌<◌, length, None, Some, MatchOption, slice_get};
 ghost use Rattle.elf_dynamic.specs.Strings.{string_table, needed, soname};
@@ -22,7 +22,7 @@ impl<'a> Tables<'a> {
         self.parts().needed_count
     }
 
-    /// Returns the names of the needed libraries, in the order of their entries.
+    /// Returns the names of the needed libraries, in the order of the `DT_NEEDED` entries.
     #[tactic(auto, unfolding(crate::specs::Strings::needed))]
     pub(crate) fn needed_names(&self) -> NeededNames<'a>
         ensures { result ≡ needed self.now }

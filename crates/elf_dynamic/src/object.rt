@@ -19,7 +19,7 @@ use crate::tables::Tables;
 use elf_file::{Dynamic, LoadSegments, ObjectAddresses, ObjectRefusal, ProgramHeader};
 use std::marker::Model;
 
-/// A shared object that no test refuses. Contracts see the bytes of its file.
+/// A shared object that no test refuses. In contracts, the value is the bytes of the object's file.
 #[derive(Drop)]
 pub struct Object<'a> {
     tables: Tables<'a>,
@@ -81,8 +81,8 @@ impl<'a> Object<'a> {
     }
 
     /// Returns PT_LOAD number `i`, in the order of the program headers, which is also the order of
-    /// their addresses. Makes one pass over the program headers up to this PT_LOAD. For a caller
-    /// that needs all PT_LOADs, `segments` makes only one pass.
+    /// the PT_LOADs' addresses. Makes one pass over the program headers up to this PT_LOAD. For a
+    /// caller that needs all PT_LOADs, `segments` makes only one pass.
     pub fn segment(&self, i: usize) -> ProgramHeader
         requires { i < length (loads self.now) }
         ensures segment { slice_get (loads self.now) i ≡ Some result }
@@ -91,8 +91,8 @@ impl<'a> Object<'a> {
         self.tables.segments().nth(i)
     }
 
-    /// Returns the PT_LOADs in their order. Going through them makes one pass over the program
-    /// headers.
+    /// Returns the PT_LOADs, in the order of the program headers. Going through the PT_LOADs makes
+    /// one pass over the program headers.
     pub fn segments(&self) -> LoadSegments<'a>
         ensures segments { result ≡ loads self.now }
         ensures accepted { first_refusal self.now ≡ None }
@@ -176,7 +176,7 @@ impl<'a> Object<'a> {
     }
 
     /// Returns the names of the needed libraries, in the order of the dynamic section. Going
-    /// through them makes one pass over that section.
+    /// through the names makes one pass over this section.
     pub fn needed_names(&self) -> NeededNames<'a>
         ensures names { result ≡ needed self.now }
         ensures accepted { first_refusal self.now ≡ None }
@@ -203,7 +203,8 @@ impl<'a> Object<'a> {
         self.tables.parts().symbolic
     }
 
-    /// The string table, which has the names of the symbols at their offsets.
+    /// The string table. The field `name` of a symbol is the offset of the symbol's name in this
+    /// table.
     pub fn string_table(&self) -> &'a [u8]
         ensures table { result.now ≡ string_table self.now }
         ensures accepted { first_refusal self.now ≡ None }

@@ -1,4 +1,4 @@
-// The tables that are found in a file.
+// Finds the tables of a file.
 
 ghost use Rattle.std.specs.Prelude.{◌≡◌, ◌*◌, length, true, false, None, Some, MatchOption};
 ghost use Rattle.elf_file.specs.Tag.{number_of};

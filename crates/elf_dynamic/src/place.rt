@@ -1,4 +1,5 @@
-// Whether the bytes that relocations write lie in memory (gABI chapter 5, `p_vaddr` and `p_memsz`).
+// Tests whether the bytes that relocations write lie in memory (gABI chapter 5, `p_vaddr` and
+// `p_memsz`).
 
 ghost use Rattle.std.specs.Prelude.{◌≡◌, IfSome};
 ghost use Rattle.std.specs.List.{list_any};

@@ -1,4 +1,4 @@
-// The relocations of a file and their tests (gABI chapter 4; psABI, relocation types).
+// Reads and tests the relocations of a file (gABI chapter 4; psABI, relocation types).
 
 ghost use Rattle.std.specs.Prelude.{◌≡◌, ◌<◌, length, None, Some, MatchResult, slice_get};
 ghost use Rattle.elf_dynamic.specs.Refusal.{relocation_refusal};

@@ -1,4 +1,4 @@
-// Strings, and the names of needed libraries (gABI chapter 4, string table).
+// Reads strings, and the names of needed libraries (gABI chapter 4, string table).
 
 ghost use Rattle.std.specs.Prelude.{◌≡◌, length, map, take_while, not, ◌==◌};
 ghost use Rattle.std.specs.Iterator.{YieldsFirstRef, item_count};
@@ -26,8 +26,8 @@ pub(crate) fn string_at(table: &[u8], offset: usize) -> &[u8]
     &rest[..string_length(rest)]
 }
 
-/// The names of the needed libraries that haven't been read yet, in the order of their entries.
-/// Contracts see the list of these names.
+/// The names of the needed libraries that haven't been read yet, in the order of the `DT_NEEDED`
+/// entries. In contracts, the value is the list of these names.
 #[derive(Drop)]
 pub struct NeededNames<'a> {
     strings: &'a [u8],

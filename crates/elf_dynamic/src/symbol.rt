@@ -1,4 +1,4 @@
-// A symbol, and the meaning of its fields (gABI chapter 4, symbol table).
+// Reads a symbol, and interprets its fields (gABI chapter 4, symbol table).
 
 ghost use Rattle.std.specs.Prelude.{◌≡◌, ◌<◌, ◌/◌, length, drop, nat_le};
 ghost use Rattle.std.specs.List.{list_any};

@@ -1,4 +1,4 @@
-// The symbols of a file and their tests (gABI chapter 4, symbol table).
+// Reads and tests the symbols of a file (gABI chapter 4, symbol table).
 
 ghost use Rattle.std.specs.Prelude.{◌≡◌, ◌<◌, length, None, Some, MatchResult, slice_get};
 ghost use Rattle.elf_dynamic.specs.HashTable.{chain_count, buckets, chains};
@@ -17,7 +17,7 @@ use elf_file::ObjectRefusal;
 
 impl<'a> Tables<'a> {
     /// Tests the symbols: E24 to E27. Makes the four tests separately only if a symbol fails one of
-    /// them.
+    /// the tests.
     #[tactic(auto, using(crate::proofs::NoneRefused::none_refused))]
     pub(crate) fn test_symbols(&self) -> Result<(), ObjectRefusal>
         ensures { MatchResult result (λ _. symbol_refusal self.now ≡ None)
@@ -61,7 +61,7 @@ impl<'a> Tables<'a> {
         nth_symbol(self.parts().symbols, i as usize)
     }
 
-    /// Returns the name of the symbol with index `i`, which is empty for index 0.
+    /// Returns the name of the symbol with index `i`. The name is empty for index 0.
     #[tactic(auto, unfolding(crate::specs::Strings::name_of))]
     pub(crate) fn name_of(&self, i: u32) -> &'a [u8]
         requires { i < length (symbols self.now) }

@@ -35,7 +35,7 @@ abbrev pub DT_FINI_ARRAYSZ : ℕ
 DT_FINI_ARRAYSZ = 28
 
 -- the tags of an array of pre-initializers and of the array's size in bytes; only a program has such an array, and its
--- functions are called before all others
+-- functions are called before all other functions
 abbrev pub DT_PREINIT_ARRAY : ℕ
 DT_PREINIT_ARRAY = 32
 
@@ -57,8 +57,7 @@ PT_INTERP = 3
 abbrev pub PT_NOTE : ℕ
 PT_NOTE = 4
 
--- the p_align of notes that are read; the name and the descriptor of a note are padded to multiples of
--- it
+-- the p_align of notes that are read; the name and the descriptor of a note are padded to multiples of this number
 abbrev pub NOTE_ALIGNMENT : ℕ
 NOTE_ALIGNMENT = 4
 

@@ -6,7 +6,7 @@ use Rattle.image.specs.Heading.{holds}
 use Rattle.image.specs.Image.{ImageSegment, MemoryImage, heading}
 use Rattle.image.specs.declared.object.ImageObject.{ImageObject}
 
--- an address is in a segment that may be executed
+-- segment `s` has the address, and may be executed
 abbrev pub is_code : ℕ → ImageSegment → Bool
 is_code address s = (bit_and s.permissions PF_X == PF_X) && holds address (heading s)
 

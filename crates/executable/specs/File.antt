@@ -13,7 +13,7 @@ use Rattle.executable.specs.Place.{header_count_of, headers_size}
 abbrev pub ident : List ℕ
 ident = 0x7f ∷ 0x45 ∷ 0x4c ∷ 0x46 ∷ 2 ∷ 1 ∷ 1 ∷ 0 ∷ 0 ∷ 0 ∷ 0 ∷ 0 ∷ 0 ∷ 0 ∷ 0 ∷ 0 ∷ []
 
--- the file header of an executable with entry `entry` and with `count` program headers, which follow it
+-- the file header of an executable with entry `entry` and with `count` program headers, which follow the file header
 abbrev pub file_header : ℕ → ℕ → List ℕ
 file_header entry count =
     ident ++ (little_bytes 2 ET_EXEC ++ (little_bytes 2 EM_X86_64 ++ (little_bytes 4 EV_CURRENT

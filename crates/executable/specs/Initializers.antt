@@ -48,8 +48,8 @@ first_among has (o ∷ rest) segments =
     if has (dynamic_memory o (take o.segment_count segments)) then Some o.name
     else first_among has rest (drop o.segment_count segments)
 
--- the name of the first library whose dynamic section passes the test `has`; the first of the objects is the program,
--- and the others are the libraries
+-- the name of the first library whose dynamic section passes the test `has`; the first object is the program, and the
+-- other objects are the libraries
 abbrev pub first_behind : (List ℕ → Bool) → List ImageObject → List ImageSegment → Option (List ℕ)
 first_behind has [] segments = None
 first_behind has (program ∷ libraries) segments = first_among has libraries (drop program.segment_count segments)

@@ -61,7 +61,8 @@ pub record IsOfHeaders (segments : List ImageSegment) (file : List ℕ) (a b : �
 abbrev pub HasAny : List ImageSegment → ℕ → Type 0
 HasAny segments a = (b : ℕ) × (segments_byte segments a ≡ Some b)
 
--- address `a` lies between two addresses that have bytes in segments and whose pages are the same or neighbours
+-- address `a` lies between two addresses that have bytes in segments; the pages of these two addresses are the same or
+-- adjacent
 pub record IsBetween (segments : List ImageSegment) (a : ℕ) : Type 0 where
   pub below : ℕ
   pub above : ℕ
@@ -72,12 +73,12 @@ pub record IsBetween (segments : List ImageSegment) (a : ℕ) : Type 0 where
   pub page : page_of above ≤ page_of below + PAGE
 
 -- byte `b` at address `a` belongs to the segments or to the headers, or is a 0 between two bytes of segments whose
--- pages are the same or neighbours
+-- pages are the same or adjacent
 abbrev pub IsFrom : List ImageSegment → List ℕ → ℕ → ℕ → Type 0
 IsFrom segments file a b = (segments_byte segments a ≡ Some b) ⊎ (IsOfHeaders segments file a b ⊎ ((b ≡ 0) × IsBetween segments a))
 
--- no two segments share a page: the first one begins in a page at or above `from`, and each other one in a page at or
--- above the end of the one before it
+-- no two segments share a page: the first segment begins in a page at or above `from`, and each later segment in a page
+-- at or above the end of the segment before it
 abbrev pub IsApart : ℕ → List Loaded → Type 0
 IsApart from [] = Unit {0}
 IsApart from (s ∷ rest) = (from ≤ page_of s.heading.address) × IsApart (end_of s) rest

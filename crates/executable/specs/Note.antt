@@ -1,5 +1,5 @@
--- The notes of a program (gABI chapter 5, note section; elf(5), notes). One of them, the calls note,
--- says that the program itself calls its libraries' functions (own).
+-- The notes of a program (gABI chapter 5, note section; elf(5), notes). One of these notes, the calls note, says that
+-- the program itself calls its libraries' functions (own).
 use Rattle.std.specs.Prelude.{ℕ, zero, suc, ◌+◌, ◌*◌, ◌/◌, ◌==◌, min, length, List, [], ◌∷◌, take, drop, Bool, false, ◌&&◌, ◌||◌, nat_le, Option, Some}
 use Rattle.std.specs.Int.{next_multiple_of}
 use Rattle.std.specs.List.{find, range_with_len}
@@ -22,7 +22,7 @@ is_calls_note bytes =
     nat_le (NOTE_HEADER_SIZE + CALLS_NAME_SIZE) (length bytes) && (number_at 4 bytes 0 == CALLS_NAME_SIZE) && (number_at 4 bytes 4 == 0)
     && (number_at 4 bytes 8 == CALLS_TYPE) && (number_at 8 bytes NOTE_HEADER_SIZE == CALLS_NAME)
 
--- the calls note is one of the first `n` whole notes of these bytes; each note begins at the end of the one before it
+-- the calls note is one of the first `n` whole notes of these bytes; each note begins at the end of the note before it
 abbrev pub has_calls_note : ℕ → List ℕ → Bool
 has_calls_note zero bytes = false
 has_calls_note (suc n) bytes = is_calls_note bytes || (nat_le (note_size bytes) (length bytes) && has_calls_note n (drop (note_size bytes) bytes))
@@ -37,8 +37,8 @@ is_of_notes headers i =
 unfoldable pub find_notes : List ℕ → ℕ → Option ℕ
 find_notes headers n = find (is_of_notes headers) (range_with_len 0 (min (length headers / PROGRAM_HEADER_SIZE) n))
 
--- the notes of program header number `i`: p_filesz bytes from p_vaddr, or as many of them as the segment at that
--- address has
+-- the notes of program header number `i`: p_filesz bytes from p_vaddr, or fewer if the segment at that address ends
+-- before
 abbrev pub notes_by : ℕ → List ImageSegment → List ℕ → ℕ → List ℕ
 notes_by base own headers i =
     take (number_at 8 headers (PROGRAM_HEADER_SIZE * i + 32)) (section_memory base own (Some (number_at 8 headers (PROGRAM_HEADER_SIZE * i + 16))))

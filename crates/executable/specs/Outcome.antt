@@ -10,8 +10,8 @@ use Rattle.executable.specs.Refusal.{executable_refusal}
 use Rattle.executable.specs.declared.refusal.ExecutableRefusal.{ExecutableRefusal}
 use Rattle.executable.specs.declared.refusal.ExecutableRefusal.TheVariants as refusal
 
--- No test refuses the image. The file loads the image's bytes. Besides them it loads only its own headers, and zeros
--- between two bytes of segments whose pages are the same or neighbours.
+-- No test refuses the image. The file loads the image's bytes. Besides these bytes, the file loads only its own
+-- headers, and zeros between two bytes of segments whose pages are the same or adjacent.
 pub record IsExecutableOf (image : MemoryImage) (file : List ℕ) : Type 0 where
   pub accepted : executable_refusal image ≡ None
   pub header : IsExecutable file

@@ -31,7 +31,7 @@ place_above end room =
     let place = max LOWEST (next_multiple_of end PAGE) in
     if nat_le (place + room) MEMORY_LIMIT then Some place else None
 
--- the address for `room` bytes of headers: right below the first piece if that isn't below LOWEST, and
+-- the address for `room` bytes of headers: right below the page of the first piece, if this address isn't below LOWEST;
 -- otherwise above all pieces
 abbrev pub place_for : ℕ → List Loaded → Option ℕ
 place_for room [] = Some LOWEST

@@ -1,4 +1,4 @@
-// Where a bound program begins to run.
+// Finds the address at which a bound program begins to run.
 
 ghost use Rattle.std.specs.Prelude.{◌≡◌};
 ghost use Rattle.std.specs.List.{list_any};

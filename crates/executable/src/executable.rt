@@ -1,4 +1,4 @@
-// An executable file.
+// Makes and writes an executable file.
 
 ghost use Rattle.std.specs.Prelude.{◌≡◌, ℕ, ◌+◌, ◌<◌, ◌≤◌, ◌++◌, ◌⊎◌, replicate, length};
 ghost use Rattle.std.specs.Prelude.{Some, None, IfOk, OnOk, IfErr};
@@ -31,7 +31,7 @@ use std::alloc::{AllocError, Global};
 use std::io::{self, Write};
 use std::marker::Model;
 
-/// A static executable file. Contracts see its bytes.
+/// A static executable file. In contracts, the value is its bytes.
 #[derive(Drop)]
 pub struct Executable {
     front: Vec<u8>,
@@ -52,7 +52,7 @@ impl Model for Executable {
     ghost invariant = { λ e. 64 ≤ length e.front.items };
 }
 
-/// Writes `count` zeros, at most a page of them.
+/// Writes `count` zeros, at most 4,096.
 fn write_zeros<W: Write>(out: &mut W, count: usize) -> io::Result<()>
     requires { count ≤ 4096 }
     ensures { OnOk result
@@ -219,11 +219,11 @@ pub fn executable_of(alloc: Global, image: &Image) -> Result<Executable, Executa
         image_byte image.now a ≡ Some b → file_byte file a ≡ Some b) }
 
     // Besides these bytes, the file loads only its own headers, and zeros between two bytes of
-    // segments whose pages are the same or neighbours.
+    // segments whose pages are the same or adjacent.
     ensures only { IfOk result (λ file. (a b : ℕ) →
         file_byte file a ≡ Some b → IsFrom image.now.segments file a b) }
 
-    // The segments that the file loads are in ascending order of address, and no two of them share
+    // The segments that the file loads are in ascending order of address, and no two segments share
     // a page.
     ensures apart { IfOk result (λ file. IsApart 0 (loaded_by file)) }
 {

@@ -1,4 +1,4 @@
-// The file header and the program headers (gABI chapters 4 and 5).
+// Makes the file header and the program headers (gABI chapters 4 and 5).
 
 ghost use Rattle.std.specs.Prelude.{◌≡◌, ◌+◌, ◌^◌, ◌<◌, ◌≤◌, ◌++◌, length, IfOk, OnOk};
 ghost use Rattle.std.specs.List.{All};
@@ -128,8 +128,8 @@ fn load_header(offset: u64, piece: &Piece) -> ProgramHeader
     }
 }
 
-/// Appends the PT_LOADs of pieces to a table that has room for them. The pages of the first piece
-/// begin at `offset` of the file, and those of the other pieces follow.
+/// Appends the PT_LOADs of pieces to a table that has room for these headers. The pages of the
+/// first piece begin at `offset` of the file, and those of the other pieces follow.
 fn put_load_headers(table: &mut Vec<ProgramHeader>, mut offset: u64, pieces: &[Piece])
     requires offset { offset ≤ 2 ^ 20 }
     requires count { length pieces.now ≤ MOST_HEADERS }

@@ -1,4 +1,4 @@
-// The functions that a loader calls before a program starts and after it ends.
+// Finds objects with functions that a loader calls before a program starts and after it ends.
 
 ghost use Rattle.std.specs.Prelude.{◌≡◌, ◌+◌, ◌<◌, ◌≤◌, ◌/◌, ◌^◌, length};
 ghost use Rattle.std.specs.Option.{option_map};

@@ -1,4 +1,4 @@
-// The line of a refusal.
+// Writes the line of a refusal.
 
 ghost use Rattle.std.specs.Prelude.{OnOk, codes};
 ghost use Rattle.std.specs.Io.KnownBytes.{Appends};

@@ -1,4 +1,4 @@
-// Joining each piece with the next one if it continues there.
+// Joins each piece to the next piece, if the piece continues in the next one.
 
 ghost use Rattle.std.specs.Prelude.{◌≡◌, ◌≤◌, ◌++◌, IfOk, OnOk};
 ghost use Rattle.image.specs.Constant.{MEMORY_LIMIT};
@@ -31,7 +31,8 @@ fn merge(done: &mut Vec<Piece>, mut piece: Piece, next: Piece) -> Result<Piece, 
     Ok(next)
 }
 
-/// Returns the pieces after each piece that continues in the next one was joined to it.
+/// Joins each piece that continues in the next piece to this next piece, and returns the resulting
+/// pieces.
 fn merged(alloc: Global, pieces: Vec<Piece>) -> Result<Vec<Piece>, AllocError>
     requires { AreInRow 0 pieces.items }
     ensures { IfOk result (λ all. all.items ≡ merged pieces.items) }

@@ -1,5 +1,5 @@
-// The notes of a program. One of them, the calls note, says that the program itself calls its
-// libraries' functions.
+// Reads the notes of a program. One of these notes, the calls note, says that the program itself
+// calls its libraries' functions.
 
 ghost use Rattle.std.specs.Prelude.{◌≡◌, ◌+◌, ◌≤◌, ◌<◌, ◌/◌, ◌^◌, drop, length, take};
 ghost use Rattle.std.specs.Prelude.{MatchOption};
@@ -16,7 +16,7 @@ use image::{Image, ImageObject, Memory, Segment};
 /// The `p_type` of a segment of notes.
 const PT_NOTE: u32 = 4;
 /// The `p_align` of notes that are read. The name and the descriptor of a note are padded to
-/// multiples of it.
+/// multiples of this number.
 const NOTE_ALIGNMENT: u64 = 4;
 /// The number of bytes of a note before its name.
 const NOTE_HEADER_SIZE: usize = 12;
@@ -74,7 +74,7 @@ fn is_calls_note(notes: &Memory<'_>) -> bool
         && u64_in(notes, NOTE_HEADER_SIZE) == CALLS_NAME
 }
 
-/// Returns whether the calls note is one of `notes`. Makes one pass over them.
+/// Returns whether the calls note is one of `notes`. Makes one pass over the notes.
 fn has_calls_note(notes: &Memory<'_>) -> bool
     ensures { result ≡ has_calls_note (length notes.now) notes.now }
 {

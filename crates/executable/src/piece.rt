@@ -52,7 +52,7 @@ fn length_without_zeros(bytes: &[u8]) -> usize
 }
 
 /// A part of an image that a file loads: the bytes of segments in pages that have the same
-/// permissions. Contracts see it as a PT_LOAD in memory.
+/// permissions. In contracts, the value is a PT_LOAD in memory.
 #[derive(Drop)]
 pub(crate) struct Piece {
     address: u64,

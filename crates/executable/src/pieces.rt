@@ -1,4 +1,4 @@
-// The pieces of segments, before any two of them are joined.
+// Makes the pieces of segments. `merging` then joins each piece that continues in the next one.
 
 ghost use Rattle.std.specs.Prelude.{◌≡◌, ◌+◌, ◌<◌, ◌≤◌, ◌++◌, ◌∷◌, IfOk, OnOk, List};
 ghost use Rattle.std.specs.Prelude.{length, map};
@@ -64,8 +64,8 @@ fn put_page(
     Ok(rest)
 }
 
-/// Makes the pieces of `piece` and of `next`, which comes after it. Appends all of them except the
-/// last one to `done`, and returns the last one.
+/// Makes the pieces of `piece` and of `next`, which comes after `piece`. Appends all these pieces
+/// except the last one to `done`, and returns the last one.
 fn put(done: &mut Vec<Piece>, piece: Piece, next: Piece) -> Result<Piece, AllocError>
     requires full { IsFull piece }
     requires next_full { IsFull next }
@@ -87,8 +87,8 @@ fn put(done: &mut Vec<Piece>, piece: Piece, next: Piece) -> Result<Piece, AllocE
 }
 
 /// Makes the piece of a segment that has bytes. If there is a last piece, `last`, makes the pieces
-/// of `last` and of the new piece. Appends all of them except the last one to `done`, and returns
-/// the last one.
+/// of `last` and of the new piece. Appends all these pieces except the last one to `done`, and
+/// returns the last one.
 fn add(
     alloc: Global,
     done: &mut Vec<Piece>,

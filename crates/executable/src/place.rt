@@ -1,4 +1,4 @@
-// Where a file's own headers are mapped.
+// Finds the address at which a file's own headers are mapped.
 
 ghost use Rattle.std.specs.Prelude.{◌≡◌, ◌+◌, ◌-◌, ◌%◌, ◌^◌, ◌<◌, ◌≤◌, length};
 ghost use Rattle.std.specs.List.{All};

@@ -1,4 +1,4 @@
-// Programs that relocate themselves when they start.
+// Tests whether a program relocates itself when it starts.
 
 ghost use Rattle.std.specs.Prelude.{◌≡◌, ◌+◌, ◌≤◌, length};
 ghost use Rattle.elf_file.specs.Number.{number_at};

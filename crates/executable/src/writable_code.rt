@@ -1,4 +1,4 @@
-// Memory that may be written and executed.
+// Finds memory that may be written and executed, although no segment in it requests both.
 
 ghost use Rattle.std.specs.Prelude.{◌≡◌, ◌+◌, ◌&&◌, nat_lt};
 ghost use Rattle.std.specs.List.{find, list_any};

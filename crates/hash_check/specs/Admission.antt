@@ -14,8 +14,7 @@ use Rattle.hash_check.specs.HashTable.{bucket_of, HasGoodTable}
 use Rattle.hash_check.specs.declared.refusal.AdmitRefusal.{AdmitRefusal}
 use Rattle.hash_check.specs.declared.refusal.AdmitRefusal.TheVariants.{DuplicateDefinition, BadHashTable, OutOfMemory}
 
--- the indices on the walk from `from` before the walk reaches 0; if there are more indices than chain words, only as
--- many as there are chain words
+-- the indices on the walk from `from` before the walk reaches 0, but at most as many as there are chain words
 unfoldable pub walked : List ℕ → ℕ → List ℕ
 walked words from = take_while (λ i. not (i == 0)) (map (walk words from) (range_with_len 0 (length words)))
 

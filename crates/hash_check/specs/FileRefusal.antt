@@ -1,4 +1,4 @@
--- Why a file is refused: its object's own tests come first, then the tests of admission (own: the one order of all
+-- Why a file is refused. The object's own tests come first, and the tests of admission follow (own: the order of all
 -- tests).
 use Rattle.std.specs.Prelude.{ℕ, List, [], ◌∷◌, Option, Some, None, ◌≡◌}
 use Rattle.std.specs.Option.{option_map}
@@ -11,7 +11,7 @@ use Rattle.hash_check.specs.declared.file_refusal.FileRefusal.TheVariants.{Objec
 use Rattle.hash_check.specs.declared.file_refusal.ReadRefusal.{ReadRefusal}
 use Rattle.hash_check.specs.declared.file_refusal.ReadRefusal.TheVariants.{File, OutOfMemory}
 
--- the tests of a file, in their order: E1 to E27 and E30 to E32, then E28 and E29
+-- the tests of a file, in the order in which they are made: E1 to E27 and E30 to E32, then E28 and E29
 abbrev pub file_tests : List ℕ → List (Option FileRefusal)
 file_tests file =
     option_map Object (first_refusal file)

@@ -11,7 +11,7 @@ use Rattle.hash_check.specs.Walk.{Ends, Meets}
 abbrev pub AreIndices : ℕ → List ℕ → Type 0
 AreIndices n words = All (λ w. w < n) words
 
--- the index at which the walk for a hash begins
+-- the index at which the walk for `hash` begins; `words` has the words of the buckets
 abbrev pub bucket_of : List ℕ → ℕ → ℕ
 bucket_of words hash = slice_index words (hash % length words)
 

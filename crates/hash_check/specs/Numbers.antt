@@ -18,6 +18,6 @@ pub record AreNumbers (names : List (List ℕ)) (numbers : List ℕ) : Type 0 wh
 pub record AreOwn (numbers : List ℕ) : Type 0 where
   pub own : (k : ℕ) → k < length numbers → slice_index numbers k ≡ k + 1
 
--- each name is shorter than the one before it
+-- each name is shorter than the name before it
 pub record Fall (names : List (List ℕ)) : Type 0 where
   pub fall : (k : ℕ) → 1 ≤ k → k < length names → length (nth_text names k) < length (nth_text names (k - 1))

@@ -12,7 +12,7 @@ NAME_LIMIT = 240
 abbrev pub is_name_byte : ℕ → Bool
 is_name_byte b = nat_le 0x21 b && (nat_le b 0x7e && not (b == 0x2f))
 
--- the name has 1 to 240 bytes, and a library's name may contain each of them
+-- the name has 1 to 240 bytes, and a library's name may contain each of these bytes
 unfoldable pub is_library_name : List ℕ → Bool
 is_library_name name = nat_le 1 (length name) && nat_le (length name) NAME_LIMIT && list_all is_name_byte name
 

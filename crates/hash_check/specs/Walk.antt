@@ -2,11 +2,11 @@
 use Rattle.std.specs.Prelude.{ℕ, List, ◌≡◌, ◌≢◌, ◌≤◌, slice_index}
 use Rattle.std.specs.Fn.{iterate}
 
--- the index that the walk from an index reaches after `n` chain steps
+-- the index that the walk from index `from` reaches after `n` chain steps
 unfoldable pub walk : List ℕ → ℕ → ℕ → ℕ
 walk chains from n = iterate (slice_index chains) n from
 
--- the walk reaches 0 after some number of chain steps
+-- the walk from `from` reaches 0 after some number of chain steps
 pub record Ends (chains : List ℕ) (from : ℕ) : Type 0 where
   pub steps : ℕ
   pub arrives : walk chains from steps ≡ 0

@@ -1,4 +1,4 @@
-// An admitted object.
+// Admits objects, and searches admitted objects for names.
 
 ghost use Rattle.std.specs.Prelude.{◌≡◌, ◌<◌, length, Some, None, true, false};
 ghost use Rattle.std.specs.Prelude.{IfOk, IfErr, OnOk, OnErr};
@@ -28,7 +28,7 @@ use std::alloc::Global;
 use std::marker::Model;
 
 /// A shared object that no test refuses, that exports no name twice, and whose hash table can be
-/// trusted. Contracts see the bytes of its file.
+/// trusted. In contracts, the value is the bytes of the object's file.
 #[derive(Drop)]
 pub struct Admitted<'a> {
     object: Object<'a>,
@@ -49,10 +49,10 @@ impl<'a> Model for Admitted<'a> {
 
 impl<'a> Admitted<'a> {
     /// Admits an object, or returns the refusal of the first test that applies. Allocates about 52
-    /// bytes a symbol, and frees them before it returns. For a file of n bytes, the time is
-    /// proportional to at most n log n, with one exception: an exported name is hashed unless the
-    /// walks from all buckets meet its symbol. If such names share bytes of the string table,
-    /// hashing them costs the sum of their lengths.
+    /// bytes a symbol, and frees this memory before it returns. For a file of n bytes, the time is
+    /// proportional to at most n log n, with one exception. An exported name is hashed unless the
+    /// walks from all buckets meet the name's symbol. If hashed names share bytes of the string
+    /// table, hashing costs the sum of the names' lengths.
     #[tactic(auto, unfolding(crate::specs::Admission::admission_refusal))]
     pub fn admit(alloc: Global, object: Object<'a>) -> Result<Admitted<'a>, AdmitRefusal>
         ensures ok { OnOk result (admission_refusal object.entry ≡ None) }
@@ -112,7 +112,8 @@ impl<'a> Admitted<'a> {
         is_exported(self.object(), i)
     }
 
-    /// Returns the name of the library, which is its SONAME, or E33.
+    /// Returns the name of the library: the object's SONAME. Refuses with E33 (BadSoname) if there
+    /// is no SONAME, or if the SONAME can't be a library's name.
     #[tactic(auto, unfolding(crate::specs::Soname::has_bad_soname))]
     pub fn library_name(&self) -> Result<&'a [u8], ObjectRefusal>
         ensures ok { OnOk result (has_bad_soname self.now ≡ false) }

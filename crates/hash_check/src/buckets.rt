@@ -1,4 +1,4 @@
-// The buckets of an object.
+// Reads the buckets of an object's hash table.
 
 ghost use Rattle.std.specs.Prelude.{◌≡◌, ◌<◌, ◌≤◌, ◌↔◌, length, slice_index, IsTrue};
 ghost use Rattle.elf_dynamic.specs.HashTable.{buckets};
@@ -7,7 +7,8 @@ ghost use Rattle.hash_check.specs.HashTable.{AreIndices, bucket_of};
 use elf_dynamic::Object;
 use std::marker::Model;
 
-/// The buckets of an object's hash table. Contracts see them as a list of words.
+/// The buckets of an object's hash table. In contracts, the value is the list of the buckets'
+/// words.
 #[derive(Drop)]
 pub(crate) struct Buckets<'o, 'a> {
     object: &'o Object<'a>,

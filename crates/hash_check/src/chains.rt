@@ -1,4 +1,4 @@
-// The chain words of an object.
+// Reads the chain words of an object's hash table.
 
 ghost use Rattle.std.specs.Prelude.{◌≡◌, ◌<◌, ◌^◌, ◌↔◌, length, slice_index, IsTrue};
 ghost use Rattle.elf_dynamic.specs.Symbol.{symbols};
@@ -8,7 +8,7 @@ ghost use Rattle.hash_check.specs.HashTable.{AreIndices};
 use elf_dynamic::Object;
 use std::marker::Model;
 
-/// The chain words of an object's hash table. Contracts see them as a list of words.
+/// The chain words of an object's hash table. In contracts, the value is the list of these words.
 #[derive(Drop)]
 pub(crate) struct Chains<'o, 'a> {
     object: &'o Object<'a>,

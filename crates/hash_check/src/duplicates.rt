@@ -1,4 +1,4 @@
-// Whether two exported symbols share a name.
+// Tests whether two exported symbols share a name.
 
 ghost use Rattle.std.specs.Prelude.{◌≡◌, ◌≢◌, ◌≤◌, ◌↔◌, [], true, false, length, map};
 ghost use Rattle.std.specs.Prelude.{IsTrue, IfOk, IfSome, OnErr, MatchOption};
@@ -32,7 +32,8 @@ fn are_own(numbers: &[u32]) -> bool
 }
 
 /// Returns the names of `symbols`, and whether all of these names differ. A table of the names
-/// decides this. The symbols may be in any order. Returns `None` if the table can't decide it.
+/// decides this. The symbols may be in any order. Returns `None` if the table can't decide whether
+/// the names differ.
 fn names_in_table<'a>(
     alloc: Global,
     object: &Object<'a>,
@@ -52,8 +53,8 @@ fn names_in_table<'a>(
     }
 }
 
-/// Returns whether each name is shorter than the one before it. This is true of tails of one string
-/// that are sorted by their places.
+/// Returns whether each name is shorter than the name before it. This is true of different tails of
+/// one string that are sorted by their places.
 fn lengths_fall(names: &[Name<'_>]) -> bool
     ensures { IsTrue result → Fall names.now }
 {
@@ -104,10 +105,11 @@ fn few_exports<'a>(alloc: Global, object: &Object<'a>) -> Result<Option<Exports<
 }
 
 /// Returns the exported symbols, or `None` if two of them share a name. If fewer than two symbols
-/// are exported, the list is empty. Usually a table of the names decides whether two are the same.
-/// The table can't decide it if many names are tails of others, or if the file was made to crowd
-/// the table. Then the strings that the names are tails of are compared. While it runs, allocates
-/// about 40 bytes for each exported symbol. About 28 of them remain in the result.
+/// are exported, the list is empty. Usually a table of the names decides whether two of the names
+/// are equal. The table can't decide this if many names are tails of other names, or if the file
+/// was made to crowd the table. Then the function compares the strings whose tails the names are.
+/// While it runs, allocates about 40 bytes for each exported symbol. About 28 of these bytes remain
+/// in the result.
 pub(crate) fn unique_exports<'a>(
     alloc: Global,
     object: &Object<'a>,

@@ -1,5 +1,5 @@
-// Numbers that distinguish names, for names that are tails of strings and share bytes of these
-// strings.
+// Numbers names, so that two names have the same number if and only if they are equal. The names
+// are tails of strings, and share bytes of these strings.
 
 ghost use Rattle.std.specs.Prelude.{ℕ, ◌≡◌, ◌≢◌, ◌<◌, ◌≤◌, ◌^◌, length, reverse, slice_index, IfOk};
 ghost use Rattle.std.specs.Cmp.Lexicographic.{slice_cmp};
@@ -13,8 +13,8 @@ use crate::agreement::{common_end, compare_ends};
 use crate::name::Name;
 use std::alloc::{AllocError, Global};
 
-/// The names of a list with the numbers from `first` up to, but not including, `past`. They are
-/// tails of one string.
+/// Some names of a list: those with the numbers from `first` up to, but not including, `past`. All
+/// these names are tails of `string`.
 #[derive(Clone, Copy)]
 pub(crate) struct Ending<'a> {
     pub(crate) string: &'a [u8],

@@ -1,4 +1,4 @@
-// Which symbols an object exports.
+// Tests which symbols an object exports.
 
 ghost use Rattle.std.specs.Prelude.{◌≡◌, ◌<◌, length, IfOk};
 ghost use Rattle.elf_dynamic.specs.Symbol.{symbols};

@@ -1,4 +1,4 @@
-// A file read as an admitted object.
+// Reads a file as an admitted object.
 
 ghost use Rattle.std.specs.Prelude.{◌≡◌, None, IfOk, IfErr, OnOk};
 ghost use Rattle.hash_check.specs.FileRefusal.{first_file_refusal, IsReadRefusal};

@@ -1,4 +1,4 @@
-// The hash of a name.
+// Computes the hash of a name.
 
 ghost use Rattle.std.specs.Prelude.{◌≡◌, fold};
 ghost use Rattle.hash_check.specs.Hash.{hash_step, elf_hash};

@@ -1,4 +1,4 @@
-// Hashing several names at a time.
+// Hashes several names at a time.
 
 ghost use Rattle.std.specs.Prelude.{ℕ, ◌≡◌, ◌<◌, ◌≤◌, ◌+◌, ◌*◌, length};
 ghost use Rattle.std.specs.Prelude.{take, drop, slice_index, fold};

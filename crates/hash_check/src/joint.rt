@@ -1,4 +1,4 @@
-// The index at which the walks from all buckets join.
+// Finds the first index that the walks from all buckets meet.
 
 ghost use Rattle.std.specs.Prelude.{◌≡◌, ◌≢◌, ◌<◌, ◌≤◌, length};
 ghost use Rattle.hash_check.specs.Walk.{Meets};

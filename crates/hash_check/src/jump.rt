@@ -1,4 +1,4 @@
-// The place of an index, computed from the place of the next index on its walk.
+// Computes the place of an index from the place of the next index on the walk.
 
 ghost use Rattle.std.specs.Prelude.{◌≡◌, ◌<◌, ◌^◌, Some, length};
 ghost use Rattle.hash_check.specs.HashTable.{AreIndices};

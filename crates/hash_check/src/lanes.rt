@@ -1,4 +1,4 @@
-// Names that are hashed together, each in its lane.
+// Hashes up to eight names together, each in a lane of its own.
 
 ghost use Rattle.std.specs.Prelude.{ℕ, List, true, ◌≡◌, ◌≢◌, ◌<◌, ◌≤◌, ◌-◌};
 ghost use Rattle.std.specs.Prelude.{◌+◌, ◌^◌, slice_index, set};
@@ -13,9 +13,9 @@ use crate::hashes::{LANES, add_bytes};
 use crate::names::offset_of;
 use elf_dynamic::Object;
 
-/// Up to eight exported symbols whose names are hashed together. A lane has the symbol's number,
-/// and the hash of the name's first bytes. It also has the place and the end, in the string table,
-/// of the name's other bytes. A lane with symbol number 0 is free.
+/// Up to eight exported symbols whose names are hashed together. A lane has the number of a symbol,
+/// and the hash of the first bytes of the symbol's name. It also has the place and the end, in the
+/// string table, of the name's other bytes. A lane with symbol number 0 is free.
 #[derive(Clone, Copy)]
 pub(crate) struct Lanes {
     pub(crate) symbols: [u32; LANES],

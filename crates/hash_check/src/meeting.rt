@@ -1,4 +1,4 @@
-// The indices that a walk meets.
+// Tests whether a walk meets an index.
 
 ghost use Rattle.std.specs.Prelude.{◌≡◌, ◌<◌, ◌≤◌, ◌-◌, ◌↔◌, ℕ, length, IsTrue};
 ghost use Rattle.hash_check.specs.Walk.{walk, Meets};

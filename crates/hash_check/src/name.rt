@@ -6,7 +6,7 @@ ghost use Rattle.hash_check.specs.inside.Key.{key_of};
 use crate::key::key_of;
 use std::marker::Model;
 
-/// The bytes of a name with their key. Contracts see the bytes.
+/// The bytes of a name with their key. In contracts, the value is the bytes.
 #[derive(Drop)]
 pub(crate) struct Name<'a> {
     key: u64,

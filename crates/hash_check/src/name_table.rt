@@ -1,5 +1,5 @@
-// Numbers that distinguish names. They are found with a table in which each name is stored near the
-// cell that its key determines.
+// Numbers names, so that two names have the same number if and only if they are equal. Uses a table
+// in which each name is stored near the cell that the name's key determines.
 
 ghost use Rattle.std.specs.Prelude.{ℕ, ◌≡◌, ◌<◌, ◌≤◌, ◌+◌, ◌^◌, length, slice_index, IfOk, IfSome};
 ghost use Rattle.hash_check.specs.Numbers.{AreNumbers};
@@ -8,8 +8,8 @@ ghost use Rattle.hash_check.specs.inside.NameTable.{home, IsPut};
 use crate::name::Name;
 use std::alloc::{AllocError, Global};
 
-/// The number of cells, counted from its home, in which a name may be stored. More than half of all
-/// cells are empty, so keys that weren't chosen on purpose need only a few of these cells.
+/// The number of cells in which a name may be stored, counted from the name's home. More than half
+/// of all cells are empty, so keys that weren't chosen on purpose need only a few of these cells.
 const FARTHEST: usize = 128;
 
 /// Returns the home of a key in a table of `count` cells: the first cell in which a name with this
@@ -26,9 +26,9 @@ fn home(count: usize, key: u64) -> usize
     (spread * cells >> 32) as usize
 }
 
-/// Adds name number `number` to a table of the names before it, unless the table has an equal name.
-/// Returns the number in the name's cell, or `None` if the name would be stored too far from its
-/// home.
+/// Adds name number `number` to `cells`, a table of the names with lower numbers, unless the table
+/// has an equal name. Returns the number in the name's cell, or `None` if the name would be stored
+/// too far from its home.
 fn put(names: &[Name<'_>], cells: &mut [u32], number: usize) -> Option<u32>
     requires number { number < length names.now }
     requires many { length names.now < 2 ^ 32 }

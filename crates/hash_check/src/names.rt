@@ -1,4 +1,4 @@
-// The names of symbols.
+// Reads the names of symbols.
 
 ghost use Rattle.std.specs.Prelude.{◌≡◌, map, IfOk, IfSome};
 ghost use Rattle.std.specs.List.{All};
@@ -70,7 +70,7 @@ pub(crate) fn names_of<'a>(
 }
 
 /// Returns the names of symbols in any order, each read to its end. Returns `None` if the names
-/// have so many bytes in total that many of the names have to be tails of others.
+/// have too many bytes in total: many names are then tails of other names.
 pub(crate) fn short_names<'a>(
     alloc: Global,
     object: &Object<'a>,

@@ -1,4 +1,5 @@
-// Numbers that distinguish the names of all symbols of several objects.
+// Numbers the names of all symbols of several objects, so that two names have the same number if
+// and only if they are equal.
 
 ghost use Rattle.std.specs.Prelude.{◌≡◌, ◌<◌, ◌≤◌, ◌+◌, ◌^◌, ◌++◌, ℕ, length, map, slice_index};
 ghost use Rattle.std.specs.Prelude.{IfOk, IfSome, OnOk};
@@ -79,8 +80,7 @@ fn symbols_by_name_place(alloc: Global, object: &Object<'_>) -> Result<Vec<u32>,
 }
 
 /// Returns all symbols of the objects with their names, each read to its end. Returns `None` if the
-/// names of an object have so many bytes in total that many of the names have to be tails of
-/// others.
+/// names of an object have too many bytes in total: many names are then tails of other names.
 fn all_short_names<'a>(
     alloc: Global,
     objects: &[&'a Admitted<'a>],
@@ -127,8 +127,8 @@ fn add_endings<'a>(
     Ok(())
 }
 
-/// Returns all symbols of the objects with their names, sorted by the names' places, and the
-/// endings of these names.
+/// Returns all symbols of the objects with their names, and the endings of these names. The symbols
+/// of each object are sorted by the places of their names.
 fn all_names_by_place<'a>(
     alloc: Global,
     objects: &[&'a Admitted<'a>],

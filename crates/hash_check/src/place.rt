@@ -1,4 +1,4 @@
-// The places of the indices that have been followed.
+// Stores the places of indices on walks that have been followed.
 
 ghost use Rattle.std.specs.Prelude.{◌≡◌, ◌<◌, ◌≤◌, ◌^◌, Some, length, IfOk};
 ghost use Rattle.hash_check.specs.HashTable.{AreIndices};
@@ -7,8 +7,8 @@ ghost use Rattle.hash_check.specs.inside.Places.{Known, place_at, none_but_zero}
 use std::alloc::{AllocError, Global};
 
 /// The place of an index on its walk. `depth` is the number of chain steps from the index to 0.
-/// `jump` is an index further along the walk, and `landing` is that index's own number of steps to
-/// 0. `head` is an index from which a walk meets this one.
+/// `jump` is an index further along the walk, and `landing` is the number of steps from `jump` to
+/// 0. `head` is an index; the walk from `head` meets the index that has this place.
 #[derive(Clone, Copy)]
 pub(crate) struct Place {
     pub(crate) depth: u32,
@@ -17,7 +17,7 @@ pub(crate) struct Place {
     pub(crate) head: u32,
 }
 
-/// Returns the place of an index, if it has one.
+/// Returns the place of index `i`, if this index has a place.
 pub(crate) fn place_of(places: &[Option<Place>], i: u32) -> Option<Place>
     requires { i < length places.now }
     ensures { result ≡ place_at places.now i }
@@ -25,7 +25,7 @@ pub(crate) fn place_of(places: &[Option<Place>], i: u32) -> Option<Place>
     places[i as usize]
 }
 
-/// Returns the place of an index that has one.
+/// Returns the place of index `i`, which has a place.
 pub(crate) fn known_place(places: &[Option<Place>], i: u32) -> Place
     requires within { i < length places.now }
     requires known { Known places.now i }
@@ -37,7 +37,7 @@ pub(crate) fn known_place(places: &[Option<Place>], i: u32) -> Place
     }
 }
 
-/// Returns places for `n` indices, of which only index 0 has one.
+/// Returns the list of the places of `n` indices. Only index 0 has a place in this list.
 #[tactic(auto, unfolding(crate::specs::inside::Places::none_but_zero))]
 pub(crate) fn first_places(alloc: Global, n: usize) -> Result<Vec<Option<Place>>, AllocError>
     requires { 0 < n }

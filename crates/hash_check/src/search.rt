@@ -1,4 +1,4 @@
-// The search for a name by the hash table.
+// Searches for a name by the hash table.
 
 ghost use Rattle.std.specs.Prelude.{◌≡◌, ◌≢◌, false, length, take};
 ghost use Rattle.std.specs.Str.{bytes_eq};
@@ -19,7 +19,7 @@ use elf_dynamic::Object;
 pub struct Found {
     /// The number of the symbol that is exported under the name, if there is one.
     pub symbol: Option<u32>,
-    /// The number of symbols that were compared on the walk, including the one that was found.
+    /// The number of symbols that were compared on the walk, including the symbol that was found.
     pub compared: u32,
 }
 
@@ -70,8 +70,8 @@ fn is_exported_as(object: &Object<'_>, name: &[u8], i: u32) -> bool
     is_exported(object, i) && is_named(object, i, name)
 }
 
-/// Follows the walk from the bucket of a name's hash, up to the symbol that is exported under the
-/// name.
+/// Searches for the symbol that is exported under `name`. Follows the walk from the bucket of
+/// `hash`, the hash of `name`, up to this symbol or up to the end of the walk.
 pub(crate) fn search(object: &Object<'_>, name: &[u8], hash: u32) -> Found
     requires unique { HasUniqueNames object.now }
     requires table { HasGoodTable object.now }

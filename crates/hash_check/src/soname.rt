@@ -1,4 +1,4 @@
-// The name of a library.
+// Tests whether a name may be the name of a library.
 
 ghost use Rattle.std.specs.Prelude.{◌≡◌};
 ghost use Rattle.std.specs.List.{list_all};
@@ -23,7 +23,7 @@ fn are_name_bytes(name: &[u8]) -> bool
 }
 
 /// Returns whether `name` may be the name of a library: it has 1 to 240 bytes, and a library's name
-/// may contain each of them.
+/// may contain each of these bytes.
 #[tactic(auto, unfolding(crate::specs::Soname::is_library_name))]
 pub(crate) fn is_library_name(name: &[u8]) -> bool
     ensures { result ≡ is_library_name name.now }

@@ -1,4 +1,4 @@
-// The strings of the string table whose tails are names.
+// Finds the strings of the string table whose tails are names of symbols.
 
 ghost use Rattle.std.specs.Prelude.{◌≡◌, map, IfOk};
 ghost use Rattle.std.specs.List.{All};
@@ -29,8 +29,8 @@ fn stretch_bytes<'a>(object: &Object<'a>, stretch: Stretch) -> &'a [u8]
 }
 
 /// Returns the stretch in which the name of symbol number `i` begins. If the name begins in `last`,
-/// the stretch of the symbol before, returns `last`. Otherwise returns the stretch that is the
-/// whole name.
+/// the stretch of the symbol before this one in the list, returns `last`. Otherwise returns the
+/// stretch that is the whole name.
 pub(crate) fn stretch_of(object: &Object<'_>, last: Option<Stretch>, i: u32) -> Stretch
     requires symbol { IsSymbol object.now i }
     requires last { ForSome last (IsStretch object.now) }

@@ -1,4 +1,4 @@
-// Whether a hash table can be trusted.
+// Tests whether a hash table can be trusted.
 
 ghost use Rattle.std.specs.Prelude.{◌≡◌, ◌≢◌, ◌<◌, ◌≤◌, ◌↔◌, true, false, [], length, slice_index};
 ghost use Rattle.std.specs.Prelude.{IsTrue, IfOk, OnErr};
@@ -29,8 +29,8 @@ use crate::walk::follow;
 use elf_dynamic::Object;
 use std::alloc::{AllocError, Global};
 
-/// The minimum length of a name that is hashed together with others, in bytes. Hashing a shorter
-/// name takes less time than giving it a lane.
+/// The minimum length of a name that is hashed together with other names, in bytes. Hashing a
+/// shorter name takes less time than giving it a lane.
 const LONG: usize = 24;
 
 /// Returns whether there is a bucket, and every word of the table is the index of a symbol.
@@ -67,7 +67,7 @@ fn follow_all(
 }
 
 /// Returns whether exported symbol `i` is met on the walk from `joint`, and therefore on the walks
-/// from all buckets. Then its name doesn't have to be hashed.
+/// from all buckets. If it is, its name doesn't have to be hashed.
 fn is_met_by_all(object: &Object<'_>, places: &[Option<Place>], joint: u32, i: u32) -> bool
     requires some { HasBucket object.now }
     requires words { HasIndexWords object.now }
@@ -108,9 +108,9 @@ fn is_lane_met(object: &Object<'_>, places: &[Option<Place>], lanes: &Lanes, k: 
     symbol == 0 || is_met_by_hash(object, places, lanes.hash(object, k), symbol)
 }
 
-/// Finishes the hash of one lane, and returns whether the lane was free or its symbol is met on the
-/// walk from its bucket. If so, assigns the lane to exported symbol `i`, whose name has `length`
-/// bytes.
+/// Finishes the hash of one lane. Returns whether the lane was free, or its symbol is met on the
+/// walk from the bucket of this hash. If so, also assigns the lane to exported symbol `i`, whose
+/// name has `length` bytes.
 fn take_in(
     object: &Object<'_>,
     places: &[Option<Place>],
@@ -140,7 +140,7 @@ fn take_in(
 
 /// Tests exported symbol `i` by its name's hash. A short name is hashed at once. A long name gets a
 /// lane, and its symbol is tested when its hash is finished. Returns whether each symbol that this
-/// call tested is met on the walk from its bucket.
+/// call tested is met on the walk from the bucket of its name's hash.
 fn test_by_name(
     object: &Object<'_>,
     places: &[Option<Place>],
@@ -167,7 +167,8 @@ fn test_by_name(
     }
 }
 
-/// Returns whether the symbols of all lanes are met on the walks from their buckets.
+/// Returns whether each lane is free, or its symbol is met on the walk from the bucket of its
+/// name's hash.
 fn are_met(object: &Object<'_>, places: &[Option<Place>], lanes: &Lanes) -> bool
     requires some { HasBucket object.now }
     requires words { HasIndexWords object.now }
@@ -215,7 +216,7 @@ fn has_good_table<'a>(
     requires exports { AreExports object.now exports.symbols.items exports.names.items }
     requires whole { exports.symbols.items ≢ [] → IsWhole object.now exports.symbols.items }
     ensures ok { IfOk result (λ good. IsTrue good ↔ HasGoodTable object.now) }
-    // Only the walks need memory. The words are tested before them.
+    // Memory is needed only after the words have been tested.
     ensures err { OnErr result (HasBucket object.now × HasIndexWords object.now) }
 {
     if !has_index_words(object) {

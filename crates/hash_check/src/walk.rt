@@ -1,4 +1,4 @@
-// Following the walks of a hash table. Each chain word is followed once.
+// Follows the walks of a hash table. Each chain word is followed only once.
 
 ghost use Rattle.std.specs.Prelude.{◌≡◌, ◌<◌, ◌^◌, [], length, IsTrue, IfOk};
 ghost use Rattle.std.specs.Prelude.{MatchBool};
@@ -11,9 +11,9 @@ use crate::jump::place_before;
 use crate::place::{Place, place_of};
 use std::alloc::AllocError;
 
-/// Follows the walk from `from` up to an index that has a place, and appends the indices before it
-/// to `path`. Returns whether the walk ends. A walk that doesn't end fills `path` with as many
-/// indices as there are chain words.
+/// Follows the walk from `from` up to an index that has a place, and appends the indices before
+/// this index to `path`. Returns whether the walk ends. A walk that doesn't end fills `path` with
+/// as many indices as there are chain words.
 fn climb(
     places: &[Option<Place>],
     path: &mut Vec<u32>,

@@ -25,7 +25,7 @@ pub record Bound : Type 0 where
   pub base : ℕ
   pub values : List ℕ
 
--- a bound object with its file's bytes
+-- the object `bound` with its file's bytes, `file`
 abbrev pub placed_as : Bound → List ℕ → Placed
 placed_as bound file = record { name = bound.name; file = file; base = bound.base }
 

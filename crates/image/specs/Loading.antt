@@ -21,7 +21,7 @@ heading_at base h = record { address = base + h.address; permissions = permissio
 abbrev pub loaded_at : ℕ → List ℕ → ProgramHeader → Loaded
 loaded_at base file h = record { heading = heading_at base h; contents = contents file h }
 
--- the PT_LOADs of an object
+-- the PT_LOADs of an object, in memory at the object's base
 abbrev pub loaded_of : Placed → List Loaded
 loaded_of object = map (loaded_at object.base object.file) (loads object.file)
 

@@ -46,7 +46,7 @@ abbrev pub of_order : OrderRefusal → BindRefusal
 of_order (order.Missing needer name) = Missing needer name
 of_order order.OutOfMemory = OutOfMemory
 
--- the tests B1 (the first test of the file that applies) and B2 (the base is no multiple of the program's unit)
+-- the tests B1 (the first test of the file that applies) and B2 (the base isn't a multiple of the program's unit)
 abbrev pub program_tests : List ℕ → ℕ → List (Option BindRefusal)
 program_tests file base = option_map Program (first_file_refusal file) ∷ (BadBase when not (is_good_base file base)) ∷ []
 

@@ -82,7 +82,7 @@ pub record Write : Type 0 where
 abbrev pub write_with : ℕ → (ℕ → Option ℕ) → Relocation → Option Write
 write_with base values r = option_map (λ value. record { place = base + r.offset; value = value }) (value_with base values r)
 
--- the writes of the relocations of object number `own`, in their order
+-- the writes of the relocations of object number `own`, in the order of the relocations
 abbrev pub writes_of : List Placed → ℕ → List Write
 writes_of objects own = filter_map (write_with (base_at objects own) (symbol_value objects own)) (relocations_of objects own)
 

@@ -1,4 +1,4 @@
-// Binding objects in load order.
+// Binds objects that are in load order.
 
 ghost use Rattle.std.specs.Prelude.{◌≡◌, ℕ, true, None, IfOk, IfErr, OnOk};
 ghost use Rattle.scope.specs.Objects.{file_at};
@@ -13,14 +13,14 @@ use crate::refusal::BindRefusal;
 use scope::Order;
 use std::alloc::Global;
 
-/// Binds a program and its libraries. `order` has them in load order, and `base` is the program's
-/// base.
+/// Binds a program and its libraries. `order` has the program and the libraries in load order, and
+/// `base` is the program's base.
 ///
 /// Returns their image, or the first of these refusals: memory would end above 2^47 - 4,096 (B4); a
 /// relocation's symbol is undefined (B5).
 ///
 /// The time is linear in the files and in their memory, with two exceptions: a search for each
-/// symbol by its name, and a binary search for each relocation that goes to another segment than
+/// symbol by its name, and a binary search for each relocation that lies in another segment than
 /// the relocation before it.
 pub fn bind(alloc: Global, order: &Order<'_>, base: u64) -> Result<Image, BindRefusal>
     requires { is_good_base (file_at order.now 0) base ≡ true }
@@ -33,7 +33,8 @@ pub fn bind(alloc: Global, order: &Order<'_>, base: u64) -> Result<Image, BindRe
     // The image has the defined objects and segments, and their defined bytes.
     ensures ok { IfOk result (λ image. image ≡ image_of (place base order.now)) }
 
-    // The image has the defined byte at every address, or none if none is defined.
+    // At every address, the image has the byte that is defined for this address, or no byte if none
+    // is defined.
     ensures bytes { IfOk result (λ image.
         (a : ℕ) → image_byte image a ≡ byte_of (place base order.now) a) }
 {

@@ -1,4 +1,4 @@
-// Objects at their bases, with the values of their symbols.
+// Places objects at their bases, and finds the values of their symbols.
 
 ghost use Rattle.std.specs.Prelude.{◌≡◌, ◌<◌, length, true, None, All, IfOk, IfErr, OnOk};
 ghost use Rattle.scope.specs.Objects.{file_at};
@@ -20,8 +20,8 @@ use std::alloc::{AllocError, Global};
 use std::marker::Model;
 
 /// An object at its base, with the values of the symbols that its relocations name. Given these
-/// values, the object's segments are computed only from its file. Contracts see the name, the base
-/// and the values.
+/// values, the object's segments are computed only from its file. In contracts, the value is the
+/// object's name, its base and these values.
 #[derive(Drop)]
 pub struct BoundObject {
     name: Name,
@@ -46,7 +46,7 @@ impl BoundObject {
         self.base
     }
 
-    /// The values of the object's symbols, by number.
+    /// The values of the object's symbols, by symbol number.
     pub(crate) fn values(&self) -> &[u64]
         ensures { result.now ≡ self.now.values }
     {

@@ -1,4 +1,4 @@
-// Filling segments from a file.
+// Fills segments from a file.
 
 ghost use Rattle.std.specs.Prelude.{◌≡◌, ◌+◌, ◌≤◌, map, None, IfOk};
 ghost use Rattle.elf_file.specs.Segment.{loads};

@@ -8,7 +8,7 @@ use std::alloc::AllocError;
 use std::marker::Model;
 
 /// The bytes of a segment: a slice of kept bytes, and the zeros after them, which take no memory.
-/// Contracts see all of the bytes.
+/// In contracts, the value is all of these bytes.
 #[derive(Drop)]
 pub struct Memory<'a> {
     front: &'a [u8],
@@ -66,7 +66,7 @@ impl<'a> Memory<'a> {
         }
     }
 
-    /// Copies the first bytes to `out`, as many as `out` has room for.
+    /// Copies the first bytes to `out`, until `out` is full.
     pub fn copy_to(&self, out: &mut [u8])
         requires { length out.old ≤ length self.now }
         ensures { out.new ≡ take (length out.old) self.now }

@@ -5,17 +5,18 @@ ghost use Rattle.std.specs.Prelude.{◌<◌, ◌^◌};
 use crate::segment::Segment;
 use std::alloc::{AllocError, Global};
 
-/// The maximum number of segments of an object for which no index is made.
+/// The maximum number of segments of an object for which the index stays empty.
 const FEW: usize = 16;
 /// The number of bytes of memory in a part.
 const PART: u64 = 1024;
 /// The maximum number of parts: they cover the 64 MiB that the memory of an object may reach.
 const PARTS: u64 = 65536;
 
-/// Guesses which of an object's segments has an address. The index divides the memory from the
-/// first segment on into parts. For each part, it has the number of segments that begin before the
-/// part. A binary search is then needed only among the segments that begin in one part. The caller
-/// tests the guess, so this type's contracts say nothing about it.
+/// An index of an object's segments, which guesses the segment that has an address. The index
+/// divides the memory from the first segment on into parts. For each part, the index has the number
+/// of segments that begin before the part. A binary search is then needed only among the segments
+/// that begin in one part. The caller tests the guess, so this type's contracts say nothing about
+/// it.
 #[derive(Drop)]
 pub(crate) struct MemoryParts {
     first: u64,

@@ -1,4 +1,4 @@
-// The objects of an order at their bases.
+// Places the objects of an order at their bases.
 
 ghost use Rattle.std.specs.Prelude.{◌≡◌, ◌<◌, length, map, true, false, Some, None};
 ghost use Rattle.std.specs.Prelude.{IfOk, IfErr, OnOk, MatchResult};
@@ -18,8 +18,8 @@ use scope::{Order, Target, Undefined, resolve};
 use std::alloc::Global;
 use std::marker::Model;
 
-/// The objects of an order, each at its base. Contracts see the name, the file's bytes and the base
-/// of each object.
+/// The objects of an order, each at its base. In contracts, the value is the list of the objects,
+/// each with its name, its file's bytes and its base.
 #[derive(Drop)]
 pub struct PlacedOrder<'a> {
     order: &'a Order<'a>,

@@ -1,4 +1,4 @@
-// Where objects may be placed.
+// Computes the bases of objects, and tests the base of a program.
 
 ghost use Rattle.std.specs.Prelude.{◌≡◌, ◌+◌, ◌<◌, ◌≤◌, map, true, false, IfOk, OnOk, IfErr, OnErr};
 ghost use Rattle.std.specs.Prelude.{MatchOption};
@@ -49,8 +49,8 @@ pub fn good_base(program: &Admitted<'_>, base: u64) -> bool
     base % unit(program.object()) == 0
 }
 
-/// Returns where the memory of `object` ends if the object is at `base`, or `None` if that is above
-/// the limit.
+/// Returns the address at which the memory of `object` ends if the object is at `base`, or `None`
+/// if this address is above the limit.
 fn end_at(object: &Object<'_>, base: u64) -> Option<u64>
     ensures { MatchOption result (MEMORY_LIMIT < base + reach object.now)
         (λ end. (end ≡ base + reach object.now) × (end ≤ MEMORY_LIMIT)) }
@@ -63,8 +63,8 @@ fn end_at(object: &Object<'_>, base: u64) -> Option<u64>
     }
 }
 
-/// Returns the least multiple of `unit` that isn't below `end`, or `None` if that is above the
-/// limit.
+/// Returns the least multiple of `unit` that isn't below `end`, or `None` if this multiple is above
+/// the limit.
 fn base_after(end: u64, unit: u64) -> Option<u64>
     requires end { end ≤ MEMORY_LIMIT }
     requires unit { 0 < unit }

@@ -1,4 +1,4 @@
-// Binding a program.
+// Binds a program.
 
 ghost use Rattle.std.specs.Prelude.{◌≡◌, ℕ, ◌<◌, [], length, None, nat_eq, IfOk, IfErr, OnOk};
 ghost use Rattle.std.specs.List.{All, IsDistinct};
@@ -19,8 +19,8 @@ use scope::{Library, load_order};
 use std::alloc::Global;
 
 /// Reads and admits a program, and tests its base. These tests need none of the other objects.
-/// Returns the program, or the first of these refusals: its file is refused (B1); the base is no
-/// multiple of its unit (B2). Costs what `Admitted::read` costs.
+/// Returns the program, or the first of these refusals: its file is refused (B1); the base isn't a
+/// multiple of the program's unit (B2). Costs what `Admitted::read` costs.
 #[tactic(auto, unfolding(crate::specs::Refusal::program_refusal))]
 pub fn admit_program(alloc: Global, file: &[u8], base: u64) -> Result<Admitted<'_>, BindRefusal>
 
@@ -68,7 +68,8 @@ fn bind_admitted(
     ensures ok { IfOk result (λ image. image
         ≡ image_of (objects_of program.now base libraries.now preloads.now)) }
 
-    // The image has the defined byte at every address, or none if none is defined.
+    // At every address, the image has the byte that is defined for this address, or no byte if none
+    // is defined.
     ensures bytes { IfOk result (λ image. (a : ℕ) → image_byte image a
         ≡ byte_of (objects_of program.now base libraries.now preloads.now) a) }
 {
@@ -77,9 +78,9 @@ fn bind_admitted(
 }
 
 /// Binds a program at a base with libraries of different names. `preloads` has the numbers of the
-/// libraries that come before the libraries that the program needs.
+/// libraries that come before the needed libraries in load order.
 ///
-/// Returns the image, or the first of these refusals: the file is refused (B1); the base is no
+/// Returns the image, or the first of these refusals: the file is refused (B1); the base isn't a
 /// multiple of the program's unit (B2); a needed library isn't among `libraries` (B3); memory would
 /// end above 2^47 - 4,096 (B4); a relocation's symbol is undefined (B5).
 ///
@@ -107,7 +108,8 @@ pub fn bind_program(
     ensures ok { IfOk result (λ image. image
         ≡ image_of (objects_of file.now base libraries.now preloads.now)) }
 
-    // The image has the defined byte at every address, or none if none is defined.
+    // At every address, the image has the byte that is defined for this address, or no byte if none
+    // is defined.
     ensures bytes { IfOk result (λ image. (a : ℕ) → image_byte image a
         ≡ byte_of (objects_of file.now base libraries.now preloads.now) a) }
 {
@@ -129,7 +131,8 @@ pub fn bind_alone(alloc: Global, file: &[u8], base: u64) -> Result<Image, BindRe
     // The image has the defined objects and segments, and their defined bytes.
     ensures ok { IfOk result (λ image. image ≡ image_of (alone file.now base)) }
 
-    // The image has the defined byte at every address, or none if none is defined.
+    // At every address, the image has the byte that is defined for this address, or no byte if none
+    // is defined.
     ensures bytes { IfOk result (λ image.
         (a : ℕ) → image_byte image a ≡ byte_of (alone file.now base) a) }
 {

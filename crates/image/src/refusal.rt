@@ -14,7 +14,7 @@ use std::alloc::{AllocError, Global};
 pub enum BindRefusal {
     /// B1: the file isn't accepted. The refusal is that of the first test that applies.
     Program(FileRefusal),
-    /// B2: the base is no multiple of the program's unit.
+    /// B2: the base isn't a multiple of the program's unit.
     BadBase,
     /// B3: an object needs a library that isn't among the given libraries.
     Missing {

@@ -1,4 +1,4 @@
-// Writing relocations into the segments of an object.
+// Writes the values of relocations into the segments of an object.
 
 ghost use Rattle.std.specs.Prelude.{◌≡◌, ◌+◌, ◌≤◌, ℕ, map, None, IfOk, IfSome, OnOk};
 ghost use Rattle.std.specs.List.{filter_map};
@@ -23,8 +23,8 @@ use elf_dynamic::{Object, Relocation};
 use std::alloc::{AllocError, Global};
 
 /// If `relocation`, which belongs to an object at `base`, writes a value, writes this value into
-/// the segments. Returns the number of the segment that has the value, or `near` if the relocation
-/// writes nothing.
+/// the segments. Returns the number of the segment into which the value was written, or `near` if
+/// the relocation writes nothing.
 fn relocate_one(
     segments: &mut [Segment],
     parts: &MemoryParts,
@@ -50,7 +50,7 @@ fn relocate_one(
 /// Writes the values of all relocations of `object`, which is at `base`, into its segments, in the
 /// order of the relocations.
 ///
-/// A relocation that goes to the same segment as the relocation before it takes constant time. Any
+/// A relocation that lies in the same segment as the relocation before it takes constant time. Any
 /// other relocation takes a binary search: over all segments if there are few segments, and
 /// otherwise over the segments that begin in one part of the index.
 fn relocate(
@@ -75,7 +75,8 @@ fn relocate(
     Ok(())
 }
 
-/// Returns the segments of `object` at `base`, with its relocations written into them.
+/// Returns the segments of `object` at `base`, after the object's relocations were written into
+/// these segments.
 pub(crate) fn relocated(
     alloc: Global,
     object: &Object<'_>,

@@ -1,4 +1,4 @@
-// The values that relocations write.
+// Computes the values that relocations write.
 
 ghost use Rattle.std.specs.Prelude.{◌≡◌, ◌<◌, ℕ, length, slice_index, true, false, None};
 ghost use Rattle.std.specs.Prelude.{IfOk, MatchResult, replicate};
@@ -15,7 +15,7 @@ use elf_dynamic::{
 use scope::Undefined;
 use std::alloc::{AllocError, Global};
 
-/// The values of an object's symbols by number, and which of them are known.
+/// The values of an object's symbols by symbol number, with flags that mark the known values.
 #[derive(Drop)]
 pub(crate) struct Values {
     pub(crate) values: Vec<u64>,
@@ -37,7 +37,7 @@ impl Values {
 }
 
 /// Finds the value of symbol number `symbol` of object number `own`, unless the symbol is
-/// undefined. Looks the value up the first time, and stores it in `found`.
+/// undefined. If the value isn't known yet, looks it up and stores it in `found`.
 fn find_value(
     objects: &PlacedOrder<'_>,
     own: usize,

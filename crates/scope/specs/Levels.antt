@@ -1,9 +1,10 @@
 -- Levels of needed objects (gABI chapter 5, "Shared Object Dependencies": breadth first). Objects are identified by
--- numbers here. `needs` returns the objects that an object needs, in the order in which that object names them.
+-- numbers here. `needs` returns the objects that an object needs, in the order in which this object names the needed
+-- objects.
 use Rattle.std.specs.Prelude.{ℕ, zero, suc, ◌==◌, List, [], ◌∷◌, ◌++◌, Bool, not}
 use Rattle.std.specs.List.{list_any, filter, flat_map, concat}
 
--- the object is in the list
+-- object `p` is in the list
 abbrev pub is_among : List ℕ → ℕ → Bool
 is_among ps p = list_any (λ q. p == q) ps
 
@@ -27,10 +28,10 @@ levels_after needs zero earlier level = []
 levels_after needs (suc n) earlier level =
     let next = next_level needs earlier level in next ∷ levels_after needs n (earlier ++ next) next
 
--- level 0, and the `n` levels after it
+-- level 0, which is `first`, and the `n` levels after it
 unfoldable pub levels : (ℕ → List ℕ) → ℕ → List ℕ → List (List ℕ)
 levels needs n first = first ∷ levels_after needs n first first
 
--- the objects of the levels, level by level
+-- the objects of level 0, which is `first`, and of the `n` levels after it, level by level
 unfoldable pub joined_levels : (ℕ → List ℕ) → ℕ → List ℕ → List ℕ
 joined_levels needs n first = concat (levels needs n first)

@@ -21,7 +21,8 @@ names_of objects = map (λ o. o.name) objects
 abbrev pub place_of : List (List ℕ) → List ℕ → Option ℕ
 place_of names name = option_map (λ p. p + 1) (position (bytes_eq name) names)
 
--- the places of the installed libraries that an object needs, in the order of its entries
+-- the places of the installed libraries that the object at `place` needs, in the order of the object's DT_NEEDED
+-- entries
 abbrev pub needs_of : List ℕ → List Named → ℕ → List ℕ
 needs_of program libraries place =
     filter_map (place_of (names_of libraries)) (needed (file_at (available program libraries) place))
@@ -49,7 +50,8 @@ pub record Need : Type 0 where
   pub needer : List ℕ
   pub name : List ℕ
 
--- the names that an object needs, in the order of its entries, each with the object's name
+-- the names that an object needs, in the order of the object's DT_NEEDED entries; each needed name comes with the
+-- object's name
 abbrev pub needed_by : Named → List Need
 needed_by object = map (λ name. record { needer = object.name; name = name }) (needed object.file)
 
@@ -57,7 +59,7 @@ needed_by object = map (λ name. record { needer = object.name; name = name }) (
 abbrev pub is_missing : List (List ℕ) → Need → Bool
 is_missing names need = is_none (place_of names need.name)
 
--- the first needed name that isn't installed: the objects are taken in load order, and the names of each object in the
--- order of its entries
+-- the first needed name that isn't installed: the objects are taken in load order, and the names that each object needs
+-- in the order of its DT_NEEDED entries
 unfoldable pub missing : List ℕ → List Named → List ℕ → Option Need
 missing program libraries preloads = find (is_missing (names_of libraries)) (flat_map needed_by (load_order program libraries preloads))

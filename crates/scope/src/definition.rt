@@ -1,4 +1,4 @@
-// The definition that is kept for a name.
+// Stores the definition of a name, or that there is none, in eight bytes.
 
 ghost use Rattle.std.specs.Prelude.{◌≡◌, ◌≤◌, None, Some};
 ghost use Rattle.scope.specs.declared.target.Target.TheVariants.{At};
@@ -6,9 +6,9 @@ ghost use Rattle.scope.specs.declared.target.Target.TheVariants.{At};
 use crate::target::Target;
 use std::marker::Model;
 
-/// A definition in load order, or no definition, in eight bytes. There is one such value for each
-/// symbol. Symbol number 0 means that there is no definition. Contracts see the definition as a
-/// target, or none.
+/// A definition by an object in load order, or no definition, in eight bytes. There is one such
+/// value for each symbol. Symbol number 0 means that there is no definition. In contracts, the
+/// value is the definition as a target, or none.
 #[derive(Clone, Drop)]
 pub(crate) struct Definition {
     object: u32,

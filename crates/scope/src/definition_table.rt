@@ -1,4 +1,4 @@
-// The definitions that lookup finds for all symbols of an order.
+// Finds, for all symbols of an order at once, the definitions that lookup finds one by one.
 
 ghost use Rattle.std.specs.Prelude.{◌≡◌, ◌<◌, ◌≤◌, ◌+◌, ◌^◌, ◌↔◌, ℕ, [], length, map, false};
 ghost use Rattle.std.specs.Prelude.{IsTrue, IfOk, slice_index_or};

@@ -1,4 +1,4 @@
-// The definitions of names that are identified by numbers.
+// Finds the definitions of names. The names are identified by numbers.
 
 ghost use Rattle.std.specs.Prelude.{◌≡◌, ◌<◌, ◌≤◌, ◌+◌, ◌^◌, ℕ, length, map, None, IfOk};
 ghost use Rattle.std.specs.Prelude.{replicate};
@@ -35,8 +35,8 @@ fn is_exported(objects: &[LoadedObject<'_>], symbol: NumberedSymbol) -> bool
     objects[symbol.object].object().is_exported(symbol.symbol)
 }
 
-/// If symbol `at` of the list is exported, and its number has no definition yet, stores the symbol
-/// as the definition of its number.
+/// If symbol `at` of the list is exported, and the number of its name has no definition yet, stores
+/// the symbol as the definition for this number.
 fn keep_first(
     objects: &[LoadedObject<'_>],
     symbols: &[NumberedSymbol],
@@ -74,7 +74,8 @@ pub(crate) fn first_definitions(
     Ok(first)
 }
 
-/// If symbol `at` of the list is exported, stores the symbol as the definition of its number.
+/// If symbol `at` of the list is exported, stores the symbol as the definition for the number of
+/// its name.
 fn keep_last(
     objects: &[LoadedObject<'_>],
     symbols: &[NumberedSymbol],
@@ -93,9 +94,9 @@ fn keep_last(
     }
 }
 
-/// Stores the definitions of the objects up to the one at `place`. Those of the first `kept`
-/// symbols have been stored before. Returns the number of symbols whose definitions are stored
-/// after the call.
+/// Stores the definitions by the objects up to the one at `place`. The definitions among the first
+/// `kept` symbols of the list have been stored before. Returns the number of symbols of the list
+/// that have been processed after the call.
 fn keep_up_to(
     objects: &[LoadedObject<'_>],
     symbols: &[NumberedSymbol],

@@ -1,4 +1,4 @@
-// The names of installed libraries.
+// Finds an installed library by its name.
 
 ghost use Rattle.std.specs.Prelude.{◌≡◌, ◌<◌, ◌≤◌, length, IfOk, IfSome};
 ghost use Rattle.std.specs.List.{IsDistinct};

@@ -1,4 +1,4 @@
-// Level 0 of the load order.
+// Makes level 0 of the load order.
 
 ghost use Rattle.std.specs.Prelude.{◌≡◌, ◌<◌, ◌+◌, ◌^◌, IfOk, nat_eq};
 ghost use Rattle.std.specs.List.{All, IsDistinct};

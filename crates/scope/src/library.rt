@@ -5,7 +5,8 @@ ghost use Rattle.std.specs.Prelude.{◌≡◌};
 use hash_check::Admitted;
 use std::marker::Model;
 
-/// An installed library: its name and its object. Contracts see the name and the file's bytes.
+/// An installed library: its name and its object. In contracts, the value is the name and the
+/// file's bytes.
 #[derive(Drop)]
 pub struct Library<'a> {
     pub name: &'a [u8],

@@ -7,8 +7,9 @@ ghost use Rattle.scope.specs.Objects.{IsTaken};
 use hash_check::Admitted;
 use std::marker::Model;
 
-/// An object in load order, with its name. Whether the object is symbolic is read once, when this
-/// value is made, and not once for each symbol. Contracts see the name and the file's bytes.
+/// An object in load order, with its name. Whether the object is symbolic is read when this value
+/// is made, so that it isn't read again for each symbol. In contracts, the value is the name and
+/// the file's bytes.
 #[derive(Drop)]
 pub(crate) struct LoadedObject<'a> {
     name: &'a [u8],

@@ -1,4 +1,4 @@
-// Load order.
+// Puts a program and its libraries into load order.
 
 ghost use Rattle.std.specs.Prelude.{◌≡◌, ◌<◌, length, map, None, OnOk, IfOk, IfErr, nat_eq};
 ghost use Rattle.std.specs.List.{All, IsDistinct};

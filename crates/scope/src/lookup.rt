@@ -1,4 +1,4 @@
-// The search for a name among objects.
+// Searches objects for a name.
 
 ghost use Rattle.std.specs.Prelude.{◌≡◌, ◌<◌, ◌≤◌, length, map};
 ghost use Rattle.elf_file.specs.FirstOf.{first_of};

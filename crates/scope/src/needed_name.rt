@@ -1,4 +1,4 @@
-// A name that is needed.
+// A needed name, with the name of the object that needs it.
 
 ghost use Rattle.std.specs.Prelude.{◌≡◌, IfOk};
 

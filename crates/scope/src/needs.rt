@@ -1,4 +1,4 @@
-// The libraries that an object needs.
+// Adds the libraries that an object needs to a queue.
 
 ghost use Rattle.std.specs.Prelude.{◌≡◌, ◌<◌, length, None, OnOk, IfErr};
 ghost use Rattle.std.specs.List.{find, filter_map};

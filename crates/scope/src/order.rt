@@ -15,7 +15,7 @@ use hash_check::Admitted;
 use std::alloc::{AllocError, Global};
 use std::marker::Model;
 
-/// The name of a program. It has a slash, so no library of a registry has it.
+/// The name of a program. The name contains a slash, so no library of a registry has this name.
 const PROGRAM_NAME: &[u8] = b"/program";
 
 /// Returns the name of a program, `/program`.
@@ -26,9 +26,9 @@ pub fn program_name<'a>() -> &'a [u8]
 }
 
 /// A program and the libraries that are bound with it, in load order. The program is the first
-/// object, and its name is `/program`. Contracts see the names and the files' bytes. If lookups by
-/// walks may cost more than finding all definitions at once, the order also has the definitions of
-/// all symbols.
+/// object, and its name is `/program`. In contracts, the value is the list of the objects, each
+/// with its name and its file's bytes. If lookups by walks may cost more than finding all
+/// definitions at once, the order also has the definitions of all symbols.
 #[derive(Drop)]
 pub struct Order<'a> {
     objects: Vec<LoadedObject<'a>>,
@@ -50,8 +50,8 @@ impl<'a> Model for Order<'a> {
 
 impl<'a> Order<'a> {
     /// Makes an order of `objects`. If lookups by walks may cost more than finding all definitions
-    /// at once, finds the definitions of all symbols and stores them. If memory for them is
-    /// refused, the order does without them.
+    /// at once, finds the definitions of all symbols and stores these definitions. If memory for
+    /// the definitions is refused, the order does without them.
     pub(crate) fn new(alloc: Global, objects: Vec<LoadedObject<'a>>) -> Order<'a>
         requires { IsOrder objects.items }
         ensures { result ≡ objects.entry.items }
@@ -108,7 +108,7 @@ impl<'a> Order<'a> {
         self.objects[i].object()
     }
 
-    /// The objects.
+    /// The objects, in load order.
     pub(crate) fn objects(&self) -> &[LoadedObject<'a>]
         ensures objects { result.now ≡ self.now }
         ensures taken { All (λ o. IsTaken o.file) self.now }
@@ -116,7 +116,7 @@ impl<'a> Order<'a> {
         &self.objects
     }
 
-    /// The definitions found for all symbols, if the order has them.
+    /// The table of the definitions of all symbols, if the order has such a table.
     pub(crate) fn table(&self) -> Option<&DefinitionTable>
         ensures { IfSome result (λ t. IsFound self.now (map (λ r. r.items) t.now.rows.items)) }
     {

@@ -10,7 +10,8 @@ use std::marker::Model;
 
 /// A queue of places below a limit. Each place is in the queue at most once, and the places are in
 /// the order in which they were added. Load order is computed with such a queue. Callers that find
-/// the needed libraries one after the other use it too. Contracts see the limit and the places.
+/// the needed libraries one after the other use such a queue too. In contracts, the value is the
+/// limit and the places.
 #[derive(Drop)]
 pub struct Places {
     places: Vec<usize>,
@@ -57,7 +58,7 @@ impl Places {
         self.places[i]
     }
 
-    /// Adds a place, unless the queue has it. Allocates nothing if the queue has the place.
+    /// Adds a place, unless the queue has this place already. In that case, allocates nothing.
     pub fn add(&mut self, place: usize) -> Result<(), AllocError>
         requires { place < self.old.limit }
         ensures ok { OnOk result (self.new
@@ -74,8 +75,8 @@ impl Places {
         Ok(())
     }
 
-    /// Removes the last places, until `count` are left. Does nothing if the queue has no more than
-    /// `count` places. Allocates nothing. The time depends on the number of removed places.
+    /// If the queue has more than `count` places, removes the last places until `count` are left.
+    /// Allocates nothing. The time depends on the number of removed places.
     pub fn shorten(&mut self, count: usize)
         ensures { self.new
             ≡ record { limit = self.old.limit; places = take count self.old.places } }
@@ -85,7 +86,7 @@ impl Places {
         }
     }
 
-    // Removes the last place and its flag.
+    // Removes the last place, and clears its flag.
     fn drop_last(&mut self)
         requires { 0 < length self.old.places }
         ensures { self.new ≡ record {
@@ -98,7 +99,7 @@ impl Places {
         }
     }
 
-    /// Returns all places of the queue.
+    /// Returns all places of the queue, in the order in which they were added.
     pub fn into_vec(self) -> Vec<usize>
         ensures places { result.items ≡ self.places }
         ensures apart { AreApart self.limit result.items }

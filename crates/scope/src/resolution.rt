@@ -1,4 +1,4 @@
-// The binding of symbols to their targets.
+// Binds symbols to their targets.
 
 ghost use Rattle.std.specs.Prelude.{◌≡◌, ◌<◌, length, Some, None, MatchResult};
 ghost use Rattle.elf_dynamic.specs.Symbol.{symbols};

@@ -1,4 +1,4 @@
-// Whether finding the definitions of all symbols at once may be cheaper than walks.
+// Decides whether finding the definitions of all symbols at once may be cheaper than walks.
 
 ghost use Rattle.std.specs.Prelude.{◌≤◌, map, IfSome};
 ghost use Rattle.std.specs.List.{All};
@@ -82,7 +82,7 @@ fn may_be_long(objects: &[LoadedObject<'_>]) -> bool {
 }
 
 /// Returns whether the names of the symbols that an object looks up have so many bytes in total
-/// that many of the names are tails of others. Hashing such names one by one would cost the sum of
+/// that many names are tails of other names. Hashing such names one by one would cost the sum of
 /// their lengths.
 fn share_bytes(object: &Object<'_>) -> bool {
     let mut budget = NameBudget::new(object.string_table().len());
@@ -108,7 +108,7 @@ fn any_share_bytes(objects: &[LoadedObject<'_>]) -> bool {
 }
 
 /// If lookups by walks may cost more than finding all definitions at once, finds the definitions of
-/// all symbols. Returns `None` if they don't cost more, or if memory is refused.
+/// all symbols. Otherwise, or if memory is refused, returns `None`.
 pub(crate) fn worthy_table(alloc: Global, objects: &[LoadedObject<'_>]) -> Option<DefinitionTable>
     requires { All (λ o. IsTaken o.file) objects.now }
     ensures { IfSome result (λ t. IsFound objects.now (map (λ r. r.items) t.rows.items)) }

@@ -1,5 +1,5 @@
--- Names that are tails of strings, read from their ends. If names share bytes, the code numbers them in this way. A
--- reader doesn't have to believe these definitions.
+-- Names that are tails of strings, read from their ends. If names share bytes, the code numbers the names in this way.
+-- A reader doesn't have to believe these definitions.
 use Rattle.std.specs.Prelude.{ℕ, List, ◌≡◌, ◌≢◌, ◌<◌, ◌≤◌, ◌-◌, false, length, take, reverse, slice_index}
 use Rattle.std.specs.Cmp.Lexicographic.{slice_cmp}
 use Rattle.std.specs.Ordering.{nat_cmp, is_lt}

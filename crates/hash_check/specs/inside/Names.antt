@@ -21,7 +21,7 @@ all_symbols file = range_with_len 1 (length (symbols file) - 1)
 abbrev pub offset_of : List ℕ → ℕ → ℕ
 offset_of file i = option_map_or (λ s. s.name) (slice_get (symbols file) i) 0
 
--- the stretch is a string of the string table: its length is the string's length
+-- stretch `s` is a string of the string table: its length is the length of the string at its offset
 abbrev pub IsStretch : List ℕ → Stretch → Type 0
 IsStretch file s = length (string_at (string_table file) s.from) ≡ s.length
 
@@ -33,11 +33,11 @@ stretch_bytes file s = take s.length (drop s.from (string_table file))
 unfoldable pub stretch_back : List ℕ → Stretch → List ℕ
 stretch_back file s = reverse (stretch_bytes file s)
 
--- the name of a symbol begins in a stretch
+-- the name of symbol number `i` begins in stretch `s`
 abbrev pub BeginsIn : List ℕ → ℕ → Stretch → Type 0
 BeginsIn file i s = (s.from ≤ offset_of file i) × (offset_of file i ≤ s.from + s.length)
 
--- `n` is the length of the name of a symbol
+-- `n` is the length of the name of symbol number `i`
 abbrev pub IsLengthOf : List ℕ → ℕ → ℕ → Type 0
 IsLengthOf file i n = n ≡ length (name_of file i)
 

@@ -7,7 +7,7 @@ use Rattle.std.specs.List.{All}
 use Rattle.hash_check.specs.Walk.{walk, Meets}
 use Rattle.hash_check.specs.declared.place.Place.{Place}
 
--- the walk from an index first reaches 0 after `d` steps
+-- the walk from index `from` first reaches 0 after `d` steps
 pub record Depth (chains : List ℕ) (from d : ℕ) : Type 0 where
   pub arrives : walk chains from d ≡ 0
   pub before : (k : ℕ) → k < d → walk chains from k ≢ 0
@@ -15,12 +15,12 @@ pub record Depth (chains : List ℕ) (from d : ℕ) : Type 0 where
 abbrev pub place_at : List (Option Place) → ℕ → Option Place
 place_at places i = slice_index_or places i None
 
--- an index has a place
+-- index `i` has a place
 pub record Known (places : List (Option Place)) (i : ℕ) : Type 0 where
   pub place : Place
   pub is : place_at places i ≡ Some place
 
--- the place `p` of an index describes its walk correctly
+-- place `p` describes the walk from index `i` correctly
 pub record Says (chains : List ℕ) (places : List (Option Place)) (i : ℕ) (p : Place) : Type 0 where
   pub depth : Depth chains i p.depth
   pub landing : p.landing ≤ p.depth
@@ -36,14 +36,15 @@ pub record Sound (chains : List ℕ) (places : List (Option Place)) : Type 0 whe
 pub record Keeps (old new : List (Option Place)) : Type 0 where
   pub known : (i : ℕ) → Known old i → Known new i
 
--- `new` is a correct place for an index whose next index on the walk is `next`; the place of `next` is `p`
+-- `new` is a correct place for an index on the walk from `head`; the next index on this walk is `next`, and the place
+-- of `next` is `p`
 pub record IsBefore (chains : List ℕ) (head next : ℕ) (p new : Place) : Type 0 where
   pub begins : new.head ≡ head
   pub depth : new.depth ≡ p.depth + 1
   pub landing : new.landing ≤ p.depth
   pub jump : walk chains next (p.depth - new.landing) ≡ new.jump
 
--- the path has the first indices of a walk, and the walk hasn't reached 0 at any of them
+-- the path has the first indices of the walk from `from`, and none of these indices is 0
 pub record IsPath (chains : List ℕ) (from : ℕ) (path : List ℕ) : Type 0 where
   pub walked : (k : ℕ) → k < length path → slice_index path k ≡ walk chains from k
   pub before : (k : ℕ) → k < length path → walk chains from k ≢ 0

@@ -1,4 +1,5 @@
--- Where segments lie, and what loading and relocating do to them. A reader doesn't have to believe these definitions.
+-- Where segments lie, and how loading and relocating change their bytes. A reader doesn't have to believe these
+-- definitions.
 use Rattle.std.specs.Prelude.{ℕ, ◌≡◌, ◌+◌, ◌-◌, ◌^◌, ◌<◌, ◌≤◌, Bool, ◌&&◌, true, nat_le, if◌then◌else◌}
 use Rattle.std.specs.Prelude.{List, [], ◌∷◌, ◌++◌, length, map, take, drop, replicate, sum_by, Option, Some, None}
 use Rattle.std.specs.Int.{byte_at}
@@ -18,7 +19,7 @@ use Rattle.image.specs.declared.object.ImageObject.{ImageObject}
 abbrev pub padded : List ℕ → ℕ → List ℕ
 padded front size = front ++ replicate (size - length front) 0
 
--- a PT_LOAD in memory before any relocation: the file's bytes, and zeros after them
+-- a PT_LOAD in memory before any relocation: the file's bytes, followed by zeros
 abbrev pub fresh : Loaded → ImageSegment
 fresh s =
     record {
@@ -27,7 +28,8 @@ fresh s =
       bytes = padded s.contents s.heading.size;
     }
 
--- the first segment begins at or above `from`, and each other one at or above the end of the one before it
+-- the first segment begins at or above `from`, and each later segment begins at or above the end of the segment before
+-- it
 abbrev pub Rising : ℕ → List Heading → Type 0
 Rising from [] = Unit {0}
 Rising from (s ∷ rest) = (from ≤ s.address) × Rising (s.address + s.size) rest
@@ -54,12 +56,12 @@ abbrev pub after : Option Write → Option ℕ → ℕ → Option ℕ
 after (Some w) old address = over w.place w.value old address
 after None old address = old
 
--- a write lies within one segment, below 2^64
+-- the eight bytes of a write lie within one segment and begin below 2^64
 abbrev pub Lands : List Heading → Write → Type 0
 Lands headings w = (w.place < 2 ^ 64) × (list_any (room_in w.place) headings ≡ true)
 
--- the segments are in ascending order and don't overlap, none of them ends above the limit, and the sum of the objects'
--- `segment_count` is the number of segments
+-- the segments are in ascending order of address and don't overlap; no segment ends above the limit; the sum of the
+-- objects' `segment_count` is the number of segments
 pub record IsWhole (objects : List ImageObject) (segments : List ImageSegment) : Type 0 where
   pub rising : Rising 0 (map heading segments)
   pub low : All (λ s. s.address + length s.bytes ≤ MEMORY_LIMIT) segments

@@ -48,13 +48,14 @@ pub record AreLast (objects : List Named) (all : List NumberedSymbol) (count : �
   pub each : (n : ℕ) → IsOneOf objects all count kept n
   pub known : (k : ℕ) → k < count → IsExported objects (nth_symbol all k) → (at : ℕ) × (k ≤ at) × IsKept objects all kept (nth_symbol all k).number at
 
--- the first `count` symbols of the list are exactly those of the objects up to the one at `place`
+-- the first `count` symbols of the list are the symbols of the objects up to the object at `place`, and no other
+-- symbols
 pub record AreUpTo (all : List NumberedSymbol) (count place : ℕ) : Type 0 where
   pub within : count ≤ length all
   pub low : (k : ℕ) → k < count → (nth_symbol all k).object ≤ place
   pub high : (k : ℕ) → count ≤ k → k < length all → place < (nth_symbol all k).object
 
--- a definition, or none if the definition belongs to an object that isn't the one at `place`
+-- a definition, if it belongs to the object at `place`, and otherwise none
 unfoldable pub own_of : ℕ → Option Target → Option Target
 own_of place None = None
 own_of place (Some Zero) = None
