@@ -38,7 +38,7 @@ pub record EventsRan {D : Type 0} (facts : D → DiskFacts) (old new : Slotted D
   -- each event had its effect on the registry with binders that the event before it left
   pub steps : Steps (EventStep facts) old happenings replies passed
   pub last : new ≡ last_of old passed
-  -- If the registry is at a state, a stop at any moment leaves the state after accepted commands. They
-  -- include every command that was acknowledged by then, whatever binders there are.
+  -- If the registry is at a state, a stop at any moment leaves the state after accepted commands. These
+  -- commands include every command that was acknowledged by then, whatever binders there are.
   pub runs : (s : State) → IsAt facts old.registry s
       → RunsThrough facts old.registry (map (λ (b : Slotted D). b.registry) passed) new.registry s (exchanges happenings replies)

@@ -75,7 +75,7 @@ SlotsAfter old slot new (Ok (Final answer)) = new ≡ slice_set old slot None
 SlotsAfter old slot new result = IsPut old slot new
 
 -- The binder in a slot made a step. The step is refused with C8 if and only if the slot has no binder.
--- This is the first test.
+-- The test for C8 is the first test.
 pub record AdvancesIn {D : Type 0} (facts : D → DiskFacts) (old new : Slotted D) (slot : ℕ) (result : Result Step Refusal) : Type 0 where
   pub step : (flights : List (Option Flight)) (flight : Flight) → AreOn facts old flights
       → slice_index_or flights slot None ≡ Some flight → SteppedIn facts old new slot flights flight result

@@ -97,16 +97,16 @@ impl<D: Disk> Binders<D> {
         ensures slots { self.new.slots ≡ self.old.slots }
         ensures alone { HoldAlone self.old → HoldAlone self.new }
 
-        // The test for S7 counts the sectors of the state and also, once each, those of the byte
-        // strings that only binders hold.
+        // The test for S7 counts the sectors of the state, and also the sectors of each byte string
+        // that only binders hold. It counts the byte string once, however many binders hold it.
         ensures counted { HoldAlone self.old → CountsOnce self.old }
     {
         self.registry.holds_are_sound();
         self.registry.apply(command)
     }
 
-    /// Begins to bind `program` at `base`, and returns the slot of the binder, which is the lowest
-    /// free one. Refuses with S2, C7 or S11, in this order. Copies the program, and makes no call
+    /// Begins to bind `program` at `base`, puts the binder into the lowest free slot, and returns
+    /// this slot. Refuses with S2, C7 or S11, in this order. Copies the program, and makes no call
     /// of the disk.
     pub fn begin(&mut self, program: &[u8], base: u64) -> Result<usize, Refusal>
         ensures { BeginsIn D.facts self.old self.new program.now base result }

@@ -99,8 +99,8 @@ IsUpgraded bytes s steps =
 
 -- No registry is upgraded on the bytes, and `refusal` is the reason. If the bytes hold a state of
 -- version 1, the reason is the refusal by the tests of an upgrade, or refused memory. If they hold a
--- state of version 2, the reason is refused memory. In all other cases it is S6 for a bad length, or a
--- refusal that `RefusesLook` allows.
+-- state of version 2, the reason is refused memory. In all other cases the reason is S6 for a bad
+-- length, or a refusal that `RefusesLook` allows.
 pub record IsUnupgraded (bytes : List ℕ) (refusal : StoreRefusal) : Type 0 where
   pub old : (s : State) → HoldsOld bytes s → IsUpgradeAnswer (refusal_of_upgrade (length (sectors_in bytes)) s) (Err refusal)
   pub held : (s : State) → Holds bytes s → (refusal ≡ Device) ⊎ (refusal ≡ OutOfMemory)

@@ -49,9 +49,9 @@ pub record StopsAt (old last : Drafted ByteDisk) (requests : List Request) (n : 
   pub plans : Plans byte_facts old mid before answers
   pub refused : DraftAnswers byte_facts mid request (Refused refusal) last
 
--- The step table refuses request number `n`, counted from 0, with `refusal`. It tests the request in the
--- state after the requests before it, with the draft that they made. Then the update is given up, with
--- the disk `left`.
+-- The step table refuses request number `n`, counted from 0, with `refusal`. The request is tested in
+-- the state of the draft that the requests before it made. Then the update is given up, with the disk
+-- `left`.
 pub record IsRefusedAt (old : Drafted ByteDisk) (s : State) (requests : List Request) (n : ℕ) (refusal : Refusal) (left : ByteDisk) : Type 0 where
   pub last : Drafted ByteDisk
   pub stops : StopsAt old last requests n refusal

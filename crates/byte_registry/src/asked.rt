@@ -15,7 +15,7 @@ use requests::{Command, Reply};
 use std::alloc::Global;
 use store::StoreRefusal;
 
-/// Returns the disk with the bytes `disk`. If they aren't whole sectors, refuses with S6
+/// Returns the disk with the bytes `disk`. If these bytes aren't whole sectors, refuses with S6
 /// (BadGeometry) and returns no disk.
 pub(crate) fn disk_of(
     alloc: Global,

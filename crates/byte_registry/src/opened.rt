@@ -12,9 +12,9 @@ use registry::Registry;
 use std::alloc::Global;
 use store::StoreRefusal;
 
-/// Opens the contents of the bytes `disk`, or returns why they aren't a disk of version 2. Also
-/// refuses with S6 (BadGeometry) if the bytes aren't whole sectors. No call of the disk fails, so
-/// the refusal is never S1 (Device).
+/// Opens the contents of the bytes `disk`, or returns the reason why they aren't a disk of version
+/// 2. Also refuses with S6 (BadGeometry) if the bytes aren't whole sectors. No call of the disk
+/// fails, so the refusal is never S1 (Device).
 pub fn contents_of<'a>(
     alloc: Global,
     disk: &'a [u8],

@@ -28,7 +28,8 @@ fn refusal_in(reply: Reply) -> Result<(), Refusal>
     }
 }
 
-/// Plans a command after those that `update` already has, or returns why the command is refused.
+/// Plans a command after those that `update` already has, or returns the reason why the command is
+/// refused.
 fn plan_one(update: &mut Update<ByteDisk<'_>>, command: &Command<'_>) -> Result<(), Refusal>
     ensures ok { IfOk result (λ _. (answer : Reply)
         × DraftAnswers byte_facts update.old (request_of command.now) answer update.new

@@ -13,7 +13,8 @@ use Rattle.commands.specs.declared.answer.Answer.TheVariants.{Replied}
 use Rattle.scripts.specs.declared.fault.ScriptFault.{ScriptFault}
 use Rattle.commands.specs.declared.summary.Summary.{Summary}
 
--- the events that lines ask for, in their order; a line that has none of the forms asks for nothing
+-- the events that lines ask for, in the order of the lines; a line that has none of the forms asks for
+-- nothing
 abbrev pub happenings : List (List ℕ) → List Happening
 happenings lines = filter_map meaning lines
 
@@ -22,7 +23,7 @@ abbrev pub event_reply_of : Answer → Option EventReply
 event_reply_of (Replied reply) = Some reply
 event_reply_of answer = None
 
--- the replies to the events of lines, in their order
+-- the replies to the events of lines, in the order of the lines
 abbrev pub replied : List Answer → List EventReply
 replied answers = filter_map event_reply_of answers
 

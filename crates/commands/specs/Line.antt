@@ -21,7 +21,7 @@ binder_meaning line =
     else if has_front (codes "cancel ") line then option_map cancel (slot_of (drop 7 line))
     else None
 
--- the event of a line: its command or, if it has none, its event of a binder
+-- the event of a line: the line's command or, if the line has no command, its event of a binder
 abbrev pub first_of : Option Request → Option Happening → Option Happening
 first_of (Some request) other = Some (apply request)
 first_of None other = other

@@ -38,8 +38,8 @@ pub record IsAnswered {D : Type 0} (facts : D → DiskFacts) (disk : D) (request
   pub opened : EndsOpening facts disk (Ok old)
   pub new : Opened D
   pub step : DiskStep facts old request reply new
-  -- If an honest disk holds a state, the answer was a step of the table from this state. A stop at any
-  -- moment leaves what a stop could leave before the opening, or what `MayLeaveWithin` allows.
+  -- If an honest disk holds a state, the answer was a step of the step table from this state. A stop at
+  -- any moment leaves what a stop could leave before the opening, or what `MayLeaveWithin` allows.
   pub applied : IsTrue (facts disk).honest → (s : State) → Stands (facts disk).now s → (s' : State) × Applied facts old new s s' request reply
       × LeavesOnly (facts disk) (facts left) (λ m. Mixture (facts disk) m ⊎ MayLeaveWithin (phase_of facts old s) request reply s' m)
   pub back : left ≡ new.disk

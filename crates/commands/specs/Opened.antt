@@ -11,8 +11,8 @@ use Rattle.registry.specs.Opening.{EndsMaking, EndsUpgrading}
 abbrev pub SystemDisk : Type 0
 SystemDisk = FileDisk DiskFile ghosts
 
--- a registry was made on a new disk of n sectors, without a failure and by exactly the calls of making;
--- no byte string is held
+-- a registry was made on a new disk of n sectors; exactly the calls of making were made, and none
+-- failed; no byte string is held
 pub record IsMade (n : ℕ) (disk : SystemDisk) (registry : Opened SystemDisk) : Type 0 where
   pub new : IsNew disk
   pub sectors : (file_facts disk).sectors ≡ n

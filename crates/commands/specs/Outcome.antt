@@ -27,7 +27,7 @@ use Rattle.commands.specs.Said.{bad_text}
 use Rattle.commands.specs.Script as work
 use Rattle.commands.specs.Words.{CommandLine, image, format, upgrade, install, replace, remove, preload, list, bind, script}
 
--- whether arguments are refused with status 2, before any file is opened: they are no command, or BASE
+-- whether arguments are refused with status 2, before any file is opened: they aren't a command, or BASE
 -- can't be read
 abbrev pub are_bad : Option CommandLine → Bool
 are_bad (Some (image program base)) = is_none (base_of base)
@@ -40,8 +40,8 @@ abbrev pub reads_input : Option CommandLine → Bool
 reads_input (Some (script disk)) = true
 reads_input line = false
 
--- the request that a command makes of a registry on a disk; it has the NAMEs and the BASE of the
--- command, and some bytes as its file
+-- The command makes the request `asked` to a registry on a disk. The request has the NAMEs and the BASE
+-- of the command, and the bytes of some file.
 abbrev pub Asks : CommandLine → Request → Type 0
 Asks (install disk file) asked = (bytes : List ℕ) × (length bytes < read_limit) × (asked ≡ request.install bytes)
 Asks (replace disk file) asked = (bytes : List ℕ) × (length bytes < read_limit) × (asked ≡ request.replace bytes)
@@ -134,7 +134,8 @@ abbrev pub IsEnd : Option CommandLine → Streams → Status → Type 0
 IsEnd line io status = CommandEnds line (work_of io) status
     × (status ≡ BadWords → AppendsFront io.errors_before io.errors_after (bad_text line))
 
--- the command of the arguments ends with the status of this number, with which the process exits
+-- the command of the arguments ends with the status whose number is `number`; the process exits with
+-- this number
 abbrev pub LineEnds : Option CommandLine → Streams → ℕ → Type 0
 LineEnds line io number = (status : Status) × IsEnd line io status × (number ≡ status_number status)
 

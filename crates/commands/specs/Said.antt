@@ -2,7 +2,7 @@
 use Rattle.std.specs.Prelude.{ℕ, List, Option, Some, None, codes}
 use Rattle.commands.specs.Words.{CommandLine}
 
--- the line for arguments that are no command
+-- the line for arguments that aren't a command
 abbrev pub words_text : List ℕ
 words_text = codes "rlibreg: bad command line\n"
 

@@ -20,14 +20,14 @@ abbrev pub cut_answer : List ℕ → List Answer
 cut_answer [] = []
 cut_answer (byte ∷ bytes) = CutLine ∷ []
 
--- a summary has the number of all answers and the number of refusals among them, each limited to the
--- greatest u64
+-- the summary has the number of answers, and the number of refused answers; each number is limited to
+-- the greatest u64
 pub record Counts (summary : Summary) (answers : List Answer) : Type 0 where
   pub lines : summary.lines ≡ u64_saturate (length answers)
   pub refused : summary.refused ≡ u64_saturate (count_by is_refused answers)
 
--- the bytes that the reader has left, and the bytes that the writer holds before and after; each is none
--- if the contract of the reader or the writer doesn't define it
+-- the bytes that are left to read, and the bytes that the writer holds before and after the work; a
+-- field is none if the contract of the reader or the writer doesn't define it
 pub record Streams : Type 0 where
   pub unread : Option (List ℕ)
   pub before : Option (List ℕ)

@@ -5,7 +5,7 @@ use Rattle.commands.specs.Sectors.{sectors_of}
 use Rattle.commands.specs.declared.action.Action.{Action}
 use Rattle.commands.specs.declared.action.Action.TheVariants as action
 
--- a command of the program and its arguments in their order, with SECTORS as a number
+-- a command of the program, with its arguments in the order of the command line; SECTORS is a number
 pub data CommandLine : Type 0 where
   image : List ℕ → List ℕ → CommandLine
   format : List ℕ → ℕ → CommandLine

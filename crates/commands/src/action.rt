@@ -1,4 +1,4 @@
-// The commands of the program, and how they are read from arguments.
+// Defines the commands of the program, and reads them from arguments.
 
 ghost use Rattle.std.specs.Prelude.{◌≡◌, map, string_bytes};
 ghost use Rattle.std.specs.Option.{option_map};
@@ -7,8 +7,8 @@ ghost use Rattle.commands.specs.inside.Access.{disk_of};
 
 use crate::form::read_form;
 
-/// A command of the program with its arguments in their order. The arguments are as they were given
-/// on the command line, except that SECTORS is a number. The first argument of every command except
+/// A command of the program, with its arguments in the order of the command line. The arguments are
+/// as they were given, except that SECTORS is a number. The first argument of every command except
 /// `image` is the path of the file that is the disk.
 #[derive(Clone, Copy)]
 pub enum Action<'a> {
@@ -56,7 +56,7 @@ pub enum Action<'a> {
     Preload {
         /// The path of the disk.
         disk: &'a str,
-        /// The names of the preloads, in their order.
+        /// The names of the preloads, in the order of the command line.
         names: &'a [String],
     },
     /// Lists the libraries and the preloads.
@@ -64,7 +64,7 @@ pub enum Action<'a> {
         /// The path of the disk.
         disk: &'a str,
     },
-    /// Prints the image of a program over the libraries and the preloads.
+    /// Prints the image of a program that is bound with the libraries and the preloads.
     Bind {
         /// The path of the disk.
         disk: &'a str,

@@ -86,8 +86,9 @@ fn is_failure(answer: &Answer) -> bool
     }
 }
 
-/// Returns whether the answer to a line may be sent later, together with others. It may if nothing
-/// was changed and the answer reports no failure. After S1 (Device) a change may have been made.
+/// Returns whether the answer to a line may be sent later, together with others. An answer may be
+/// sent later if nothing was changed and the answer reports no failure. After S1 (Device) a change
+/// may have been made.
 pub(crate) fn may_wait(asked: &Option<Asked<'_>>, answer: &Answer) -> bool
     ensures { (line : List ℕ) → option_map happening_asked asked.now ≡ meaning line
         → result ≡ may_wait line answer.now }

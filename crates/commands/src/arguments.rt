@@ -1,4 +1,4 @@
-// The arguments of the process.
+// Carries out the command that the arguments of the process ask for.
 
 ghost use Rattle.std.specs.Prelude.{◌≡◌, ◌≢◌, ◌≤◌, ◌⊎◌, IfOk, IfErr, MatchResult, false};
 ghost use Rattle.std.specs.Prelude.{map, string_bytes};

@@ -122,8 +122,9 @@ fn has_bad_base(action: &Action<'_>) -> bool
     }
 }
 
-/// Refuses a command if a standard stream is open to its disk's file, and reports this on standard
-/// error. If standard error is open to this file, reports nothing.
+/// Refuses a command because the standard stream `behind` is open to the file of its disk. Reports
+/// a BASE that can't be read, or that the file can't be read, on standard error. If `behind` is
+/// standard error, reports nothing.
 fn keep_away<E: Write>(action: &Action<'_>, disk: &str, behind: Behind, errors: &mut E) -> Status
     ensures ends { ((result ≡ BadWords) × (are_bad (Some (line_of action.now)) ≡ true))
         ⊎ ((result ≡ Failed) × (are_bad (Some (line_of action.now)) ≡ false)) }
@@ -180,11 +181,12 @@ fn run_command<R: Files<File = File> + Clock, I: Read, O: Write, E: Write>(
     }
 }
 
-/// Does what the program does with `words`, the arguments after its name, and returns its exit
-/// status. The status is 0 if the command was carried out, 1 if it was refused, and 2 if the
-/// arguments aren't a command or BASE can't be read. It is 3 if the disk, a file or a stream
-/// failed, and 4 if memory was refused. The status of a script is the greatest that occurred. Only
-/// `script` reads standard input. The file FILE or PROGRAM is read before DISK is opened.
+/// Carries out the command that `words`, the arguments after the program's name, ask for. Returns
+/// the program's exit status. The status is 0 if the command was carried out, 1 if it was refused,
+/// and 2 if the arguments aren't a command or BASE can't be read. It is 3 if the disk, a file or a
+/// stream failed, and 4 if memory was refused. The status of a script is the greatest that
+/// occurred. Only `script` reads standard input. The file FILE or PROGRAM is read before DISK is
+/// opened.
 pub fn run_words<R: Files<File = File> + Clock, I: Read, O: Write, E: Write>(
     rt: &R,
     alloc: Global,

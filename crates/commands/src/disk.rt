@@ -18,7 +18,7 @@ use std::io::Write;
 use std::rt::{Clock, Files};
 use store::StoreRefusal;
 
-/// Why there is no registry for a command.
+/// The reason why there is no registry for a command.
 #[derive(Clone, Copy)]
 pub(crate) enum NoRegistry {
     /// The file can't be opened or made.

@@ -1,4 +1,4 @@
-// The answer for a disk on which a registry was opened, made or upgraded.
+// Writes the answer for a disk on which a registry was opened, made or upgraded.
 
 ghost use Rattle.commands.specs.Disk.{disk_answer_text};
 ghost use Rattle.program_parts.specs.Told.{IsTold};

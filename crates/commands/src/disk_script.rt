@@ -1,4 +1,4 @@
-// A script over a registry on a disk.
+// Runs a script over a registry on a disk.
 
 ghost use Rattle.std.specs.Prelude.{◌≡◌, IfOk, IfErr};
 ghost use Rattle.commands.specs.DiskScript.{FinishesOnDisk, StopsOnDisk};

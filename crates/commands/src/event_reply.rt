@@ -1,4 +1,4 @@
-// The text of the reply to an event.
+// Writes the text of the reply to an event.
 
 ghost use Rattle.std.specs.Prelude.{◌≡◌, ◌++◌, codes, true, OnOk, OnErr, IfErr};
 ghost use Rattle.std.specs.Fmt.{decimal};

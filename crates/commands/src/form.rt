@@ -1,4 +1,4 @@
-// The forms of the commands: each name and the arguments that follow it.
+// Reads the forms of the commands. Each form is a name, followed by arguments.
 
 ghost use Rattle.std.specs.Prelude.{◌≡◌, ◌∷◌, ℕ, List, map, string_bytes};
 ghost use Rattle.std.specs.Option.{option_map};

@@ -1,4 +1,4 @@
-//! What the program `rlibreg` does with arguments, lines and files, as a library.
+//! The work of the program `rlibreg` with arguments, lines and files, as a library.
 //!
 //! `run_image` and `run_script` work on bytes, readers and writers, and their contracts define
 //! the texts that they write. `run_request`, `run_format`, `run_upgrade` and

@@ -1,4 +1,4 @@
-// Messages on standard error. If a write to standard error fails, the status doesn't change.
+// Writes messages to standard error. If a write to standard error fails, the status doesn't change.
 
 ghost use Rattle.std.specs.Prelude.{◌≡◌};
 ghost use Rattle.commands.specs.Said.{base_text, words_text};

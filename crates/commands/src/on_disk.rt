@@ -1,4 +1,4 @@
-// The commands of a registry on a disk.
+// Carries out the commands of a registry on a disk.
 
 ghost use Rattle.std.specs.Prelude.{◌≡◌, map, string_bytes, IfOk};
 ghost use Rattle.requests.specs.Request.{request_of};

@@ -132,11 +132,11 @@ fn run_lines<R: Read, W: Write, G: TakesEvents>(
 /// The script is read through a buffer, so more bytes may have been taken from the reader than were
 /// answered.
 ///
-/// The answer to a change that was made is written at once, after the buffered answers. So is a
-/// refusal with S2 (Reopen), or with S1 (Device), after which it is unspecified whether the change
-/// was made. Other refusals, and answers to listings, binds and lines that ask for nothing, are
-/// buffered, up to 2 KiB, as long as whole lines are left in the reader's buffer. All of them are
-/// written before the reader is asked again, and at the end. So if the writer fails, the lines
+/// The answer to a change that was made is written at once, after the buffered answers. A refusal
+/// with S1 (Device) or S2 (Reopen) is also written at once; after S1 it is unspecified whether the
+/// change was made. Other refusals, and answers to listings, binds and lines that ask for nothing,
+/// are buffered, up to 2 KiB, as long as whole lines are left in the reader's buffer. All of them
+/// are written before the reader is asked again, and at the end. So if the writer fails, the lines
 /// whose answers may be missing changed nothing, except the last line, which was applied.
 pub fn run_script<R: Read, W: Write, G: TakesEvents>(
     alloc: Global,

@@ -1,9 +1,10 @@
-// The numbers of lines of a script.
+// Counts the lines of a script.
 
 ghost use Rattle.std.specs.Prelude.{◌≡◌, ◌+◌, if◌then◌else◌};
 ghost use Rattle.std.specs.Io.Iter.{u64_saturate};
 
-/// The numbers of lines of a script. Each number stops at the greatest `u64`.
+/// The number of lines of a script, and the number of refused lines. Each number stops at the
+/// greatest `u64`.
 #[derive(Clone, Copy, PartialEq, Eq)]
 pub struct Summary {
     /// The number of lines, including one without a newline.

@@ -1,4 +1,4 @@
-// The type over which a script runs.
+// The trait of the types over which a script can run.
 
 ghost use Rattle.binders.specs.Events.{Happening, happening_of};
 ghost use Rattle.binders.specs.declared.event.EventReply.{EventReply};
@@ -9,9 +9,9 @@ use binders::{Binders, Event, EventReply};
 use sector_disk::Disk;
 
 /// A type that carries out events: a registry on a disk with its binders, or any other type that
-/// defines its own steps.
+/// defines its own `step`.
 pub trait TakesEvents {
-    /// An event may be answered with this reply, and may change the first value to the second.
+    /// Whether an event may be answered with this reply and change the first value to the second.
     ghost step: { Self → Happening → EventReply → Self → Type 0 };
 
     /// Carries out `event`, and returns its one reply.

@@ -1,4 +1,4 @@
-// The answers if a file can't be read.
+// Writes the answer of a command whose file can't be read.
 
 ghost use Rattle.std.specs.Prelude.{◌≡◌, false};
 ghost use Rattle.program_parts.specs.Refusal.{memory_text};

@@ -1,4 +1,4 @@
-// Commands that need the bytes of a file.
+// Carries out commands that need the bytes of a file.
 
 ghost use Rattle.std.specs.Prelude.{◌≡◌};
 ghost use Rattle.requests.specs.Request.{request_of};

@@ -9,6 +9,6 @@ use Rattle.store.specs.declared.placed_entry.PlacedEntry.{PlacedEntry}
 abbrev pub HasFile : State → (name bytes : List ℕ) → Type 0
 HasFile s name bytes = Contains s.libraries (record { name = name; bytes = bytes })
 
--- the store lists this entry, which has this name
+-- the store lists the entry `placed`, and the name of this entry is `name`
 abbrev pub HasEntry : {D : Type 0} → Opened D → (name : List ℕ) → PlacedEntry → Type 0
 HasEntry store name placed = Contains store.entries placed × (name_of placed.entry ≡ name)

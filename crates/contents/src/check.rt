@@ -38,8 +38,8 @@ pub fn finding_of(alloc: Global, name: &[u8], file: &[u8]) -> Result<Finding, Al
 }
 
 impl<D: Disk> Contents<D> {
-    /// Reads the library at `position`, each of its sectors once, and returns the finding. Fails
-    /// only if memory is refused, for the bytes or for a test.
+    /// Reads each sector of the library at `position` once, and returns the finding. Fails only if
+    /// memory is refused, for the bytes or for a test.
     pub fn check_at(&mut self, alloc: Global, position: usize) -> Result<Finding, AllocError>
         requires { position < length self.old.entries }
         ensures read { IsRead D.facts self.old self.new }
@@ -67,10 +67,10 @@ impl<D: Disk> Contents<D> {
         }
     }
 
-    /// Returns a finding for each library, in their order. If a library is damaged or can't be
-    /// read, its finding reports this, and the next library is tested. Frees the bytes of each
-    /// library before it reads the next one, and reads each sector once. Ends early only if memory
-    /// is refused.
+    /// Returns a finding for each library, in the order of the libraries. If a library is damaged
+    /// or can't be read, its finding reports this, and the next library is tested. Frees the bytes
+    /// of each library before it reads the next one, and reads each sector once. Ends early only if
+    /// memory is refused.
     pub fn check(&mut self, alloc: Global) -> Result<Vec<Finding>, AllocError>
         ensures read { IsRead D.facts self.old self.new }
         ensures all { IfOk result (λ findings.

@@ -1,4 +1,4 @@
-// The digests of installed libraries.
+// Computes the digests of installed libraries.
 ghost use Rattle.std.specs.Prelude.{◌≡◌, ◌≢◌, ◌+◌, ◌<◌, ◌≤◌, ◌↔◌, ℕ, List, All, Err, IfErr, IfOk};
 ghost use Rattle.std.specs.Prelude.{None, OnOk, Option, count_by, is_none, length};
 ghost use Rattle.std.specs.Prelude.{slice_index_or, sum_by};
@@ -48,10 +48,10 @@ impl<D: Disk> Contents<D> {
         }
     }
 
-    /// Returns the SHA-256 of the bytes of each library, in their order, and `None` for each
-    /// library that can't be read. Doesn't test whether the files are still libraries. Frees the
-    /// bytes of each library before it reads the next one, and reads each sector once. Ends early
-    /// only if memory is refused.
+    /// Returns the SHA-256 of the bytes of each library, in the order of the libraries. For a
+    /// library that can't be read, returns `None` instead. Doesn't test whether the files are still
+    /// libraries. Frees the bytes of each library before it reads the next one, and reads each
+    /// sector once. Ends early only if memory is refused.
     pub fn digests(&mut self, alloc: Global) -> Result<Vec<Option<[u8; 32]>>, AllocError>
         ensures read { IsRead D.facts self.old self.new }
         ensures all { IfOk result (λ digests.

@@ -1,4 +1,4 @@
-// The bytes of a library.
+// Reads the bytes of a library.
 ghost use Rattle.std.specs.Prelude.{◌≡◌, ◌≢◌, ◌<◌, ◌↔◌, ℕ, List, Err, All, IfOk, IfErr, OnOk};
 ghost use Rattle.std.specs.Prelude.{length, slice_index_or};
 ghost use Rattle.std.specs.Int.{div_ceil};
@@ -17,8 +17,8 @@ use std::alloc::Global;
 use store::StoreRefusal;
 
 impl<D: Disk> Contents<D> {
-    /// Returns the bytes of the library at `position`. Reads each of its sectors once, and doesn't
-    /// test whether the file is a library. Fails with `Unreadable` or `OutOfMemory`.
+    /// Returns the bytes of the library at `position`. Reads each of the library's sectors once,
+    /// and doesn't test whether the file is a library. Fails with `Unreadable` or `OutOfMemory`.
     pub fn read(&mut self, alloc: Global, position: usize) -> Result<Vec<u8>, Unread>
         requires { position < length self.old.entries }
         ensures read { IsRead D.facts self.old self.new }

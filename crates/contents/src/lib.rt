@@ -4,7 +4,7 @@
 //! `Contents::open` opens a disk of version 2 only for reading. `file` returns a library's bytes,
 //! and `info` returns the numbers of the whole disk. `check` returns a finding for each library,
 //! and `digests` returns the SHA-256 of each library. A library that is damaged or can't be read
-//! doesn't prevent the others from being read.
+//! doesn't prevent the other libraries from being read.
 #![tactic(auto)]
 
 mod check;

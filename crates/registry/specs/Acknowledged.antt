@@ -22,12 +22,12 @@ pub data Exchange : Type 0 where
   -- a request that asks for no change of the state, such as a step of a binder
   stepped : Exchange
 
--- the exchanges of commands with their replies
+-- commands and their replies as exchanges, with one exchange for each command
 abbrev pub commanded : List Request → List Reply → List Exchange
 commanded (request ∷ requests) (answer ∷ answers) = answered (command request) answer ∷ commanded requests answers
 commanded requests answers = []
 
--- the acknowledged commands and updates, in their order: those that were answered Done
+-- the commands and updates that were answered Done, in the order of the exchanges
 abbrev pub acknowledged : List Exchange → List Transaction
 acknowledged (answered asked answer ∷ exchanges) = if is_acknowledged answer then asked ∷ acknowledged exchanges else acknowledged exchanges
 acknowledged (given_up ∷ exchanges) = acknowledged exchanges
@@ -51,8 +51,8 @@ IsAcknowledgedAt exchanges k = (asked : Transaction) × (slice_get exchanges k �
 abbrev pub FailedAt : List Exchange → ℕ → Transaction → Type 0
 FailedAt exchanges k asked = slice_get exchanges k ≡ Some (answered asked (Refused Device))
 
--- `taken` has the accepted commands and updates: the acknowledged ones, and perhaps one more at the end,
--- which was answered with S1
+-- `taken` lists the accepted commands and updates. These are all acknowledged commands and updates and,
+-- possibly after them, one that was answered with S1.
 abbrev pub AreAccepted : List Exchange → List Transaction → Type 0
 AreAccepted exchanges taken = (taken ≡ acknowledged exchanges)
     ⊎ ((k : ℕ) × (asked : Transaction) × FailedAt exchanges k asked × (taken ≡ acknowledged exchanges ++ asked ∷ []))

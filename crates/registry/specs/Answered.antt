@@ -1,4 +1,5 @@
--- How a command is answered on any disk, even on a disk that lies, and what the command leaves (own).
+-- How a command is answered on any disk, even on a disk that lies, and how the command changes the
+-- registry (own).
 use Rattle.std.specs.Prelude.{◌≡◌, ◌≢◌, ◌<◌, ◌↔◌, IsTrue, IsFalse, List, [], ◌∷◌, None}
 use Rattle.sector_disk.specs.Disk.{DiskFacts, AreCalls}
 use Rattle.store.specs.Holds.{KeepsHeld, AreHolds}
@@ -46,7 +47,7 @@ IsPreloadsRefusal TooManyPreloads = Unit
 IsPreloadsRefusal RepeatedPreload = Unit
 IsPreloadsRefusal other = IsChangeRefusal other
 
--- the refusals of a bind: B1 to B5, S1, S2, S5, and S11 whenever memory is refused
+-- the refusals of a bind: B1 to B5, S1, S2, S5 and S11; if memory is refused, the refusal is S11
 abbrev pub IsBindRefusal : Refusal → Type 0
 IsBindRefusal (Bind binding.OutOfMemory) = ⊥
 IsBindRefusal (Bind refusal) = Unit
@@ -107,7 +108,7 @@ Leaves old new (bind program base) answer = KeepsState old new × (program_refus
 Leaves old new list answer = new ≡ old
 Leaves old new change answer = ChangeLeaves old new answer
 
--- what a command that was answered with `answer` did, on any disk
+-- On any disk, a command was answered with `answer`, and changed the registry from `old` to `new`.
 pub record Did {D : Type 0} (facts : D → DiskFacts) (old new : Opened D) (request : Request) (answer : Reply) : Type 0 where
   -- The answer is S2 if and only if a write or a sync failed before. In that case nothing is done.
   pub reopen : (answer ≡ Refused Reopen) ↔ IsTrue old.failed
@@ -123,7 +124,8 @@ pub record Did {D : Type 0} (facts : D → DiskFacts) (old new : Opened D) (requ
   pub holds_after : AreHolds new
   pub calls : AreCalls (facts old.disk) (facts new.disk)
 
--- the command did what `Did` defines, and `answer` is one of the answers that the command may get
+-- the command had the effect that `Did` defines, and `answer` is one of the answers that the command may
+-- get
 pub record Answered {D : Type 0} (facts : D → DiskFacts) (old new : Opened D) (request : Request) (answer : Reply) : Type 0 where
   pub did : Did facts old new request answer
   pub answers : IsAnswerTo request answer

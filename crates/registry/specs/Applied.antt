@@ -13,16 +13,16 @@ use Rattle.registry.specs.Stands.{Stands}
 use Rattle.registry.specs.Opened.{IsAt}
 use Rattle.registry.specs.Phase.{phase_of}
 
--- How a command may be answered in a state, and what a stop within the command may leave. `Holds`
--- defines which state a list of sectors holds.
+-- The sectors that a stop during a command may leave. `Holds` defines which state a list of sectors
+-- holds.
 module _ (Holds : List Sector → State → Type 0) where
-  -- The answer is S1, no test refuses the command, and the sectors m hold the state after the command: a
-  -- failing device cut the change off, but the change took effect.
+  -- The answer is S1, although no test refuses the command, and the sectors m hold the state after the
+  -- command. So a failing device cut the change off, but the change took effect.
   abbrev pub InFlightBy : Phase → Request → Reply → List Sector → Type 0
   InFlightBy p request answer m = (answer ≡ Refused Device) × (refusal_at p request ≡ None) × Holds m (accepted p.state request)
 
-  -- the sectors m hold the state before the command, the state after it, or the state after a change
-  -- that S1 cut off
+  -- the sectors m hold the state before the command, the state after the command, or the state after a
+  -- change for which `InFlightBy` holds
   abbrev pub MayLeaveBy : Phase → Request → Reply → State → List Sector → Type 0
   MayLeaveBy p request answer s' m = Holds m p.state ⊎ Holds m s' ⊎ InFlightBy p request answer m
 
@@ -36,7 +36,7 @@ pub record AppliedBy (Holds : List Sector → State → Type 0) (StepsTo : Phase
   -- at the end the registry is at s'; or a write or a sync failed, and s' equals s
   pub kept : At new s' ⊎ (IsTrue new.failed × (s' ≡ s))
 
--- a change of a registry was cut off by a failing device, and took effect in the sectors m
+-- a failing device cut off a change of a registry, but the sectors m hold the state after the change
 abbrev pub InFlight : Phase → Request → Reply → List Sector → Type 0
 InFlight p request answer m = InFlightBy Stands p request answer m
 

@@ -21,7 +21,7 @@ calls_of s (set_preloads names) = 2
 calls_of s (bind program base) = bind_sectors s program
 calls_of s list = 0
 
--- P holds if the command was accepted
+-- if the command was accepted, P holds
 abbrev pub IfAccepted : Reply → Type 0 → Type 0
 IfAccepted (Refused refusal) P = Unit {0}
 IfAccepted answer P = P

@@ -30,8 +30,8 @@ draft_phase facts u d = record {
   state = d;
 }
 
--- No test refuses the library, but a write of it failed. The draft is unchanged, and every later answer
--- is S2.
+-- No test refuses the library, but a write of its file failed. The draft is unchanged, and every later
+-- answer is S2.
 pub record LosesDraft (p : Phase) (request : Request) (p' : Phase) : Type 0 where
   pub sectors : p'.sectors ≡ p.sectors
   pub risen : p.failures < p'.failures
@@ -39,8 +39,8 @@ pub record LosesDraft (p : Phase) (request : Request) (p' : Phase) : Type 0 wher
   pub untested : refusal_at p request ≡ None
   pub state : p'.state ≡ p.state
 
--- The step table tests a change of a draft. An accepted change is planned: the draft then includes the
--- change, and keeps the generation of the current state.
+-- How a change of a draft may be answered. The step table tests the change. An accepted change is
+-- planned: the draft then includes the change, and keeps the generation of the current state.
 abbrev pub PlanStep : Phase → Request → Reply → Phase → Type 0
 PlanStep p request (Refused Device) p' = IsFalse p.failed × LosesDraft p request p'
 PlanStep p request (Refused refusal) p' = Step p request (Refused refusal) p'
@@ -66,8 +66,9 @@ pub record AppliedDraft {D : Type 0} (facts : D → DiskFacts) (old new : Drafte
 abbrev pub AppliesDraft : {D : Type 0} → (D → DiskFacts) → Drafted D → Drafted D → State → State → Request → Reply → Type 0
 AppliesDraft facts old new s d request answer = (d' : State) × AppliedDraft facts old new s d d' request answer
 
--- A program was bound with a draft at state d. Each library that it needs was read at most once, and
--- exactly once if the answer is an image. No other library was read, and nothing was written.
+-- A program was bound with a draft at state d. Each library that the program needs was read at most
+-- once; if the answer is an image, each of these libraries was read exactly once. No other library was
+-- read, and nothing was written.
 pub record ReadsForBind {D : Type 0} (facts : D → DiskFacts) (old new : Drafted D) (d : State) (program : List ℕ) (answer : Reply) : Type 0 where
   pub unchanged : IsUnchanged (facts old.store.disk) (facts new.store.disk)
   pub most_calls : AreCallsAtMost (bind_sectors d program) (facts old.store.disk) (facts new.store.disk)

@@ -14,8 +14,8 @@ use Rattle.requests.specs.declared.reply.Reply.{Reply}
 use Rattle.requests.specs.declared.reply.Reply.TheVariants.{Bound, Refused}
 use Rattle.registry.specs.Binding.{data_sectors}
 
--- a binder's program, its base, the state in which it was begun, and the number of its steps that were
--- answered Going
+-- the flight of a binder: its program, its base, the state in which the binder was begun, and the number
+-- of its steps that were answered Going
 pub record Flight : Type 0 where
   pub program : List ℕ
   pub base : ℕ
@@ -39,19 +39,19 @@ abbrev pub goings_by : Option BindRefusal → List Named → ℕ
 goings_by None order = length order
 goings_by (Some refusal) order = 0
 
--- The number of steps that are answered Going before the last step. One of them tests the program, and
--- each of the others reads a library of the load order. If a test refuses the program by itself, the
--- number is 0.
+-- The number of steps that are answered Going before the last step. The first of these steps tests the
+-- program, and each later one reads a library of the load order. If a test refuses the program by
+-- itself, the number is 0.
 abbrev pub goings : Flight → ℕ
 goings f = goings_by (program_refusal f.program f.base) (flight_order f)
 
--- the number of sectors of the library at place `k` of the load order, or 0 if no library is there
+-- the number of sectors of the library at place `k` of the load order, or 0 if that place has no library
 abbrev pub sectors_at : ℕ → List Named → ℕ
 sectors_at zero order = 0
 sectors_at (suc k) order = sum_by (λ o. data_sectors o.file) (take 1 (drop (suc k) order))
 
 -- the number of sectors that the next step reads: those of the library at place `going` of the load
--- order, or 0 if no library is there
+-- order, or 0 if that place has no library
 abbrev pub step_sectors : Flight → ℕ
 step_sectors f = sectors_at f.going (flight_order f)
 
@@ -61,8 +61,8 @@ pub record IsBounded (f : Flight) : Type 0 where
   pub steps : goings f ≤ length f.state.libraries + 1
   pub sectors : (n : ℕ) → All (λ library. data_sectors library.bytes ≤ n) f.state.libraries → step_sectors f ≤ n
 
--- the answer of a bind in state s: the image, with the defined byte at each address, or the first
--- refusal
+-- The answer of a bind in state s. Either it is the image, with the byte that `byte_of` defines at each
+-- address; or it is the first refusal.
 abbrev pub IsBindOf : State → List ℕ → ℕ → Reply → Type 0
 IsBindOf s program base (Bound image) = (binding_refusal s program base ≡ None) × (image ≡ bound_image s program base)
     × ((a : ℕ) → image_byte image a ≡ byte_of (bound_objects s program base) a)

@@ -1,4 +1,4 @@
--- The effect of beginning a binder, of its steps, and of ending it (own).
+-- The effect of beginning a binder, of making its steps, and of ending it (own).
 use Rattle.std.specs.Prelude.{◌≡◌, ◌↔◌, ◌⊎◌, ◌<◌, ◌+◌, ℕ, List, length, slice_index_or, IsTrue, Result, Ok, Err, IfOk, IfErr, OnErr}
 use Rattle.sector_disk.specs.Disk.{DiskFacts, Mixture, IsUnchanged, LeavesOnly, AreCalls, AreCallsAtMost, AreCallsExactly}
 use Rattle.image.specs.Refusal.{WantsMemory}
@@ -19,7 +19,7 @@ use Rattle.registry.specs.declared.binder.Step.{Step}
 use Rattle.registry.specs.declared.binder.Step.TheVariants.{Going, Final}
 use Rattle.registry.specs.inside.Binding.{Binding, HasCome}
 
--- The binder is on this flight: in the current registry it holds the libraries of the state in which it
+-- The binder is on this flight. In the registry `now` it holds the libraries of the state in which it
 -- was begun. specs/inside/Binding.antt defines how far the binder has come. Nobody has to believe that
 -- definition, because each step below moves the binder on its flight.
 pub record Flies {D : Type 0} (facts : D → DiskFacts) (now : Opened D) (binder : Binding) (flight : Flight) : Type 0 where
@@ -89,7 +89,7 @@ abbrev pub IsLastStep : Step → Type 0
 IsLastStep Going = Unit {0}
 IsLastStep (Final answer) = IsLast answer
 
--- A step of a binder was answered with `result`. It only reads.
+-- A step of a binder was answered with `result`. The step only reads.
 pub record Advances {D : Type 0} (facts : D → DiskFacts) (old new : Opened D) (before after : Binding) (result : Result Step Refusal) : Type 0 where
   pub step : (flight : Flight) → Flies facts old before flight → IsStep facts old new flight after result
   pub bounds : (flight : Flight) → Flies facts old before flight → IsBounded flight
@@ -110,8 +110,8 @@ pub record Advances {D : Type 0} (facts : D → DiskFacts) (old new : Opened D) 
   pub answers : IfOk result IsLastStep
   pub calls : AreCalls (facts old.disk) (facts new.disk)
 
--- A binder is ended, and releases what it held. Another binder stays on its flight if its byte strings
--- are still held.
+-- A binder is ended, and releases the byte strings that it held. Another binder stays on its flight if
+-- its byte strings are still held.
 pub record Ends {D : Type 0} (facts : D → DiskFacts) (old new : Opened D) (binder : Binding) : Type 0 where
   pub let_go : LetsAllGo facts old new (handles_of binder)
   pub same : (s : State) → IsAt facts old s → IsAt facts new s

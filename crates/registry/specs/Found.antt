@@ -10,7 +10,7 @@ use Rattle.requests.specs.declared.refusal.Refusal.TheVariants.{Device, Reopen, 
 use Rattle.registry.specs.Binding.{data_sectors}
 use Rattle.registry.specs.Untested.{ReadsLibraries}
 
--- the libraries that are found and, if needed names aren't installed, one of these names
+-- the libraries that are found, and a needed name that isn't installed, if there is one
 pub record Found : Type 0 where
   pub libraries : List Library
   pub missing : Option Need
@@ -23,9 +23,9 @@ found_sectors found = sum_by (λ library. data_sectors library.bytes) found.libr
 abbrev pub IsKnown : State → List Library → Need → Type 0
 IsKnown s libraries need = is_missing (names_of (objects s)) need ≡ is_missing (names_of (map object_of libraries)) need
 
--- The program and the found libraries are the program's load order, `missing` is the first missing name,
--- and each found file is a library. A name that one of these objects needs is missing if and only if no
--- found library has that name.
+-- The program and the found libraries form the program's load order, `missing` is the first missing
+-- name, and each found file is a library. A name that one of these objects needs is missing if and only
+-- if no found library has that name.
 pub record IsFoundFor (s : State) (program : List ℕ) (found : Found) : Type 0 where
   pub order : load_order program (objects s) (preload_numbers s) ≡ available program (map object_of found.libraries)
   pub lacks : missing program (objects s) (preload_numbers s) ≡ found.missing

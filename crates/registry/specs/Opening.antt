@@ -41,7 +41,7 @@ pub record EndsUpgrading {D : Type 0} (facts : D → DiskFacts) (disk : D) (upgr
   -- a disk that doesn't have version 1 is unchanged
   pub left_alone : IsTrue (facts disk).honest → IsNotOld (facts disk).now → LeavesOnly (facts disk) (facts (disk_after upgrading)) (Mixture (facts disk))
   pub now : IsTrue (facts disk).honest → IsNotOld (facts disk).now → (facts (disk_after upgrading)).now ≡ (facts disk).now
-  -- if no call failed, a refused disk is unchanged too
+  -- if the disk is refused, but not with S1, it is unchanged too
   pub unwritten : IsTrue (facts disk).honest → IfErr upgrading (λ e. e.0 ≢ Device → LeavesOnly (facts disk) (facts e.1) (Mixture (facts disk)))
   pub now_refused : IsTrue (facts disk).honest → IfErr upgrading (λ e. e.0 ≢ Device → (facts e.1).now ≡ (facts disk).now)
   -- the registry is at the state that the disk held or, if the disk had version 1, at the upgraded state

@@ -7,7 +7,7 @@ use Rattle.store.specs.Step.{longest_unused}
 use Rattle.states.specs.State.{State}
 use Rattle.requests.specs.Phase.{Phase}
 
--- the phase of a registry that is at state s: all that the step table needs to know
+-- the phase of a registry at state s: the facts that the step table uses
 abbrev pub phase_of : {D : Type 0} → (D → DiskFacts) → Opened D → State → Phase
 phase_of facts registry s = record {
   sectors = (facts registry.disk).sectors;

@@ -1,4 +1,4 @@
--- What is done to a registry on a disk, one exchange after the other (own).
+-- Runs: exchanges with a registry on a disk, made one after the other (own).
 use Rattle.std.specs.Prelude.{◌≡◌, ◌⊎◌, ◌+◌, ◌<◌, ◌≤◌, ℕ, IsTrue, List, [], ◌∷◌, length, take, map}
 use Rattle.sector_disk.specs.Disk.{Sector, DiskFacts, MixtureAt, Mixture, LeavesOnly, KeepsPast, AreCallsExactly}
 use Rattle.store.specs.Draft.{Drafted, begun}
@@ -17,8 +17,8 @@ use Rattle.registry.specs.Calls.{IfAccepted, calls_of}
 use Rattle.registry.specs.Updating.{IsUpdate, updated}
 use Rattle.registry.specs.Acknowledged.{Transaction, command, update, Exchange, answered, given_up, stepped, commanded, acknowledged, state_after, AreAccepted, IsAcknowledgedAt}
 
--- a registry between two exchanges, and its state; after a failed write or sync, the state is the one
--- before that exchange
+-- a registry between two exchanges, and its state; if a write or a sync failed in an exchange, the state
+-- is the one before that exchange
 pub record Point (D : Type 0) : Type 0 where
   pub registry : Opened D
   pub state : State
@@ -44,7 +44,8 @@ pub record Goes {D : Type 0} (facts : D → DiskFacts) (p : Point D) (request : 
   pub did : Did facts p.registry p'.registry request answer
   pub applied : AppliesAt facts p request answer p' ⊎ (IsTrue p.registry.failed × (p' ≡ p))
 
--- the registry stays at its state, and meanwhile a stop leaves only what a stop could leave before
+-- The registry stays at its state. From p to p', a stop leaves only sectors that a stop could leave at
+-- p.
 pub record IdlesAt {D : Type 0} (facts : D → DiskFacts) (p p' : Point D) : Type 0 where
   pub before : IsAt facts p.registry p.state
   pub after : IsAt facts p'.registry p'.state
@@ -107,8 +108,8 @@ module _ {D : Type 0} (facts : D → DiskFacts) (start : Point D) (exchanges : L
   abbrev pub HasBegun : ℕ → ℕ → Type 0
   HasBegun k moment = (i : ℕ) → i + 1 ≡ k → (disk_at facts (after start points i)).time ≤ moment
 
-  -- every command and update that was acknowledged by this moment is among the first k exchanges; any
-  -- later one was acknowledged after this moment
+  -- every command and update that was acknowledged by this moment is among the first k exchanges; every
+  -- later command or update was acknowledged after this moment, if at all
   abbrev pub HoldsAcknowledged : ℕ → ℕ → Type 0
   HoldsAcknowledged k moment = (i : ℕ) → k ≤ i → IsAcknowledgedAt exchanges i → moment < (disk_at facts (after start points (i + 1))).time
 
@@ -141,7 +142,7 @@ abbrev pub RunsThrough : {D : Type 0} → (D → DiskFacts) → Opened D → Lis
 RunsThrough facts old registries new s exchanges = (s' : State) × (points : List (Point _))
     × (map (λ (p : Point _). p.registry) points ≡ registries) × Ran facts (point old s) exchanges points (point new s')
 
--- commands were answered, with one reply for each
+-- commands were answered, with one reply for each command
 abbrev pub RunsOver : {D : Type 0} → (D → DiskFacts) → Opened D → Opened D → State → List Request → List Reply → Type 0
 RunsOver facts old new s requests answers = (registries : List (Opened _)) × (length answers ≡ length requests)
     × RunsThrough facts old registries new s (commanded requests answers)

@@ -20,7 +20,7 @@ use Rattle.registry.specs.Opening.{opening_calls}
 use Rattle.registry.specs.Ran.{RunsOver}
 use Rattle.registry.specs.Acknowledged.{Transaction, commanded, AreAccepted, state_after}
 
--- whatever a stop leaves of the disk holds state s
+-- every mixture that a stop of the disk may leave holds state s
 abbrev pub AlwaysStands : Memory → State → Type 0
 AlwaysStands disk s = (m : List Sector) → Mixture (memory_facts disk) m → Stands m s
 
@@ -50,8 +50,8 @@ pub record IsFused (disk : Memory) (round : Round) (fuse : Fuse Memory) : Type 0
   pub time : (fused_memory fuse).time ≡ 0
   pub failures : (fused_memory fuse).failures ≡ 0
 
--- The choice for sector number `at`. The picks are repeated as often as needed; if there are none, the
--- choice is 0.
+-- The pick for sector number `at`. The list of picks is repeated as often as needed. If the list is
+-- empty, the pick is 0.
 abbrev pub picked : List ℕ → ℕ → ℕ
 picked picks at = slice_index picks (at % length picks)
 
@@ -64,8 +64,8 @@ pub record IsStoppedBy (picks : List ℕ) (disk stopped : Memory) : Type 0 where
       ≡ sector (memory_choices disk at) (picked picks at % length (memory_choices disk at))
   pub choices : HasOneChoice stopped
 
--- An opening writes nothing: a stop leaves only what a stop could leave before, and reads return the
--- same bytes.
+-- An opening writes nothing: a stop leaves only sectors that a stop could leave before the opening, and
+-- reads return the same bytes.
 pub record WritesNothing (before after : DiskFacts) : Type 0 where
   pub leaves : LeavesOnly before after (Mixture before)
   pub now : after.now ≡ before.now

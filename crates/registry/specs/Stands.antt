@@ -5,7 +5,7 @@ use Rattle.states.specs.State.{State}
 use Rattle.store.specs.Stands as store
 use Rattle.requests.specs.Library.{IsLibrary}
 
--- the sectors m hold state s, and each of its files is a library whose name is its SONAME
+-- the sectors m hold state s, and each file of s is a library whose name is its SONAME
 pub record Stands (m : List Sector) (s : State) : Type 0 where
   pub stored : store.Stands m s
   pub libraries : All IsLibrary s.libraries

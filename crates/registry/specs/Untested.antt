@@ -23,7 +23,8 @@ use Rattle.registry.specs.Applied.{AppliedBy}
 abbrev pub ReadsLibraries : State → List ℕ → Type 0
 ReadsLibraries s program = All (λ o. IsLibrary (record { name = o.name; bytes = o.file })) (drop 1 (load_order program (objects s) (preload_numbers s)))
 
--- an answer that a bind can return only after it has read all of these files: an image, or B3 to B5
+-- an answer that a bind can return only after it has read all files of the load order: an image, or B3
+-- to B5
 abbrev pub ComesBehindReading : List ℕ → ℕ → Reply → Type 0
 ComesBehindReading program base (Bound image) = Unit {0}
 ComesBehindReading program base (Refused (Bind refusal)) = program_refusal program base ≡ None

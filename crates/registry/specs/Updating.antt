@@ -1,4 +1,4 @@
--- An update: requests to a draft of the current state, none of which was refused (own).
+-- An update: requests to a draft of the current state, which were all accepted (own).
 use Rattle.std.specs.Prelude.{◌≡◌, List, [], ◌∷◌, Bool, true, false, if◌then◌else◌, All}
 use Rattle.std.specs.List.{list_any}
 use Rattle.sector_disk.specs.Disk.{DiskFacts}
@@ -24,13 +24,14 @@ abbrev pub is_refusal : Reply → Bool
 is_refusal (Refused refusal) = true
 is_refusal reply = false
 
--- the draft's state after requests that were accepted one after the other; it keeps the generation of d
+-- the state of a draft that was at d, after requests that were accepted one after the other; its
+-- generation is that of d
 abbrev pub drafted_by : State → List Request → State
 drafted_by d [] = d
 drafted_by d (request ∷ requests) = drafted_by (drafted d (accepted d request)) requests
 
 -- The state that an update makes from the current state s: the state after its requests, with the next
--- generation. If no request asks for a change, it is s.
+-- generation. If no request asks for a change, the state is s.
 abbrev pub updated : State → List Request → State
 updated s requests = if list_any asks_change requests then next s (drafted_by s requests).libraries (drafted_by s requests).preloads else s
 

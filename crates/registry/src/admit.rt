@@ -75,8 +75,8 @@ fn admit_at<D: Disk>(
     Ok(bytes)
 }
 
-/// Reads each file once, all into one buffer, and tests that each is a library with its entry's
-/// name.
+/// Reads each file of `store` once, into the same buffer, and tests that the file is a library with
+/// its entry's name.
 pub(crate) fn admit_files<D: Disk>(alloc: Global, store: &mut Store<D>) -> Result<(), StoreRefusal>
     ensures read { IsRead D.facts store.old store.new }
     ensures ok { (s : State) → IsAt D.facts store.old s

@@ -55,7 +55,7 @@ impl<D: Disk> Registry<D> {
     }
 
     /// Applies `command`. On an honest disk the answer is a step of the step table, and a refusal
-    /// is the first one that applies there. Removing a library and setting the preloads allocate no
+    /// is the first one that applies. Removing a library and setting the preloads allocate no
     /// memory. A listing makes no call of the disk. A bind reads the files of the program's load
     /// order.
     pub fn apply(&mut self, command: &Command<'_>) -> Reply
@@ -81,7 +81,7 @@ impl<D: Disk> Registry<D> {
     }
 
     /// Applies `commands` one after the other, and returns one reply for each command. If memory
-    /// for the replies is refused, applies none.
+    /// for the replies is refused, applies no command.
     pub fn run(&mut self, commands: &[Command<'_>]) -> Result<Vec<Reply>, AllocError>
         // Each command is applied to the registry that the command before it left. A stop at any
         // moment leaves the state after a prefix of the accepted commands. This prefix contains

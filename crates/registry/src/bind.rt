@@ -37,9 +37,10 @@ impl<D: Disk> Registry<D> {
     ghost use Rattle.registry.specs.Untested.{AppliedUntested, UntestedStep};
     ghost use Rattle.store.specs.IsRead.{IsRead};
 
-    /// Returns the image of an admitted program at `base`, which no test refuses, or a refusal. The
-    /// first refused read decides: S1 (Device), S5 (Damaged) or S11 (OutOfMemory). If no read is
-    /// refused, the refusal is B3 (Missing), B4 (NoRoom) or B5 (Undefined).
+    /// Returns the image of an admitted program at `base`, or a refusal. Requires that no test
+    /// refuses the program by itself. If a read is refused, the refusal is S1 (Device), S5
+    /// (Damaged) or S11 (OutOfMemory), and no further file is read. Otherwise the refusal is B3
+    /// (Missing), B4 (NoRoom), B5 (Undefined) or, if memory is refused, S11.
     fn bind_admitted(&mut self, program: &Admitted<'_>, base: u64) -> Result<Image, Refusal>
         requires { program_refusal program.now base ≡ None }
         ensures step { (s : State) → IsAt D.facts self.old s

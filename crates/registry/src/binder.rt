@@ -85,7 +85,7 @@ fn look<D: Disk>(
     Ok(walk)
 }
 
-/// Makes the last step: binds the program with what the walk has found.
+/// Makes the last step: binds the program with the findings of the walk.
 fn answer(alloc: Global, program: &[u8], base: u64, walk: &Walk) -> Result<Image, BindRefusal>
     requires { program_refusal program.now base ≡ None }
     ensures { IsBoundBy program.now base walk.now.needs.missing walk.now.files.items result }
@@ -191,9 +191,9 @@ impl Binder {
 impl<D: Disk> Registry<D> {
     ghost use Rattle.registry.specs.Flying.{Advances, Begins, Ends};
 
-    /// Begins to bind the program `program` at `base`, with the current libraries and preloads,
-    /// whatever changes later. Copies the program, holds each library, and makes no call of the
-    /// disk. Refuses with S2 (Reopen) or S11 (OutOfMemory).
+    /// Begins to bind the program `program` at `base`, with the current libraries and preloads.
+    /// Later changes of the registry don't affect the bind. Copies the program, holds each library,
+    /// and makes no call of the disk. Refuses with S2 (Reopen) or S11 (OutOfMemory).
     pub fn begin(&mut self, program: &[u8], base: u64) -> Result<Binder, Refusal>
         ensures { Begins D.facts self.old self.new program.now base result }
     {
@@ -231,8 +231,8 @@ impl<D: Disk> Registry<D> {
         binder.step(self.alloc, &mut self.store)
     }
 
-    /// Ends `binder`, finished or not, and releases what it held. Allocates no memory and makes no
-    /// call of the disk. May also be called after S2 (Reopen).
+    /// Ends `binder`, finished or not, and releases the libraries that it held. Allocates no memory
+    /// and makes no call of the disk. May also be called after S2 (Reopen).
     pub fn end(&mut self, binder: Binder)
         ensures { Ends D.facts self.old self.new binder }
     {

@@ -1,5 +1,5 @@
-// The changes that allocate no memory and need no file: first the tests of the command, then the
-// store's call.
+// Carries out the changes that allocate no memory and need no file. Each change makes the tests of
+// its command, and then calls the store.
 use crate::refusal::in_words;
 use crate::registry::Registry;
 use crate::tests::{test_preloads, test_remove};

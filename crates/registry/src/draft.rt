@@ -1,4 +1,4 @@
-// The draft of an update as a list of libraries, which tests, listings and walks use.
+// Makes the draft of an update a list of libraries, for tests, listings and walks.
 ghost use Rattle.std.specs.Prelude.{◌≡◌, length, refl};
 ghost use Rattle.states.specs.State.{State};
 ghost use Rattle.store.specs.Draft.{IsDraftedAt};

@@ -16,8 +16,8 @@ use sector_disk::Disk;
 use std::alloc::{AllocError, Global};
 use std::marker::Model;
 
-/// The libraries that a program needs, in load order, as far as they are installed. In contracts,
-/// this value is these libraries and the first needed name that isn't installed.
+/// The installed libraries that a program needs, in load order. In contracts, the value is the list
+/// of these libraries, and the first needed name that isn't installed, if there is one.
 #[derive(Drop)]
 pub struct FoundLibraries {
     files: Vec<LibraryFile>,
@@ -50,7 +50,7 @@ impl FoundLibraries {
         libraries_of(alloc, &self.files)
     }
 
-    /// Returns whether a needed name isn't installed.
+    /// Returns whether at least one needed name isn't installed.
     pub fn lacks_some(&self) -> bool
         ensures { result ≡ is_some self.now.missing }
     {

@@ -2,7 +2,7 @@
 //!
 //! `Registry::format` makes a disk a registry, and `Registry::open` opens it again. A stop at any
 //! moment leaves sectors that hold the state before a change or the state after it.
-//! `Registry::upgrade` makes a disk of version 1 one of version 2. Between calls no byte of a
+//! `Registry::upgrade` changes a disk of version 1 to version 2. Between calls no byte of a
 //! library's file is kept in memory, except the files that a binder has read. specs/Stands.antt
 //! defines which state sectors hold.
 #![tactic(auto)]

@@ -61,7 +61,7 @@ pub(crate) trait Listed {
             ↔ ((i < length s.libraries)
             × ((slice_index_or s.libraries i no_library).name ≡ name.now)) };
 
-    /// Returns the positions of the preloads, in their order.
+    /// Returns the positions of the preloads, in the order of the preloads.
     fn preloads(&self) -> &[u16]
         ensures value { result.now ≡ chosen self.now }
         ensures few { length result.now ≤ most_preloads }

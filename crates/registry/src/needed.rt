@@ -17,9 +17,9 @@ use sector_disk::Disk;
 use std::alloc::Global;
 use store::{Store, StoreRefusal};
 
-/// Reads the installed files that a program needs, in load order: the preloads, and then, level by
-/// level, the files that they and the program need. Each file is read once, whole, and admitted
-/// before the next one is read. No other file is read.
+/// Reads the installed files that a program needs, in load order: first the preloads, and then,
+/// level by level, the files that the program and the preloads need. Each file is read once, as a
+/// whole, and is admitted before the next file is read. No other file is read.
 pub(crate) fn read_needed<D: Disk>(
     alloc: Global,
     store: &mut Store<D>,

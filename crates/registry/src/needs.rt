@@ -1,4 +1,4 @@
-// The needs of the objects of a walk.
+// Collects the needs of the objects of a walk.
 ghost use Rattle.std.specs.Prelude.{◌≡◌, ◌≤◌, ◌+◌, ◌∷◌, [], List, map, take};
 ghost use Rattle.std.specs.Prelude.{length, Some, OnOk, OnErr};
 ghost use Rattle.std.specs.Option.{option_or};
@@ -41,7 +41,8 @@ fn note(
 }
 
 impl Needs {
-    /// Adds the place of the file with this name, or notes that no file has the name.
+    /// Adds the place of the file with the name `name`. If no file has the name, notes it as
+    /// missing.
     fn add_named<N: Named>(
         &mut self,
         alloc: Global,

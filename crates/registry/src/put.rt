@@ -1,4 +1,4 @@
-// Installs a library after the others, or replaces the library with the same name.
+// Installs a library after the other libraries, or replaces the library with the same name.
 use crate::refusal::in_words;
 use crate::registry::Registry;
 use requests::{Refusal, library_name};
@@ -18,9 +18,9 @@ impl<D: Disk> Registry<D> {
     ghost use Rattle.registry.specs.Answered.{IsInstallRefusal, IsReplaceRefusal};
     ghost use Rattle.registry.specs.Untested.{AppliesUntested};
 
-    /// Installs the library `bytes` after the others. Its file is written to unused sectors. The
-    /// calls of the disk are two syncs, and a write for each sector of the file, the entry, each
-    /// catalogue of the new list, and the root.
+    /// Installs the library `bytes` after the other libraries. Writes its file to unused sectors.
+    /// The calls of the disk are two syncs, and a write for each sector of the file, the entry,
+    /// each catalogue of the new list, and the root.
     pub(crate) fn install(&mut self, bytes: &[u8]) -> Result<(), Refusal>
         ensures applied { (s : State) → IsAt D.facts self.old s
             → AppliesUntested D.facts self.old self.new s (install bytes.now) (answer_of result) }

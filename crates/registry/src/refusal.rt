@@ -1,4 +1,4 @@
-// The answers of the store as answers of a registry.
+// Converts answers of the store to answers of a registry.
 ghost use Rattle.std.specs.Prelude.{◌≡◌, IfErr};
 ghost use Rattle.store.specs.Step.{IsRefusalOfPutNew};
 ghost use Rattle.registry.specs.Refusals.{refusal_of};

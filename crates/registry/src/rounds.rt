@@ -1,4 +1,4 @@
-// Rounds of commands over a disk in memory, with a stop after each round.
+// Runs rounds of commands on a disk in memory, and stops the disk after each round.
 use crate::registry::Registry;
 use requests::{Command, Reply};
 use sector_disk::{Fuse, Memory};
@@ -10,13 +10,14 @@ use store::StoreRefusal;
 /// it fails.
 #[derive(Drop)]
 pub struct Round<'a> {
-    /// The commands of the round, in their order.
+    /// The commands of the round, in the order in which they are applied.
     pub commands: Vec<Command<'a>>,
     /// The number of the call that fails, counted from 1. With 0 no call fails.
     pub cut: u64,
     /// Whether the failing call reaches the disk.
     pub late: bool,
-    /// The numbers that pick each sector's contents at the stop. The list is used over and over.
+    /// The numbers that pick each sector's contents at the stop. The list is repeated as often as
+    /// needed.
     pub picks: Vec<usize>,
 }
 
@@ -35,8 +36,8 @@ ghost use Rattle.states.specs.State.{State};
 ghost use Rattle.registry.specs.Rounds.{AlwaysStands, IsFused, IsStoppedBy, RoundLeads};
 ghost use Rattle.registry.specs.Rounds.{picked, standing};
 
-// Returns the choice for sector number `at`. `picks` is used over and over; if it is empty,
-// the first choice is returned.
+// Returns the pick for sector number `at`. `picks` is repeated as often as needed. If `picks` is
+// empty, returns 0.
 fn pick(picks: &[usize], at: u32) -> usize
     ensures { result ≡ picked picks.now at }
 {
@@ -80,14 +81,15 @@ fn run_round(alloc: Global, disk: Memory, round: &Round<'_>) -> (RoundReplies, M
 }
 
 /// Runs `rounds` one after the other. Returns the replies of each round, and the disk after the
-/// last stop. If memory for the list is refused, runs none.
+/// last stop. If memory for the list of replies is refused, runs no round.
 pub fn run_rounds(
     alloc: Global,
     disk: Memory,
     rounds: Vec<Round<'_>>,
 ) -> Result<(Vec<RoundReplies>, Memory), (AllocError, Memory)>
     // If the disk holds a state, each round starts with the disk and the state that the round
-    // before it left. The disk that is returned is the last one, and holds its state.
+    // before it left. The returned disk is the one that the last round left, and holds the state
+    // after this round.
     ensures ok { (s : State) → AlwaysStands disk s → IfOk result (λ done. (s' : State)
         × Run RoundLeads (standing disk s) rounds.entry.items done.0.items (standing done.1 s')
         × AlwaysStands done.1 s') }

@@ -19,7 +19,7 @@ pub(crate) enum Source<'a> {
     Held(&'a Snapshot),
 }
 
-/// Files that are found by their names. Some of them are preloads.
+/// Files that are found by their names. Some of these files are preloads.
 pub(crate) trait Named {
     /// Whether the files have these entries.
     ghost has: { Self → List PlacedEntry → Type 0 };

@@ -1,4 +1,4 @@
-// Those tests of a command that depend only on the list of libraries.
+// Makes the tests of a command that depend only on the list of libraries.
 ghost use Rattle.std.specs.Prelude.{◌≡◌, ◌≢◌, ◌==◌, ◌<◌, ◌≤◌, ◌↔◌, ℕ, All, Err, IfErr, IfOk};
 ghost use Rattle.std.specs.Prelude.{IfSome, IsNone, IsTrue, OnOk, length, map, not, slice_index_or, true};
 ghost use Rattle.std.specs.List.{list_any};
@@ -34,8 +34,8 @@ fn is_preload<L: Listed>(list: &L, position: usize) -> bool
         .any(|preload| *preload as usize == position)
 }
 
-/// Tests whether the library `name` may be removed, with all tests except that of the generation.
-/// Returns the first refusal that applies.
+/// Makes all tests for removing the library `name`, except the test of the generation. Returns the
+/// first refusal that applies.
 pub(crate) fn test_remove<L: Listed>(list: &L, name: &[u8]) -> Result<(), Refusal>
     ensures ok { (s : State) → L.is_at list.now s → (t : Table) → IsTableOf t s
         → OnOk result (first_refusal t (remove name.now)
@@ -64,7 +64,8 @@ pub(crate) fn test_remove<L: Listed>(list: &L, name: &[u8]) -> Result<(), Refusa
     Ok(())
 }
 
-/// Returns the positions of the libraries with these names, or `None` if one isn't installed.
+/// Returns the positions of the libraries with the names `names`. If one of these libraries isn't
+/// installed, returns `None`.
 fn positions_of<L: Listed>(list: &L, names: &[&[u8]]) -> Option<ArrayVec<usize, MOST_PRELOADS>>
     requires { length names.now ≤ most_preloads }
     ensures named { IfSome result (λ positions.
@@ -85,8 +86,8 @@ fn positions_of<L: Listed>(list: &L, names: &[&[u8]]) -> Option<ArrayVec<usize, 
     Some(positions)
 }
 
-/// Tests whether the libraries with these names may be the preloads, with all tests except that of
-/// the generation. Returns their positions, or the first refusal that applies.
+/// Makes all tests for setting the preloads to `names`, except the test of the generation. Returns
+/// the positions of these libraries, or the first refusal that applies.
 pub(crate) fn test_preloads<L: Listed>(
     list: &L,
     names: &[&[u8]],

@@ -23,7 +23,7 @@ use sector_disk::Disk;
 use std::alloc::Global;
 use store::StoreRefusal;
 
-/// Reads the file at `position` of a draft, each of its sectors once, and tests that it is a
+/// Reads each sector of the file at `position` of a draft once, and tests that the file is a
 /// library with its entry's name.
 fn read_drafted<D: Disk>(
     alloc: Global,
@@ -98,9 +98,10 @@ impl<D: Disk> Update<D> {
     ghost use Rattle.registry.specs.Drafting.{draft_phase};
     ghost use Rattle.registry.specs.inside.Drafting.{ReadsBeside};
 
-    /// Returns the image of an admitted program at `base`, which no test refuses, or a refusal. The
-    /// first refused read decides: S1 (Device), S5 (Damaged) or S11 (OutOfMemory). If no read is
-    /// refused, the refusal is B3 (Missing), B4 (NoRoom) or B5 (Undefined).
+    /// Returns the image of an admitted program at `base`, or a refusal. Requires that no test
+    /// refuses the program by itself. If a read is refused, the refusal is S1 (Device), S5
+    /// (Damaged) or S11 (OutOfMemory), and no further file is read. Otherwise the refusal is B3
+    /// (Missing), B4 (NoRoom), B5 (Undefined) or, if memory is refused, S11.
     fn bind_admitted(&mut self, program: &Admitted<'_>, base: u64) -> Result<Image, Refusal>
         requires { program_refusal program.now base ≡ None }
         ensures step { (s d : State) → IsDraftedAt D.facts self.old s d

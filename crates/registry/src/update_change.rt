@@ -1,4 +1,5 @@
-// The changes of an update's draft: first the tests of a command, then the store's call.
+// Changes the draft of an update. Each change makes the tests of its command, and then calls the
+// store.
 use crate::refusal::in_words;
 use crate::tests::{test_preloads, test_remove};
 use crate::update::Update;

@@ -32,7 +32,7 @@ pub(crate) struct Walk {
 }
 
 impl Walk {
-    /// Starts a walk: notes what the program needs, and reads no file.
+    /// Starts a walk: notes the needs of the program, and reads no file.
     pub(crate) fn start<N: Named>(
         alloc: Global,
         names: &N,
@@ -56,7 +56,7 @@ impl Walk {
         Ok(Walk { needs, files })
     }
 
-    /// Returns whether a file is left to be read.
+    /// Returns whether the queue has a file that hasn't been read.
     pub(crate) fn has_next(&self) -> bool
         ensures yes { result ≡ true
             → length self.now.files.items + 1 < length self.now.needs.places.places }
@@ -84,12 +84,12 @@ impl Walk {
         ensures above { 0 < next_place self.now.needs self.now.files.items }
         ensures apart { AreApart self.now.needs.places.limit self.now.needs.places.places }
     {
-        // No place after the first is the program's.
+        // Only the first place is the program's.
         self.places_are_apart();
         self.needs.places.at(self.files.len() + 1) - 1
     }
 
-    /// Adds the next file, which has been read, to the walk, and notes what that file needs. If
+    /// Adds the next file, which has been read, to the walk, and notes the needs of that file. If
     /// memory is refused, the walk is unchanged.
     pub(crate) fn take<N: Named>(
         &mut self,
@@ -120,7 +120,7 @@ impl Walk {
         Ok(())
     }
 
-    /// Reads the next file, whole, admits it, and notes what it needs. A refusal leaves the walk
+    /// Reads the whole next file, admits it, and notes its needs. A refusal leaves the walk
     /// unchanged.
     pub(crate) fn step<D: Disk>(
         &mut self,

@@ -13,7 +13,7 @@ use Rattle.requests.specs.declared.refusal.Refusal.TheVariants.{Device, Reopen, 
 use Rattle.requests.specs.declared.reply.Reply.{Reply}
 use Rattle.requests.specs.declared.reply.Reply.TheVariants.{Refused}
 
--- a state of a registry whose files consist of bytes: each number in them is below 256
+-- a state of a registry whose files consist of bytes: each number in a file is below 256
 pub record IsStateOfBytes (s : State) : Type 0 where
   pub state : IsState s
   pub bytes : All (λ l. All (λ byte. byte < 256) l.bytes) s.libraries
@@ -23,8 +23,8 @@ abbrev pub preload_requests : List (List ℕ) → List Request
 preload_requests [] = []
 preload_requests (name ∷ names) = set_preloads (name ∷ names) ∷ []
 
--- the requests that turn the empty state into this state: each library is installed, in their
--- order, and then the preloads are set
+-- the requests that turn the empty state into this state: the libraries are installed in the order of
+-- the state, and then the preloads are set
 abbrev pub requests_for : State → List Request
 requests_for s = map (λ l. install l.bytes) s.libraries ++ preload_requests s.preloads
 

@@ -27,8 +27,8 @@ use sector_disk::Disk;
 
 /// Does nothing. Its clauses are the law that a dump can be run as a script, for disks of type `D`.
 pub fn dump_replays<D: Disk>()
-    // The text consists of whole lines, which install the libraries in their order and then set the
-    // preloads.
+    // The text consists of whole lines, which install the libraries in the order of the state and
+    // then set the preloads.
     ensures lines { (s : State) → IsStateOfBytes s → IsScript (dump_text s) (requests_for s) }
 
     // A request, made after the requests before it, can be refused only for lack of room.
@@ -66,7 +66,7 @@ pub fn dump_replays<D: Disk>()
         → DiskScriptEnds D.facts disk io status.Done left
         → Stands (D.facts left).now (copy_of s) }
 
-    // A script that was cut doesn't end with status 0.
+    // The script of a dump that was cut doesn't end with status 0.
     ensures cut { (s : State) (k : ℕ) (disk left : D) (io : Streams)
         → io.unread ≡ Some (cut_text s k) → DiskScriptEnds D.facts disk io status.Done left → ⊥ }
 

@@ -29,8 +29,8 @@ use std::io::Write;
 /// Does nothing. Its clauses are the law that one update recreates a registry from a dump that was
 /// written for an update. The law holds for disks of type `D` and outputs of type `O`.
 pub fn dump_updates<D: Disk, O: Write>()
-    // The text consists of whole lines, which install the libraries in their order and then set the
-    // preloads, and then the line `commit`.
+    // The text consists of whole lines. They install the libraries in the order of the state, and
+    // then set the preloads. The last line is `commit`.
     ensures lines { (s : State) → IsStateOfBytes s
         → IsUpdateText (script_text Update s) (requests_for s) }
 

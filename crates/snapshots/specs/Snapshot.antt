@@ -22,7 +22,7 @@ pub record Taken : Type 0 where
   pub order : List ℕ
   pub preloads : List ℕ
 
--- the number of times that a sector is among handles
+-- the number of times that `sector` is in the list `handles`
 abbrev pub times : ℕ → List ℕ → ℕ
 times sector handles = count_by (λ handle. handle == sector) handles
 

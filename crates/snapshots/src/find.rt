@@ -1,4 +1,4 @@
-// Finding a byte string of a snapshot by its name.
+// Finds a byte string of a snapshot by its name.
 ghost use Rattle.std.specs.Prelude.{◌≡◌, ◌≢◌, ◌<◌, List, All, IsNone, IfSome, length};
 ghost use Rattle.std.specs.Prelude.{slice_index_or};
 ghost use Rattle.std.specs.Ordering.{is_lt};
@@ -25,7 +25,8 @@ pub(crate) fn held_name<'a, D: Disk>(store: &'a Store<D>, held: &Held) -> &'a [u
     }
 }
 
-/// Returns the name of the held byte string at `position`, or the empty name if there is none.
+/// Returns the name of the held byte string at `position`. If there is no such byte string, returns
+/// the empty name.
 fn name_at<'a, D: Disk>(store: &'a Store<D>, handles: &[Held], position: u16) -> &'a [u8]
     ensures { (entries : List PlacedEntry) → AreHeldBy store.now.held handles.now entries
         → result.now ≡ name_at (entry_names entries) position }
@@ -44,7 +45,7 @@ fn precedes<D: Disk>(store: &Store<D>, handles: &[Held], position: u16, name: &[
     name_at(store, handles, position).cmp(name).is_lt()
 }
 
-/// Returns the place of a name in the order: the number of names that come before it.
+/// Returns the place of `name` in the order: the number of names that come before `name`.
 fn place_of<D: Disk>(store: &Store<D>, handles: &[Held], order: &[u16], name: &[u8]) -> usize
     ensures { (entries : List PlacedEntry) → AreHeldBy store.now.held handles.now entries
         → IsOrderOf (entry_names entries) order.now

@@ -1,4 +1,4 @@
-// Holding all byte strings of a store.
+// Holds all byte strings of a store.
 ghost use Rattle.std.specs.Prelude.{◌≡◌, ◌≤◌, [], IsFalse, length, vec_capacity};
 ghost use Rattle.snapshots.specs.inside.HoldsAll.{HoldsAll};
 ghost use Rattle.store.specs.Holds.{AreHolds};
@@ -8,7 +8,7 @@ use sector_disk::Disk;
 use store::{Held, Store, StoreRefusal};
 
 /// Holds each byte string of a store, in the order of the positions, and puts the handles into the
-/// vector `room`. If a hold is refused, releases what the handles so far hold.
+/// vector `room`. If a hold is refused, releases the byte strings that this call has held so far.
 pub(crate) fn hold_all<D: Disk>(
     store: &mut Store<D>,
     room: Vec<Held>,

@@ -1,5 +1,5 @@
-//! Snapshots of a store: all its byte strings at one moment. They are held, can be found by name,
-//! and can be read as they were, whatever the store does since.
+//! Snapshots of a store. A snapshot holds all byte strings that the store has at one moment. These
+//! byte strings can be found by name, and can be read as they were, whatever the store does later.
 //!
 //! `Snapshot::take` holds each byte string of a store, and `Snapshot::let_go` releases all of them.
 //! specs/Snapshot.antt defines what a snapshot of a store is.

@@ -1,10 +1,10 @@
-// Releasing byte strings.
+// Releases byte strings.
 ghost use Rattle.snapshots.specs.Snapshot.{LetsAllGo};
 
 use sector_disk::Disk;
 use store::{Held, Store};
 
-/// Releases all these byte strings. Allocates nothing.
+/// Releases the byte strings of all `handles`. Allocates nothing.
 pub(crate) fn release<D: Disk>(store: &mut Store<D>, handles: Vec<Held>)
     ensures { LetsAllGo D.facts store.old store.new handles.items }
 {

@@ -71,7 +71,7 @@ impl Snapshot {
         self.handles.len()
     }
 
-    /// The positions of the preloads, in their order.
+    /// The positions of the preloads, in the order of the preloads.
     pub fn preloads(&self) -> &[u16]
         ensures value { result.now ≡ self.now.preloads }
 
@@ -107,8 +107,8 @@ impl Snapshot {
         find(store, &self.handles, &self.order, name)
     }
 
-    /// Returns the byte string at `position`, as it was. Reads each of its sectors once, and writes
-    /// nothing.
+    /// Returns the byte string at `position`, as it was when the snapshot was taken. Reads each of
+    /// its sectors once, and writes nothing.
     pub fn read<D: Disk>(
         &self,
         alloc: Global,

@@ -1,4 +1,4 @@
--- How far a binder has come.
+-- The progress of a binder.
 use Rattle.std.specs.Prelude.{◌≡◌, ◌+◌, ℕ, List, length, Option, Some, None}
 use Rattle.image.specs.Refusal.{program_refusal}
 use Rattle.snapshots.specs.Snapshot.{Taken}
@@ -7,12 +7,12 @@ use Rattle.registry.specs.declared.needs.Needs.{Needs}
 use Rattle.registry.specs.declared.walk.Walk.{Walk}
 use Rattle.registry.specs.inside.Walked.{IsAmong, IsWalked}
 
--- what a walk has found: the needs, and the files that were read
+-- the findings of a walk: the needs, and the files that were read
 pub record Found : Type 0 where
   pub needs : Needs
   pub files : List Library
 
--- a binder: its program, its base, the snapshot, and what its walk has found so far
+-- a binder: its program, its base, the snapshot, and the findings of its walk so far
 pub record Binding : Type 0 where
   pub program : List ℕ
   pub base : ℕ

@@ -11,8 +11,8 @@ use Rattle.requests.specs.declared.refusal.Refusal.TheVariants.{Device, Reopen}
 use Rattle.store.specs.declared.refusal.StoreRefusal.{StoreRefusal}
 use Rattle.registry.specs.inside.Reading.{IsReadRefusal}
 
--- On any disk, a change of the draft made at most `most` calls. If it was refused, `Refuses` holds for
--- the refusal.
+-- On any disk, a change of the draft made at most `most` calls. If the change was refused, `Refuses`
+-- holds for the refusal.
 pub record IsPlanned {D : Type 0} (facts : D → DiskFacts) (old new : Drafted D) (most : ℕ) (Refuses : Refusal → Type 0)
     (result : Result (Unit {0}) Refusal) : Type 0 where
   pub beside : StaysBeside facts old new

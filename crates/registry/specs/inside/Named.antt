@@ -9,7 +9,7 @@ use Rattle.requests.specs.Table.{Table}
 abbrev pub placed_name : PlacedEntry → List ℕ
 placed_name placed = name_of placed.entry
 
--- the entries at these positions have these names
+-- the entries at the positions `positions` have the names `names`, in the same order
 pub record AreNamed (entries : List PlacedEntry) (positions : List ℕ) (names : List (List ℕ)) : Type 0 where
   pub inside : All (λ position. position < length entries) positions
   pub each : (d : PlacedEntry) → map (λ position. name_of (slice_index_or entries position d).entry) positions ≡ names

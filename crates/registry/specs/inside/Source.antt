@@ -46,8 +46,8 @@ pub record AreNamesOf (s : State) (entries : List PlacedEntry) (Has : Type 0) (l
   pub names : names_of (objects s) ≡ entry_names entries
   pub preloads : All (λ p. p < length entries) listed → preload_numbers s ≡ listed
 
--- In the current store, the source offers the libraries of state s, with these entries, and the preloads
--- of s.
+-- In the store `now`, the source offers the libraries of state s, with the entries `entries`, and the
+-- preloads of s.
 pub record Offers {D : Type 0} (facts : D → DiskFacts) (source : Source) (entries : List PlacedEntry) (s : State) (now : Opened D) : Type 0 where
   pub has : HasEntries source now entries
   pub own : HaveOwnNames entries

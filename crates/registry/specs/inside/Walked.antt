@@ -25,8 +25,8 @@ use Rattle.registry.specs.declared.needs.Needs.{Needs}
 use Rattle.registry.specs.declared.source.Source.{Source}
 use Rattle.registry.specs.inside.Source.{HasEntries, HasFiles}
 
--- The needs after an object that needs the names `needed`. The places of the files with these names are
--- added, and the first missing name is noted.
+-- The needs after the walk examined an object that needs the names `needed`. The places of the files
+-- with these names are added. The first missing name is noted, unless a name was noted before.
 abbrev pub more_needs : List (List ℕ) → Needs → List ℕ → List (List ℕ) → Needs
 more_needs names needs needer needed = record {
   places = record { limit = needs.places.limit; places = grown needs.places.places (filter_map (place_of names) needed) };
@@ -39,7 +39,7 @@ pub record Grows (old new : Needs) : Type 0 where
   pub begins : take (length old.places.places) new.places.places ≡ old.places.places
   pub missing : (need : Need) → old.missing ≡ Some need → new.missing ≡ Some need
 
--- a queue of places for the program, which is first, and for up to `count` files
+-- the queue has places for the program and for at most `count` files; the program is first
 pub record ArePlaces (count : ℕ) (queue : Queue) : Type 0 where
   pub limit : queue.limit ≡ count + 1
   pub first : get_or queue.places 0 1 ≡ 0
@@ -59,8 +59,8 @@ abbrev pub walked : List ℕ → ℕ → List ℕ
 walked places count = drop 1 (take (count + 1) places)
 
 -- In state s, the program was examined, and then the files at the next places of the queue, each once.
--- The queue has the places of the files that they need, and the first needed name that no file has is
--- noted.
+-- The queue has the places of the files that the program and these files need, and the first needed name
+-- that no file has is noted.
 pub record IsWalked (program : List ℕ) (s : State) (needs : Needs) (files : List Library) : Type 0 where
   pub among : IsAmong (length s.libraries) needs files
   pub missing : needs.missing ≡ find (is_missing (names_of (objects s))) (flat_map needed_by (available program (map object_of files)))
@@ -85,7 +85,8 @@ abbrev pub walked_refusal : List ℕ → ℕ → Option Need → List Library �
 walked_refusal program base missing files =
     first_of (option_map missing_by missing ∷ placed_refusal (walked_objects program base files) ∷ [])
 
--- an answer that some tests decide; `first` is the first refusal that applies
+-- `first` is the first refusal of the tests, or none. If `answer` is accepted, no test refuses. If
+-- `answer` is a refusal, it is `first` or refused memory.
 pub record IsTestedBy {A : Type 0} (first : Option BindRefusal) (answer : Result A BindRefusal) : Type 0 where
   pub accepted : OnOk answer (first ≡ None)
   pub refused : IfErr answer (IsFirstOrWantsMemory first)
