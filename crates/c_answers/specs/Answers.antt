@@ -160,7 +160,7 @@ IsUpgradeAnswered bytes plan text answer status =
     ((s : State) × (steps : List Step) × IsUpgraded bytes s steps × IsPlanned steps plan text answer status)
     ⊎ ((refusal : StoreRefusal) × IsUnupgraded bytes refusal × IsTurnedAway refusal text answer status)
 
--- either the buffers have the listing, which is reported, or a buffer is too small
+-- either the buffers have the listing and the reply is reported, or a buffer is too small
 abbrev pub IsListGiven : Listed → List EntryPlace → List ℕ → List ℕ → Answer → ℕ → Type 0
 IsListGiven l entries names text answer status = (Counts l answer.count answer.preloads × IsUnbound answer)
     × ((AreListed (entries_of l) entries names answer.bytes × IsTold (reply.Listing l) text answer status)

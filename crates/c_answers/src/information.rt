@@ -28,7 +28,7 @@ pub struct Information {
     /// The number of runs of adjacent unused sectors.
     pub unused_runs: u64,
     /// The length in bytes of the largest file that can be installed now under a new name, or 0 if
-    /// none can be installed.
+    /// no file can be installed.
     pub largest: u64,
 }
 

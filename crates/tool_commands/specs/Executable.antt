@@ -12,7 +12,7 @@ use Rattle.tool_parts.specs.Said.{said_line}
 use Rattle.tool_parts.specs.Streams.{Streams, CannotWrite, IsSilent, Says, SaysOnly, Tells}
 
 -- The warning for a file whose program headers don't fit in one page of 4,096 bytes: Linux before 6.17
--- accepts no more than fit in such a page.
+-- accepts no more program headers than fit in such a page.
 abbrev pub many_headers_line : List ℕ
 many_headers_line = said_line (codes "Linux before 6.17 starts no file with more than 73 program headers\n")
 
