@@ -1,4 +1,4 @@
-// Computes the digest of a library's bytes.
+// Puts the digest of a library's bytes into a buffer.
 ghost use Rattle.std.specs.Prelude.{◌≡◌, ◌≢◌};
 ghost use Rattle.c_answers.specs.Contents.{IsDigestAnswered};
 

@@ -1,4 +1,4 @@
-// Puts a whole file or a whole text into one buffer.
+// Puts the bytes of a whole file or a whole text into one buffer.
 ghost use Rattle.std.specs.Prelude.{◌≡◌, ◌≢◌};
 ghost use Rattle.c_answers.specs.Contents.{IsGiven};
 

@@ -1,4 +1,4 @@
-// Lists the libraries and preloads.
+// Puts the list of the libraries and preloads into buffers.
 ghost use Rattle.std.specs.Prelude.{◌≡◌};
 ghost use Rattle.byte_registry.specs.Bytes.{HoldStore};
 ghost use Rattle.requests.specs.declared.reply.Reply.TheVariants as variant;

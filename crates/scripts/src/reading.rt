@@ -35,8 +35,8 @@ fn fault_of(error: &Error) -> ScriptFault
     }
 }
 
-/// Returns the result of a read that has reached the end of the input, with `line` as its last
-/// bytes.
+/// Returns the result of a read that has reached the end of the input. `line` has the bytes after
+/// the last newline.
 fn last_part(line: &[u8]) -> Got
     ensures { result ≡ (if length line.now == 0 then Got.End else Got.Cut) }
 {

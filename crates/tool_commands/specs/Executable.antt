@@ -21,7 +21,7 @@ many_headers_line = said_line (codes "Linux before 6.17 starts no file with more
 abbrev pub SaysBeside : List ℕ → Streams → Type 0
 SaysBeside file io = Says io many_headers_line × (header_count file ≤ 73 → IsSilent io)
 
--- the status if there is no executable file
+-- the status if there is no executable file: NoMemory if memory was refused, and otherwise Refused
 abbrev pub executable_status : ExecutableRefusal → Status
 executable_status refusal.OutOfMemory = NoMemory
 executable_status other = Refused
