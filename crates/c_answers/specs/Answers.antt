@@ -30,7 +30,7 @@ use Rattle.byte_registry.specs.Plans.{Holds, LeadsTo}
 use Rattle.c_answers.specs.Spelling.{plan_bytes}
 use Rattle.c_answers.specs.Unsaid.{IsSilent, IsUnbound, IsUncounted, IsUnlisted}
 
--- The buffer `text` has as many of the first bytes of `whole` as it has room for, and the length of
+-- The buffer `text` has the beginning of `whole`: as many bytes as `text` has room for. The length of
 -- `whole` is reported.
 pub record HasText (whole text : List ℕ) (told_size : ℕ) : Type 0 where
   pub size : told_size ≡ length whole
@@ -42,8 +42,9 @@ pub record WantsMemory (text : List ℕ) (told_size told_file told : ℕ) : Type
   pub file : told_file ≡ 0
   pub has_text : HasText memory_text text told_size
 
--- The call reports the reply: its number, the number of the test that refuses a file, and its text. S1
--- (Device) is never reported, because a call of a disk of bytes fails only for lack of memory.
+-- The call reports the reply: the reply's status, the number of the test that refuses a file, and the
+-- reply's text. S1 (Device) is never reported, because a call of a disk of bytes fails only for lack of
+-- memory.
 pub record Tells (reply : Reply) (text : List ℕ) (told_size told_file told : ℕ) : Type 0 where
   pub status : told ≡ reply_number reply
   pub file : told_file ≡ file_number_in reply
@@ -57,15 +58,15 @@ pub record TurnsAway (refusal : StoreRefusal) (text : List ℕ) (told_size told_
   pub has_text : HasText (disk_refusal_text refusal) text told_size
   pub device : refusal ≢ store.Device
 
--- The plan's buffer has these steps, and the answer has the number of steps and the number of their
--- bytes.
+-- The plan's buffer has these steps. The answer has the number of steps and the number of bytes that
+-- encode the steps.
 pub record HasPlan (steps : List Step) (buffer : List ℕ) (told_bytes told_count : ℕ) : Type 0 where
   pub bytes : told_bytes ≡ length (plan_bytes steps)
   pub spelled : take told_bytes buffer ≡ plan_bytes steps
   pub count : told_count ≡ length steps
 
--- The plan's buffer is too small for these steps, and the answer has the number of steps and the number
--- of their bytes.
+-- The plan's buffer is too small for these steps. The answer has the number of steps and the number of
+-- bytes that encode the steps.
 pub record LacksRoom (steps : List Step) (buffer : List ℕ) (told_bytes told_count told : ℕ) : Type 0 where
   pub status : told ≡ no_room
   pub small : length buffer < length (plan_bytes steps)
@@ -139,7 +140,7 @@ pub record IsFormatPlan (bytes buffer : List ℕ) (answer : Answer) : Type 0 whe
   pub formatted : IsFormatted bytes steps
   pub plan : HasPlan steps buffer answer.bytes answer.count
 
--- either an empty registry is planned, and the buffer has its plan or is too small; or the call reports
+-- either an empty registry is planned, and the buffer has the plan or is too small; or the call reports
 -- why none is planned
 abbrev pub IsFormatAnswered : List ℕ → List ℕ → List ℕ → Answer → ℕ → Type 0
 IsFormatAnswered bytes plan text answer status =
@@ -153,14 +154,14 @@ pub record IsUpgradePlan (bytes buffer : List ℕ) (answer : Answer) : Type 0 wh
   pub upgraded : IsUpgraded bytes state steps
   pub plan : HasPlan steps buffer answer.bytes answer.count
 
--- either an upgrade is planned, and the buffer has its plan or is too small; or the call reports why
+-- either an upgrade is planned, and the buffer has the plan or is too small; or the call reports why
 -- none is planned
 abbrev pub IsUpgradeAnswered : List ℕ → List ℕ → List ℕ → Answer → ℕ → Type 0
 IsUpgradeAnswered bytes plan text answer status =
     ((s : State) × (steps : List Step) × IsUpgraded bytes s steps × IsPlanned steps plan text answer status)
     ⊎ ((refusal : StoreRefusal) × IsUnupgraded bytes refusal × IsTurnedAway refusal text answer status)
 
--- either the buffers have the listing, which is reported, or a buffer is too small
+-- either the buffers have the listing and the reply is reported, or a buffer is too small
 abbrev pub IsListGiven : Listed → List EntryPlace → List ℕ → List ℕ → Answer → ℕ → Type 0
 IsListGiven l entries names text answer status = (Counts l answer.count answer.preloads × IsUnbound answer)
     × ((AreListed (entries_of l) entries names answer.bytes × IsTold (reply.Listing l) text answer status)

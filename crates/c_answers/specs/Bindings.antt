@@ -41,8 +41,8 @@ pub record IsText (s : State) (program : List ℕ) (base : ℕ) (number : ℕ) (
   pub text : told_text s program base (binding_refusal s program base) ≡ Some said
   pub number_is : number ≡ bound_number (binding_refusal s program base)
 
--- the reason why there is no text: the bind's refusal has none; a file that the bind reads is no library
--- (S5, Damaged); or memory was refused
+-- the reason why there is no text: the bind's refusal has no text; a file that the bind reads isn't a
+-- library (S5, Damaged); or memory was refused
 abbrev pub IsUntold : State → (program : List ℕ) → (base : ℕ) → Refusal → Type 0
 IsUntold s program base (refusal.Bind why) = (binding_refusal s program base ≡ Some why) × (told_text s program base (Some why) ≡ None)
 IsUntold s program base refusal.Damaged = (program_refusal program base ≡ None) × (ReadsLibraries s program → ⊥)

@@ -22,7 +22,7 @@ segment_bytes segments = flat_map (λ s. s.bytes) segments
 abbrev pub place_of : ℕ → ImageSegment → SegmentPlace
 place_of from s = record { address = s.address; length = length s.bytes; from = from; permissions = s.permissions }
 
--- the places of the segments, if the bytes of the first begin at the offset `from`
+-- the places of the segments, if the bytes of the first segment begin at the offset `from`
 abbrev pub places_of : ℕ → List ImageSegment → List SegmentPlace
 places_of from [] = []
 places_of from (s ∷ segments) = place_of from s ∷ places_of (from + length s.bytes) segments

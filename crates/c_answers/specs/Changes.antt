@@ -27,7 +27,7 @@ pub record Means (bytes : List ℕ) (change : ChangePlace) (request : Request) :
   pub inside : change.from + change.length ≤ length bytes
   pub asks : Asks change.kind (own_bytes bytes change) request
 
--- the changes are valid and make these requests, one each, in their order
+-- the changes are valid, and each change makes the request at the same position of the list of requests
 abbrev pub Mean : List ℕ → List ChangePlace → List Request → Type 0
 Mean bytes [] [] = Unit {0}
 Mean bytes (change ∷ changes) (request ∷ requests) = Means bytes change request × Mean bytes changes requests

@@ -85,7 +85,8 @@ IsCheckAnswered disk findings names text answer status =
     × IsCheckTold s.libraries findings names text answer status)
     ⊎ ((why : StoreRefusal) × HaveNoContents disk why × IsTurnedAway why text answer status)
 
--- The buffers have the finding of each library of the state that the bytes hold, in their order.
+-- The buffers have the finding of each library of the state that the bytes hold, in the order of the
+-- libraries.
 pub record IsCheckOf (disk : List ℕ) (findings : List FindingPlace) (names : List ℕ) (answer : Answer) : Type 0 where
   pub state : State
   pub holds : HoldStore disk state

@@ -28,7 +28,7 @@ use Rattle.c_answers.specs.Unsaid.{IsSilent, IsUnbound, IsUncounted, IsUnlisted}
 use Rattle.c_answers.specs.declared.answer.Answer.{Answer}
 use Rattle.c_answers.specs.declared.information.Information.{Information}
 
--- the reason why a library's bytes aren't returned, as the refusal of a command
+-- the refusal of a command for the reason why a library's bytes aren't returned
 abbrev pub refusal_of : Unread → Refusal
 refusal_of unread.NotInstalled = refusal.NotInstalled
 refusal_of unread.Unreadable = refusal.Device

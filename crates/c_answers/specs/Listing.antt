@@ -18,7 +18,7 @@ Entry = List ℕ × ℕ
 abbrev pub preload_entries : List (List ℕ) → List Entry
 preload_entries names = map (λ name. (name, 0)) names
 
--- the entries of a listing, in their order: the libraries, followed by the preloads
+-- the entries of a listing: the libraries, followed by the preloads
 abbrev pub entries_of : Listed → List Entry
 entries_of l = l.libraries ++ preload_entries l.preloads
 
@@ -30,7 +30,7 @@ names_in_row entries = flat_map (λ e. e.0 ++ 0 ∷ []) entries
 abbrev pub place_of : ℕ → Entry → EntryPlace
 place_of from e = record { name = from; name_length = min (length e.0) (2 ^ 32 - 1); file_length = e.1 }
 
--- the places of the entries, if the name of the first is at the offset `from`
+-- the places of the entries, if the name of the first entry is at the offset `from`
 abbrev pub places_of : ℕ → List Entry → List EntryPlace
 places_of from [] = []
 places_of from (e ∷ entries) = place_of from e ∷ places_of (from + length e.0 + 1) entries

@@ -54,8 +54,8 @@ bind_number bind.NoRoom = 104
 bind_number (bind.Undefined object symbol) = 105
 bind_number bind.OutOfMemory = 311
 
--- The status of a refusal. For a refusal of a command it is 200 plus the refusal's number, of a bind
--- `bind_number`, and of a disk 300 plus the refusal's number.
+-- The status of a refusal. It is 200 plus the refusal's number for a refusal of a command,
+-- `bind_number` for a refusal of a bind, and 300 plus the refusal's number for a refusal of a disk.
 abbrev pub refusal_number : Refusal → ℕ
 refusal_number (refusal.Object why) = 201
 refusal_number refusal.AlreadyInstalled = 202
@@ -75,7 +75,7 @@ refusal_number refusal.TooMany = 309
 refusal_number refusal.GenerationEnd = 310
 refusal_number refusal.OutOfMemory = 311
 
--- the status of a reply: that of its refusal, or 0 if it is no refusal
+-- the status of a reply: the status of the refusal, or 0 if the reply isn't a refusal
 abbrev pub reply_number : Reply → ℕ
 reply_number (reply.Refused why) = refusal_number why
 reply_number other = done

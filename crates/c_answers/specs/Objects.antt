@@ -25,8 +25,8 @@ object_place name first o =
       entry = (o.base + o.addresses.entry) % 2 ^ 64;
     }
 
--- the places of the objects, if the name of the first is at the offset `name`, and its first segment is
--- number `first`
+-- the places of the objects, if the name of the first object is at the offset `name`, and the first
+-- segment of this object is number `first`
 abbrev pub object_places : ℕ → ℕ → List ImageObject → List ObjectPlace
 object_places name first [] = []
 object_places name first (o ∷ objects) = object_place name first o ∷ object_places (name + length o.name + 1) (first + o.segment_count) objects

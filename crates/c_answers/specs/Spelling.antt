@@ -15,6 +15,6 @@ abbrev pub step_bytes : Step → List ℕ
 step_bytes (Write at content) = to_le_bytes w32 at ++ content
 step_bytes Sync = to_le_bytes w32 sync_number
 
--- the bytes of the steps in their order
+-- the bytes of the steps, one step after the other
 abbrev pub plan_bytes : List Step → List ℕ
 plan_bytes steps = flat_map step_bytes steps

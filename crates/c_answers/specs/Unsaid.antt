@@ -2,7 +2,7 @@
 use Rattle.std.specs.Prelude.{◌≡◌}
 use Rattle.c_answers.specs.declared.answer.Answer.{Answer}
 
--- The answer reports no text and no test of a file.
+-- The answer reports neither a text nor a test that refuses a file.
 pub record IsSilent (answer : Answer) : Type 0 where
   pub text : answer.text ≡ 0
   pub file : answer.file_refusal ≡ 0

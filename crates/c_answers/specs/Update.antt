@@ -48,8 +48,8 @@ abbrev pub IsUpdateTold : Result (Unit {0}) (ℕ × Refusal) → List Step → L
 IsUpdateTold (Ok done) steps plan text answer status = IsPlanned steps plan text answer status
 IsUpdateTold (Err refused) steps plan text answer status = IsRefusedTold refused.0 refused.1 text answer status
 
--- Either the registry on a disk with these bytes was asked for an update, and its answer is reported,
--- with the plan of the disk. Or there is no registry, and the call reports why.
+-- Either the registry on a disk with these bytes was asked for an update, and the registry's answer is
+-- reported, with the plan of the disk. Or there is no registry, and the call reports why.
 abbrev pub IsAskedTold : List ℕ → List Request → List ℕ → List ℕ → Answer → ℕ → Type 0
 IsAskedTold disk requests plan text answer status =
     ((s : State) × (asked : Result (Unit {0}) (ℕ × Refusal)) × (left : ByteDisk) × IsUpdateAsked disk s requests asked left × IsUpdateTold asked (synced_plan left) plan text answer status)

@@ -1,2 +1,3 @@
--- Definitions for the values between the parts of an answer. Nobody has to believe them.
+-- Definitions about values between the parts of an answer. A reader needn't check them, because the
+-- contracts of public functions don't use them.
 pub mod Bindings

@@ -1,4 +1,4 @@
-// The command of a change of an update.
+// Reads the changes of an update as commands for a registry.
 ghost use Rattle.std.specs.Prelude.{◌≡◌, List, IfOk, MatchOption, map};
 ghost use Rattle.requests.specs.Request.{Request, request_of};
 ghost use Rattle.c_answers.specs.Changes.{Asks, Mean, Means, request_asked};
@@ -17,7 +17,7 @@ pub(crate) enum AskedChange<'a> {
     Replace(&'a [u8]),
     /// Removes the library with this name.
     Remove(&'a [u8]),
-    /// Sets the preloads to these names, in their order.
+    /// Sets the preloads to these names, in this order.
     SetPreloads(Vec<&'a [u8]>),
 }
 
@@ -71,8 +71,8 @@ fn asked_change<'a>(
     }
 }
 
-/// Returns the commands of `changes`, whose bytes are in `bytes`. Returns `None` if one of them
-/// isn't valid.
+/// Returns the commands of `changes`, whose bytes are in `bytes`. Returns `None` if a change isn't
+/// valid.
 pub(crate) fn asked_changes<'a>(
     alloc: Global,
     changes: &[ChangePlace],

@@ -31,8 +31,8 @@ fn tell_bind(
     }
 }
 
-/// Binds a program with the registry on the disk `disk`, and puts the image into the buffers, or
-/// reports why it can't.
+/// Binds a program with the registry on the disk `disk`, and puts the image into the buffers. If
+/// that isn't possible, reports why.
 pub fn bind_on(
     alloc: Global,
     disk: &[u8],

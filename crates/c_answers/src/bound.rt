@@ -1,4 +1,4 @@
-// The executable file of a bound program.
+// Puts the executable file of a bound program into a buffer.
 ghost use Rattle.std.specs.Prelude.{◌≡◌, ◌≢◌, ◌⊎◌};
 ghost use Rattle.elf_file.specs.Header.{header_count};
 ghost use Rattle.requests.specs.Request.{request_of};
@@ -76,8 +76,8 @@ fn give_image(alloc: Global, image: &Image, bytes: &mut [u8], text: &mut [u8]) -
     }
 }
 
-/// If the reply has an image, puts its executable file into the buffer; otherwise reports the
-/// reply.
+/// If the reply has an image, puts the image's executable file into the buffer; otherwise reports
+/// the reply.
 fn tell_bound(alloc: Global, reply: &Reply, bytes: &mut [u8], text: &mut [u8]) -> Answer
     ensures told { IsBoundTold reply.now bytes.new text.new result result.status }
     ensures left { result.status ≢ 0 → bytes.new ≡ bytes.old }
@@ -90,8 +90,8 @@ fn tell_bound(alloc: Global, reply: &Reply, bytes: &mut [u8], text: &mut [u8]) -
     }
 }
 
-/// Binds a program, and puts its executable file into the buffer, or reports why it can't. Needs up
-/// to six times the memory of the image.
+/// Binds a program, and puts its executable file into the buffer. If that isn't possible, reports
+/// why. Needs up to six times the memory of the image.
 pub fn executable_on(
     alloc: Global,
     disk: &[u8],

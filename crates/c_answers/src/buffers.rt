@@ -112,8 +112,8 @@ fn lay_out(
     put_objects(image, at, objects, bytes)
 }
 
-/// Puts an image into the three buffers. If one of them is too small, the answer has the sizes that
-/// all three need.
+/// Puts an image into the three buffers. If a buffer is too small, the answer has the sizes that
+/// all three buffers need.
 pub(crate) fn put_image(
     image: &Image,
     objects: &mut [ObjectPlace],

@@ -32,7 +32,7 @@ fn tell_change(
     }
 }
 
-/// Plans the change `command`: puts its plan into the buffer, or reports why the change is refused.
+/// Plans the change `command`: puts the plan into the buffer, or reports why the change is refused.
 pub fn plan_change(
     alloc: Global,
     disk: &[u8],

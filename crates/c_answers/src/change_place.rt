@@ -16,7 +16,8 @@ pub struct ChangePlace {
     pub length: u64,
 }
 
-/// Returns the bytes of a change in `bytes`, or `None` if they don't lie within `bytes`.
+/// Returns the bytes of a change in `bytes`, or `None` if the change's bytes don't lie within
+/// `bytes`.
 pub(crate) fn own_bytes<'a>(change: &ChangePlace, bytes: &'a [u8]) -> Option<&'a [u8]>
     ensures { MatchOption result (length bytes.now < change.now.from + change.now.length)
         (λ own. (change.now.from + change.now.length ≤ length bytes.now)

@@ -67,7 +67,7 @@ fn put_findings<D: Disk>(
 }
 
 /// Tests each library, and puts the findings into the two buffers. If a buffer is too small, reads
-/// no file.
+/// no file, and the answer has the sizes that both buffers need.
 fn look(
     alloc: Global,
     contents: &mut Contents<ReadOnlyDisk<'_>>,
@@ -100,8 +100,8 @@ fn look(
     }
 }
 
-/// Puts the finding of each library of the registry on `disk` into the buffers, or reports why it
-/// can't.
+/// Puts the finding of each library of the registry on `disk` into the buffers. If that isn't
+/// possible, reports why.
 pub fn check_on(
     alloc: Global,
     disk: &[u8],

@@ -1,4 +1,4 @@
-// Computes the digest of a library's bytes.
+// Puts the digest of a library's bytes into a buffer.
 ghost use Rattle.std.specs.Prelude.{◌≡◌, ◌≢◌};
 ghost use Rattle.c_answers.specs.Contents.{IsDigestAnswered};
 
@@ -10,7 +10,8 @@ use byte_registry::contents_of;
 use requests::Reply;
 use std::alloc::Global;
 
-/// Puts the SHA-256 of the bytes of the library `name` into `digest`, or reports why it can't.
+/// Puts the SHA-256 of the bytes of the library `name` into `digest`. If that isn't possible,
+/// reports why.
 pub fn digest_on(
     alloc: Global,
     disk: &[u8],

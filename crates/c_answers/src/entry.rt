@@ -39,7 +39,7 @@ pub(crate) fn name_bytes(name: &Name) -> u64
 }
 
 /// If the buffer `names` has room, puts a name and a byte 0 into it at the offset `at`. Returns the
-/// offset after them, or `None` if the buffer is too small.
+/// offset after the byte 0, or `None` if the buffer is too small.
 pub(crate) fn put_name(name: &Name, at: usize, names: &mut [u8]) -> Option<usize>
     ensures end { IfSome result (λ end. end ≡ at + length name.now + 1) }
     ensures front { IfSome result (λ end. take end names.new

@@ -1,4 +1,4 @@
-// Returns a library's bytes.
+// Puts a library's bytes into a buffer.
 ghost use Rattle.std.specs.Prelude.{◌≡◌};
 ghost use Rattle.c_answers.specs.Contents.{refusal_of, IsFileAnswered};
 
@@ -22,7 +22,7 @@ pub(crate) fn refusal_of(unread: Unread) -> Refusal
     }
 }
 
-/// Puts the bytes of the library `name` into the buffer, or reports why it can't.
+/// Puts the bytes of the library `name` into the buffer. If that isn't possible, reports why.
 pub fn file_on(alloc: Global, disk: &[u8], name: &[u8], bytes: &mut [u8], text: &mut [u8]) -> Answer
     ensures { IsFileAnswered disk.now name.now bytes.new text.new result result.status }
 {

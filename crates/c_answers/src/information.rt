@@ -28,11 +28,11 @@ pub struct Information {
     /// The number of runs of adjacent unused sectors.
     pub unused_runs: u64,
     /// The length in bytes of the largest file that can be installed now under a new name, or 0 if
-    /// none can be installed.
+    /// no file can be installed.
     pub largest: u64,
 }
 
-/// Returns the numbers of `info` in the form for C.
+/// Returns the numbers of `info` as a structure for C.
 fn information_of(info: Info) -> Information
     ensures { result ≡ information_of info }
 {
@@ -48,7 +48,8 @@ fn information_of(info: Info) -> Information
     }
 }
 
-/// Puts the numbers of the registry into `information`, or reports why there is no registry.
+/// Puts the numbers of the registry on `disk` into `information`. If that isn't possible, reports
+/// why.
 pub fn info_on(alloc: Global, disk: &[u8], information: &mut Information, text: &mut [u8]) -> Answer
     ensures answered { IsInfoAnswered disk.now information.new text.new result result.status }
     ensures left { result.status ≢ 0 → information.new ≡ information.old }

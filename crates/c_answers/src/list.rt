@@ -1,4 +1,4 @@
-// Lists the libraries and preloads.
+// Puts the list of the libraries and preloads into buffers.
 ghost use Rattle.std.specs.Prelude.{◌≡◌};
 ghost use Rattle.byte_registry.specs.Bytes.{HoldStore};
 ghost use Rattle.requests.specs.declared.reply.Reply.TheVariants as variant;
@@ -14,7 +14,8 @@ use byte_registry::{ask, generation_of};
 use requests::{Command, Listing, Reply};
 use std::alloc::Global;
 
-/// If the reply has a listing, puts the listing into the buffers. Then reports the reply.
+/// Puts `listing`, which is the listing in `reply`, into the buffers, and reports the reply. If a
+/// buffer is too small, the answer has the sizes that both buffers need.
 fn give(
     alloc: Global,
     reply: &Reply,
@@ -62,8 +63,8 @@ fn tell_list(
     }
 }
 
-/// Puts the libraries and preloads of the registry on `disk` into the buffers, or reports why it
-/// can't.
+/// Puts the libraries and preloads of the registry on `disk` into the buffers. If that isn't
+/// possible, reports why.
 pub fn list_on(
     alloc: Global,
     disk: &[u8],

@@ -110,8 +110,8 @@ fn put_entries(listing: &Listing, entries: &mut [EntryPlace], names: &mut [u8]) 
     )
 }
 
-/// Puts a listing into the two buffers. If one of them is too small, the answer has the sizes that
-/// both need.
+/// Puts a listing into the two buffers. If a buffer is too small, the answer has the sizes that
+/// both buffers need.
 pub(crate) fn put_listing(listing: &Listing, entries: &mut [EntryPlace], names: &mut [u8]) -> Answer
     ensures { IsListingGiven listing.now entries.new names.new result result.status }
 {

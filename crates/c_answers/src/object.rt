@@ -1,10 +1,10 @@
-// The place of an object of an image.
+// Computes the place of an object of an image, for a caller in C.
 ghost use Rattle.std.specs.Prelude.{◌≡◌};
 ghost use Rattle.c_answers.specs.Objects.{address_at, object_place};
 
 use image::ImageObject;
 
-/// The place of an object of an image.
+/// The place of an object of an image: its addresses, its name and its segments.
 #[repr(C)]
 #[derive(Clone, Copy)]
 pub struct ObjectPlace {

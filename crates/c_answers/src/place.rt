@@ -1,11 +1,11 @@
-// The place of a segment.
+// Computes the place of a segment of an image, for a caller in C.
 ghost use Rattle.std.specs.Prelude.{◌≡◌};
 ghost use Rattle.c_answers.specs.Buffers.{place_of};
 
 use bitflags::Flags;
 use image::Segment;
 
-/// The place of a segment.
+/// The place of a segment of an image: its address, its bytes and its permissions.
 #[repr(C)]
 #[derive(Clone, Copy)]
 pub struct SegmentPlace {

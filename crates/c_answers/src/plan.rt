@@ -19,8 +19,8 @@ use std::alloc::Global;
 /// The number that encodes a sync.
 const SYNC: u32 = u32::MAX;
 
-/// Returns the number of bytes that encode a step: 4 for the number, and for a write also those of
-/// the sector.
+/// Returns the number of bytes that encode a step: 4 for the number, and for a write also the bytes
+/// of the sector.
 fn step_bytes(step: &Step) -> u64
     ensures { result ≡ min (length (step_bytes step.now)) (2 ^ 64 - 1) }
 {
@@ -88,8 +88,8 @@ fn put_steps(steps: &[PlannedStep], plan: &mut [u8]) -> Option<usize>
     Some(at)
 }
 
-/// Puts the plan of an accepted change into its buffer, and reports the reply Done. If the buffer
-/// is too small, the answer has the size that it needs.
+/// Puts the plan of an accepted change into the buffer `plan`, and reports the reply Done. If the
+/// buffer is too small, the answer has the needed size.
 pub(crate) fn put_done(
     alloc: Global,
     disk: &ByteDisk<'_>,

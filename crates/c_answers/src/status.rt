@@ -1,4 +1,5 @@
-// Statuses: 0, two statuses of the library's own, and the numbers of refusals.
+// The statuses of calls: 0; two statuses that aren't refusals of a registry; and the numbers of
+// refusals.
 ghost use Rattle.std.specs.Prelude.{◌≡◌};
 ghost use Rattle.c_answers.specs.Numbers.{store_number, bind_number, refusal_number};
 ghost use Rattle.c_answers.specs.Numbers.{object_number, file_number, file_number_of};
@@ -47,7 +48,8 @@ pub(crate) fn store_status(refusal: StoreRefusal) -> u32
     }
 }
 
-/// Returns the status of a refused bind: 100 plus the refusal's number, or that of S11.
+/// Returns the status of a refused bind: 100 plus the refusal's number, or the status of S11 if
+/// memory was refused.
 fn bind_status(refusal: &BindRefusal) -> u32
     ensures { result ≡ bind_number refusal.now }
 {
@@ -61,8 +63,8 @@ fn bind_status(refusal: &BindRefusal) -> u32
     }
 }
 
-/// Returns the status of a refusal. For a refusal of a command it is 200 plus the refusal's number,
-/// of a bind 100 plus this number, and of a disk 300 plus this number.
+/// Returns the status of a refusal. It is the refusal's number plus 200 for a refusal of a command,
+/// plus 100 for a refusal of a bind, and plus 300 for a refusal of a disk.
 pub(crate) fn refusal_status(refusal: &Refusal) -> u32
     ensures { result ≡ refusal_number refusal.now }
 {

@@ -36,8 +36,8 @@ struct Told {
     text: Vec<u8>,
 }
 
-/// Returns the status of a report of bindings: 0 if each symbol is bound, and otherwise that of B5
-/// (Undefined).
+/// Returns the status of a report of bindings: 0 if each symbol is bound, and otherwise the status
+/// of B5 (Undefined).
 fn bound_status(bound: bool) -> u32
     ensures { result ≡ (if bound then 0 else 105) }
 {
@@ -192,8 +192,8 @@ fn told_of_program(
 }
 
 /// Puts into the buffer a text that states what the symbols of a program and its libraries are
-/// bound to. If libraries are missing, the text states which were found and which are missing. If
-/// there is no text, reports why.
+/// bound to. If libraries are missing, the text states which libraries were found and which are
+/// missing. If there is no text, reports why.
 pub fn bindings_on(
     alloc: Global,
     disk: &[u8],

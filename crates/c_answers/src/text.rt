@@ -14,8 +14,8 @@ use store::StoreRefusal;
 /// The line for refused memory.
 const MEMORY_LINE: &[u8] = b"refused S11 OutOfMemory\n";
 
-/// Puts as many of the first bytes of `whole` into the buffer `text` as it has room for. Returns
-/// the length of `whole`.
+/// Puts the beginning of `whole` into the buffer `text`: as many bytes as `text` has room for.
+/// Returns the length of `whole`.
 pub(crate) fn put_text(whole: &[u8], text: &mut [u8]) -> u64
     ensures { HasText whole.now text.new result }
 {

@@ -48,7 +48,7 @@ fn tell_update(
     }
 }
 
-/// Plans an update with the changes `commands`, or reports why it is refused.
+/// Plans an update with the changes `commands`, or reports why the update is refused.
 fn plan_commands(
     alloc: Global,
     disk: &[u8],
@@ -66,7 +66,7 @@ fn plan_commands(
     }
 }
 
-/// Plans an update with the changes `asked`, which were read, or reports why it is refused.
+/// Plans an update with the changes `asked`, which were read, or reports why the update is refused.
 fn plan_asked(
     alloc: Global,
     disk: &[u8],
@@ -84,8 +84,8 @@ fn plan_asked(
     }
 }
 
-/// Plans an update with `changes`, whose bytes are in the buffer `bytes`, or reports which of them
-/// is refused, and why. If one of them isn't valid, no change is tested.
+/// Plans an update with `changes`, whose bytes are in the buffer `bytes`, or reports which change
+/// is refused, and why. If a change isn't valid, no change is tested.
 pub fn plan_update(
     alloc: Global,
     disk: &[u8],

@@ -84,7 +84,8 @@ disk_refusal_text refusal = codes "refused " ++ disk_refusal_name refusal ++ cod
 abbrev pub memory_text : List ℕ
 memory_text = disk_refusal_text OutOfMemory
 
--- the line of a refusal that names an object and what the object lacks
+-- the line of a refusal: `head`; `first`, the name of an object; and `second`, the name that the object
+-- lacks
 abbrev pub named_text : List ℕ → List ℕ → List ℕ → List ℕ
 named_text head first second = head ++ name_text first ++ codes " " ++ name_text second ++ codes "\n"
 

@@ -1,4 +1,4 @@
-// The argument BASE of a command line.
+// Reads the argument BASE of a command line.
 
 ghost use Rattle.std.specs.Prelude.{◌≡◌, true, false, drop, MatchOption};
 ghost use Rattle.std.specs.List.{list_all};

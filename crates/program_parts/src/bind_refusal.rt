@@ -1,4 +1,4 @@
-// The text of the answer to a bind that is refused.
+// Appends or writes the line that answers a refused bind.
 
 ghost use Rattle.std.specs.Prelude.{◌≡◌, ◌++◌, codes, true, OnOk, OnErr};
 ghost use Rattle.std.specs.Io.KnownBytes.{Appends};
@@ -28,7 +28,8 @@ pub(crate) fn put_file_line<W: Write>(
     line.put(out, b"\n")
 }
 
-/// Appends the line of a refusal that names an object and what the object lacks.
+/// Appends the line of a refusal: `head`; `first`, the name of an object; and `second`, the name
+/// that the object lacks.
 fn put_named<W: Write>(
     line: &mut Line,
     out: &mut W,

@@ -52,8 +52,9 @@ fn read_page<F: Read>(file: &mut F, page: &mut [u8; PAGE]) -> Result<Option<usiz
     }
 }
 
-/// If a file has fewer than `limit` bytes, reads it to its end. Reads through a page on the stack,
-/// so that refused memory can be distinguished from a read that fails.
+/// If a file has fewer than `limit` bytes, reads the file to its end; otherwise returns an error.
+/// Reads through a page on the stack, so that refused memory can be distinguished from a read that
+/// fails.
 pub fn read_all<F: Read>(alloc: Global, file: &mut F, limit: usize) -> Result<Vec<u8>, FileFault>
     ensures short { IfOk result (λ bytes. length bytes.items < limit) }
     // If the remaining bytes of the reader are known, the result has all of them.

@@ -1,4 +1,4 @@
-// The text of a reply.
+// Appends or writes the text of a reply.
 
 ghost use Rattle.std.specs.Prelude.{◌≡◌, ◌++◌, codes, true, OnOk, OnErr};
 ghost use Rattle.std.specs.List.{flat_map};
@@ -120,7 +120,8 @@ fn put_listing<W: Write>(line: &mut Line, out: &mut W, listing: &Listing) -> Res
     Ok(())
 }
 
-/// Appends the text of a reply. An image isn't appended, because it has a buffer of its own.
+/// Appends the text of a reply. For an image, appends nothing: `put_reply` writes an image with a
+/// buffer of its own.
 fn put_short_reply<W: Write>(line: &mut Line, out: &mut W, reply: &Reply) -> Result<(), WriteFault>
     ensures ok { OnOk result (Sends (W.contents out.old) line.old (W.contents out.new) line.new
         (short_text reply.now)) }

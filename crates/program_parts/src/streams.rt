@@ -17,8 +17,8 @@ const OUTPUT: &str = "/proc/self/fd/1";
 
 const ERRORS: &str = "/proc/self/fd/2";
 
-/// The numbers of the standard streams. While this value exists, no file
-/// that is opened gets one of them.
+/// The numbers of the standard streams. While this value exists, no file that is opened gets one of
+/// these numbers.
 ///
 /// The system gives a file the lowest free number. Suppose that a process was started with a closed
 /// standard stream. Then the next file that is opened would be that stream, and a message on the
@@ -59,7 +59,7 @@ fn open_three<R: Files>(rt: &R) -> io::Result<[R::File; 3]> {
 /// find this out.
 #[derive(Clone, Copy)]
 pub enum Behind {
-    /// The streams are open to other files than the path's, or to none.
+    /// The streams are open to other files than the path's, or to no file.
     Other,
     /// The input or the output is open to the path's file, or the file of a stream is unknown.
     OtherStream,
@@ -67,7 +67,7 @@ pub enum Behind {
     Errors,
 }
 
-/// Returns whether a standard stream is open to the file at `path`. The input counts only if
+/// Returns how the standard streams are related to the file at `path`. The input counts only if
 /// `reads_input` is true.
 pub fn behind_streams<R: Files>(rt: &R, path: &str, reads_input: bool) -> Behind {
     let Ok(found) = fs::metadata(rt, path) else {
@@ -90,7 +90,7 @@ pub fn behind_streams<R: Files>(rt: &R, path: &str, reads_input: bool) -> Behind
 }
 
 /// Returns whether the stream with the path `stream` is open to the file `found`, or `None` if that
-/// is unknown. On a system without such paths, the answer is no.
+/// is unknown. If there is no such path, returns `Some(false)`.
 fn is_behind<R: Files>(rt: &R, found: &Metadata, stream: &str) -> Option<bool> {
     match fs::metadata(rt, stream) {
         Ok(behind) => Some(is_same_file(found, &behind)),

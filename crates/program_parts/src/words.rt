@@ -1,4 +1,4 @@
-// The arguments of a process.
+// Reads the arguments of a process.
 
 use std::rt::Env;
 use std::{env, io};

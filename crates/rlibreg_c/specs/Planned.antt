@@ -5,7 +5,8 @@ use Rattle.c_answers.specs.Answers.{IsChangeAnswered, IsLeft, IsPlanOf}
 use Rattle.c_answers.specs.declared.answer.Answer.{Answer}
 
 -- A call has planned the change `request` of the registry that the bytes of `disk` hold, or reports why
--- it can't. `before` and `after` are the contents of the plan's buffer before and after the call.
+-- the change can't be planned. `before` and `after` are the contents of the plan's buffer before and
+-- after the call.
 pub record IsPlanned (disk : List ℕ) (request : Request) (before after text : List ℕ) (answer : Answer) (told : ℕ) : Type 0 where
   -- the plan leads from the state that the bytes hold to the state after the accepted change
   pub plan : told ≡ 0 → IsPlanOf disk request after answer

@@ -8,8 +8,8 @@ use std::alloc::Global;
 /// Tests each library of the registry that the sectors of `disk` hold, in the order of their
 /// installation. `findings` receives the numbers of the findings, and `names` the names in a row,
 /// each with a byte 0 after it. Each library's file is read once. A library that isn't sound
-/// doesn't prevent the test of the others. If one of the two buffers is too small, the answer has
-/// the sizes that both need, and no file is read.
+/// doesn't prevent the test of other libraries. If one of the two buffers is too small, the answer
+/// has the sizes that both need, and no file is read.
 #[unsafe(no_mangle)]
 pub extern "C" fn rlibreg_check(
     alloc: Global,

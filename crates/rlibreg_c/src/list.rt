@@ -8,8 +8,8 @@ use std::alloc::Global;
 
 /// Lists the libraries and the preloads of the registry that the sectors of `disk` hold. `entries`
 /// receives the libraries in the order of their installation, and then the preloads in their order.
-/// `names` receives their names in a row, each with a byte 0 after it. If one of these two buffers
-/// is too small, the answer has the sizes that both need.
+/// `names` receives the names of both in a row, each with a byte 0 after it. If one of these two
+/// buffers is too small, the answer has the sizes that both need.
 #[unsafe(no_mangle)]
 pub extern "C" fn rlibreg_list(
     alloc: Global,

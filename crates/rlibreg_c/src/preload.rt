@@ -7,7 +7,8 @@ ghost use Rattle.c_answers.specs.Names.{AreNames};
 use c_answers::{Answer, plan_preloads};
 use std::alloc::Global;
 
-/// Plans to set the preloads. `names` has their names in their order, each with a byte 0 after it.
+/// Plans to set the preloads. `names` has the names of the new preloads in their new order, each
+/// with a byte 0 after it.
 #[unsafe(no_mangle)]
 pub extern "C" fn rlibreg_plan_preload(
     alloc: Global,

@@ -7,8 +7,8 @@ use std::alloc::Global;
 
 /// Reports as a text what the symbols of a program and its libraries are bound to, with the
 /// registry that the sectors of `disk` hold. If libraries are missing, the text states instead
-/// which were found and which are missing. The status is the one that `rlibreg_bind` returns at
-/// this base. There is a text with the statuses 0, B3 (Missing) and B5 (Undefined).
+/// which libraries were found and which are missing. The status is the one that `rlibreg_bind`
+/// returns at this base. There is a text with the statuses 0, B3 (Missing) and B5 (Undefined).
 #[unsafe(no_mangle)]
 pub extern "C" fn rlibreg_bindings(
     alloc: Global,

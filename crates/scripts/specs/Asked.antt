@@ -6,8 +6,8 @@ use Rattle.scripts.specs.Words.{has_front, hex_bytes, named, names_behind, progr
 use Rattle.scripts.specs.declared.command.AskedCommand.{AskedCommand}
 use Rattle.scripts.specs.declared.command.AskedCommand.TheVariants as asked
 
--- the command that a line without its newline asks for; a line that has none of these forms asks for
--- none
+-- the command that a line without its newline asks for; a line that has none of these forms asks for no
+-- command
 abbrev pub request_meaning : List ℕ → Option Request
 request_meaning line =
     if has_front (codes "install ") line then option_map install (hex_bytes (drop 8 line))

@@ -18,11 +18,11 @@ is_visible b = nat_le 0x21 b && nat_le b 0x7e
 abbrev pub is_name : List ℕ → Bool
 is_name word = not (length word == 0) && list_all is_visible word
 
--- the word, if it is a NAME
+-- the word if it is a NAME, and otherwise none
 abbrev pub named : List ℕ → Option (List ℕ)
 named word = if is_name word then Some word else None
 
--- the list of NAMEs, each of which comes after a space
+-- the NAMEs in the bytes, each of which comes after a space; none if the bytes have another form
 abbrev pub names_behind : List ℕ → Option (List (List ℕ))
 names_behind [] = Some []
 names_behind (b ∷ rest) =
@@ -33,7 +33,7 @@ names_behind (b ∷ rest) =
 abbrev pub word_in_front : List ℕ → List ℕ
 word_in_front bytes = take_while (λ b. not (b == 32)) bytes
 
--- the bytes of a program with its base, if both could be read
+-- the bytes of a program with its base, if both could be read; otherwise none
 abbrev pub placed_at : Option ℕ → Option (List ℕ) → Option (List ℕ × ℕ)
 placed_at (Some base) (Some program) = Some (program, base)
 placed_at base program = None

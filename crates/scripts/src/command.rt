@@ -20,7 +20,7 @@ pub enum AskedCommand<'a> {
     Replace(Vec<u8>),
     /// Removes the library with this name.
     Remove(&'a [u8]),
-    /// Sets the preloads to these names, in their order.
+    /// Sets the preloads to these names, in this order.
     SetPreloads(Vec<&'a [u8]>),
     /// Binds a program with the libraries and the preloads.
     Bind {
@@ -61,7 +61,8 @@ pub fn behind<'a>(line: &'a [u8], front: &[u8]) -> Option<&'a [u8]>
     line.strip_prefix(front)
 }
 
-/// Reads BASE and HEX with a space between them. Returns the bytes of a program and its base.
+/// Reads BASE and HEX with a space between them. Returns the bytes of a program and its base, or
+/// `None` if `rest` has another form.
 pub fn program_behind(alloc: Global, rest: &[u8]) -> Result<Option<(Vec<u8>, u64)>, AllocError>
     ensures { IfOk result (λ both. option_map (λ p. (p.0.items, p.1)) both
         ≡ program_behind rest.now) }

@@ -18,7 +18,7 @@ const DIGITS: usize = 2 * PIECE;
 /// The value that marks a byte that isn't a digit.
 const NO_DIGIT: u8 = 16;
 
-/// Returns the value of a digit of either case. It uses arithmetic instead of a table, so that the
+/// Returns the value of a digit of either case. Uses arithmetic instead of a table, so that the
 /// compiler can read all digits of a piece at once.
 fn digit_value(digit: u8) -> u8
     ensures { result ≡ unwrap_or (hex_digit_value digit) NO_DIGIT }
@@ -56,8 +56,8 @@ fn values_of(digits: &[u8; DIGITS]) -> Option<[u8; DIGITS]>
     }
 }
 
-/// Returns the byte that the values of two digits encode. It computes with one number instead of
-/// two, so that the compiler can make all bytes of a piece at once.
+/// Returns the byte that the values of two digits encode. Computes with one number instead of two,
+/// so that the compiler can make all bytes of a piece at once.
 fn byte_of(values: [u8; 2]) -> u8
     requires high { slice_index values 0 < 16 }
     requires low { slice_index values 1 < 16 }

@@ -1,4 +1,4 @@
-// Reads a line.
+// Reads one line of a script.
 
 ghost use Rattle.std.specs.Prelude.{◌≡◌, ◌≢◌, ◌==◌, ℕ, List, Option, Some, length};
 ghost use Rattle.std.specs.Prelude.{if◌then◌else◌, IfOk, IfErr, OnErr};
@@ -35,16 +35,17 @@ fn fault_of(error: &Error) -> ScriptFault
     }
 }
 
-/// Returns the result of a read that has reached the end of the input, with `line` as its last
-/// bytes.
+/// Returns the result of a read that has reached the end of the input. `line` has the bytes after
+/// the last newline.
 fn last_part(line: &[u8]) -> Got
     ensures { result ≡ (if length line.now == 0 then Got.End else Got.Cut) }
 {
     if line.is_empty() { Got::End } else { Got::Cut }
 }
 
-/// Appends the bytes that the reader has ready to a part of a line, up to the newline. If the line
-/// has ended, returns the result. After an error nothing has changed.
+/// Appends the bytes that the reader has ready to a part of a line, up to the newline. If the
+/// newline or the end of the input is reached, returns the result of the read; otherwise returns
+/// `None`. After an error nothing has changed.
 fn read_part<R: BufRead>(reader: &mut R, line: &mut Vec<u8>) -> Result<Option<Got>, ScriptFault>
     requires { IsLine line.old.items }
     ensures ok { IfOk result (λ got. (before : Option (List ℕ))

@@ -1,4 +1,4 @@
-// The words of a line of a script.
+// Reads the words of a line of a script.
 
 ghost use Rattle.std.specs.Prelude.{◌≡◌, ◌==◌, ◌≤◌, map, take_while, length, not, IfOk};
 ghost use Rattle.std.specs.List.{list_all, slice_split};
@@ -11,7 +11,7 @@ use program_parts::parse_base;
 use std::alloc::{AllocError, Global};
 use std::str;
 
-/// Returns whether all bytes are visible.
+/// Returns whether all bytes are visible, that is, from 0x21 to 0x7e.
 fn are_visible(word: &[u8]) -> bool
     ensures { result ≡ list_all is_visible word.now }
 {
@@ -39,7 +39,7 @@ fn are_names(words: &[u8]) -> bool
     words.split(|b| *b == b' ').all(|word| is_name(word))
 }
 
-/// Returns the words between the spaces.
+/// Returns the parts of `words` that the spaces separate.
 fn words_of(alloc: Global, words: &[u8]) -> Result<Vec<&[u8]>, AllocError>
     ensures { IfOk result (λ v. map (λ w. w.now) v.items ≡ slice_split (λ b. b == 32) words.now) }
 {
@@ -61,7 +61,7 @@ pub(crate) fn names_behind(alloc: Global, rest: &[u8]) -> Result<Option<Vec<&[u8
     Ok(Some(words_of(alloc, words)?))
 }
 
-/// Returns the number of bytes before the first space.
+/// Returns the number of bytes before the first space, or of all bytes if there is no space.
 #[tactic(auto, using(crate::proofs::Fronts::front_short))]
 fn front_length(bytes: &[u8]) -> usize
     ensures is { result ≡ length (word_in_front bytes.now) }

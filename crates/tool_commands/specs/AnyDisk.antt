@@ -1,5 +1,5 @@
--- How the forms end on any disk, even on a disk that lies: with a text of the form and the status of
--- this text (own).
+-- How a form ends on any disk, even on a disk that lies: it writes a text that belongs to the form, and
+-- exits with the status of this text (own).
 use Rattle.std.specs.Prelude.{◌≡◌, ◌≢◌, ◌⊎◌, ◌<◌, ℕ, List, ◌++◌, length, codes, All, Option, count_by, is_none}
 use Rattle.std.specs.List.{flat_map}
 use Rattle.sector_disk.specs.Disk.{DiskFacts}

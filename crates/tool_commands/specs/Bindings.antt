@@ -1,4 +1,4 @@
--- How `bindings` ends, the form that reports what the symbols of a program are bound to (own).
+-- How the form `bindings` ends. It reports what the symbols of a program are bound to (own).
 use Rattle.std.specs.Prelude.{◌≡◌, ◌≢◌, ◌⊎◌, ℕ, List, Option, None, Ok, Err, map, false, is_none, if◌then◌else◌}
 use Rattle.bindings.specs.Bindings.{bindings_text}
 use Rattle.bindings.specs.Dependencies.{dependencies_text}
@@ -59,21 +59,24 @@ abbrev pub OrderTells : Option Need → List (List ℕ) → List Named → ℕ �
 OrderTells lacks names order base io status =
     ((lacks ≡ None) × WholeTells (place base order) io status) ⊎ ((lacks ≢ None) × LackingTells names order io status)
 
--- the report about a program and the libraries that were found for it
+-- the report about a program is written, with the program at the address `base` and with the libraries
+-- that were found for the program
 abbrev pub FoundTells : List ℕ → ℕ → Found → Streams → Status → Type 0
 FoundTells program base found io status =
     OrderTells found.missing (names_of (map object_of found.libraries)) (available program (map object_of found.libraries)) base io status
 
--- the report about a program and the installed libraries
+-- the report about a program is written, with the program at the address `base` and with the installed
+-- libraries
 abbrev pub StateTells : State → List ℕ → ℕ → Streams → Status → Type 0
 StateTells s program base io status =
     OrderTells (missing program (objects s) (preload_numbers s)) (names_of (objects s)) (load_order program (objects s) (preload_numbers s)) base io status
 
--- a test refuses the program by itself, and standard error reports the refusal
+-- the program at the address `base` is refused for a reason that no library affects, and standard error
+-- reports the refusal
 abbrev pub IsRefusedAlone : List ℕ → ℕ → Streams → Status → Type 0
 IsRefusedAlone program base io status = (refusal : BindRefusal) × IsProgramAnswer program base refusal × SaysRefusal (of_bind refusal) io status
 
--- The program is refused by itself, and no call of the disk is made.
+-- `IsRefusedAlone` holds, and the registry is unchanged, so no call of the disk was made.
 abbrev pub IsRefusedUnread : {D : Type 0} → Opened D → Opened D → List ℕ → ℕ → Streams → Status → Type 0
 IsRefusedUnread old new program base io status = (new ≡ old) × IsRefusedAlone program base io status
 
@@ -85,9 +88,10 @@ ReadsAsBind facts old new s program = AreCallsExactly (bind_sectors s program) (
 abbrev pub ReadsFound : {D : Type 0} → (D → DiskFacts) → Opened D → Opened D → Found → Type 0
 ReadsFound facts old new found = AreCallsExactly (found_sectors found) (facts old.disk) (facts new.disk)
 
--- How `bindings` ends over a disk that holds the state `s`. There are three cases: the program is refused
--- by itself; a library can't be read, and S5 (Damaged) then means that a file that the bind reads isn't a
--- library; or the bindings or the missing names are reported, after exactly the calls of a bind.
+-- How `bindings` ends over a disk that holds the state `s`. There are three cases: the program is
+-- refused before a library is read; a library can't be read, and S5 (Damaged) then means that a file
+-- that the bind reads isn't a library; or the bindings or the missing names are reported, after exactly
+-- the calls of a bind.
 abbrev pub BindingsEnd : {D : Type 0} → (D → DiskFacts) → Opened D → Opened D → State → List ℕ → ℕ → Streams → Status → Type 0
 BindingsEnd facts old new s program base io status =
     IsRefusedUnread old new program base io status
@@ -95,8 +99,8 @@ BindingsEnd facts old new s program base io status =
     × (((refusal : Refusal) × IsFindRefusal facts old new refusal × (refusal ≡ Damaged → ReadsLibraries s program → ⊥) × SaysRefusal refusal io status)
     ⊎ (ReadsLibraries s program × ReadsAsBind facts old new s program × StateTells s program base io status)))
 
--- How `bindings` ends on any disk, even on a disk that lies. Either the program is refused by itself, or
--- a library can't be read, or a report with some libraries is written.
+-- How `bindings` ends on any disk, even on a disk that lies. Either the program is refused before a
+-- library is read, or a library can't be read, or a report with some libraries is written.
 abbrev pub BindingsTell : {D : Type 0} → (D → DiskFacts) → Opened D → Opened D → List ℕ → ℕ → Streams → Status → Type 0
 BindingsTell facts old new program base io status =
     IsRefusedUnread old new program base io status

@@ -29,7 +29,7 @@ finding_line name length Unreadable = unreadable_line name
 abbrev pub finding_text : Library → Finding → List ℕ
 finding_text l finding = finding_line l.name (length l.bytes) finding
 
--- the lines for the libraries, in their order
+-- the lines with the libraries' findings, in the order of the libraries
 abbrev pub findings_text : List Library → List Finding → List ℕ
 findings_text libraries findings = lines_of finding_text libraries findings
 
@@ -46,11 +46,12 @@ pub record AreFindings (libraries : List Library) (findings : List Finding) : Ty
 abbrev pub HaveFailed : (old new : DiskFacts) → (count : ℕ) → Type 0
 HaveFailed old new count = old.failures + count ≤ new.failures
 
--- the finding is that the file is a library with its entry's name
+-- whether the finding is `Sound`: the file is a library with its entry's name
 abbrev pub is_sound : Finding → Bool
 is_sound Sound = true
 is_sound finding = false
 
--- the status of a check: Refused if a file isn't a library with its entry's name, or can't be read
+-- the status of a check: Refused if a file isn't a library with its entry's name, or can't be read;
+-- otherwise Done
 abbrev pub check_status : List Finding → Status
 check_status findings = if list_all is_sound findings then status.Done else status.Refused

@@ -16,7 +16,8 @@ use Rattle.tool_parts.specs.Streams.{Streams, CannotWrite, IsSilent, Says, Tells
 abbrev pub is_escaped : ℕ → Bool
 is_escaped b = b == 92 || b == 10 || b == 13
 
--- a byte of a name: itself, or its escape, which begins with a backslash
+-- the bytes that a line has for a byte of a name: the byte itself, or its escape, which begins with a
+-- backslash
 abbrev pub escaped_byte : ℕ → List ℕ
 escaped_byte b = if b == 92 then codes "\\\\" else if b == 10 then codes "\\n" else if b == 13 then codes "\\r" else b ∷ []
 
@@ -28,7 +29,7 @@ escape_mark name = if list_any is_escaped name then codes "\\" else []
 abbrev pub sum_line : (name digest : List ℕ) → List ℕ
 sum_line name digest = escape_mark name ++ encode_lower digest ++ codes "  " ++ flat_map escaped_byte name ++ codes "\n"
 
--- the line for a library named `name` on the output; a library that can't be read has none
+-- the line for a library named `name` on the output; a library that can't be read has no line
 abbrev pub digest_line : (name : List ℕ) → Option (List ℕ) → List ℕ
 digest_line name (Some digest) = sum_line name digest
 digest_line name None = []
@@ -46,7 +47,7 @@ digests_text libraries digests = lines_of (λ l. digest_line l.name) libraries d
 abbrev pub unread_text : List Library → List (Option (List ℕ)) → List ℕ
 unread_text libraries digests = lines_of (λ l. unread_line l.name) libraries digests
 
--- There is one item for each library: its digest, or none if the library can't be read.
+-- There is one item for each library: the library's digest, or none if the library can't be read.
 pub record AreDigests (libraries : List Library) (digests : List (Option (List ℕ))) : Type 0 where
   pub all : length digests ≡ length libraries
   pub each : (i : ℕ) → i < length libraries → (d : Option (List ℕ)) → IsDigest (slice_index_or libraries i no_library).bytes (slice_index_or digests i d)
@@ -55,7 +56,7 @@ pub record AreDigests (libraries : List Library) (digests : List (Option (List �
 abbrev pub are_read : List (Option (List ℕ)) → Bool
 are_read digests = list_all is_some digests
 
--- the status of `digest`: Refused if a library can't be read
+-- the status of `digest`: Refused if a library can't be read, and otherwise Done
 abbrev pub digest_status : List (Option (List ℕ)) → Status
 digest_status digests = if are_read digests then Done else Refused
 

@@ -27,7 +27,8 @@ abbrev pub preload_text : List (List ℕ) → List ℕ
 preload_text [] = []
 preload_text (name ∷ names) = codes "preload" ++ flat_map behind_space (name ∷ names) ++ codes "\n"
 
--- the script: the libraries in their order, and then the preloads
+-- the script for the state `s`: a line that installs each library, in the order of the libraries, and
+-- then the line that sets the preloads
 abbrev pub dump_text : State → List ℕ
 dump_text s = flat_map install_text s.libraries ++ preload_text s.preloads
 
@@ -45,7 +46,7 @@ last_text Update preloads = preload_text preloads ++ commit_text Update
 abbrev pub script_text : Purpose → State → List ℕ
 script_text purpose s = flat_map install_text s.libraries ++ last_text purpose s.preloads
 
--- the script for the first k libraries, which is cut: its last line has no newline
+-- the script that is cut after the first `k` libraries: it ends with `cut`, without a newline
 abbrev pub cut_text : State → ℕ → List ℕ
 cut_text s k = flat_map install_text (take k s.libraries) ++ codes "cut"
 

@@ -100,8 +100,9 @@ FormEnds facts store left s digest io status = DigestEnds (facts store.disk) (fa
 FormEnds facts store left s (file name) io status = FileEnds (facts store.disk) (facts left) s name io status
 FormEnds facts store left s (dump purpose) io status = DumpEnds (facts store.disk) (facts left) purpose s io status
 
--- The number of calls that the question makes of a disk whose libraries have these entries: none for `info`;
--- for `check` and `digest`, at most one for each sector of each library.
+-- The number of calls of the disk that were made to answer the question, if the disk's libraries have
+-- these entries. It is 0 for `info`, and at most 1 for each sector of each library for `check` and
+-- `digest`. For `file` and `dump` it is unspecified.
 abbrev pub FormReads : (old new : DiskFacts) → List PlacedEntry → Question → Type 0
 FormReads old new entries info = AreCallsExactly 0 old new
 FormReads old new entries check = AreCallsAtMost (sum_by file_sectors entries) old new
@@ -109,8 +110,8 @@ FormReads old new entries digest = AreCallsAtMost (sum_by file_sectors entries) 
 FormReads old new entries (file name) = Unit {0}
 FormReads old new entries (dump purpose) = Unit {0}
 
--- The disk can't be opened. Nothing is written, except by a dump, which writes the script `cut` unless
--- the output fails.
+-- The disk can't be opened. A dump writes the script `cut`, or the output fails. Any other form writes
+-- nothing to the output.
 abbrev pub EndsUnopened : Question → Status → Option (List ℕ) → Option (List ℕ) → Status → Type 0
 EndsUnopened (dump purpose) ends before after status = IsTold ends (codes "cut") before after status
 EndsUnopened question ends before after status = (status ≡ ends) × (after ≡ before)

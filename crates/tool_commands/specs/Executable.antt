@@ -12,7 +12,7 @@ use Rattle.tool_parts.specs.Said.{said_line}
 use Rattle.tool_parts.specs.Streams.{Streams, CannotWrite, IsSilent, Says, SaysOnly, Tells}
 
 -- The warning for a file whose program headers don't fit in one page of 4,096 bytes: Linux before 6.17
--- accepts no more than fit in such a page.
+-- accepts no more program headers than fit in such a page.
 abbrev pub many_headers_line : List ℕ
 many_headers_line = said_line (codes "Linux before 6.17 starts no file with more than 73 program headers\n")
 
@@ -21,7 +21,7 @@ many_headers_line = said_line (codes "Linux before 6.17 starts no file with more
 abbrev pub SaysBeside : List ℕ → Streams → Type 0
 SaysBeside file io = Says io many_headers_line × (header_count file ≤ 73 → IsSilent io)
 
--- the status if there is no executable file
+-- the status if there is no executable file: NoMemory if memory was refused, and otherwise Refused
 abbrev pub executable_status : ExecutableRefusal → Status
 executable_status refusal.OutOfMemory = NoMemory
 executable_status other = Refused

@@ -18,8 +18,8 @@ pub data Question : Type 0 where
   file : List ℕ → Question
   dump : Purpose → Question
 
--- What to do with a disk: answer a question, replace a library by the file at a path, remove a library
--- by its name, or run an update; write the executable file of the program at a path, or report what the
+-- An action on a disk: answer a question; replace a library by the file at a path; remove a library by
+-- its name; run an update; write the executable file of the program at a path; or report what the
 -- symbols of that program are bound to.
 pub data Deed : Type 0 where
   tell : Question → Deed
@@ -29,7 +29,7 @@ pub data Deed : Type 0 where
   executable : List ℕ → ℕ → Deed
   bindings : List ℕ → ℕ → Deed
 
--- a command line: the path of the disk, and what to do with the disk
+-- a command line: the path of the disk, and the action on the disk
 pub record CommandLine : Type 0 where
   pub disk : List ℕ
   pub deed : Deed
@@ -49,7 +49,7 @@ of_dump (disk ∷ []) = Some (record { disk = disk; deed = tell (dump Script) })
 of_dump (disk ∷ word ∷ []) = option_map (λ purpose. record { disk = disk; deed = tell (dump purpose) }) (purpose_of word)
 of_dump words = None
 
--- the command line if the arguments are DISK and one more
+-- the command line if the arguments are DISK and one other argument
 abbrev pub of_two : (List ℕ → Deed) → List (List ℕ) → Option CommandLine
 of_two deed (disk ∷ word ∷ []) = Some (record { disk = disk; deed = deed word })
 of_two deed words = None

@@ -1,4 +1,4 @@
--- How the program ends, depending on its arguments, whatever disk the file DISK has (own).
+-- How the program ends with given arguments, whatever disk the file DISK contains (own).
 use Rattle.std.specs.Prelude.{◌≡◌, ◌≢◌, ◌⊎◌, ◌<◌, ℕ, List, Option, Some, None, Bool, true, false, length}
 use Rattle.std.specs.declared.io.ErrorKind.{ErrorKind}
 use Rattle.std.specs.declared.io.ErrorKind.TheVariants.{OutOfMemory}
@@ -61,15 +61,15 @@ abbrev pub SystemDisk : Type 0
 SystemDisk = FileDisk DiskFile ghosts
 
 -- Either the question is answered for a new disk over a file; or no disk was opened, and standard error
--- reports why. S6 (BadGeometry) is reported only of a length that no disk has.
+-- reports why. S6 (BadGeometry) is reported only for a length that no disk has.
 abbrev pub TellEnds : Question → Streams → Status → Type 0
 TellEnds question io status =
     ((disk : SystemDisk) × (left : SystemDisk) × IsNew disk × DiskEnds file_facts disk question io status left)
     ⊎ ((fault : OpenFault) × EndsUnopened question (open_status fault) io.before io.after status × SaysFault fault io.errors_before io.errors_after
     × IsLengthFault fault)
 
--- Either `Ends` holds for a new disk over a file; or no disk was opened, standard error reports why, and
--- nothing was written to the output. S6 is reported only of a length that no disk has.
+-- Either `Ends` holds for a new disk over a file; or no disk was opened, standard error reports why,
+-- and nothing was written to the output. S6 is reported only for a length that no disk has.
 abbrev pub OpenEnds : (SystemDisk → SystemDisk → Type 0) → Streams → Status → Type 0
 OpenEnds Ends io status =
     ((disk : SystemDisk) × (left : SystemDisk) × IsNew disk × Ends disk left)
@@ -110,14 +110,14 @@ module _ {O : Type 0} (contents : O → Option (List ℕ)) where
   DeedEnds (executable path base) io status = ReadEnds (λ bytes. AskEnds (request.bind bytes base) Executable (outputs_of io) status) (outputs_of io) status
   DeedEnds (bindings path base) io status = ReadEnds (λ bytes. BindingsAskEnds bytes base (outputs_of io) status) (outputs_of io) status
 
-  -- If the arguments have none of the forms, exactly the usage is reported. Only such arguments end with
-  -- the status BadWords. Any other arguments are carried out; or a standard stream is open, or may be
-  -- open, to the disk's file, and nothing was written.
+  -- If the arguments have none of the forms, exactly the usage is reported. Only such arguments end
+  -- with the status BadWords. For all other arguments, either the action is carried out; or a standard
+  -- stream is open, or may be open, to the disk's file, and nothing was written to the output.
   abbrev pub IsEnd : Option CommandLine → program.Streams → Status → Type 0
   IsEnd None io status = SaysOnly BadWords usage_line (outputs_of io) status
   IsEnd (Some line) io status = (status ≢ BadWords) × (DeedEnds line.deed io status ⊎ ((status ≡ Failed) × IsUntold (outputs_of io)))
 
-  -- the process exits with the number of a status with which the arguments end
+  -- the process exits with the number of a status for which `IsEnd` holds
   abbrev pub LineEnds : Option CommandLine → program.Streams → ℕ → Type 0
   LineEnds line io number = ExitsWith (IsEnd line io) number
 

@@ -27,7 +27,7 @@ use Rattle.tool_commands.specs.Telling.{TellsReply}
 use Rattle.tool_commands.specs.declared.telling.Telling.{Telling}
 
 -- A registry that was opened without reading a library's file answered a command. `old` and `new` are
--- the registry before and after it.
+-- the registry before and after the command.
 pub record DiskStep {D : Type 0} (facts : D → DiskFacts) (old : Opened D) (request : Request) (answer : Reply) (new : Opened D) : Type 0 where
   -- whatever files the byte strings are, a change and a listing are steps of the step table
   pub untested : (s : State) → store.IsAt facts old s → AppliesUntested facts old new s request answer

@@ -1,4 +1,4 @@
-// The arguments of the process.
+// Runs the program with the arguments of the process, or reports that they couldn't be read.
 
 ghost use Rattle.std.specs.Prelude.{◌≡◌, ◌≢◌, ◌≤◌, ◌⊎◌, IfErr, OnOk, None, false};
 ghost use Rattle.std.specs.IoError.{error_kind};
@@ -15,9 +15,9 @@ use std::rt::{Clock, Files};
 use store::StoreRefusal;
 use tool_parts::say_refusal;
 
-/// If the arguments could be read, does the same as `run_words`. If memory for them was refused,
-/// reports that. If they couldn't be read for another reason, reports the usage, as for arguments
-/// that have none of the forms.
+/// If the arguments could be read, does the same as `run_words`. If memory for the arguments was
+/// refused, reports that. If the arguments couldn't be read for another reason, reports the usage,
+/// as for arguments that have none of the forms.
 pub fn run_arguments<R: Files<File = File> + Clock, I: Read, O: Write, E: Write>(
     rt: &R,
     alloc: Global,

@@ -1,4 +1,4 @@
-// The executable file of a bound program.
+// Writes the executable file of a bound program, or reports why there is none.
 
 ghost use Rattle.std.specs.Prelude.{◌≡◌, ◌≤◌, ◌++◌, OnOk};
 ghost use Rattle.elf_file.specs.Header.{header_count};
@@ -16,11 +16,11 @@ use std::io::Write;
 use text_output::WriteFault;
 use tool_parts::cannot_write;
 
-/// The maximum number of program headers in one page of 4,096 bytes.
+/// The maximum number of program headers that fit in one page of 4,096 bytes.
 const MOST_IN_A_PAGE: u16 = 73;
 
-/// If `file` has more program headers than fit in a page, reports that not every kernel starts the
-/// file.
+/// If `file` has more program headers than fit in a page, warns that Linux before 6.17 doesn't
+/// start the file.
 fn say_many_headers<E: Write>(file: &Executable, errors: &mut E)
     ensures said { AppendsFront (E.contents errors.old) (E.contents errors.new)
         many_headers_line }
@@ -35,7 +35,7 @@ fn say_many_headers<E: Write>(file: &Executable, errors: &mut E)
     }
 }
 
-/// Writes an executable file, or reports that the output failed.
+/// Writes `file` to the output, or reports that the output failed.
 fn write_executable<O: Write, E: Write>(file: &Executable, output: &mut O, errors: &mut E) -> Status
     ensures { TellsFile file.now (record {
       before = O.contents output.old;

@@ -24,7 +24,7 @@ use store::{Store, StoreRefusal};
 use text_output::WriteFault;
 use tool_parts::{cannot_write, say_refusal};
 
-/// Appends the line for each library, in their order, to the buffered text.
+/// Appends a line with each library's finding to the buffered text, in the order of the libraries.
 fn put_findings<D: Disk, W: Write>(
     store: &Store<D>,
     findings: &[Finding],
@@ -43,7 +43,7 @@ fn put_findings<D: Disk, W: Write>(
     Ok(())
 }
 
-/// Appends the line for each library, and the line `end`, to the buffered text.
+/// Appends a line with each library's finding, and then the line `end`, to the buffered text.
 fn put_check<D: Disk, W: Write>(
     store: &Store<D>,
     findings: &[Finding],
@@ -59,7 +59,7 @@ fn put_check<D: Disk, W: Write>(
     line.put(out, b"end\n")
 }
 
-/// Writes the line for each library, and the line `end`.
+/// Writes a line with each library's finding, and then the line `end`.
 fn write_findings<D: Disk, W: Write>(
     store: &Store<D>,
     findings: &[Finding],
@@ -75,21 +75,21 @@ fn write_findings<D: Disk, W: Write>(
     line.send(out)
 }
 
-/// Returns whether a finding is that the file is a library with its entry's name.
+/// Returns whether `finding` is `Sound`: the file is a library with its entry's name.
 fn is_sound(finding: Finding) -> bool
     ensures { result ≡ is_sound finding }
 {
     matches!(&finding, Finding::Sound)
 }
 
-/// Returns whether all findings are sound.
+/// Returns whether each finding is `Sound`.
 fn are_sound(findings: &[Finding]) -> bool
     ensures { result ≡ list_all is_sound findings.now }
 {
     findings.iter().all(|finding| is_sound(*finding))
 }
 
-/// Returns `Refused` if some finding isn't sound, and otherwise `Done`.
+/// Returns `Done` if each finding is `Sound`, and otherwise `Refused`.
 fn status_of_findings(findings: &[Finding]) -> Status
     ensures { result ≡ check_status findings.now }
 {
@@ -123,8 +123,8 @@ fn tell_findings<D: Disk, O: Write, E: Write>(
     }
 }
 
-/// Reads each library, and writes a line with the finding for each library, in their order. Then
-/// writes the line `end`.
+/// Reads each library. Then writes a line with each library's finding, in the order of the
+/// libraries, and the line `end`.
 pub fn run_check<D: Disk, O: Write, E: Write>(
     contents: &mut Contents<D>,
     alloc: Global,

@@ -13,8 +13,9 @@ use std::fs::File;
 use std::io::{Read, Write};
 use std::rt::{Clock, Files};
 
-/// Does what the arguments ask for, unless a standard stream is open, or may be open, to the disk's
-/// file: the output would then be written into the disk, or the input read from it.
+/// Carries out the action in `asked`, unless a standard stream is open, or may be open, to the
+/// disk's file. With such a stream the output could be written into the disk, or the input could be
+/// read from the disk.
 fn run_apart<R: Files<File = File> + Clock, I: Read, O: Write, E: Write>(
     rt: &R,
     alloc: Global,
@@ -40,7 +41,7 @@ fn run_apart<R: Files<File = File> + Clock, I: Read, O: Write, E: Write>(
     }
 }
 
-/// Does what the program does with `words`, the arguments after its name, and returns its exit
+/// Runs the program with `words`, the arguments after the program's name, and returns the exit
 /// status. The status is 0 if the action was carried out, 1 if it was refused, and 2 if the
 /// arguments have none of the forms. It is 3 if the disk, its file or a stream failed, and 4 if
 /// memory was refused. Only `update` reads the input.
@@ -78,8 +79,8 @@ pub fn run_words<R: Files<File = File> + Clock, I: Read, O: Write, E: Write>(
     ensures silent { asks_for warns (command_line (map (λ word. string_bytes word) words.now))
         ≡ false → result ≡ 0 → E.contents errors.new ≡ E.contents errors.old }
 
-    // At most one of the output and standard error is written to, unless the status is 3 or the
-    // form is one of those that may write to both.
+    // Unless the status is 3, or the form may write to both the output and standard error, at most
+    // one of the two is written to.
     ensures apart { asks_for says_beside (command_line (map (λ word. string_bytes word) words.now))
         ≡ false → result ≢ 3 → (E.contents errors.new ≡ E.contents errors.old)
         ⊎ (O.contents output.new ≡ O.contents output.old) }

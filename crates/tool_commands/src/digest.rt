@@ -27,7 +27,7 @@ use store::{Store, StoreRefusal};
 use text_output::WriteFault;
 use tool_parts::{cannot_write, say_refusal};
 
-/// Appends the line for each library on the stream `stream`, in their order, to the buffered text.
+/// Appends the lines that belong on `stream` to the buffered text, in the order of the libraries.
 fn put_stream<D: Disk, W: Write>(
     store: &Store<D>,
     digests: &[Option<[u8; 32]>],
@@ -46,7 +46,7 @@ fn put_stream<D: Disk, W: Write>(
     Ok(())
 }
 
-/// Writes the lines for the stream `stream`.
+/// Writes to `out` the lines that belong on `stream`.
 fn write_stream<D: Disk, W: Write>(
     store: &Store<D>,
     digests: &[Option<[u8; 32]>],
@@ -63,7 +63,7 @@ fn write_stream<D: Disk, W: Write>(
     line.send(out)
 }
 
-/// Returns whether each library could be read.
+/// Returns whether each library could be read, and so has a digest.
 fn are_read(digests: &[Option<[u8; 32]>]) -> bool
     ensures { result ≡ are_read digests.now }
 {
@@ -151,9 +151,9 @@ fn tell_digests<D: Disk, O: Write, E: Write>(
     }
 }
 
-/// Reads each library, and then writes the digests in the libraries' order, as GNU sha256sum does.
-/// A library that can't be read has no line on the output, and is reported on standard error.
-/// Doesn't test whether the files are libraries.
+/// Reads each library, and then writes the digests in the order of the libraries. The lines have
+/// the form that GNU sha256sum prints. A library that can't be read has no line on the output, and
+/// is reported on standard error. Doesn't test whether the files are libraries.
 pub fn run_digest<D: Disk, O: Write, E: Write>(
     contents: &mut Contents<D>,
     alloc: Global,

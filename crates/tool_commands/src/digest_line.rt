@@ -1,4 +1,5 @@
-// The line for a library's digest, as GNU sha256sum prints it.
+// Appends the line for a library's digest to a buffered text, in the form that GNU sha256sum
+// prints.
 
 ghost use Rattle.std.specs.Prelude.{◌≡◌, OnOk};
 ghost use Rattle.std.specs.List.{flat_map, list_any};
@@ -12,7 +13,7 @@ use crate::stream::Stream;
 use std::io::Write;
 use text_output::WriteFault;
 
-/// The number of digits of a digest.
+/// The number of hexadecimal digits of a digest.
 const DIGITS: usize = 64;
 
 /// Returns whether a line has an escape in place of `byte`.
@@ -29,8 +30,8 @@ fn has_escape(name: &[u8]) -> bool
     name.iter().any(|byte| is_escaped(*byte))
 }
 
-/// Returns the beginning of a line: a backslash if a byte of the name is escaped, and otherwise
-/// nothing.
+/// Returns the beginning of the line for `name`: a backslash if a byte of `name` is escaped, and
+/// otherwise no bytes.
 fn mark_of(name: &[u8]) -> &'static [u8]
     ensures { result.now ≡ escape_mark name.now }
 {
@@ -88,9 +89,9 @@ fn put_sum<W: Write>(
     line.put(out, b"\n")
 }
 
-/// Appends the line for a library named `name` on the stream `stream` to the buffered text. The
-/// output has a line only for a library that could be read, and standard error only for a library
-/// that couldn't be read.
+/// Appends to the buffered text the line that `stream` gets for a library named `name`. The output
+/// has a line only for a library that could be read, and standard error only for a library that
+/// couldn't be read.
 pub(crate) fn put_stream_line<W: Write>(
     stream: Stream,
     line: &mut Line,

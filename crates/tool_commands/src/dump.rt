@@ -58,8 +58,9 @@ fn put_install<W: Write>(
     Ok(())
 }
 
-/// Appends the lines for the libraries, in their order, to the buffered text, with one library in
-/// memory at a time. Stops at a library whose file isn't returned.
+/// Appends the lines that install the libraries to the buffered text, in the order of the
+/// libraries. Has one library in memory at a time. Stops at the first library whose file
+/// `sound_file` doesn't return, and returns this cut.
 fn put_libraries<D: Disk, W: Write>(
     contents: &mut Contents<D>,
     alloc: Global,
@@ -86,7 +87,7 @@ fn put_libraries<D: Disk, W: Write>(
     Ok(None)
 }
 
-/// Appends the names of the preloads, with a space before each, to the buffered text.
+/// Appends the names of the preloads, with a space before each name, to the buffered text.
 fn put_preload_names<D: Disk, W: Write>(
     store: &Store<D>,
     script: &mut PieceBuffer,
@@ -166,7 +167,7 @@ fn put_end<D: Disk, W: Write>(
     }
 }
 
-/// Writes the script.
+/// Writes the script for `purpose`. If the script is cut, returns the cut.
 fn write_script<D: Disk, W: Write>(
     contents: &mut Contents<D>,
     alloc: Global,
@@ -191,7 +192,7 @@ fn write_script<D: Disk, W: Write>(
     Ok(cut)
 }
 
-/// Appends to `spelt` the line with this finding for a library that has the name `name` and
+/// Appends to `spelt` the line that reports `finding` for a library with the name `name` and
 /// `length` bytes.
 fn spell_finding(
     finding: Finding,
@@ -208,7 +209,8 @@ fn spell_finding(
     line.send(spelt)
 }
 
-/// If there is memory for the line, reports the finding for a library. Returns the status.
+/// If there is memory for the line, reports `finding` for the library named `name`. Returns the
+/// status.
 fn say_finding<E: Write>(
     alloc: Global,
     finding: Finding,
@@ -238,7 +240,7 @@ fn finding_status(finding: Finding) -> Status
     }
 }
 
-/// Reports why a script was cut.
+/// Reports why a script was cut, and returns the status.
 fn say_cut<D: Disk, E: Write>(store: &Store<D>, alloc: Global, cut: Cut, errors: &mut E) -> Status
     requires { cut.position < length store.now.entries }
     ensures status { result ≡ lack_status cut.lack }
@@ -277,11 +279,11 @@ fn end_dump<D: Disk, E: Write>(
     }
 }
 
-/// Writes the script that makes the registry again: an `install` line for each library, in their
-/// order, a `preload` line if there are preloads, and for an update the line `commit`. One library
-/// is in memory at a time, and its sectors are read once. If a file can't be read, or isn't a
-/// library with its entry's name, or memory is refused, the script ends with `cut`, without a
-/// newline.
+/// Writes the script that makes the registry again: an `install` line for each library, in the
+/// order of the libraries; a `preload` line if there are preloads; and for an update the line
+/// `commit`. One library is in memory at a time. Each sector of a library is read once. If a file
+/// can't be read, or isn't a library with its entry's name, or memory is refused, the script ends
+/// with `cut`, without a newline.
 pub fn run_dump<D: Disk, O: Write, E: Write>(
     contents: &mut Contents<D>,
     alloc: Global,

@@ -1,4 +1,4 @@
-// The line that reports the finding for a library.
+// Appends the line that reports the finding for a library to a buffered text.
 
 ghost use Rattle.std.specs.Prelude.{◌++◌, codes, OnOk};
 ghost use Rattle.std.specs.Fmt.{decimal};
@@ -16,7 +16,7 @@ use text_output::{LINE, OutputBuffer, WriteFault};
 /// The buffer of a line that goes to a writer.
 pub(crate) type Line = OutputBuffer<LINE>;
 
-/// Appends a text, then a name, then another text to the buffered text.
+/// Appends `front`, the name `name` and `back` to the buffered text.
 pub(crate) fn put_around<W: Write>(
     line: &mut Line,
     out: &mut W,
@@ -32,7 +32,7 @@ pub(crate) fn put_around<W: Write>(
     line.put(out, back)
 }
 
-/// Appends the line for a library that is sound to the buffered text.
+/// Appends to the buffered text the line for a sound library.
 fn put_sound<W: Write>(
     line: &mut Line,
     out: &mut W,
@@ -50,7 +50,7 @@ fn put_sound<W: Write>(
     Ok(())
 }
 
-/// Appends the line for a library that a test refuses to the buffered text.
+/// Appends to the buffered text the line for a library that a test refuses.
 fn put_refused<W: Write>(
     line: &mut Line,
     out: &mut W,
@@ -69,7 +69,7 @@ fn put_refused<W: Write>(
     Ok(())
 }
 
-/// Appends to the buffered text the line with this finding for a library that has the name `name`
+/// Appends to the buffered text the line that reports `finding` for a library with the name `name`
 /// and `length` bytes.
 pub(crate) fn put_finding<W: Write>(
     line: &mut Line,

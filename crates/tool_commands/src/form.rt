@@ -1,4 +1,4 @@
-// The forms of the program, and which form the arguments have.
+// Reads the arguments of a command line, and returns the form that they have.
 
 ghost use Rattle.std.specs.Prelude.{◌≡◌, ◌∷◌, map, string_bytes};
 ghost use Rattle.std.specs.Option.{option_map};
@@ -12,9 +12,11 @@ use program_parts::parse_base;
 /// The purpose of a script.
 #[derive(Clone, Copy, PartialEq, Eq)]
 pub enum Purpose {
-    /// For `rlibreg script`, which carries out each line before it reads the next.
+    /// The script is for `rlibreg script`, which carries out each line before it reads the next
+    /// line.
     Script,
-    /// For an update, which carries out all lines together at the end. The last line is `commit`.
+    /// The script is for an update, which carries out all lines together at the end. The script's
+    /// last line is `commit`.
     Update,
 }
 
@@ -23,7 +25,7 @@ pub enum Purpose {
 pub enum Form<'a> {
     /// Writes the numbers of the whole registry.
     Info,
-    /// Tests each library, and writes the finding for it.
+    /// Tests each library, and writes a line with the library's finding.
     Check,
     /// Writes the digest of each library.
     Digest,
@@ -33,10 +35,10 @@ pub enum Form<'a> {
     Dump(Purpose),
 }
 
-/// What is done with a disk.
+/// The action on a disk that the arguments ask for.
 #[derive(Clone, Copy, PartialEq, Eq)]
 pub enum Action<'a> {
-    /// Answers a question about what the disk has. The disk is only read.
+    /// Answers a question about the disk's contents. The disk is only read.
     Tell(Form<'a>),
     /// Replaces the library with the same name by the file at the given path.
     Replace(&'a str),
@@ -60,12 +62,12 @@ pub enum Action<'a> {
     },
 }
 
-/// The action that arguments ask for, and the path of the disk.
+/// The path of the disk and the action that the arguments name.
 #[derive(Clone, Copy, PartialEq, Eq)]
 pub struct Asked<'a> {
     /// The path of the disk.
     pub disk: &'a str,
-    /// What is done with the disk.
+    /// The action on the disk.
     pub action: Action<'a>,
 }
 
@@ -80,7 +82,8 @@ fn read_disk<'a>(action: Action<'a>, words: &'a [String]) -> Option<Asked<'a>>
     }
 }
 
-/// Reads the argument after DISK, which names the purpose of a dump.
+/// Returns the purpose of a dump that `word`, the argument after DISK, names. Returns `None` if
+/// `word` isn't `commit`.
 fn read_purpose(word: &str) -> Option<Purpose>
     ensures { result ≡ purpose_of word.now }
 {

@@ -1,4 +1,4 @@
-// Writes bytes in hexadecimal, on one line.
+// Appends bytes in hexadecimal to a buffered text, without a newline.
 
 ghost use Rattle.std.specs.Prelude.{◌≤◌, OnOk, length};
 ghost use Rattle.hex.specs.Hex.{encode_lower};

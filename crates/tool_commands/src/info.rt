@@ -22,7 +22,7 @@ use tool_parts::cannot_write;
 /// The buffer of a line that goes to a writer.
 type Line = OutputBuffer<LINE>;
 
-/// Appends a number between two texts to the buffered text.
+/// Appends `front`, `number` in decimal and `back` to the buffered text.
 fn put_number<W: Write>(
     line: &mut Line,
     out: &mut W,
@@ -38,7 +38,7 @@ fn put_number<W: Write>(
     line.put(out, back)
 }
 
-/// Appends the lines about the disk and the number of its changes to the buffered text.
+/// Appends the lines about the disk and the number of the registry's changes to the buffered text.
 fn put_disk<W: Write>(line: &mut Line, out: &mut W, info: &Info) -> Result<(), WriteFault>
     ensures { OnOk result (Sends (W.contents out.old) line.old (W.contents out.new) line.new
         (disk_lines info.now.sectors info.now.generation)) }
@@ -83,7 +83,7 @@ fn put_room<W: Write>(line: &mut Line, out: &mut W, info: &Info) -> Result<(), W
     )
 }
 
-/// Appends all lines to the buffered text.
+/// Appends all lines of the form `info` to the buffered text.
 fn put_info<W: Write>(line: &mut Line, out: &mut W, info: &Info) -> Result<(), WriteFault>
     ensures { OnOk result (Sends (W.contents out.old) line.old (W.contents out.new) line.new
         (info_text info.now.sectors info.now.generation info.now.libraries info.now.preloads
@@ -95,7 +95,7 @@ fn put_info<W: Write>(line: &mut Line, out: &mut W, info: &Info) -> Result<(), W
     put_room(line, out, info)
 }
 
-/// Writes all lines, with one write.
+/// Writes all lines of the form `info`, with one write.
 fn write_info<W: Write>(out: &mut W, info: &Info) -> Result<(), WriteFault>
     ensures { OnOk result (Appends (W.contents out.old) (W.contents out.new)
         (info_text info.now.sectors info.now.generation info.now.libraries info.now.preloads
@@ -107,7 +107,7 @@ fn write_info<W: Write>(out: &mut W, info: &Info) -> Result<(), WriteFault>
     line.send(out)
 }
 
-/// Writes all lines, or reports that the output failed.
+/// Writes all lines of the form `info`, or reports that the output failed.
 fn tell_info<O: Write, E: Write>(info: &Info, output: &mut O, errors: &mut E) -> Status
     ensures { TellsOnly Done (info_text info.now.sectors info.now.generation info.now.libraries
         info.now.preloads info.now.unused.sectors info.now.unused.free info.now.unused.runs

@@ -1,15 +1,16 @@
-//! What the program `rlibreg-tool` does with arguments and disks, as a library for other programs.
+//! The work of the program `rlibreg-tool`, as functions that other programs can call.
 //!
-//! `run_info`, `run_check`, `run_digest`, `run_file` and `run_dump` report what a disk has: how
-//! much of it is unused, whether each file is a library, the digests of the files, the bytes of one
-//! library, and the script that makes the registry again.
+//! `run_info`, `run_check`, `run_digest`, `run_file` and `run_dump` report the contents of a disk:
+//! the numbers of the registry, whether each file is a library, the digests of the files, the bytes
+//! of one library, and the script that makes the registry again.
 //!
 //! `run_form` opens any disk and calls one of these functions. `run_request` applies a command to a
 //! disk's registry, even if some files aren't libraries, and writes the reply as `Telling`
 //! determines. `run_bindings` writes what the symbols of a program are bound to.
 //!
-//! `run_words` reads the arguments of a command line and opens the disk's file, also for an update,
-//! which the crate `updates` runs. `run_arguments` does the same with the arguments of the process.
+//! `run_words` reads the arguments of a command line, opens the disk's file and carries out the
+//! action. `run_arguments` does the same with the arguments of the process. The crate `updates`
+//! runs an update.
 #![tactic(auto)]
 
 mod arguments;

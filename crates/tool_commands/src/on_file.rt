@@ -195,8 +195,8 @@ fn tell_file_bindings<R: Files<File = File> + Clock, O: Write, E: Write>(
     }
 }
 
-/// Opens a disk, locked exclusively, and runs an update over it. Keeps the disk locked until the
-/// output is written.
+/// Opens a disk with an exclusive lock, and runs an update of the disk's registry. Keeps the disk
+/// locked until the output is written.
 fn update<R: Files<File = File> + Clock, I: Read, O: Write, E: Write>(
     rt: &R,
     alloc: Global,

@@ -1,4 +1,4 @@
-// Carries out a form over any disk.
+// Answers a question about the contents of any disk.
 
 ghost use Rattle.std.specs.Prelude.{codes, OnOk};
 ghost use Rattle.std.specs.Io.KnownBytes.{Appends};
@@ -32,8 +32,8 @@ fn cut_script<O: Write>(output: &mut O) -> Result<(), WriteFault>
     text.send(output)
 }
 
-/// Ends a form whose disk couldn't be opened. If the form is a dump, writes a script that only has
-/// the line `cut`. Returns `status`, or `Failed` if the output failed.
+/// Ends a form whose disk couldn't be opened. If the form is a dump, writes `cut` as the whole
+/// script. Returns `status`, or `Failed` if the output failed.
 pub(crate) fn end_unopened<O: Write>(form: &Form<'_>, status: Status, output: &mut O) -> Status
     ensures { EndsUnopened (question_of form.now) status
         (O.contents output.old) (O.contents output.new) result }

@@ -1,4 +1,4 @@
-// The messages on standard error.
+// Writes messages to standard error.
 
 ghost use Rattle.std.specs.Prelude.{◌≡◌};
 ghost use Rattle.program_parts.specs.Said.{AppendsFront};
@@ -8,7 +8,7 @@ ghost use Rattle.tool_commands.specs.Said.{not_installed_line, usage_line};
 use program_parts::{Status, say};
 use std::io::Write;
 
-/// Reports that no library with that name is installed.
+/// Reports C3 (NotInstalled): no installed library has the name in the arguments.
 pub(crate) fn say_not_installed<E: Write>(errors: &mut E) -> Status
     ensures status { result ≡ Refused }
     ensures said { AppendsFront (E.contents errors.old) (E.contents errors.new)
@@ -18,7 +18,7 @@ pub(crate) fn say_not_installed<E: Write>(errors: &mut E) -> Status
     Status::Refused
 }
 
-/// Reports that the arguments have none of the forms, and which forms there are.
+/// Reports the usage, because the arguments have none of the forms.
 pub(crate) fn bad_words<E: Write>(errors: &mut E) -> Status
     ensures status { result ≡ BadWords }
     ensures said { AppendsFront (E.contents errors.old) (E.contents errors.new) usage_line }
@@ -31,7 +31,7 @@ pub(crate) fn bad_words<E: Write>(errors: &mut E) -> Status
     Status::BadWords
 }
 
-/// Reports that a file can't be read.
+/// Reports that the file at `path` can't be read.
 pub(crate) fn cannot_read<E: Write>(errors: &mut E, path: &str) -> Status
     ensures { result ≡ Failed }
 {

@@ -1,4 +1,4 @@
-// Reads the file of a library, and tests that it is a library.
+// Reads a library's file, and tests whether it is a library with its entry's name.
 
 ghost use Rattle.std.specs.Prelude.{◌≡◌, ◌≢◌, ◌<◌, IfOk, IfErr, length, slice_index_or};
 ghost use Rattle.states.specs.State.{State};
@@ -31,7 +31,7 @@ impl From<AllocError> for Lack {
     }
 }
 
-/// Returns the file `file` if it is a library named `name`, and otherwise the reason why it isn't.
+/// If `file` is a library named `name`, returns `file`. Otherwise returns the reason why not.
 fn tested(alloc: Global, name: &[u8], file: Vec<u8>) -> Result<Vec<u8>, Lack>
     ensures ok { IfOk result (λ f. (f.items ≡ file.items)
         × IsLibrary (record { name = name.now; bytes = file.items })) }

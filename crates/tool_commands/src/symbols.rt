@@ -60,8 +60,8 @@ fn write_bindings<O: Write, E: Write>(
     }
 }
 
-/// Places the objects of an order, and writes what their symbols are bound to. If they can't be
-/// placed, reports why.
+/// Places the objects of `order`, with the program at the address `base`, and writes what the
+/// objects' symbols are bound to. If the objects can't be placed, reports why.
 fn tell_placed<O: Write, E: Write>(
     alloc: Global,
     order: &Order<'_>,

@@ -41,7 +41,7 @@ fn tell_text<O: Write, E: Write>(reply: &Reply, output: &mut O, errors: &mut E) 
     }
 }
 
-/// Appends the line of a reply to `line`.
+/// Appends `rlibreg-tool: ` and the text of a reply to `line`.
 fn spell_reply(line: &mut Vec<u8>, reply: &Reply) -> Result<(), WriteFault>
     ensures { OnOk result
         (line.new.items ≡ line.old.items ++ said_line (reply_text reply.now)) }

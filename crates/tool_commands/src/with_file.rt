@@ -22,7 +22,7 @@ pub(crate) enum WithFile {
 }
 
 impl WithFile {
-    /// Returns the command with the file `bytes`.
+    /// Returns this request as a command, with `bytes` as the file's bytes.
     pub(crate) fn command(self, bytes: &[u8]) -> Command<'_>
         ensures { request_of result ≡ request_with self bytes.now }
     {

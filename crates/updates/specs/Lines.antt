@@ -36,8 +36,8 @@ BeginsWith unread lines part = IfSome unread (λ text. (others : List ℕ) × (t
 abbrev pub AreJust : Option (List ℕ) → List (List ℕ) → List ℕ → Type 0
 AreJust unread lines rest = IfSome unread (λ text. text ≡ flat_map ended lines ++ rest)
 
--- The answered lines were followed by the reason that refuses the update: a line that asks for nothing,
--- a line without a newline, the end of the input, or a line whose command is refused. `new` is the draft
+-- The answered lines were followed by a reason to refuse the update: a line that asks for nothing, a
+-- line without a newline, the end of the input, or a line whose command is refused. `new` is the draft
 -- after the refusal.
 abbrev pub IsRefusedAt : {D : Type 0} → (D → DiskFacts) → Option (List ℕ) → List (List ℕ) → Drafted D → Drafted D → UpdateRefusal → Type 0
 IsRefusedAt facts unread lines old new BadLine = (new ≡ old) × (line : List ℕ) × IsLine line × (line ≢ commit_line) × (request_meaning line ≡ None)

@@ -1,4 +1,4 @@
-// The texts that answer the lines of an update.
+// Appends the texts that answer the lines of an update to a buffered text.
 
 ghost use Rattle.std.specs.Prelude.{◌≡◌, IfErr, IfOk, OnErr, OnOk, true};
 ghost use Rattle.text_output.specs.Sends.{Sends};
@@ -24,8 +24,8 @@ pub enum UpdateRefusal {
     Refused(Refusal),
 }
 
-/// Appends the text of an answer to the buffered text: `planned` for a change and `bound` for a
-/// bind, because neither is on the disk yet.
+/// Appends the text of an answer to the buffered text. The text is `planned` for a change and
+/// `bound` for a bind, because the draft isn't on the disk yet.
 pub(crate) fn put_plan<W: Write>(
     waiting: &mut Line,
     out: &mut W,

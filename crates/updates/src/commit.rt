@@ -1,4 +1,4 @@
-// The commit of an update.
+// Commits the draft of an update.
 
 ghost use Rattle.updates.specs.Commit.{Commits};
 ghost use Rattle.updates.specs.inside.Committed.{commit_result};

@@ -1,4 +1,4 @@
-// The messages on standard error.
+// Writes messages to standard error.
 
 ghost use Rattle.std.specs.Prelude.{◌≡◌};
 ghost use Rattle.program_parts.specs.Said.{AppendsFront};

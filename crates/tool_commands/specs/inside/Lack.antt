@@ -43,7 +43,7 @@ abbrev pub IsGone : State → Option Cut → Type 0
 IsGone s None = All IsLibrary s.libraries
 IsGone s (Some cut) = IsCut s cut.position cut.lack
 
--- the lines for the libraries before the cut
+-- the lines for the libraries before the cut, or for all libraries if the script isn't cut
 abbrev pub libraries_text : State → Option Cut → List ℕ
 libraries_text s None = flat_map install_text s.libraries
 libraries_text s (Some cut) = flat_map install_text (take cut.position s.libraries)
@@ -53,8 +53,8 @@ abbrev pub end_text : Purpose → List (List ℕ) → Option Cut → List ℕ
 end_text purpose preloads None = last_text purpose preloads
 end_text purpose preloads (Some cut) = codes "cut"
 
--- If the script was cut, it was cut at a file that isn't a library with its entry's name. If that file
--- can't be read, a call failed.
+-- If the script was cut, the reason isn't the finding `Sound`. If the reason is that a library can't be
+-- read, a call failed.
 abbrev pub IsLacking : (old new : DiskFacts) → Option Cut → Type 0
 IsLacking old new None = Unit {0}
 IsLacking old new (Some cut) = (cut.lack ≢ Found Sound) × (cut.lack ≡ Found Unreadable → old.failures < new.failures)
