@@ -22,7 +22,7 @@ use std::marker::Model;
 use text_output::WriteFault;
 
 /// A program and its libraries at their bases, and flags for the symbols that their relocations
-/// name. Contracts see the placed objects.
+/// name. In contracts, the value is the list of the placed objects.
 #[derive(Drop)]
 pub struct Bindings<'a> {
     objects: PlacedOrder<'a>,

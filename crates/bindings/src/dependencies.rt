@@ -18,8 +18,8 @@ use std::io::Write;
 use std::marker::Model;
 use text_output::WriteFault;
 
-/// A program and the libraries that were found for it, in load order. Contracts see the program and
-/// the libraries.
+/// A program and the libraries that were found for it, in load order. In contracts, the value has
+/// the program and the libraries.
 #[derive(Drop)]
 pub struct Dependencies<'a> {
     program: &'a Admitted<'a>,

@@ -1,5 +1,5 @@
-// The file of a case, and the changes to it. The bytes of the file are those of a file of the
-// folder, or are written in digits, or are described by a text.
+// Makes the file of a case, and the changes to the file. The bytes of the file are those of a file
+// of the folder, or are written in digits, or are described by a text.
 
 use crate::number::parse_number;
 use anyhow::{Context, Result, bail};

@@ -1,4 +1,4 @@
-// Lists of cases.
+// Runs the cases of a list.
 
 use crate::case::stands;
 use crate::file::text_of_file;

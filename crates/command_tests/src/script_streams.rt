@@ -14,7 +14,7 @@ use std::alloc::Global;
 use std::io::ErrorKind;
 use std::test::Fail;
 
-/// Replies Done to every event, and notes a letter for each.
+/// Replies Done to every event, and notes a letter for each event.
 #[derive(Drop)]
 struct Asked {
     /// The letters of the events.

@@ -16,7 +16,7 @@ use std::alloc::Global;
 use std::fmt::Debug;
 use std::rc::Rc;
 
-// A number of calls that is greater than any task's.
+// A number that is greater than the number of calls that any task makes.
 const MOST_CALLS: u64 = 1000;
 
 /// The kinds of disks: in memory, and over a file in memory.

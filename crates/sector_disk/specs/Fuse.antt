@@ -22,7 +22,8 @@ outcome_of plan n =
 abbrev pub reached : List Step → ℕ
 reached steps = length (filter (λ step. step.reached) steps)
 
--- the moment of the inner disk at moment u of the fuse: its present moment, minus the calls since u that reached it
+-- the moment of the inner disk at moment u of the fuse: the inner disk's present moment `time`, minus the number of
+-- calls since u that reached the inner disk
 abbrev pub inner_moment : ℕ → List Step → ℕ → ℕ
 inner_moment time past u = time - reached (drop u past)
 

@@ -48,7 +48,7 @@ fn put_words(file: &mut Vec<u8>, words: &[u64]) -> Result<(), AllocError> {
     Ok(())
 }
 
-/// Appends a copy of the file's two program headers to it.
+/// Appends a copy of the file's two program headers to the file.
 fn put_headers_again(alloc: Global, file: &mut Vec<u8>) -> Result<(), AllocError> {
     let headers = file.as_slice().get(64..176).unwrap_or(&[]).to_vec(alloc)?;
     file.extend_from_slice(&headers)

@@ -69,8 +69,8 @@ fn fails_so(alloc: Global, fails: u64, failed: usize, contents: [Option<u8>; 4])
     done && read && again
 }
 
-// After the opening, the calls of the file are: length and write of sectors 1 and 2; write of 6;
-// length and write of 4, and sync; length and write of 3, and sync; length and sync.
+// After the opening, the calls of the file are: 2 length, 3 write of sectors 1 and 2, 4 write of 6;
+// 5 length, 6 write of 4, 7 sync; 8 length, 9 write of 3, 10 sync; 11 length, 12 sync.
 //
 // Each row has the number of the file's call that fails, the index of the first call of the disk that
 // then fails, and what reads of sectors 1, 2, 3 and 6 return afterwards. Only sectors in the buffer
