@@ -1,4 +1,4 @@
-// The needed names of a program that lacks libraries, as text.
+// Writes, as text, the names that a program and the libraries found for it need.
 
 ghost use Rattle.std.specs.Prelude.{◌≡◌, not, is_none, map, IfOk, OnOk};
 ghost use Rattle.std.specs.List.{flat_map};

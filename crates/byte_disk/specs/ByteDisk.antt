@@ -25,7 +25,7 @@ abbrev pub calls_for : List PlannedStep → ℕ
 calls_for [] = 0
 calls_for (p ∷ planned) = calls_made p.idle + 1 + calls_for planned
 
--- the number of these calls that failed; a call that makes a step succeeds
+-- the number of failed calls up to the last of these steps; a call that makes a step succeeds
 abbrev pub failures_for : List PlannedStep → ℕ
 failures_for [] = 0
 failures_for (p ∷ planned) = calls_failed p.idle + failures_for planned

@@ -53,7 +53,8 @@ fn change(rt: &HostRuntime, bytes: &mut Vec<u8>, what: &str, value: &str) -> Res
     Ok(())
 }
 
-/// Returns the bytes of a file of the folder, or the bytes that BYTES of `bytes=BYTES` encodes.
+/// Returns the bytes of the file `name` of the folder. If `name` is `bytes=BYTES`, returns the
+/// bytes that BYTES encodes.
 fn plain_bytes(rt: &HostRuntime, name: &str) -> Result<Vec<u8>> {
     match name.strip_prefix("bytes=") {
         Some(digits) => spelt(rt.alloc(), digits),

@@ -1,4 +1,4 @@
-// Scripts over streams that fail, and a script with each form of line.
+// Tests of scripts over streams that fail, and of a script with each form of line.
 
 ghost use Rattle.std.specs.Prelude.{⊤};
 

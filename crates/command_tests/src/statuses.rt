@@ -36,7 +36,8 @@ const NO_COMMAND: &[&str] = &["help"];
 
 const BAD_BASE: &[&str] = &["image", "no such file", "10"];
 
-/// Command lines, the rooms of output and standard error, and the results.
+/// Each row has a command line, the rooms of the output and of standard error, and the expected
+/// result of `told`.
 static MESSAGES: [(&[&str], (usize, usize), (u8, usize, u64, usize)); 9] = [
     (UNREAD, (100, 100), (3, 100, 1, 66)),
     (UNREAD, (0, 100), (3, 0, 1, 66)),

@@ -1,4 +1,4 @@
-// The addresses of an object's program headers, of its dynamic section, and of its entry.
+// Finds the addresses of an object's program headers, of its dynamic section, and of its entry.
 
 ghost use Rattle.std.specs.Prelude.{◌≡◌};
 ghost use Rattle.std.specs.List.{find};

@@ -1,5 +1,5 @@
-// Tasks on a disk, or on a disk over a file, cut at each call. Each disk that a stop may leave is
-// opened.
+// Does tasks on a disk in memory or on a disk over a file, and cuts each call. Opens each disk that
+// a stop may leave.
 
 use crate::allowed::Allowed;
 use crate::cut::Cut;

@@ -27,8 +27,8 @@ reached steps = length (filter (λ step. step.reached) steps)
 abbrev pub inner_moment : ℕ → List Step → ℕ → ℕ
 inner_moment time past u = time - reached (drop u past)
 
--- The facts of the inner disk, but with the fuse's own clock and its own count of failures, and with its plan added.
--- The mark of a moment is the mark of the inner disk at that moment.
+-- The facts of the inner disk, but with the fuse's own clock and its own count of failures, and with the fuse's plan
+-- added. The mark of a moment is the mark of the inner disk at that moment.
 abbrev pub fused : Plan → DiskFacts → List Step → DiskFacts
 fused plan inner past = record {
   honest = inner.honest;

@@ -1,5 +1,5 @@
-// Stops and fuses: the contents that a stop leaves, and the calls that a fuse makes fail. A content
-// is named by its byte: a sector that has only bytes of value 2 has content 2.
+// Tests of stops and fuses: the contents that a stop leaves, and the calls that a fuse makes fail.
+// A content is named by its byte: a sector that has only bytes of value 2 has content 2.
 use sector_disk::{CallCount, Disk, DiskFault, Fuse, Liar, Memory, SECTOR_BYTES};
 use std::alloc::Global;
 use std::test::Fail;

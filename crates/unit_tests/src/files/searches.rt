@@ -112,8 +112,8 @@ fn finds_plainly(admitted: &Admitted<'_>) -> bool {
         && admitted.library_name() == Ok(b"q".as_slice())
 }
 
-/// Returns whether a table is admitted, and whether admission and each search agree with the plain
-/// programs.
+/// Returns whether a table is admitted, and whether admission agrees with `is_plainly_good` and
+/// each search with `find_plainly`.
 fn compare(alloc: Global, file: &[u8]) -> (bool, bool) {
     let Ok(object) = Object::read(file) else {
         return (false, false);

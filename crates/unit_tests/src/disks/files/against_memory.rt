@@ -69,8 +69,8 @@ fn filled(alloc: Global) -> Option<Fake> {
     filled.then_some(disk.into_file())
 }
 
-// Fills a file of 5,000 sectors. Returns four numbers: the writes, the writes before the sync, the
-// reads while it was filled, and the reads that reading the whole file takes afterwards.
+// Fills a file of 5,000 sectors. Returns four numbers: the writes; the writes before the sync; the
+// reads while the file was filled; and the reads that reading the whole file takes afterwards.
 fn fill_and_read(alloc: Global) -> Option<[u64; 4]> {
     let file = filled(alloc)?;
     let [writes, synced, reads] = [file.writes, file.synced, file.reads];

@@ -12,8 +12,8 @@ fn sectors(rt: &HostRuntime, path: &str) -> Result<u32, OpenFault> {
     Ok(disk.sectors())
 }
 
-// Makes a disk of eight sectors over a new file, which has its name from the beginning, or over an
-// existing file of the same size.
+// Makes a disk of eight sectors at `path`, over a new file or over an existing file of the same
+// size. Names a new file at once.
 fn make(rt: &HostRuntime, path: &str) -> Result<FileDisk<DiskFile>, OpenFault> {
     let Made { disk, name } = FileDisk::make(rt, rt.alloc(), path, 8)?;
     let is_named = match name {
@@ -148,7 +148,7 @@ fn resized(
     Ok((begun && is_resized).then_some(disk))
 }
 
-// Returns whether the disk's next call fails, and whether the disk's file then has only zeros.
+// Returns whether the disk's next call fails and the disk's file then has only zeros.
 fn is_seen(
     rt: &HostRuntime,
     path: &str,
@@ -218,7 +218,7 @@ const MADE: [&str; 3] = [
     "file_disk_test_refused/none/disk",
 ];
 
-// The lengths of files, and the result of opening a disk over each.
+// Each row has the length of a file, and the result of opening a disk over the file.
 const LENGTHS: [(u64, Result<u32, OpenFault>); 8] = [
     (0, Ok(0)),
     (511, Err(OpenFault::BadLength(511))),
