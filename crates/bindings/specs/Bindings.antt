@@ -31,8 +31,8 @@ needs_line name = name_line (codes "needs ") name
 abbrev pub binds_line : (symbol : List ℕ) (value : ℕ) (object : List ℕ) → List ℕ
 binds_line symbol value object = codes "binds " ++ name_text symbol ++ codes " 0x" ++ address_text value ++ name_line (codes " ") object
 
--- the line of a symbol of object number `own`; `name` is the symbol's name, and its target is a symbol of an object, 0
--- for a weak symbol that no object defines, or none
+-- the line of a symbol of object number `own`; `name` is the symbol's name; the target is a symbol of an object, the
+-- value 0 for a weak symbol that no object defines, or none
 abbrev pub target_line : List Placed → ℕ → List ℕ → Option Target → List ℕ
 target_line objects own name (Some (At object symbol)) = binds_line name (own_address objects object symbol) (name_at objects object)
 target_line objects own name (Some Zero) = name_line (codes "unresolved ") name

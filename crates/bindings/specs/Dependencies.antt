@@ -18,8 +18,8 @@ need_text names need = needs_line need.name ++ (if is_missing names need then mi
 unfoldable pub found_text : List (List ℕ) → Named → List ℕ
 found_text names object = name_line (codes "found ") object.name ++ flat_map (need_text names) (needed_by object)
 
--- the text of objects: the lines of each object, in their order, and the line `end`; `names` has the
--- names of the installed libraries
+-- the text of objects: the lines of each object, in the order of the list, and the line `end`;
+-- `names` has the names of the installed libraries
 unfoldable pub dependencies_text : List (List ℕ) → List Named → List ℕ
 dependencies_text names objects = flat_map (found_text names) objects ++ codes "end\n"
 

@@ -22,7 +22,7 @@ use std::marker::Model;
 use text_output::WriteFault;
 
 /// A program and its libraries at their bases, and flags for the symbols that their relocations
-/// name. Contracts see the placed objects.
+/// name. In contracts, the value is the list of the placed objects.
 #[derive(Drop)]
 pub struct Bindings<'a> {
     objects: PlacedOrder<'a>,
@@ -80,10 +80,10 @@ impl<'a> Bindings<'a> {
         Ok(Bindings { objects, named })
     }
 
-    /// Writes the text. Returns whether every symbol that a relocation names is bound to something.
-    /// If so, a bind would find no undefined symbol. Uses 64 KiB of stack, allocates nothing, and
-    /// passes the text to the writer in pieces of 64 KiB. The time is that of one search for each
-    /// symbol that relocations name, and of writing. If the writer fails, the writer's contents are
+    /// Writes the text. Returns whether every symbol that a relocation names is bound. If so, a
+    /// bind would find no undefined symbol. Uses 64 KiB of stack, allocates nothing, and passes the
+    /// text to the writer in pieces of 64 KiB. The time is that of one search for each symbol that
+    /// relocations name, and of writing. If the writer fails, the writer's contents are
     /// unspecified.
     #[tactic(auto, unfolding(crate::specs::Bindings::bindings_text))]
     pub fn write_text<W: Write>(&self, out: &mut W) -> Result<bool, WriteFault>

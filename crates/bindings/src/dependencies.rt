@@ -1,4 +1,4 @@
-// The needed names of a program that lacks libraries, as text.
+// Writes, as text, the names that a program and the libraries found for it need.
 
 ghost use Rattle.std.specs.Prelude.{◌≡◌, not, is_none, map, IfOk, OnOk};
 ghost use Rattle.std.specs.List.{flat_map};
@@ -18,8 +18,8 @@ use std::io::Write;
 use std::marker::Model;
 use text_output::WriteFault;
 
-/// A program and the libraries that were found for it, in load order. Contracts see the program and
-/// the libraries.
+/// A program and the libraries that were found for it, in load order. In contracts, the value has
+/// the program and the libraries.
 #[derive(Drop)]
 pub struct Dependencies<'a> {
     program: &'a Admitted<'a>,

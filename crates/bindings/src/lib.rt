@@ -1,5 +1,5 @@
-//! Writes, as text, what each symbol of a program and its libraries is bound to, and what each of
-//! these objects needs.
+//! Writes, as text, the targets of the symbols of a program and its libraries, and the names of the
+//! libraries that each of these objects needs.
 //!
 //! `Bindings` is for placed objects. For each object, its text has the symbols that the object's
 //! relocations name, and the targets of these symbols. `Dependencies` is for a program that lacks

@@ -1,4 +1,4 @@
-// The lines of the texts.
+// Writes the lines of the texts.
 
 ghost use Rattle.std.specs.Prelude.{◌≡◌, true, OnOk, OnErr};
 ghost use Rattle.text_output.specs.Sends.{Sends};

@@ -1,4 +1,4 @@
-// The symbols that relocations name.
+// Finds the symbols that relocations name.
 
 ghost use Rattle.std.specs.Prelude.{◌≡◌, ◌<◌, ◌∷◌, ◌++◌, [], ℕ, List, length, map, true, IfOk};
 ghost use Rattle.elf_dynamic.specs.Relocation.{uses_symbol};

@@ -1,4 +1,4 @@
-// The names that an object needs.
+// Writes the names that an object needs.
 
 ghost use Rattle.std.specs.Prelude.{OnOk};
 ghost use Rattle.std.specs.List.{flat_map};

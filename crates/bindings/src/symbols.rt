@@ -1,4 +1,4 @@
-// The lines of an object's symbols.
+// Writes the lines of an object's symbols.
 
 ghost use Rattle.std.specs.Prelude.{◌≡◌, ◌<◌, ◌||◌, [], length, not, is_some, is_none, IfOk, OnOk};
 ghost use Rattle.std.specs.Prelude.{if◌then◌else◌};

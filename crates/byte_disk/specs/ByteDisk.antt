@@ -25,7 +25,7 @@ abbrev pub calls_for : List PlannedStep → ℕ
 calls_for [] = 0
 calls_for (p ∷ planned) = calls_made p.idle + 1 + calls_for planned
 
--- the number of these calls that failed; a call that makes a step succeeds
+-- the number of failed calls up to the last of these steps; a call that makes a step succeeds
 abbrev pub failures_for : List PlannedStep → ℕ
 failures_for [] = 0
 failures_for (p ∷ planned) = calls_failed p.idle + failures_for planned
@@ -70,9 +70,9 @@ byte_facts disk = facts_of disk.start.now disk.planned.items disk.idle
 abbrev pub LeavesAsAfter : ByteDisk → ℕ → ℕ → Type 0
 LeavesAsAfter disk u n = (m : List Sector) → MixtureAt (byte_facts disk) u m ↔ IsMixtureAfter (given_to disk) (take n (plan_of disk)) m
 
--- How a plan relates to its disk, if the plan is carried out in its order. After each prefix of the
--- plan, a stop leaves exactly what the disk's facts state for some moment. For each moment there is such
--- a prefix.
+-- How the plan of a disk relates to the disk's facts, if the steps are carried out in the order of the
+-- plan. After each prefix of the plan, a stop leaves exactly what the disk's facts state for some
+-- moment. For each moment there is such a prefix.
 pub record IsPlanOf (disk : ByteDisk) : Type 0 where
   pub prefixes : (n : ℕ) → n ≤ length (plan_of disk) → (u : ℕ) × (u ≤ (byte_facts disk).time) × LeavesAsAfter disk u n
   pub moments : (u : ℕ) → u ≤ (byte_facts disk).time → (n : ℕ) × (n ≤ length (plan_of disk)) × LeavesAsAfter disk u n

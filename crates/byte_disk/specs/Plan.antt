@@ -1,10 +1,10 @@
--- A plan: steps to carry out on a disk in their order, and the contents that a stop may leave after each of them (own).
+-- A plan: the steps to carry out on a disk, and the contents that a stop may leave after each step (own).
 use Rattle.std.specs.Prelude.{◌≡◌, ◌<◌, ◌≤◌, ℕ, List, [], ◌∷◌, length, set, take, drop, All}
 use Rattle.sector_disk.specs.Disk.{Sector, sector, IsWhole}
 use Rattle.byte_disk.specs.declared.step.Step.{Step}
 use Rattle.byte_disk.specs.declared.step.Step.TheVariants.{Write, Sync}
 
--- the sectors after these steps, made in their order: what reads return then
+-- the sectors after these steps: the contents that reads then return
 abbrev pub carried_out : List Sector → List Step → List Sector
 carried_out start [] = start
 carried_out start (Write at content ∷ steps) = carried_out (set start at content) steps

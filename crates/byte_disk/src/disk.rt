@@ -18,8 +18,8 @@ use std::collections::HashMap;
 use std::mem::replace;
 
 /// An honest disk whose sectors were given. It keeps its writes and syncs as the steps of a plan,
-/// in their order. It allocates memory only for the steps, so that reads allocate none. A read, a
-/// write and a sync take constant time.
+/// in the order of the calls. It allocates memory only for the steps, so that reads allocate none.
+/// A read, a write and a sync take constant time.
 #[derive(Drop)]
 pub struct ByteDisk<'a> {
     start: &'a [[u8; SECTOR_BYTES]],

@@ -1,4 +1,4 @@
-// The sectors of given bytes.
+// Splits given bytes into sectors.
 ghost use Rattle.std.specs.Prelude.{◌≡◌, ◌↔◌, ◌<◌, ◌^◌, IsSome, IfSome, All, length};
 ghost use Rattle.sector_disk.specs.Disk.{IsWhole};
 ghost use Rattle.byte_disk.specs.Bytes.{IsDiskLength, sectors_in};

@@ -1,9 +1,9 @@
 //! A disk over given bytes, which keeps all changes as a plan.
 //!
-//! `ByteDisk` is a `Disk` whose sectors are the bytes of a disk's file. It changes none of them. It
-//! keeps its writes and syncs in their order, as the steps that a caller with the file carries out.
-//! It is honest. While the plan is carried out, a stop leaves only what a stop of the `ByteDisk`
-//! may leave. `ReadOnlyDisk` is for callers that only read.
+//! `ByteDisk` is a `Disk` whose sectors are the bytes of a disk's file. It doesn't change these
+//! bytes. It keeps its writes and syncs, in the order of the calls, as steps that a caller carries
+//! out on the file. It is honest. While the plan is carried out, a stop leaves only what a stop of
+//! the `ByteDisk` may leave. `ReadOnlyDisk` is for callers that only read.
 #![tactic(auto)]
 
 mod disk;

@@ -1,4 +1,4 @@
-// The answer to a case.
+// Compares the answer to a case with the expected answer.
 
 use crate::file::changed_file;
 use anyhow::Result;

@@ -1,4 +1,4 @@
-// Binding a program with libraries.
+// Binds the program of a case with libraries.
 
 use crate::file::changed_file;
 use crate::number::{first_number, last_number};

@@ -1,4 +1,4 @@
-// A case: a call and its expected answer.
+// Runs the call of a case, and compares the answer with the expected one.
 
 use crate::answer::is_wanted;
 use crate::bind::{Told, put_bind, put_word};

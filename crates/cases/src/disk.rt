@@ -1,4 +1,5 @@
-// Command lines over a disk: their output and status, and the disk afterwards.
+// Runs a command line over a disk, and compares the output, the status and the disk afterwards with
+// the expected ones.
 
 use crate::file::changed_file;
 use crate::words::{Program, ends_so};

@@ -1,5 +1,5 @@
-// The file of a case, and the changes to it. The bytes of the file are those of a file of the
-// folder, or are written in digits, or are described by a text.
+// Makes the file of a case, and the changes to the file. The bytes of the file are those of a file
+// of the folder, or are written in digits, or are described by a text.
 
 use crate::number::parse_number;
 use anyhow::{Context, Result, bail};
@@ -53,7 +53,8 @@ fn change(rt: &HostRuntime, bytes: &mut Vec<u8>, what: &str, value: &str) -> Res
     Ok(())
 }
 
-/// Returns the bytes of a file of the folder, or the bytes that BYTES of `bytes=BYTES` encodes.
+/// Returns the bytes of the file `name` of the folder. If `name` is `bytes=BYTES`, returns the
+/// bytes that BYTES encodes.
 fn plain_bytes(rt: &HostRuntime, name: &str) -> Result<Vec<u8>> {
     match name.strip_prefix("bytes=") {
         Some(digits) => spelt(rt.alloc(), digits),

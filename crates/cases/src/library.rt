@@ -1,4 +1,4 @@
-// A file as an object that other objects may use: its admission, its name, and its exports.
+// Answers cases about a file that other objects may use: its admission, its name, and its exports.
 
 use crate::file::{changed_file, spelt};
 use crate::view::{put_named, put_view};

@@ -1,11 +1,11 @@
-// Lists of cases.
+// Runs the cases of a list.
 
 use crate::case::stands;
 use crate::file::text_of_file;
 use crate::number::parse_number;
 use anyhow::{Context, Result};
 
-/// The number of cases that were run, and the number of cases with another answer than expected.
+/// The number of cases that were run, and the number of cases with an unexpected answer.
 #[derive(Default, Drop)]
 pub(crate) struct Tally {
     pub(crate) count: u64,

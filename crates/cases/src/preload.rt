@@ -1,4 +1,4 @@
-// The preloads of a case.
+// Finds the preloads of a case among the case's libraries.
 
 use anyhow::{Context, Result};
 use scope::Library;

@@ -1,4 +1,5 @@
-// A script: its output, its number of lines, and its number of refused lines.
+// Runs a script, and compares its output, its number of lines and its number of refused lines with
+// the expected ones.
 
 use crate::answer::is_wanted;
 use crate::file::changed_file;

@@ -1,4 +1,4 @@
-// The libraries of a case.
+// Reads the libraries of a case.
 
 use crate::file::changed_file;
 use crate::library::name_bytes;

@@ -1,4 +1,4 @@
-// The names and the symbols of an admitted file, as calls of the library report them.
+// Writes the names and the symbols of an admitted file, as calls of the library report them.
 
 use anyhow::Result;
 use elf_dynamic::{Object, Symbol};

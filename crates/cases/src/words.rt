@@ -1,4 +1,4 @@
-// A command line: its output and its exit status.
+// Runs a command line, and compares its output and its exit status with the expected ones.
 
 use crate::answer::is_wanted;
 use crate::number::first_number;

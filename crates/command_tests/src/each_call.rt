@@ -1,6 +1,6 @@
-// Each call of a registry, of its binders, of an update and of the program, made once by its public
-// path, with ample memory. No program here makes some of these calls: they are for programs that
-// use a registry without a script.
+// Makes each call of a registry, of its binders, of an update and of the program once, by its
+// public path, with ample memory. Some of these calls are made by no program here, because they are
+// for programs that use a registry without a script.
 
 use crate::runs::words_of;
 use binders::{Binders, Event, EventReply};

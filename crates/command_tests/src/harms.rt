@@ -22,7 +22,7 @@ const HELD: Wanted = Ok((
 
 const EMPTY: Wanted = Ok(("end\nrefused B3 Missing /program a\nok\n", 8));
 
-/// The changes that are made to the disk, and the results of three liars whose answers are its
+/// The changes that are made to the disk, and the results of three liars that return the changed
 /// sectors. The first two are opened, or upgraded if the sectors are of version 1: one returns the
 /// sectors in the order of the disk, the other in the order in which they are read. The third is
 /// formatted.

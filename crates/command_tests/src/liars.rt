@@ -1,4 +1,5 @@
-// A registry on a disk that lies, and the results of opening it and of running a script over it.
+// Opens registries on disks that lie, runs a script over each, and compares the results with the
+// expected ones.
 ghost use Rattle.std.specs.Prelude.{◌<◌};
 
 use crate::every_line::{LINES, are_answers, script};

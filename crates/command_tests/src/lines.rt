@@ -1,4 +1,4 @@
-// Lines of refusals, each of which is written completely with one write.
+// Tests that the line of each refusal is written with one write.
 
 use crate::streams::Full;
 use elf_dynamic::ObjectRefusal;

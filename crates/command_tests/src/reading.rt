@@ -1,4 +1,4 @@
-// Reading until the end of the input, or until a failure.
+// Tests of reading until the end of the input, or until a failure.
 
 use crate::streams::Turn::{Fails, Gives};
 use crate::streams::{Turn, Turns};
@@ -8,7 +8,8 @@ use std::io::ErrorKind;
 
 const CANNOT: Result<usize, FileFault> = Err(FileFault::CannotRead);
 
-/// The turns of a reader, the limit, and the number of bytes that are read or the fault.
+/// Each row has the turns of a reader, the limit, and the result: the number of bytes that are
+/// read, or the fault.
 static ROWS: [(&[Turn], usize, Result<usize, FileFault>); 11] = [
     (&[], 1, Ok(0)),
     (&[Gives(9)], 10, Ok(9)),

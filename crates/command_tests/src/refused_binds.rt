@@ -1,5 +1,5 @@
-// The number of sectors that a bind reads before it is refused because a library is missing. A bind
-// reads each library of the program's load order once.
+// Tests the number of sectors that a bind reads before it is refused because a library is missing.
+// A bind reads each library of the program's load order once.
 use image::BindRefusal;
 use registry::Registry;
 use requests::{Command, Refusal, Reply};
@@ -13,8 +13,8 @@ const SONAME: u64 = 14;
 // A library: its name, the libraries that it needs, and the number of sectors of its file.
 type Made = (u8, &'static [u8], usize);
 
-// A registry: its libraries and its preloads; the libraries that a program needs, and the one of
-// them that is missing; the number of the disk's calls that an opening makes, and the number of
+// A case has a registry's libraries and preloads; the libraries that a program needs, and the one
+// of them that is missing; the number of the disk's calls that an opening makes, and the number of
 // sectors that the program's bind reads. An opening makes a sync and reads two roots, the
 // catalogue, and the entry and the sectors of each file.
 struct Case {

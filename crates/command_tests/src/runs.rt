@@ -1,4 +1,4 @@
-// Command lines, with the status and the output of each.
+// Runs command lines, and compares the status and the output of each with the expected ones.
 
 use commands::run_arguments;
 use std::fs::File;
@@ -15,7 +15,7 @@ pub(crate) fn words_of(rt: &HostRuntime, words: &[&str]) -> io::Result<Vec<Strin
     Ok(list)
 }
 
-/// A status, the output, and the text on standard error.
+/// The expected status, output, and text on standard error.
 type Wanted = (u8, &'static str, &'static str);
 
 /// Returns whether a command line ends as expected. `words` are its words, or the error of reading

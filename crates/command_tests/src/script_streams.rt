@@ -1,4 +1,4 @@
-// Scripts over streams that fail, and a script with each form of line.
+// Tests of scripts over streams that fail, and of a script with each form of line.
 
 ghost use Rattle.std.specs.Prelude.{⊤};
 
@@ -14,7 +14,7 @@ use std::alloc::Global;
 use std::io::ErrorKind;
 use std::test::Fail;
 
-/// Replies Done to every event, and notes a letter for each.
+/// Replies Done to every event, and notes a letter for each event.
 #[derive(Drop)]
 struct Asked {
     /// The letters of the events.

@@ -1,4 +1,4 @@
-// The sectors of a disk of eight sectors, and changes to the sectors.
+// Makes the sectors of a disk with one library, and makes changes to these sectors.
 use samples::{library, put};
 use sector_disk::SECTOR_BYTES;
 

@@ -9,7 +9,7 @@ use std::io::ErrorKind;
 use std::test::Fail;
 use std::{fs, io};
 
-/// Returns the words of a command line. If there are none, returns the error of refused memory.
+/// Returns the words of a command line. If `words` is empty, returns the error of refused memory.
 fn words_or(rt: &HostRuntime, words: &[&str]) -> io::Result<Vec<String>> {
     if words.is_empty() {
         return Err(io::Error::from(ErrorKind::OutOfMemory));
@@ -36,7 +36,8 @@ const NO_COMMAND: &[&str] = &["help"];
 
 const BAD_BASE: &[&str] = &["image", "no such file", "10"];
 
-/// Command lines, the rooms of output and standard error, and the results.
+/// Each row has a command line, the rooms of the output and of standard error, and the expected
+/// result of `told`.
 static MESSAGES: [(&[&str], (usize, usize), (u8, usize, u64, usize)); 9] = [
     (UNREAD, (100, 100), (3, 100, 1, 66)),
     (UNREAD, (0, 100), (3, 0, 1, 66)),
@@ -106,7 +107,7 @@ fn script_status(rt: &HostRuntime, disk: &str, turns: &[Turn]) -> u8 {
     run_arguments(rt, rt.alloc(), words, &mut input, &mut output, &mut errors)
 }
 
-/// The turns of a script's input, and the status.
+/// Each row has the turns of a script's input, and the expected status.
 static INPUTS: [(&[Turn], u8); 4] = [
     (&[], 0),
     // The last line has no newline.

@@ -1,5 +1,5 @@
-// The times at which the answers of a script are written, observed by a reader and a writer that
-// share a counter.
+// Tests the times at which the answers of a script are written, observed by a reader and a writer
+// that share a counter.
 
 ghost use Rattle.std.specs.Prelude.{⊤};
 

@@ -1,4 +1,4 @@
-// Updates, made by their calls: on a disk whose calls fail, and on a disk with just enough room.
+// Makes updates by their calls: on a disk whose calls fail, and on a disk with just enough room.
 
 use crate::update_streams::{held, one};
 use registry::Registry;
@@ -8,7 +8,7 @@ use sector_disk::{Fuse, Memory};
 use std::alloc::Global;
 use std::test::Fail;
 
-// The number of calls of the disk that its opening makes: a sync, and reads of two roots, the
+// The number of the disk's calls that an opening makes: a sync, and reads of two roots, the
 // catalogue, an entry and a file.
 const OPENING: u64 = 6;
 

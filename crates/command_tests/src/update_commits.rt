@@ -1,4 +1,4 @@
-// Updates on a disk whose calls fail during the commit: the status, and the output.
+// Tests the status and the output of updates on a disk whose calls fail during the commit.
 
 use crate::update_streams::one;
 use samples::library;

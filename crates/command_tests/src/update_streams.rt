@@ -1,4 +1,4 @@
-// Updates over streams that fail: the status, the output, and the disk afterwards.
+// Tests updates over streams that fail: their status, their output, and the disk afterwards.
 
 use crate::streams::Turn::{Fails, Says};
 use crate::streams::{Full, Turn, Turns};
@@ -39,7 +39,8 @@ const NO_MEMORY: &str = "rlibreg-tool: refused S11 OutOfMemory\n";
 
 const CANNOT_WRITE: &[u8] = b"rlibreg-tool: cannot write\n";
 
-// The status of an update, its output, its standard error, and the number of libraries after it.
+// The expected status of an update, its output, its text on standard error, and the number of
+// libraries after the update.
 type Wanted = (u8, &'static str, &'static str, usize);
 
 // The lines that a reader returns before it fails or ends, and the results.

@@ -1,4 +1,5 @@
--- The tests of headers, segments and tags in their order. Each test is stated for the whole file.
+-- The tests of headers, segments and tags, in the order in which they are made. Each test is stated
+-- for the whole file.
 use Rattle.std.specs.Prelude.{ℕ, List, [], ◌∷◌, ◌++◌, Option}
 use Rattle.elf_file.specs.FirstOf.{◌when◌, first_of}
 use Rattle.elf_file.specs.Header.{is_too_short, has_bad_magic, has_bad_class, has_bad_data, has_bad_version, has_bad_os_abi}

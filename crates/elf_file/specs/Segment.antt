@@ -24,7 +24,7 @@ header_at file at =
 unfoldable pub program_header : List ℕ → ℕ → ProgramHeader
 program_header file i = header_at file (headers_offset file + PROGRAM_HEADER_SIZE * i)
 
--- all program headers, in their order
+-- all program headers, in the order of the file
 abbrev pub program_headers : List ℕ → List ProgramHeader
 program_headers file = map (program_header file) (range_with_len 0 (header_count file))
 
@@ -36,7 +36,7 @@ is_load h = h.kind == PT_LOAD
 abbrev pub is_tls : ProgramHeader → Bool
 is_tls h = h.kind == PT_TLS
 
--- the PT_LOADs, in their order
+-- the PT_LOADs, in the order of the program headers
 unfoldable pub loads : List ℕ → List ProgramHeader
 loads file = filter is_load (program_headers file)
 

@@ -1,4 +1,4 @@
-// Finding the bytes of the file that are loaded at an address (gABI chapter 5).
+// Finds the bytes of the file that are loaded at an address (gABI chapter 5).
 
 ghost use Rattle.std.specs.Prelude.{◌≡◌, ◌≤◌, ◌+◌, length, take, drop, None, Some, MatchOption};
 ghost use Rattle.elf_file.specs.Address.{is_in_file_part, find_file_part, bytes_at};

@@ -68,8 +68,8 @@ impl<'a> Headers<'a> {
 }
 
 /// A file that none of the tests E1 to E15 refuses: its dynamic section is in the file and has an
-/// end. If `read` or `of_accepted` made the view, the tests E16 to E21 don't refuse the file
-/// either. Contracts see the file's bytes.
+/// end. If `read` or `of_accepted` made this value, the tests E16 to E21 don't refuse the file
+/// either. In contracts, the value is the file's bytes.
 #[derive(Drop)]
 pub struct Dynamic<'a> {
     segments: Segments<'a>,

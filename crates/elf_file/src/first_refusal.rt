@@ -1,4 +1,4 @@
-// The tests of the headers and of the segments, in their order. Each function returns the refusal
+// Makes the tests of the headers and of the segments: E1 to E14. Each function returns the refusal
 // of the first test that applies.
 
 ghost use Rattle.std.specs.Prelude.{◌≡◌, Some, None, false, MatchResult, OnOk};

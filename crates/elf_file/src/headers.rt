@@ -28,7 +28,7 @@ fn header_at(file: &[u8], at: usize) -> ProgramHeader
 }
 
 /// A file that none of the tests E1 to E10 refuses: its file header and its program headers are in
-/// the file. Contracts see the file's bytes.
+/// the file. In contracts, the value is the file's bytes.
 #[derive(Drop)]
 pub struct Headers<'a> {
     file: &'a [u8],

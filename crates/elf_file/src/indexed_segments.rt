@@ -10,9 +10,9 @@ use crate::load_index::LoadIndex;
 use crate::segment::ProgramHeader;
 use std::marker::Model;
 
-/// The same as `Segments`, with an index that finds the PT_LOAD at an address. It is for callers
-/// that look up many addresses. Other views have no index, so that they stay small. Contracts see
-/// the file's bytes.
+/// The segments of a file, with an index that finds the PT_LOAD at an address. It is for callers
+/// that look up many addresses. `Segments` has no index, so that it stays small. In contracts, the
+/// value is the file's bytes.
 #[derive(Drop)]
 pub struct IndexedSegments<'a> {
     headers: Headers<'a>,

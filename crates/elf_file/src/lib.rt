@@ -2,9 +2,9 @@
 //! and 5, elf(5)).
 //!
 //! `Dynamic::read` accepts a file if and only if none of the tests of its headers, segments and
-//! tags applies. Otherwise it returns the refusal of the first test that applies. The view that it
-//! returns has the values of the tags, the PT_LOADs, and the bytes of the file at an address. The
-//! crate allocates nothing and copies nothing.
+//! tags applies. Otherwise it returns the refusal of the first test that applies. For an accepted
+//! file, it returns a `Dynamic`, which has the values of the tags, the PT_LOADs, and the bytes of
+//! the file at an address. The crate allocates nothing and copies nothing.
 #![tactic(auto)]
 
 mod address;

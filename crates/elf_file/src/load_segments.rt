@@ -9,8 +9,8 @@ use crate::headers::Headers;
 use crate::segment::ProgramHeader;
 use std::marker::Model;
 
-/// The PT_LOADs that haven't been read yet, in the order of the program headers. Contracts see the
-/// list of these PT_LOADs.
+/// The PT_LOADs that haven't been read yet, in the order of the program headers. In contracts, the
+/// value is the list of these PT_LOADs.
 #[derive(Drop)]
 pub struct LoadSegments<'a> {
     headers: Headers<'a>,

@@ -1,4 +1,4 @@
-// The memory of the PT_LOADs (gABI chapter 5, `p_vaddr` and `p_memsz`).
+// Finds bytes in the memory of the PT_LOADs (gABI chapter 5, `p_vaddr` and `p_memsz`).
 
 ghost use Rattle.std.specs.Prelude.{◌≡◌, ◌<◌, true, false, MatchOption};
 ghost use Rattle.elf_file.specs.Address.{is_in_memory_part, is_in_memory, IsLoadOf};

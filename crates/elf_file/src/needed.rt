@@ -9,7 +9,7 @@ use crate::tag::DT_NEEDED;
 use std::marker::Model;
 
 /// The offsets of the needed libraries' names that haven't been read yet, in the order of their
-/// entries. Contracts see the list of these offsets.
+/// entries. In contracts, the value is the list of these offsets.
 #[derive(Drop)]
 pub struct NeededOffsets<'a> {
     section: &'a [u8],

@@ -1,4 +1,4 @@
-// Numbers in a file, little endian (gABI chapter 4, ELFDATA2LSB).
+// Reads numbers in a file, little endian (gABI chapter 4, ELFDATA2LSB).
 
 ghost use Rattle.std.specs.Prelude.{◌≡◌, ◌+◌, ◌≤◌, length};
 ghost use Rattle.elf_file.specs.Number.{number_at};

@@ -1,4 +1,4 @@
-// The addresses of an object's program headers, of its dynamic section, and of its entry.
+// Finds the addresses of an object's program headers, of its dynamic section, and of its entry.
 
 ghost use Rattle.std.specs.Prelude.{◌≡◌};
 ghost use Rattle.std.specs.List.{find};
@@ -67,7 +67,7 @@ impl Segments<'_> {
         self.address_of_bytes(offset, size)
     }
 
-    /// Returns the address of the dynamic section, if one PT_LOAD has all of it.
+    /// Returns the address of the dynamic section, if one PT_LOAD has all of its bytes.
     #[tactic(auto, unfolding(crate::specs::ObjectAddresses::dynamic_address))]
     fn dynamic_address(&self) -> Option<u64>
         ensures { result ≡ dynamic_address self.now }

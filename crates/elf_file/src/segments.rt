@@ -15,7 +15,7 @@ use crate::segment::ProgramHeader;
 use std::marker::Model;
 
 /// A file that none of the tests E1 to E14 refuses. So each of its PT_LOADs begins at or above the
-/// end of the one before it. Contracts see the file's bytes.
+/// end of the one before it. In contracts, the value is the file's bytes.
 #[derive(Drop)]
 pub struct Segments<'a> {
     headers: Headers<'a>,
@@ -98,8 +98,8 @@ impl<'a> Segments<'a> {
         unreachable!()
     }
 
-    /// Returns the PT_LOADs in their order. Going through them makes one pass over the program
-    /// headers.
+    /// Returns the PT_LOADs, in the order of the program headers. Going through them makes one pass
+    /// over the program headers.
     pub fn iter(&self) -> LoadSegments<'a>
         ensures { result ≡ loads self.now }
     {

@@ -116,8 +116,8 @@ pub(crate) struct Tags {
     pub(crate) table: TagTable,
 }
 
-/// Reads the entries of a section up to its first DT_NULL. Returns `None` if it has no DT_NULL.
-/// Makes one pass.
+/// Reads the entries of a section up to its first DT_NULL. Returns `None` if the section has no
+/// DT_NULL. Makes one pass.
 pub(crate) fn read_tags(section: &[u8]) -> Option<Tags>
     ensures { MatchOption result (is_ended section.now ≡ false)
         (λ tags. (is_ended section.now ≡ true) × IsTagsOf section.now tags) }

@@ -1,4 +1,4 @@
-// Commands as values, and their answers as words.
+// Defines commands as values, and returns the words for their replies.
 
 use crate::listed::listed;
 use image::{BindRefusal, Image};

@@ -1,4 +1,4 @@
-// Formatting a disk.
+// Formats a disk.
 
 use crate::counted::{calls, calls_word, counted};
 use crate::run::Went;

@@ -1,4 +1,4 @@
-// Listings in words.
+// Returns listings in words.
 
 use requests::Listing;
 

@@ -1,4 +1,4 @@
-// The replies to the lines of a script, one by one.
+// Splits the output of a script into replies, and returns the word for each reply.
 
 use std::alloc::{AllocError, Global};
 

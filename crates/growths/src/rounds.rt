@@ -1,4 +1,4 @@
-// Rounds of commands, with a stop after each round.
+// Runs rounds of commands, with a stop after each round.
 
 use crate::asked::{Asked, BASE, ask, word};
 use crate::format::refusal_word;

@@ -1,4 +1,4 @@
-// The whole run: it makes a registry, gives it each command, and then runs the other parts that
+// Makes a registry, gives each command to this registry, and then runs the other parts that
 // allocate.
 
 use crate::asked::{Asked, OnMemory, ask};

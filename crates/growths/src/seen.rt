@@ -1,4 +1,4 @@
-// The listing and the binds of a registry on a disk.
+// Compares the listing and the binds of a registry on a disk with the expected ones.
 
 use crate::asked::ask;
 use crate::counted::counted;
@@ -34,7 +34,7 @@ fn looks(alloc: Global) -> Result<Vec<u8>, AllocError> {
     Ok(lines)
 }
 
-/// Returns the answers to this script, as text.
+/// Runs the script of `looks` over the registry on a disk, and returns the answers as text.
 pub(crate) fn seen(alloc: Global, disk: Memory) -> Result<Vec<u8>, AllocError> {
     let lines = looks(alloc)?;
     let mut binders = Binders::new(alloc, opened(alloc, disk)?);

@@ -1,4 +1,4 @@
-// The text of an image, written to a writer whose memory grows.
+// Writes the text of an image to a writer whose memory grows.
 
 use crate::asked::{Asked, give};
 use crate::run::opened;

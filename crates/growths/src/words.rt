@@ -3,7 +3,8 @@
 // The maximum number of words in a report, which is more than any report needs.
 const MOST: usize = 48;
 
-/// Words, in their order. They allocate nothing, so the refused growth never belongs to a report.
+/// Words, in the order in which they were added. They allocate nothing, so the refused growth never
+/// belongs to a report.
 #[derive(Clone, Copy)]
 pub(crate) struct Words {
     list: [&'static str; MOST],

@@ -1,4 +1,4 @@
-// The states that a disk may have after the answers to a task.
+// Computes the states that a disk may have after the answers to a task.
 
 use crate::answer::{DEVICE, DONE, REOPEN};
 use crate::run::Told;

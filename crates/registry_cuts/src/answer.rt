@@ -1,4 +1,4 @@
-// Answers as texts, which can be compared.
+// Writes answers as texts, so that they can be compared.
 
 use anyhow::{Result, bail};
 use binders::EventReply;

@@ -30,7 +30,7 @@ pub(crate) struct Course {
 }
 
 // Appends to `cuts` the cuts of each of the `calls` calls of event number `event`. `before` calls
-// come before them.
+// come before the event's calls.
 fn put_cuts(cuts: &mut Vec<Cut>, event: usize, before: u64, calls: u64) -> Result<()> {
     for at in 0..Cut::count(calls) {
         cuts.push(Cut::nth(event, before, at))?;

@@ -1,4 +1,4 @@
-// The mixtures that a stop may leave of a disk.
+// Computes the mixtures that a stop may leave of a disk.
 
 use anyhow::Result;
 use sector_disk::{Disk, Memory, SECTOR_BYTES};

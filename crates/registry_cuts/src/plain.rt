@@ -320,7 +320,8 @@ impl Plain {
         Ok(answers)
     }
 
-    /// Returns the changes of the new state, or those of the old one.
+    /// If `is_new` is true, returns the changes that lead to the new state, and otherwise the
+    /// changes that lead to the old state.
     pub(crate) fn changes(&self, is_new: bool) -> &[Rc<Event>] {
         if is_new { &self.new } else { &self.old }
     }

@@ -1,4 +1,4 @@
-// Rows: the lines of a file.
+// Reads the rows of a file, and runs each of them.
 
 use crate::course::Course;
 use crate::event::Event;
@@ -99,7 +99,7 @@ fn run_word(
     }
 }
 
-// Runs a row, which has its word, its disk, the changes that are made before the events, and the
+// Runs a row. A row has a word, a disk, the changes that are made before the events, and the
 // events.
 fn run_row(tally: &mut Tally, row: &str) -> Result<()> {
     let (front, rest) = row.split_once(" | ").unwrap_or((row, "nothing"));

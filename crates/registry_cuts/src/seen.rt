@@ -1,4 +1,4 @@
-// The listing and the binds of the registry on a disk, and of a plain one.
+// Finds the listing and the binds of the registry on a disk, and of a plain registry.
 
 use crate::answer::answers;
 use crate::cut::{Cut, Powered};

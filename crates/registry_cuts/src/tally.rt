@@ -1,5 +1,4 @@
-// The number of openings that the rows of a file make, and the number of openings with an
-// unexpected result.
+// Counts the openings that the rows of a file make, and the openings with an unexpected result.
 
 use std::fmt::Debug;
 

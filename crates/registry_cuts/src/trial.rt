@@ -1,5 +1,5 @@
-// Tasks on a disk, or on a disk over a file, cut at each call. Each disk that a stop may leave is
-// opened.
+// Does tasks on a disk in memory or on a disk over a file, and cuts each call. Opens each disk that
+// a stop may leave.
 
 use crate::allowed::Allowed;
 use crate::cut::Cut;
@@ -16,7 +16,7 @@ use std::alloc::Global;
 use std::fmt::Debug;
 use std::rc::Rc;
 
-// A number of calls that is greater than any task's.
+// A number that is greater than the number of calls that any task makes.
 const MOST_CALLS: u64 = 1000;
 
 /// The kinds of disks: in memory, and over a file in memory.

@@ -202,8 +202,8 @@ impl<'a> Trial<'a> {
 }
 
 /// Cuts a format or an upgrade of a disk that has the registry after the changes `changes`, at each
-/// of its calls. Cuts upgrades of version 1 once more after each cut. The disk is read from a file,
-/// or is made with a number of sectors.
+/// call of the format or the upgrade. Cuts upgrades of version 1 once more after each cut. The disk
+/// is read from a file, or is made with a number of sectors.
 pub(crate) fn cut_making(
     tally: &mut Tally,
     beginning: Beginning,

@@ -1,4 +1,5 @@
-// The states that a disk may have after one of its calls has failed, by the number of the call.
+// Computes the states that a disk may have after one of its calls has failed. They depend on the
+// number of the call.
 
 use crate::cut::Cut;
 

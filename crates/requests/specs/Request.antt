@@ -1,4 +1,5 @@
--- The requests of commands. A command borrows its bytes, so it isn't a plain value; a request is.
+-- Requests: commands as plain values. A command itself isn't a plain value, because it borrows its
+-- bytes.
 use Rattle.std.specs.Prelude.{ℕ, List, map}
 use Rattle.requests.specs.declared.command.Command.{Command}
 use Rattle.requests.specs.declared.command.Command.TheVariants as command

@@ -1,4 +1,4 @@
--- Steps, one after the other.
+-- Runs: steps that are made one after the other.
 use Rattle.std.specs.Prelude.{◌≡◌, ℕ, List, [], ◌∷◌, take}
 
 -- the last state of the list, or `s` if the list is empty

@@ -33,7 +33,8 @@ reply_of s (bind program base) = reply.Bound (bound_image s program base)
 reply_of s list = reply.Listing (listed s)
 reply_of s request = Done
 
--- The answer is the one that `reply_of` returns. If it is an image, each address has the byte that is defined for it.
+-- The answer is the one that `reply_of` returns. If the answer is an image, the image has at each address the byte
+-- that `byte_of` defines.
 abbrev pub IsReply : State → Request → Reply → Type 0
 IsReply s (bind program base) (reply.Bound image) = (image ≡ bound_image s program base)
     × ((a : ℕ) → image_byte image a ≡ byte_of (bound_objects s program base) a)
@@ -54,7 +55,8 @@ TakesMemory (bind program base) = ReadNeedsMemory program
 TakesMemory list = Unit {0}
 TakesMemory request = ⊥
 
--- the state is `s` now, and the mark of a failed write or sync is unchanged
+-- the state of `p'` is `s`; the number of sectors, and whether a write or a sync has failed, are as
+-- in `p`
 pub record Leads (p : Phase) (s : State) (p' : Phase) : Type 0 where
   pub sectors : p'.sectors ≡ p.sectors
   pub failed : p'.failed ≡ p.failed

@@ -1,4 +1,5 @@
--- The facts of a state that need no byte of its files, and everything that the tests of a command read.
+-- The listing of a state, and the facts that the tests of a command read. Neither has bytes of the
+-- libraries' files.
 use Rattle.std.specs.Prelude.{ℕ, List, map, length}
 use Rattle.states.specs.State.{Library, State}
 
@@ -15,13 +16,13 @@ pub record Listed : Type 0 where
 abbrev pub listed : State → Listed
 listed s = record { libraries = map entry_of s.libraries; preloads = s.preloads }
 
--- what the tests of a command read
+-- the facts that the tests of a command read
 pub record Table : Type 0 where
   pub generation : ℕ
   -- the names of the libraries
   pub names : List (List ℕ)
   pub preloads : List (List ℕ)
-  -- the number of sectors that are free beside those for the catalogues of the next change
+  -- the number of free sectors, without those that the catalogues of the next change need
   pub free : ℕ
   -- the number of sectors in the longest runs of unused sectors, with at most as many runs as a file may have extents
   pub longest : ℕ

@@ -1,4 +1,5 @@
--- The tests of a command in their order. Each test reads the table and the request (own).
+-- The tests of a command, in the order in which they are made. Each test reads the table and the
+-- request (own).
 use Rattle.std.specs.Prelude.{ℕ, ◌||◌, List, [], ◌∷◌, length, map, Bool, false, not, nat_lt, Option}
 use Rattle.std.specs.List.{list_any}
 use Rattle.std.specs.Option.{option_map}
@@ -34,7 +35,7 @@ refusal_of_room room.Fragmented = Fragmented
 abbrev pub for_room : List (Bool × RoomRefusal) → List (Option Refusal)
 for_room tests = map (λ test. refusal_of_room test.1 when test.0) tests
 
--- what the tests for room read
+-- the facts that the tests for room read
 abbrev pub room_in : Table → Room
 room_in t = record { generation = t.generation; libraries = length t.names; free = t.free; longest = t.longest }
 

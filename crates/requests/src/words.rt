@@ -1,4 +1,4 @@
-// Names that a command borrows.
+// Searches and counts the names that a command borrows.
 
 ghost use Rattle.std.specs.Prelude.{◌≡◌, map, length, nat_lt};
 ghost use Rattle.states.specs.Limits.{most_preloads};

@@ -1,4 +1,5 @@
--- The numbers of calls made of a disk, and the facts of a disk about which nothing else is known.
+-- The numbers of calls that were made to a disk, and the facts of a disk of which only the size and
+-- the calls are known.
 use Rattle.std.specs.Prelude.{ℕ, false, length, filter, []}
 use Rattle.sector_disk.specs.declared.call_count.CallCount.{CallCount}
 use Rattle.sector_disk.specs.Disk.{DiskFacts}

@@ -1,4 +1,5 @@
--- The disk model: the facts of a disk, what a stop may leave of it, and what each call does.
+-- The disk model: the facts of a disk, the contents that a stop may leave, and the effect of each
+-- call.
 use Rattle.std.specs.Prelude.{◌≡◌, ◌<◌, ◌≤◌, ◌+◌, ◌-◌, ◌↔◌, ◌⊎◌, ℕ, Bool, ◌∷◌, ◌++◌}
 use Rattle.std.specs.Prelude.{IsTrue, List, [], length, set, slice_index_or, All, Result, OnOk, OnErr}
 use Rattle.sector_disk.specs.declared.fuse.Plan.{Plan}
@@ -25,7 +26,7 @@ pub data Logged : Type 0 where
   Wrote : Logged
   Synced : Logged
 
--- The facts of a disk. Its moments are 0 to `time`, and each call makes one more.
+-- The facts of a disk. Its moments are 0 to `time`, and each call adds one moment.
 pub record DiskFacts : Type 1 where
   -- whether the disk is honest: `IsRead`, `IsWrite` and `IsSync` hold for its calls
   pub honest : Bool
@@ -38,7 +39,7 @@ pub record DiskFacts : Type 1 where
   pub failures : ℕ
   -- for each fuse that the disk's calls go through, the plan of the calls that fail
   pub plans : List Plan
-  -- the writes and syncs that the disk logs, in their order; empty if it keeps no log
+  -- the writes and syncs that the disk logs, the oldest first; empty if the disk keeps no log
   pub log : List Logged
   -- the contents that reads return
   pub now : List Sector
@@ -54,7 +55,7 @@ pub record MixtureAt (disk : DiskFacts) (moment : ℕ) (m : List Sector) : Type 
   pub size : length m ≡ disk.sectors
   pub each : (k : ℕ) → k < disk.sectors → disk.may_leave moment k (sector m k)
 
--- a mixture of the present moment: what a stop now may leave
+-- a mixture of the present moment: contents that a stop now may leave
 abbrev pub Mixture : DiskFacts → List Sector → Type 0
 Mixture disk m = MixtureAt disk disk.time m
 
@@ -62,16 +63,17 @@ Mixture disk m = MixtureAt disk disk.time m
 abbrev pub LeftSince : DiskFacts → ℕ → List Sector → Type 0
 LeftSince disk since m = (u : ℕ) × (since ≤ u) × (u ≤ disk.time) × MixtureAt disk u m
 
--- what reads return is one of the mixtures
+-- the contents that reads return are one of the mixtures
 abbrev pub HoldsNow : DiskFacts → Type 0
 HoldsNow disk = Mixture disk disk.now
 
--- what reads return, and all that a stop might have left at a moment up to now, consists of whole sectors
+-- all contents that reads return, or that a stop might have left at a moment up to now, are whole
 pub record HasWholeSectors (disk : DiskFacts) : Type 0 where
   pub now : (k : ℕ) → k < disk.sectors → IsWhole (sector disk.now k)
   pub left : (u k : ℕ) (c : Sector) → u ≤ disk.time → k < disk.sectors → disk.may_leave u k c → IsWhole c
 
--- a stop now leaves what reads return, and nothing else (`LeavesNowAlone` states this sector by sector)
+-- a stop now leaves the contents that reads return, and no other contents (`LeavesNowAlone` states this
+-- sector by sector)
 pub record IsSynced (disk : DiskFacts) : Type 0 where
   pub each : (m : List Sector) → Mixture disk m → m ≡ disk.now
 
@@ -100,11 +102,12 @@ pub record GrowsBy (old new : DiskFacts) (at : ℕ) (content : Sector) : Type 0 
 pub record GrowsByAtMost (old new : DiskFacts) (at : ℕ) (content : Sector) : Type 0 where
   pub each : (k : ℕ) (c : Sector) → MayLeave new k c → MayLeave old k c ⊎ (k ≡ at) × (c ≡ content)
 
--- The set of each sector contains what reads return there, and no other content.
+-- The set of each sector contains the content that reads of the sector return, and no other
+-- content.
 pub record LeavesNowAlone (disk : DiskFacts) : Type 0 where
   pub each : (k : ℕ) (c : Sector) → k < disk.sectors → MayLeave disk k c ↔ (c ≡ sector disk.now k)
 
--- the old sectors, or the old sectors with this content in sector `at`
+-- `m` is `old`, or it is `old` with `content` in sector `at`
 abbrev pub IsOldOrSet : List Sector → ℕ → Sector → List Sector → Type 0
 IsOldOrSet old at content m = (m ≡ old) ⊎ (m ≡ set old at content)
 
@@ -195,11 +198,11 @@ pub record SameBut (places : ℕ → Type 0) (old new : List Sector) : Type 0 wh
   pub size : length new ≡ length old
   pub others : (k : ℕ) → (places k → ⊥) → sector new k ≡ sector old k
 
--- a mixture of the present moment, except for the sectors in `places`
+-- `m` is a mixture of the present moment, except for the sectors in `places`
 abbrev pub IsMixtureBut : (ℕ → Type 0) → DiskFacts → List Sector → Type 0
 IsMixtureBut places disk m = (m' : List Sector) × Mixture disk m' × SameBut places m' m
 
--- a mixture of the disk, or such a mixture with this content in sector `at`
+-- `m` is a mixture of the disk, or such a mixture with `content` in sector `at`
 abbrev pub IsMixtureOrSet : DiskFacts → ℕ → Sector → List Sector → Type 0
 IsMixtureOrSet disk at content m = Mixture disk m ⊎ ((m' : List Sector) × Mixture disk m' × (m ≡ set m' at content))
 

@@ -22,12 +22,13 @@ outcome_of plan n =
 abbrev pub reached : List Step → ℕ
 reached steps = length (filter (λ step. step.reached) steps)
 
--- the moment of the inner disk at moment u of the fuse: its present moment, minus the calls since u that reached it
+-- the moment of the inner disk at moment u of the fuse: the inner disk's present moment `time`, minus the number of
+-- calls since u that reached the inner disk
 abbrev pub inner_moment : ℕ → List Step → ℕ → ℕ
 inner_moment time past u = time - reached (drop u past)
 
--- The facts of the inner disk, but with the fuse's own clock and its own count of failures, and with its plan added.
--- The mark of a moment is the mark of the inner disk at that moment.
+-- The facts of the inner disk, but with the fuse's own clock and its own count of failures, and with the fuse's plan
+-- added. The mark of a moment is the mark of the inner disk at that moment.
 abbrev pub fused : Plan → DiskFacts → List Step → DiskFacts
 fused plan inner past = record {
   honest = inner.honest;

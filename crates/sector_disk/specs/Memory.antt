@@ -1,4 +1,4 @@
--- The facts of a disk in memory, and the choices that a stop of it has.
+-- The facts of a disk in memory, and the choices of a stop for each sector.
 use Rattle.std.specs.Prelude.{◌≡◌, ◌≢◌, ◌<◌, ◌%◌, ℕ, List, [], ◌∷◌, ◌++◌, length}
 use Rattle.sector_disk.specs.declared.memory.Memory.{Memory}
 use Rattle.sector_disk.specs.Disk.{Sector, sector, DiskFacts}
@@ -9,7 +9,8 @@ use Rattle.sector_disk.specs.Written.{choices}
 abbrev pub memory_facts : Memory → DiskFacts
 memory_facts m = facts_of m.start.items m.writes.items m.synced m.past.items
 
--- the choices of a stop for sector k, in their order: the synced content, then each content written since
+-- the choices of a stop for sector k: the synced content, then each content written since, the oldest
+-- first
 abbrev pub memory_choices : Memory → ℕ → List Sector
 memory_choices m k = choices m.start.items m.writes.items m.synced k
 
@@ -17,12 +18,12 @@ memory_choices m k = choices m.start.items m.writes.items m.synced k
 pub record KeepsChoices (old new : Memory) : Type 0 where
   pub each : (k : ℕ) → memory_choices new k ≡ memory_choices old k
 
--- Sector `at` has one more choice, this content, which comes last. No other sector's choices change.
+-- Sector `at` has `content` as one more choice, which comes last. No other sector's choices change.
 pub record AddsChoice (old new : Memory) (at : ℕ) (content : Sector) : Type 0 where
   pub here : memory_choices new at ≡ memory_choices old at ++ content ∷ []
   pub others : (k : ℕ) → k ≢ at → memory_choices new k ≡ memory_choices old k
 
--- every sector has exactly one choice, which is what reads return
+-- every sector has exactly one choice, which is the content that reads return
 pub record HasOneChoice (disk : Memory) : Type 0 where
   pub each : (k : ℕ) → k < (memory_facts disk).sectors → memory_choices disk k ≡ sector (memory_facts disk).now k ∷ []
 

@@ -3,7 +3,7 @@ use Rattle.std.specs.Prelude.{◌==◌, ℕ, List, [], ◌∷◌, set, take, dro
 use Rattle.sector_disk.specs.declared.written.Written.{Written}
 use Rattle.sector_disk.specs.Disk.{Sector, sector}
 
--- the contents after these writes, made in their order
+-- the contents after these writes, which are made in the order of the list
 abbrev pub contents : List Sector → List Written → List Sector
 contents start [] = start
 contents start (write ∷ writes) = contents (set start write.at write.content) writes

@@ -1,7 +1,7 @@
 // The moments of a disk in memory, which only clauses read.
 
-/// A past moment: the number of writes at that time, the number of them that were synced, and
-/// whether the call that ended the moment failed.
+/// A past moment: the number of writes at that time, the number of these writes that were synced,
+/// and whether the call that ended the moment failed.
 #[derive(Clone, Copy)]
 pub(crate) struct Moment {
     pub writes: usize,

@@ -11,7 +11,7 @@ pub(crate) struct Written {
     pub content: [u8; SECTOR_BYTES],
 }
 
-/// Applies all `writes` to `sectors`, in their order.
+/// Applies all `writes` to `sectors`, in the order of the list.
 pub(crate) fn apply(sectors: &mut [[u8; SECTOR_BYTES]], writes: &[Written])
     requires { All (λ write. write.at < length sectors.old) writes.now }
     ensures { sectors.new ≡ contents sectors.old writes.now }

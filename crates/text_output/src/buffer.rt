@@ -1,4 +1,4 @@
-// The bytes that wait for a writer.
+// A buffer for bytes that wait for a writer.
 
 ghost use Rattle.std.specs.Prelude.{◌≡◌, ◌+◌, ◌≤◌, [], ◌++◌, length, true, false};
 ghost use Rattle.std.specs.Prelude.{OnOk, OnErr, IsErr, Ok};
@@ -15,10 +15,10 @@ pub const PIECE: usize = 64;
 
 /// At most `SIZE` bytes that wait for a writer.
 ///
-/// They are in the value itself, so writing allocates nothing. `OutputBuffer<LINE>` is enough for a
-/// line; a larger buffer is for a long text. After the writer has failed, the buffer writes nothing
-/// more to it, because it is unknown how many bytes the writer has accepted. Contracts see the
-/// waiting bytes, and whether the writer failed.
+/// The bytes are in the value itself, so writing allocates nothing. `OutputBuffer<LINE>` is enough
+/// for a line; a larger buffer is for a long text. After the writer has failed, the buffer writes
+/// nothing more to it, because it is unknown how many bytes the writer has accepted. In contracts,
+/// the value has the waiting bytes, and whether the writer has failed.
 #[derive(Drop)]
 pub struct OutputBuffer<const SIZE: usize> {
     bytes: [u8; SIZE],
@@ -142,7 +142,7 @@ impl<const SIZE: usize> OutputBuffer<SIZE> {
         ensures ok { OnOk result (Sends (W.contents out.old) self.old (W.contents out.new) self.new
             text.now) }
         ensures err { OnErr result (self.new.failed ≡ true) }
-        // If the text has room, the writer isn't called.
+        // If the buffer has room for the text, the writer isn't called.
         ensures fits { HasRoom SIZE self.old text.now
             → (result ≡ Ok tt) × (out.new ≡ out.old)
             × (self.new ≡ with_text self.old text.now) }

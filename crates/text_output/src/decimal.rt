@@ -1,4 +1,4 @@
-// Numbers in decimal.
+// Adds numbers in decimal to a buffer.
 
 ghost use Rattle.std.specs.Prelude.{◌≡◌, true, OnOk, OnErr, Ok};
 ghost use Rattle.std.specs.Fmt.{decimal};

@@ -1,4 +1,4 @@
-// Addresses and bytes in hexadecimal.
+// Adds addresses and bytes in hexadecimal to a buffer.
 
 ghost use Rattle.std.specs.Prelude.{◌≡◌, ◌<◌, ◌/◌, ◌%◌, ◌++◌, length, slice_index, codes, true};
 ghost use Rattle.std.specs.Prelude.{OnOk, OnErr, Ok};
@@ -31,7 +31,7 @@ fn digits(byte: u8) -> [u8; 2]
     (values + 0x3030 + letters * 39).to_le_bytes()
 }
 
-/// Returns the line of sixteen bytes.
+/// Returns the line for sixteen bytes: their hexadecimal digits, and a newline.
 pub(crate) fn line(bytes: &[u8; LINE_BYTES]) -> [u8; LINE_TEXT]
     ensures { result ≡ encode_lower bytes.now ++ codes "\n" }
 {

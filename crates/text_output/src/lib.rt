@@ -1,4 +1,4 @@
-//! Text on its way to a writer.
+//! Formats text, and passes it to a writer through a buffer.
 //!
 //! `OutputBuffer` is a buffer on the stack for bytes that wait for a writer. It formats numbers,
 //! addresses, names, and lines of hexadecimal digits. It allocates nothing. `write_name` writes one

@@ -1,4 +1,4 @@
-// The text of a name.
+// Writes names as text.
 
 ghost use Rattle.std.specs.Prelude.{◌≡◌, true, OnOk, OnErr, Ok};
 ghost use Rattle.std.specs.Io.KnownBytes.{Appends};

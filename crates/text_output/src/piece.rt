@@ -24,7 +24,8 @@ type Piece = OutputBuffer<PIECE_BYTES>;
 
 /// Lines on their way to a writer. They are written in pieces of at most 4,096 bytes. Each piece
 /// except the last one ends within a line. So if a text is cut between two pieces, a reader sees
-/// that it is cut. Contracts see the waiting bytes, which include the newline of an ended line.
+/// that it is cut. In contracts, `waiting` has the waiting bytes, which include the newline of an
+/// ended line.
 #[derive(Drop)]
 pub struct PieceBuffer {
     piece: Piece,

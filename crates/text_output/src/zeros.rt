@@ -1,4 +1,4 @@
-// Lines of zeros in hexadecimal.
+// Adds lines of zeros in hexadecimal to a buffer.
 
 ghost use Rattle.std.specs.Prelude.{◌≡◌, ◌*◌, ◌-◌, ◌%◌, ◌<◌, ◌≤◌, ◌++◌, drop, length, replicate};
 ghost use Rattle.std.specs.Prelude.{true};

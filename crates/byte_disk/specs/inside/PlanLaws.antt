@@ -38,7 +38,7 @@ writes_taken P (suc i) (Write at content ∷ steps) all =
     (writes_taken P i steps (All-tail P (at, content) (writes_in steps) all))
 writes_taken P (suc i) (Sync ∷ steps) all = writes_taken P i steps all
 
--- each content that may be left is whole
+-- each content that a stop may leave is whole
 pub left_whole : (n : ℕ) (start : List Sector) (steps : List Step) (k : ℕ) (c : Sector)
     → k < length start → All IsWhole start → All (IsWriteOn n) (writes_in steps) → MayBeLeft start steps k c → IsWhole c
 left_whole n start steps k c lt whole writes left =
@@ -47,7 +47,7 @@ left_whole n start steps k c lt whole writes left =
     (All-get_or IsWhole (carried_out start front) k [] (omega (arith, lt, length-carried_out start front))
     (carried_out_whole n start front whole (writes_taken (IsWriteOn n) left.0 steps writes)))
 
--- what reads return may be left
+-- a stop may leave the content that reads return
 pub now_left : (start : List Sector) (steps : List Step) (k : ℕ) → MayBeLeft start steps k (sector (carried_out start steps) k)
 now_left start steps k = (
   length steps,

@@ -10,7 +10,7 @@ use Rattle.elf_file.specs.declared.entry.Entry.{Entry}
 use Rattle.elf_file.specs.declared.tag_table.Slot.{Slot}
 use Rattle.elf_file.specs.declared.tag_table.Tags.{Tags}
 
--- the place of a tag's number in the table, if it has one
+-- the place in the table of the tag with this number, if the tag has one
 abbrev pub place_of : ℕ → Option ℕ
 place_of number =
     if number == DT_NEEDED then Some 0 else

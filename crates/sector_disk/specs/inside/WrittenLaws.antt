@@ -12,7 +12,7 @@ pub length-contents : (start : List Sector) (writes : List Written) → length (
 length-contents start [] = refl
 length-contents start (w ∷ writes) = length-contents (set start w.at w.content) writes ∙ length-set start w.at w.content
 
--- the first n writes, and then the others, leave the same contents as all writes at once
+-- the first n writes, and then the writes after them, leave the same contents as all writes at once
 pub contents_split : (start : List Sector) (writes : List Written) (n : ℕ)
     → contents start writes ≡ contents (contents start (take n writes)) (drop n writes)
 contents_split start writes zero = refl
@@ -46,7 +46,8 @@ module _ (k : ℕ) (start : List Sector) (w : Written) (writes : List Written) (
       subst (λ cs. Contains (sector start k ∷ cs) now) (sym (written_to_other k w writes not))
       (subst (λ c. Contains (c ∷ written_to k writes) now) there so_far)
 
--- what reads return is the content at the start, or one of the contents that were written
+-- the content that reads return is the content at the start, or one of the contents that were
+-- written
 now_among : (k : ℕ) (start : List Sector) (writes : List Written) → k < length start
     → Contains (sector start k ∷ written_to k writes) (sector (contents start writes) k)
 now_among k start [] lt = (0, omega arith, refl)
@@ -55,7 +56,7 @@ now_among k start (w ∷ writes) lt =
     let so_far = now_among k more writes (omega (arith, lt, length-set start w.at w.content)) in
     ⊎_elim (among_same k start w writes _ so_far lt) (among_other k start w writes _ so_far) (cases_eq w.at k)
 
--- what reads return is one of the choices
+-- the content that reads return is one of the choices
 pub now_chosen : (start : List Sector) (writes : List Written) (synced k : ℕ) → k < length start
     → Contains (choices start writes synced k) (sector (contents start writes) k)
 now_chosen start writes synced k lt =

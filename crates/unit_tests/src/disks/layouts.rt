@@ -3,8 +3,8 @@
 use extents::{Extent, Layout, MOST_EXTENTS, MOST_SECTORS, TakeRefusal};
 use std::alloc::AllocError;
 
-// Returns whether the layout hands out `need` sectors as the extents `wanted`, each of which has
-// its first sector and its number of sectors.
+// Returns whether the layout hands out `need` sectors as the extents `wanted`. An extent is given
+// by its first sector and its number of sectors.
 fn gives(layout: &mut Layout, need: u32, wanted: &[(u32, u32)]) -> bool {
     let Ok(given) = Layout::take(layout, need) else {
         return false;

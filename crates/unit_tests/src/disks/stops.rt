@@ -1,5 +1,5 @@
-// Stops and fuses: the contents that a stop leaves, and the calls that a fuse makes fail. A content
-// is named by its byte: a sector that has only bytes of value 2 has content 2.
+// Tests of stops and fuses: the contents that a stop leaves, and the calls that a fuse makes fail.
+// A content is named by its byte: a sector that has only bytes of value 2 has content 2.
 use sector_disk::{CallCount, Disk, DiskFault, Fuse, Liar, Memory, SECTOR_BYTES};
 use std::alloc::Global;
 use std::test::Fail;
@@ -10,7 +10,7 @@ pub(crate) fn write<D: Disk>(disk: &mut D, at: u32, content: u8) -> bool {
     at < Disk::sectors(disk) && Disk::write(disk, at, &[content; SECTOR_BYTES]).is_ok()
 }
 
-/// Returns the value that all bytes have, if they have the same one.
+/// If all bytes have the same value, returns this value.
 pub(crate) fn value_of(bytes: &[u8]) -> Option<u8> {
     let first = bytes.first().copied();
     for byte in bytes {
@@ -119,8 +119,9 @@ fn four_calls<D: Disk>(disk: &mut D) -> ([bool; 4], Option<u8>) {
     ([first, synced, second, content.is_some()], content)
 }
 
-/// The failing call; whether all later calls fail too; whether it fails late; which calls succeed;
-/// the content that was read; and the contents that a stop may leave in sector 0 of the inner disk.
+/// Each row has: the number of the failing call; whether all later calls fail too; whether it fails
+/// late; which calls succeed; the content that was read; and the contents that a stop may leave in
+/// sector 0 of the inner disk.
 type Row = (u64, bool, bool, [bool; 4], Option<u8>, &'static [u8]);
 
 const FUSES: [Row; 18] = [

@@ -1,6 +1,6 @@
-// Each call that reads a file or binds a program, made once by its public path, with ample memory.
-// No crate here makes some of these calls: they are for programs that only read files or only place
-// objects.
+// Makes each call that reads a file or binds a program once, by its public path, with ample memory.
+// Some of these calls are made by no other crate here, because they are for programs that only read
+// files or only place objects.
 
 use crate::files::images::sample;
 use crate::files::searches::library;

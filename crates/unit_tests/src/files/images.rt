@@ -22,8 +22,8 @@ const SAMPLE: &str =
     1800000000000000090000000000000018000000000000000000000000000000000000000000000000000000\
     00000000";
 
-/// Offsets in the sample: of the offset of its program headers and of their number; of the sizes of
-/// its PT_LOAD in the file and in memory; of the address and the size of its relocations.
+/// Offsets of fields in the sample: the offset and the number of its program headers; the sizes of
+/// its PT_LOAD in the file and in memory; the address and the size of its relocations.
 const HEADERS_AT: usize = 0x20;
 
 const HEADER_COUNT_AT: usize = 0x38;
@@ -40,7 +40,7 @@ pub(crate) fn sample(alloc: Global) -> Result<Vec<u8>, Fail> {
     Ok(hex::decode(alloc, SAMPLE)?)
 }
 
-/// Appends the words of an entry to a file.
+/// Appends numbers to a file, each as eight bytes in little endian order.
 fn put_words(file: &mut Vec<u8>, words: &[u64]) -> Result<(), AllocError> {
     for word in words {
         file.extend_from_slice(&word.to_le_bytes())?;
@@ -48,7 +48,7 @@ fn put_words(file: &mut Vec<u8>, words: &[u64]) -> Result<(), AllocError> {
     Ok(())
 }
 
-/// Appends a copy of the file's two program headers to it.
+/// Appends a copy of the file's two program headers to the file.
 fn put_headers_again(alloc: Global, file: &mut Vec<u8>) -> Result<(), AllocError> {
     let headers = file.as_slice().get(64..176).unwrap_or(&[]).to_vec(alloc)?;
     file.extend_from_slice(&headers)
@@ -65,8 +65,8 @@ fn put_headers(file: &mut Vec<u8>) -> Result<(), AllocError> {
     Ok(())
 }
 
-/// Returns the sample with a segment of `size` bytes of memory. Its program headers are moved to
-/// its end, and those of 60,000 PT_LOADs with the file's first 17 bytes follow them.
+/// Returns the sample with a segment of `size` bytes of memory. The program headers are moved to
+/// the file's end. The headers of 60,000 PT_LOADs with the file's first 17 bytes follow.
 fn many_segments(alloc: Global, size: u64) -> Result<Vec<u8>, Fail> {
     let mut file = sample(alloc)?;
     put(&mut file, MEMORY_SIZE_AT, &size.to_le_bytes());

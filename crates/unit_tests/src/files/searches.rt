@@ -1,4 +1,4 @@
-// The search by chains, compared with a plain search.
+// Compares the search by chains with a plain search.
 
 use elf_dynamic::Object;
 use hash_check::{AdmitRefusal, Admitted, elf_hash};
@@ -99,8 +99,8 @@ fn find_plainly(object: &Object<'_>, name: &[u8]) -> Option<u32> {
 /// Names that the library exports, and names that it doesn't.
 static NAMES: [&[u8]; 6] = [b"f", b"g", b"u", b"", b"fg", b"f\0g"];
 
-/// Returns whether the search finds the same for each name as a plain search, and whether the
-/// symbols and the library have their names.
+/// Returns whether, for each name, the search finds the same symbol as a plain search, and whether
+/// the symbols and the library have their names.
 fn finds_plainly(admitted: &Admitted<'_>) -> bool {
     for &name in &NAMES {
         if admitted.find(name) != find_plainly(admitted.object(), name) {
@@ -112,8 +112,8 @@ fn finds_plainly(admitted: &Admitted<'_>) -> bool {
         && admitted.library_name() == Ok(b"q".as_slice())
 }
 
-/// Returns whether a table is admitted, and whether admission and each search agree with the plain
-/// programs.
+/// Returns whether a table is admitted, and whether admission agrees with `is_plainly_good` and
+/// each search with `find_plainly`.
 fn compare(alloc: Global, file: &[u8]) -> (bool, bool) {
     let Ok(object) = Object::read(file) else {
         return (false, false);

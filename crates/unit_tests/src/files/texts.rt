@@ -88,7 +88,7 @@ fn a_full_buffer_at_each_place_of_a_line(rt: HostRuntime) -> Result<(), Fail> {
     Ok(())
 }
 
-/// The lengths of names, and the number of writes that each takes.
+/// Each row has the length of a name, and the number of writes that the name takes.
 const WRITES: [(usize, usize); 5] = [(0, 1), (1, 1), (240, 1), (LINE / 4, 1), (LINE / 4 + 1, 2)];
 
 /// Returns how many writes a name takes. The writer accepts `room` writes.

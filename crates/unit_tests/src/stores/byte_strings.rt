@@ -1,4 +1,4 @@
-// Stores and their byte strings.
+// Makes and opens stores, and puts byte strings into them.
 use crate::stores::sectors::memory;
 use sector_disk::{Disk, Memory};
 use std::process::Abort;

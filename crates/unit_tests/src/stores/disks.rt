@@ -1,16 +1,16 @@
-// Sectors that the tests write themselves.
+// Writes entries, catalogues and roots to the sectors of a disk.
 use crate::stores::sectors::write;
 use roots::{Catalogue, Entry, Root, encode_catalogue, encode_entry, encode_root};
 use sector_disk::Memory;
 use std::process::Abort;
 
-/// Writes an entry.
+/// Writes `entry` to sector `at`.
 pub(crate) fn write_entry(rt: &impl Abort, disk: &mut Memory, at: u32, entry: &Entry) {
     assert!(rt; entry.has_spelling());
     write(rt, disk, at, &encode_entry(entry));
 }
 
-/// Writes a catalogue that lists the entries in the sectors `entries`.
+/// Writes to sector `at` a catalogue that lists the entries in the sectors `entries`.
 pub(crate) fn write_catalogue(rt: &impl Abort, disk: &mut Memory, at: u32, entries: &[u32]) {
     assert!(rt; entries.len() <= 64);
     let catalogue = Catalogue::new(entries);

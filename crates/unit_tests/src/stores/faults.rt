@@ -1,4 +1,4 @@
-// Runs of `look` in which each call of the disk fails in turn.
+// Runs `look` on a disk once for each call of the disk, and lets this call fail.
 use crate::stores::byte_strings::{formatted, put};
 use crate::stores::sectors::copy;
 use crate::stores::seen::{Seen, look};

@@ -1,4 +1,4 @@
-// The answers of a store on a disk whose sectors the test writes itself.
+// Tests the answers of a store on a disk whose sectors the test writes itself.
 use crate::stores::byte_strings::opened;
 use crate::stores::disks::{write_catalogue, write_entry, write_root};
 use crate::stores::sectors::{memory, write};
@@ -23,8 +23,9 @@ fn scattered(rt: &(impl Abort + AllocGlobal)) -> Memory {
     disk
 }
 
-// Opens the store on this disk, whose sixth call fails. The fifth call, which is the last one of
-// the opening, reads the entry. The sixth reads the first sector of the byte string.
+// Opens the store on the disk of `scattered`. The disk's sixth call fails. The fifth call, which is
+// the last one of the opening, reads the entry. The sixth reads the first sector of the byte
+// string.
 fn opened_scattered(rt: &(impl Abort + AllocGlobal)) -> Store<Fuse<Memory>> {
     opened(rt, Fuse::new(scattered(rt), 6, false, false))
 }

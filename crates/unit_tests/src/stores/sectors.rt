@@ -1,4 +1,4 @@
-// The sectors of a disk.
+// Makes and copies disks in memory, and writes their sectors.
 use sector_disk::{Disk, Memory, SECTOR_BYTES};
 use std::process::Abort;
 
@@ -12,7 +12,7 @@ pub(crate) fn copy(rt: &impl Abort, disk: &Memory) -> Memory {
     disk.copy().expect(rt, "a copy of a disk")
 }
 
-/// Writes a sector.
+/// Writes `content` to sector `at`.
 pub(crate) fn write(rt: &impl Abort, disk: &mut Memory, at: u32, content: &[u8; SECTOR_BYTES]) {
     assert!(rt; at < disk.sectors());
     assert!(rt; disk.write(at, content).is_ok());

@@ -50,8 +50,8 @@ fn the_buffers_give_what_a_disk_in_memory_gives(rt: HostRuntime) {
     assert!(rt; small && large);
 }
 
-// Reads a file of 5,000 sectors, and then its first 129 once more. If each sector has the content
-// with which it was filled, returns the number of calls of the file.
+// Reads a file of 5,000 sectors, and then the file's first 129 sectors once more. If each sector
+// has the content with which it was filled, returns the number of calls of the file.
 fn read_all(alloc: Global, file: Fake) -> Option<u64> {
     let mut disk = reopened(alloc, file)?;
     let mut filled = disk.sectors() == 5_000 && is_filled(&mut disk);
@@ -69,8 +69,8 @@ fn filled(alloc: Global) -> Option<Fake> {
     filled.then_some(disk.into_file())
 }
 
-// Fills a file of 5,000 sectors. Returns four numbers: the writes, the writes before the sync, the
-// reads while it was filled, and the reads that reading the whole file takes afterwards.
+// Fills a file of 5,000 sectors. Returns four numbers: the writes; the writes before the sync; the
+// reads while the file was filled; and the reads that reading the whole file takes afterwards.
 fn fill_and_read(alloc: Global) -> Option<[u64; 4]> {
     let file = filled(alloc)?;
     let [writes, synced, reads] = [file.writes, file.synced, file.reads];
@@ -120,8 +120,8 @@ fn what_is_not_synced_is_lost_and_what_is_stays(rt: HostRuntime) {
     assert!(rt; waiting_and_kept(rt.alloc()) == Some(wanted));
 }
 
-// The number of sectors of an honest file, the call of it that fails, and the result of making a
-// disk over it: its number of sectors, or the fault.
+// Each row has the number of sectors of an honest file, the number of the file's call that fails,
+// and the result of making a disk over the file: the disk's number of sectors, or the fault.
 const OVER: [(u32, u64, Result<u32, OpenFault>); 5] = [
     (0, 0, Ok(0)),
     (1, 0, Ok(1)),
@@ -130,8 +130,8 @@ const OVER: [(u32, u64, Result<u32, OpenFault>); 5] = [
     (8, 1, Err(OpenFault::CannotOpen)),
 ];
 
-// Makes a disk over a file of `sectors` sectors, whose call number `call` fails. Returns the disk's
-// number of sectors.
+// Makes a disk over a file of `sectors` sectors. The file's call number `call` fails. Returns the
+// disk's number of sectors.
 fn over(alloc: Global, sectors: u32, call: u64) -> Result<u32, OpenFault> {
     let outcome = CallOutcome {
         most: 0,

@@ -69,12 +69,12 @@ fn fails_so(alloc: Global, fails: u64, failed: usize, contents: [Option<u8>; 4])
     done && read && again
 }
 
-// After the opening, the calls of the file are: length and write of sectors 1 and 2; write of 6;
-// length and write of 4, and sync; length and write of 3, and sync; length and sync.
+// After the opening, the calls of the file are: 2 length, 3 write of sectors 1 and 2, 4 write of 6;
+// 5 length, 6 write of 4, 7 sync; 8 length, 9 write of 3, 10 sync; 11 length, 12 sync.
 //
-// Each row has the number of the file's call that fails, the index of the first call of the disk that
-// then fails, and what reads of sectors 1, 2, 3 and 6 return afterwards. Only sectors in the buffer
-// can then be read.
+// Each row has the number of the file's call that fails (0: none), the index in `eight_calls` of
+// the first call that then fails (8: none), and the contents that reads of sectors 1, 2, 3 and 6
+// return afterwards. Only sectors in the buffer can then be read.
 const CALLS: [(u64, usize, [Option<u8>; 4]); 12] = [
     (2, 2, [Some(11), Some(12), None, None]),
     (3, 2, [Some(11), Some(12), None, None]),

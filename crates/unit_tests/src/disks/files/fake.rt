@@ -71,7 +71,7 @@ impl Fake {
     }
 }
 
-/// A file for tests. Its contracts say nothing about its contents.
+/// A file for tests. No clause states anything about the file's contents.
 impl SectorFile for Fake {
     ghost is_honest = { false };
 

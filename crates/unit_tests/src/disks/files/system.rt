@@ -6,14 +6,14 @@ use sector_disk::Disk;
 use std::fs;
 use std::fs::File;
 
-// Opens a file. Returns its number of sectors.
+// Opens the file at `path` as a disk. Returns the disk's number of sectors.
 fn sectors(rt: &HostRuntime, path: &str) -> Result<u32, OpenFault> {
     let disk: FileDisk<DiskFile> = FileDisk::open(rt, rt.alloc(), path, Access::Changes)?;
     Ok(disk.sectors())
 }
 
-// Makes a disk of eight sectors over a new file, which has its name from the beginning, or over an
-// existing file of the same size.
+// Makes a disk of eight sectors at `path`, over a new file or over an existing file of the same
+// size. Names a new file at once.
 fn make(rt: &HostRuntime, path: &str) -> Result<FileDisk<DiskFile>, OpenFault> {
     let Made { disk, name } = FileDisk::make(rt, rt.alloc(), path, 8)?;
     let is_named = match name {
@@ -27,7 +27,7 @@ fn make(rt: &HostRuntime, path: &str) -> Result<FileDisk<DiskFile>, OpenFault> {
     }
 }
 
-// Makes an empty folder, and removes an older one.
+// Removes the folder at `path`, if there is one, and makes an empty folder there.
 fn make_folder(rt: &HostRuntime, path: &str) -> bool {
     let _ = fs::remove_dir_all(rt, path);
     fs::create_dir(rt, path).is_ok()
@@ -118,8 +118,9 @@ fn a_file_that_was_cut_is_not_written(rt: HostRuntime) {
     assert!(rt; begun && kept && ended && lost);
 }
 
-// The sectors that are written on a disk of eight sectors, the length in bytes to which its file is
-// then set, and the sector that is written next. If there is no such sector, a sync is next.
+// Each row has the sectors that are written on a disk of eight sectors, the length in bytes to
+// which the disk's file is then set, and the sector that is written next. `None` means that a sync
+// is next.
 const RESIZED: [(&[u32], u64, Option<u32>); 7] = [
     (&[], 512, None),
     (&[1, 4], 512, None),
@@ -147,7 +148,7 @@ fn resized(
     Ok((begun && is_resized).then_some(disk))
 }
 
-// Returns whether the disk's next call fails, and whether the disk's file then has only zeros.
+// Returns whether the disk's next call fails and the disk's file then has only zeros.
 fn is_seen(
     rt: &HostRuntime,
     path: &str,
@@ -184,7 +185,7 @@ fn a_file_that_was_cut_or_grew_is_not_written(rt: HostRuntime) {
     assert!(rt; (case, ended) == (None, true));
 }
 
-// Truncates a file between two writes before a sync, neither of which reaches the file's end.
+// Truncates a file between two writes, before the next sync. Neither write reaches the file's end.
 // Returns whether the second write and then the sync succeed.
 fn cut_between(rt: &HostRuntime, path: &str) -> Result<(bool, bool), OpenFault> {
     let Some(mut disk) = resized(rt, path, &[1, 4], 512)? else {
@@ -217,7 +218,7 @@ const MADE: [&str; 3] = [
     "file_disk_test_refused/none/disk",
 ];
 
-// The lengths of files, and the result of opening a disk over each.
+// Each row has the length of a file, and the result of opening a disk over the file.
 const LENGTHS: [(u64, Result<u32, OpenFault>); 8] = [
     (0, Ok(0)),
     (511, Err(OpenFault::BadLength(511))),
