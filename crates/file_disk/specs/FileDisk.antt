@@ -116,7 +116,7 @@ module _ {F : Type 0} {g : Ghosts F} where
 
   -- The mark of the present moment is the file's time. Let `u` be a moment of the file, from the mark of a
   -- moment `since` of the disk on. Let `m` be a list of sectors that the file's medium may have had at `u`.
-  -- Then a stop might have left `m` at the moment of the disk that belongs to `u`.
+  -- Then a stop might have left `m` at the moment at which the disk was when its file was at `u`.
   pub record FollowsTheFile (disk : FileDisk F g) : Type 0 where
     pub now : (file_facts disk).marks (file_facts disk).time ≡ (facts_below disk).time
     pub each : (since u : ℕ) (m : List Sector) → since ≤ (file_facts disk).time → (file_facts disk).marks since ≤ u → u ≤ (facts_below disk).time

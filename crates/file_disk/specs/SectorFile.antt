@@ -1,5 +1,5 @@
 -- A file of sectors: its facts, and the effect of each call of an honest file (POSIX: pread, pwrite, fsync;
--- and what kernels do if an fsync fails).
+-- and the behaviour of kernels if an fsync fails).
 use Rattle.std.specs.Prelude.{◌≡◌, ◌<◌, ◌≤◌, ◌+◌, ◌==◌, ◌↔◌, ◌⊎◌, ℕ, Bool, false, true, List, [], length, Result, Ok, Err, IfOk, OnOk, OnErr, is_err, if◌then◌else◌}
 use Rattle.sector_disk.specs.Disk.{Sector, sector, IsWhole}
 

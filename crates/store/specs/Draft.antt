@@ -154,8 +154,7 @@ abbrev pub ReadBytes : DiskFacts → PlacedEntry → List ℕ → Type 0
 ReadBytes disk put bytes = IsTrue disk.honest
     → bytes_at disk.now (places (extents_of put.entry)) ≡ padded (sector_bytes * div_ceil (length bytes) sector_bytes) bytes
 
--- the draft's list has one more entry, which comes last; the sectors of this entry and of its bytes
--- weren't in use
+-- One entry was appended to the draft's list. The sectors of this entry and of its bytes weren't in use.
 pub record IsDraftedBehind {D : Type 0} (facts : D → DiskFacts) (old new : Drafted D) (bytes : List ℕ) : Type 0 where
   pub put : PlacedEntry
   pub taken : IsTaken (layout_drafted old) (div_ceil (length bytes) sector_bytes) (extents_of put.entry) put.at []

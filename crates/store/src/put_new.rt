@@ -78,8 +78,8 @@ impl<D: Disk> Store<D> {
     ghost use Rattle.store.specs.Step.{longest_unused, refusal_of_new, IsAnswer, IsRefusalOfPutNew};
 
     /// Puts a byte string of 64 bytes to 16 MiB after all other byte strings. No other byte string
-    /// has its name. Refuses with S2, S9, S10, S7, S8, S11 or S1; only S1 may come after the first
-    /// write.
+    /// has the name `name`. Refuses with S2, S9, S10, S7, S8, S11 or S1; only S1 may come after the
+    /// first write.
     pub fn put_new(&mut self, name: &[u8], bytes: &[u8]) -> Result<(), StoreRefusal>
         requires name { IsName name.now }
         requires size { IsFileSize (length bytes.now) }

@@ -64,8 +64,8 @@ impl<D: Disk> Store<D> {
         ensures refused { IsTrue (D.facts disk).honest → IsNotOld (D.facts disk).now
             → IfErr result (λ e. RefusesLook StandsEither (D.facts disk).now e.0) }
 
-        // The call reads what an opening reads. On a disk of version 1 it then writes the
-        // catalogues and the root, and syncs twice.
+        // The call makes the same sync and the same reads as an opening. On a disk of version 1 it
+        // then writes the catalogues and the root, and syncs twice.
         ensures calls_current { IsTrue (D.facts disk).honest → (s : State)
             → Stands (D.facts disk).now s → IfOk result (λ store. AreCallsExactly
             (calls_to_open store) (D.facts disk) (D.facts store.disk)) }

@@ -25,7 +25,7 @@ module _ {F : Type 0} {g : Ghosts F} where
     pub within : StaysWithin (Leaves old) (g.facts old.file) (g.facts new.file)
     pub cause : (old.failed ≡ true) ⊎ ((g.facts old.file).failures < (g.facts new.file).failures)
 
-  -- reads of the file now return what reads through the buffers returned before
+  -- reads of the file now return the contents that reads through the buffers returned before
   pub record IsWrittenBack (old new : Buffered F g) : Type 0 where
     pub within : StaysWithin (Leaves old) (g.facts old.file) (g.facts new.file)
     pub shown : (k : ℕ) → sector (g.facts new.file).now k ≡ shown_at old k

@@ -59,8 +59,8 @@ pub record ArePreloads (libraries : ℕ) (preloads : List ℕ) : Type 0 where
 abbrev pub spare_of : (standing libraries : ℕ) → ℕ
 spare_of standing libraries = standing + 2 * (catalogues_for libraries - standing)
 
--- exactly the sectors of the current state, of held byte strings and of what the update wrote are
--- claimed in the layout, and there is room for the commit
+-- exactly the sectors of the current state, of held byte strings and of the entries that the update wrote
+-- are claimed in the layout, and there is room for the commit
 pub record IsStagedIn (kept : Kept) (entries : List PlacedEntry) : Type 0 where
   pub standing : List Bool
   pub stands : IsKept kept.root kept.entries.items kept.held standing

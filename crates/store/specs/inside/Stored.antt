@@ -34,7 +34,7 @@ IsStored sectors kept = IsKept kept.root kept.entries.items kept.held kept.layou
 abbrev pub sectors_for : Kept → ℕ
 sectors_for kept = kept.root.sectors - length (lone_sectors kept.held)
 
--- the number of sectors of the longest unused runs, with as many runs as a byte string may have extents
+-- the number of sectors of the 32 longest unused runs: 32 is the maximum number of extents of a byte string
 abbrev pub longest_in : Kept → ℕ
 longest_in kept = sector_count (longest_runs kept.layout)
 
