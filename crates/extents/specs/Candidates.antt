@@ -1,4 +1,4 @@
--- Which extents of a layout a file could get.
+-- Which lists of extents a file could get in a layout.
 use Rattle.std.specs.Prelude.{◌≤◌, Bool, List, length, All, AllPairs}
 use Rattle.extents.specs.declared.extent.Extent.{Extent}
 use Rattle.extents.specs.Extent.{IsApart}

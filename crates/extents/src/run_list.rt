@@ -62,8 +62,8 @@ impl RunList {
         self.list[self.vacant + place] = run;
     }
 
-    /// Removes the run at `place`. The runs below it move up, or the runs above it move down,
-    /// whichever are fewer.
+    /// Removes the run at `place`. Either the runs below it move up, or the runs above it move
+    /// down, whichever are fewer.
     pub(crate) fn remove(&mut self, place: usize)
         requires { place < length self.old.items }
         ensures items { self.new.items
@@ -80,8 +80,8 @@ impl RunList {
         }
     }
 
-    /// Inserts `run` at `place`. The runs below it move down, or the runs above it move up. If
-    /// there is room on both sides, the fewer runs move.
+    /// Inserts `run` at `place`. Either the runs below it move down, or the runs above it move up.
+    /// If there is room on both sides, the fewer runs move.
     pub(crate) fn insert(&mut self, place: usize, run: Extent)
         requires within { place ≤ length self.old.items }
         requires room { length self.old.items < self.old.capacity }

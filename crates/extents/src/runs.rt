@@ -12,9 +12,9 @@ use crate::limits::ROOT_SECTORS;
 use crate::run_list::RunList;
 use std::alloc::{AllocError, Global};
 
-/// Returns the runs of a disk of `sectors` sectors, none of which is claimed. There is one run if
-/// the disk has a sector after the roots, and otherwise none. There is room for as many runs as the
-/// disk can have.
+/// Returns the unused runs of a disk of `sectors` sectors on which no sector is claimed. There is
+/// one run if the disk has a sector after the roots, and otherwise none. There is room for as many
+/// runs as the disk can have.
 pub(crate) fn one_run(alloc: Global, sectors: u32) -> Result<RunList, AllocError>
     ensures items { IfOk result (λ runs.
         runs.items ≡ some_of root_sectors (sectors - root_sectors)) }

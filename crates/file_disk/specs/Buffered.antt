@@ -6,7 +6,7 @@ use Rattle.file_disk.specs.declared.sector_file.SectorFile.{Ghosts}
 use Rattle.file_disk.specs.WriteBuffer.{write_buffer_at}
 use Rattle.file_disk.specs.SectorFile.{MayHave}
 
--- the content if there is one, and otherwise the other content
+-- the first content if there is one, and otherwise the content `other`
 abbrev pub or_else : Option Sector → Sector → Sector
 or_else (Some content) other = content
 or_else None other = other

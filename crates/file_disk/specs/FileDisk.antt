@@ -90,15 +90,15 @@ module _ {F : Type 0} {g : Ghosts F} where
     pub waits : WaitsNot disk
     pub kept : (k : ℕ) → kept disk k ≡ None
 
-  -- Reads return the file's contents. A stop may leave what the file's medium may have, and nothing
-  -- else.
+  -- Reads return the file's contents. A stop may leave the contents that the file's medium may have, and no
+  -- other contents.
   pub record IsAsTheFile (disk : FileDisk F g) : Type 0 where
     pub now : (k : ℕ) → sector (file_facts disk).now k ≡ sector (facts_below disk).now k
     pub medium : (k : ℕ) (c : Sector) → MayHave (facts_below disk) k c → MayLeave (file_facts disk) k c
     pub only : (k : ℕ) (c : Sector) → MayLeave (file_facts disk) k c → ∥ MayHave (facts_below disk) k c ∥₁
 
-  -- A disk that was made over a file: the file's sectors were counted, and nothing else was done with the file. The
-  -- disk has as many sectors as the file, and reads return what the file had.
+  -- A disk that was made over a file: the file's sectors were counted, and nothing else was done with the
+  -- file. The disk has as many sectors as the file, and reads return the contents that the file had.
   pub record IsOver (file : F) (disk : FileDisk F g) : Type 0 where
     pub counted : IsCounted {E = OpenFault} (g.facts file) (facts_below disk) (Ok (file_facts disk).sectors)
     pub sectors : (file_facts disk).sectors ≡ (g.facts file).sectors
@@ -108,23 +108,23 @@ module _ {F : Type 0} {g : Ghosts F} where
   abbrev pub StartsAsFound : F → FileDisk F g → Type 0
   StartsAsFound file disk = (contents : List Sector) → IsFoundWith (g.facts file) contents → StartsWith (file_facts disk) contents
 
-  -- Whatever the file's medium may have at a moment of the file from `old` to `new`, a stop of the disk might have
-  -- left at some moment since `old`.
+  -- Let `m` be a list of sectors that the file's medium may have at a moment of the file from `old` to
+  -- `new`. Then a stop of the disk might have left `m` at some moment since `old`.
   pub record IsCovered (old new : FileDisk F g) : Type 0 where
     pub each : (u : ℕ) (m : List Sector) → (facts_below old).time ≤ u → u ≤ (facts_below new).time
         → MediumAt (facts_below new) u m → LeftSince (file_facts new) (file_facts old).time m
 
-  -- The mark of the present moment is the file's time. Let `u` be a moment of the file, from the mark of
-  -- a moment `since` of the disk on. Whatever the file's medium may have had at `u`, a stop of the disk
-  -- might have left at the moment at which the disk was then.
+  -- The mark of the present moment is the file's time. Let `u` be a moment of the file, from the mark of a
+  -- moment `since` of the disk on. Let `m` be a list of sectors that the file's medium may have had at `u`.
+  -- Then a stop might have left `m` at the moment at which the disk was when its file was at `u`.
   pub record FollowsTheFile (disk : FileDisk F g) : Type 0 where
     pub now : (file_facts disk).marks (file_facts disk).time ≡ (facts_below disk).time
     pub each : (since u : ℕ) (m : List Sector) → since ≤ (file_facts disk).time → (file_facts disk).marks since ≤ u → u ≤ (facts_below disk).time
         → MediumAt (facts_below disk) u m → (v : ℕ) × IsMomentAt (file_facts disk) u v × MixtureAt (file_facts disk) v m
 
   -- Let `P` hold for every list of sectors that a stop of the disk may leave between the moments of `old`
-  -- and `new`. Then `P` also holds for everything that the file's medium may have at any moment of the
-  -- file in this time.
+  -- and `new`. Then `P` also holds for every list of sectors that the file's medium may have at any moment
+  -- of the file in this time.
   abbrev pub HoldsOfTheMedium : FileDisk F g → (List Sector → Type 0) → Type 0
   HoldsOfTheMedium new P = (old : FileDisk F g) → LeavesOnly (file_facts old) (file_facts new) P
       → (u : ℕ) (m : List Sector) → (facts_below old).time ≤ u → u ≤ (facts_below new).time → MediumAt (facts_below new) u m → P m

@@ -3,7 +3,8 @@ use Rattle.std.specs.Prelude.{◌≡◌, ◌<◌, ◌*◌, ◌^◌, ℕ}
 use Rattle.file_disk.specs.declared.open.OpenFault.{OpenFault}
 use Rattle.file_disk.specs.declared.open.OpenFault.TheVariants.{BadLength}
 
--- `length` is the length in bytes of some disk: that of a whole number of sectors, fewer than 2^32
+-- `length` is the length in bytes of a disk: the disk has a whole number of sectors, and this number is
+-- less than 2^32
 abbrev pub IsDiskLength : ℕ → Type 0
 IsDiskLength length = (sectors : ℕ) × (sectors < 2 ^ 32) × (length ≡ 512 * sectors)
 

@@ -11,8 +11,8 @@ use Rattle.file_disk.specs.declared.memory_file.CallOutcome.{CallOutcome}
 use Rattle.file_disk.specs.Medium.{HasWritten, IsWholeUnlessFailed}
 use Rattle.file_disk.specs.SectorFile.{FileFacts}
 
--- The facts of a file over a disk in memory, which was in the states `past` at the past moments. At each moment the
--- medium may have what a stop of the disk at that moment may leave.
+-- The facts of a file over a disk in memory, which was in the states `past` at the past moments. At each
+-- moment the medium may have the contents that a stop of the disk at that moment may leave.
 abbrev pub facts_over : Memory → List Memory → ℕ → Bool → FileFacts
 facts_over medium past failures sync_failed = record {
   sectors = (memory_facts medium).sectors;
@@ -27,7 +27,8 @@ facts_over medium past failures sync_failed = record {
 abbrev pub memory_file_facts : MemoryFile → FileFacts
 memory_file_facts file = facts_over file.medium file.past.items (calls_failed file.calls) file.sync_failed
 
--- the disk under the file: it has what was written, and determines what the medium may have
+-- the disk under the file: it has the written contents, and determines the contents that the medium may
+-- have
 abbrev pub medium_of : MemoryFile → Memory
 medium_of file = file.medium
 
@@ -52,8 +53,7 @@ pub record HasOutcome {T E : Type 0} (old new : MemoryFile) (result : Result T E
   pub fails : is_err result ≡ (next_outcome old).fails
   pub plan : plan_of new ≡ plan_of old
 
--- A read that succeeds moves all sectors that it is asked for, or as many as its outcome allows if these
--- are fewer.
+-- A read that succeeds moves all requested sectors, or as many as its outcome allows if these are fewer.
 pub record IsMoved {E : Type 0} (old : MemoryFile) (asked : ℕ) (result : Result ℕ E) : Type 0 where
   pub count : IfOk result (λ count. count ≡ min (next_outcome old).most asked)
 

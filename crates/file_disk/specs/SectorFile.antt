@@ -1,5 +1,5 @@
--- A file of sectors: its facts, and what each call of an honest file does (POSIX: pread, pwrite, fsync; and what
--- kernels do if an fsync fails).
+-- A file of sectors: its facts, and the effect of each call of an honest file (POSIX: pread, pwrite, fsync;
+-- and the behaviour of kernels if an fsync fails).
 use Rattle.std.specs.Prelude.{◌≡◌, ◌<◌, ◌≤◌, ◌+◌, ◌==◌, ◌↔◌, ◌⊎◌, ℕ, Bool, false, true, List, [], length, Result, Ok, Err, IfOk, OnOk, OnErr, is_err, if◌then◌else◌}
 use Rattle.sector_disk.specs.Disk.{Sector, sector, IsWhole}
 
@@ -20,7 +20,7 @@ pub record FileFacts : Type 1 where
 abbrev pub MayHave : FileFacts → ℕ → Sector → Type 0
 MayHave file k c = file.may_have file.time k c
 
--- what the medium may have at a moment: each sector, by itself, has a content of its set
+-- the medium may have the sectors `m` at this moment: each sector, by itself, has a content of its set
 pub record MediumAt (file : FileFacts) (moment : ℕ) (m : List Sector) : Type 0 where
   pub size : length m ≡ file.sectors
   pub each : (k : ℕ) → k < file.sectors → file.may_have moment k (sector m k)
@@ -34,15 +34,15 @@ moved (Err e) = 0
 abbrev pub IsGivenTo : ℕ → List Sector → ℕ → Sector → Type 0
 IsGivenTo at given k c = (i : ℕ) × (i < length given) × (k ≡ at + i) × (c ≡ sector given i)
 
--- One call: the time is greater by one, and a failure is counted. The size stays the same, and so does what the medium
--- might have had at each earlier moment.
+-- One call: the time is greater by one, and a failure is counted. The number of sectors stays the same. So
+-- do the contents that the medium might have had at each earlier moment.
 pub record IsFileCall (failed : Bool) (old new : FileFacts) : Type 0 where
   pub sectors : new.sectors ≡ old.sectors
   pub time : new.time ≡ old.time + 1
   pub failures : new.failures ≡ (if failed then old.failures + 1 else old.failures)
   pub past : (u k : ℕ) (c : Sector) → u ≤ old.time → new.may_have u k c ↔ old.may_have u k c
 
--- the set of no sector grows, and `sync_failed` stays the same
+-- no sector's set grows, and `sync_failed` stays the same
 pub record HasNoMore (old new : FileFacts) : Type 0 where
   pub medium : (k : ℕ) (c : Sector) → MayHave new k c → MayHave old k c
   pub sync_failed : new.sync_failed ≡ old.sync_failed
@@ -54,8 +54,9 @@ pub record IsCounted {E : Type 0} (old new : FileFacts) (result : Result ℕ E) 
   pub now : old.sync_failed ≡ false → new.now ≡ old.now
   pub ok : IfOk result (λ sectors. sectors ≡ old.sectors)
 
--- A read changes nothing, and the sectors that it moved have the contents that were written last. A read that moves
--- no sector has failed. After a failed sync, nothing is stated about what reads return.
+-- A read changes nothing, and the sectors that it moved have the contents that were written last. A read
+-- that moves no sector has failed. After a failed sync, nothing is stated about the contents that reads
+-- return.
 pub record IsFileRead {E : Type 0} (old new : FileFacts) (at : ℕ) (into : List Sector) (result : Result ℕ E) : Type 0 where
   pub call : IsFileCall (moved result == 0) old new
   pub same : HasNoMore old new
@@ -78,9 +79,9 @@ pub record IsFileWrite {E : Type 0} (old new : FileFacts) (at : ℕ) (given : Li
   pub medium : (k : ℕ) (c : Sector) → MayHave new k c → MayHave old k c ⊎ IsGivenTo at given k c
   pub now : old.sync_failed ≡ false → IsOldOrGiven at given (moved result) old.now new.now
 
--- A sync. No sector's set grows. If the sync succeeds, and no sync has failed before, the set of
--- each sector contains only what reads return for it. After a failed sync, a later sync needn't make
--- any set smaller.
+-- A sync. No sector's set grows. If the sync succeeds, and no sync has failed before, the set of each
+-- sector contains only the content that reads return for this sector. After a failed sync, a later sync
+-- isn't guaranteed to make any set smaller.
 pub record IsFileSync {T E : Type 0} (old new : FileFacts) (result : Result T E) : Type 0 where
   pub call : IsFileCall (is_err result) old new
   pub medium : (k : ℕ) (c : Sector) → MayHave new k c → MayHave old k c
@@ -94,15 +95,15 @@ pub record HoldsWhatIsRead (file : FileFacts) : Type 0 where
   pub size : length file.now ≡ file.sectors
   pub each : (k : ℕ) → k < file.sectors → MayHave file k (sector file.now k)
 
--- A file as it is found after a stop: reads return these sectors, its medium has exactly them, and no sync has failed
--- since.
+-- A file as it is found after a stop: reads return the sectors `contents`, the medium has exactly these
+-- contents, and no sync has failed since the stop.
 pub record IsFoundWith (file : FileFacts) (contents : List Sector) : Type 0 where
   pub sectors : file.sectors ≡ length contents
   pub now : file.now ≡ contents
   pub alone : (k : ℕ) (c : Sector) → MayHave file k c → c ≡ sector contents k
   pub sync_failed : file.sync_failed ≡ false
 
--- whatever the medium may have consists of whole sectors
+-- each content that the medium may have is a whole sector
 pub record HasWholeContents (file : FileFacts) : Type 0 where
   pub each : (k : ℕ) (c : Sector) → MayHave file k c → IsWhole c
 

@@ -40,7 +40,7 @@ impl<F: SectorFile + Drop> Buffered<F> {
     ghost use Rattle.file_disk.specs.ReadAhead.{read_ahead_at};
     ghost use Rattle.file_disk.specs.WriteBuffer.{write_buffer_at};
 
-    /// Makes the buffers over a file that has `sectors` sectors. Nothing was read or written yet.
+    /// Makes empty buffers over a file of `sectors` sectors. Makes no call of the file.
     pub(crate) fn new(alloc: Global, file: F, sectors: u32) -> Result<Buffered<F>, AllocError>
         requires sectors { IsTrue F.is_honest → (F.facts file).sectors ≡ sectors }
         requires trusted { IsTrue F.is_honest → (F.facts file).sync_failed ≡ false }
@@ -227,8 +227,8 @@ impl<F: SectorFile> Buffered<F> {
         Err(DiskFault::Failed)
     }
 
-    // Reads sector `at` from the file and some sectors after it, but none that is in the write
-    // buffer.
+    // Reads sector `at` and some sectors after it from the file into the read-ahead buffer. Reads
+    // no sector that is in the write buffer.
     fn fill_read_ahead(&mut self, at: u32) -> Result<(), DiskFault>
         requires inside { at < self.old.sectors }
         requires open { self.old.failed ≡ false }

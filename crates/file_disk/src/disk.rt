@@ -15,11 +15,12 @@ use std::alloc::{AllocError, Global};
 
 /// A disk over a file. It is an honest disk if the file is honest.
 ///
-/// Written sectors are buffered in memory until a sector is written that isn't a neighbour, until
-/// 128 KiB are buffered, or until the next sync. Reads return buffered sectors too. If the disk is
-/// dropped, the write buffer is lost, as in a power cut. After a failed write or sync, all later
-/// writes and syncs fail, and so do reads of sectors that aren't in memory. The reason is that the
-/// system may have dropped data that it couldn't write, without reporting it at the next sync.
+/// Written sectors are buffered in memory until a sector is written that doesn't adjoin the
+/// buffered sectors, until 128 KiB are buffered, or until the next sync. Reads return buffered
+/// sectors too. If the disk is dropped, the write buffer is lost, as in a power cut. After a failed
+/// write or sync, all later writes and syncs fail, and so do reads of sectors that aren't in
+/// memory. The reason is that the system may have dropped data that it couldn't write, without
+/// reporting it at the next sync.
 #[derive(Drop)]
 pub struct FileDisk<F: SectorFile> {
     buffered: Buffered<F>,
@@ -89,9 +90,9 @@ impl<F: SectorFile> FileDisk<F> {
         ensures { IsTrue F.is_honest → FollowsTheFile self.now }
     {}
 
-    /// A law. Suppose a property holds of everything that a stop of the disk may leave, from an
-    /// earlier moment to now. Then it holds of everything that the medium of an honest file may
-    /// have had since that moment.
+    /// A law. Suppose a property holds of every list of sectors that a stop of the disk may leave,
+    /// from an earlier moment to now. Then the property holds of every list of sectors that the
+    /// medium of an honest file may have had since that moment.
     pub fn holds_of_its_medium<P: Property>(&self)
         ensures { IsTrue F.is_honest → HoldsOfTheMedium self.now P.holds }
     {}
@@ -132,7 +133,7 @@ impl<F: SectorFile> Disk for FileDisk<F> {
         ensures honest { IsTrue (file_facts self.old).honest
             → IsRead (file_facts self.old) (file_facts self.new) at into.new result }
 
-        // During the call, the file's medium has only what a stop of the disk may leave.
+        // During the call, the file's medium has only contents that a stop of the disk may leave.
         ensures any_moment { IsTrue F.is_honest → IsCovered self.old self.new }
 
         // The read fails only if a call of the file failed, or if an earlier write or sync had
@@ -190,8 +191,8 @@ impl<F: SectorFile> Disk for FileDisk<F> {
         reply
     }
 
-    /// Writes the write buffer to the file, and has the system bring it to the medium. The buffer
-    /// keeps its contents until that is done.
+    /// Writes the write buffer to the file, and syncs the file. The buffer keeps its contents until
+    /// the sync has succeeded.
     fn sync(&mut self) -> Result<(), DiskFault>
         ensures calls { IsCall (file_facts self.old) (file_facts self.new) result }
         ensures honest { IsTrue (file_facts self.old).honest

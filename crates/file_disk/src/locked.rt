@@ -1,4 +1,4 @@
-// Opens a file under its lock.
+// Opens a file and locks it.
 
 ghost use Rattle.std.specs.Prelude.{◌≡◌, IfErr, true};
 ghost use Rattle.std.specs.Fs.{new_options, with_read, with_write};

@@ -6,8 +6,8 @@ ghost use Rattle.file_disk.specs.Medium.{HasWritten, IsWholeUnlessFailed, IsSame
 
 use sector_disk::{Disk, Memory, SECTOR_BYTES};
 
-/// Writes the sectors `from` from sector `at` on, until memory is refused. Returns the number of
-/// sectors that were written.
+/// Writes the contents `from` to sector `at` and the sectors after it, until memory is refused.
+/// Returns the number of sectors that were written.
 pub(crate) fn put(medium: &mut Memory, at: u32, from: &[[u8; SECTOR_BYTES]]) -> usize
     requires inside { at + length from.now ≤ (memory_facts medium.old).sectors }
     ensures few { result ≤ length from.now }
@@ -26,7 +26,7 @@ pub(crate) fn put(medium: &mut Memory, at: u32, from: &[[u8; SECTOR_BYTES]]) -> 
     done
 }
 
-/// Reads sectors from sector `at` on into `into`.
+/// Reads sector `at` and the sectors after it into `into`.
 pub(crate) fn get(medium: &mut Memory, at: u32, into: &mut [[u8; SECTOR_BYTES]])
     requires inside { at + length into.old ≤ (memory_facts medium.old).sectors }
     ensures still { IsSameMedium (memory_facts medium.old) (memory_facts medium.new) }

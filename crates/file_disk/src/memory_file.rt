@@ -11,8 +11,8 @@ use std::io::ErrorKind;
 /// The outcome of a call of a `MemoryFile`.
 #[derive(Clone, Copy)]
 pub struct CallOutcome {
-    /// The maximum number of sectors that a read or a write moves. If this isn't 0, a sync that
-    /// fails has done its work before.
+    /// The maximum number of sectors that a read or a write moves. If this isn't 0, a sync does its
+    /// work even if it fails.
     pub most: usize,
     /// Whether the call fails, after it has moved its sectors.
     pub fails: bool,
@@ -52,7 +52,7 @@ impl MemoryFile {
     ghost use Rattle.sector_disk.specs.Disk.{Sector, StartsWith};
     ghost use Rattle.sector_disk.specs.Memory.{memory_facts};
 
-    /// Makes a file with the contents of the disk `medium`, and with this plan for its calls.
+    /// Makes a file with the contents of the disk `medium`, and with the plan `plan` for its calls.
     pub fn new(medium: Memory, plan: FilePlan) -> MemoryFile
         ensures medium { medium_of result ≡ medium }
         ensures plan { plan_of result ≡ plan }

@@ -22,8 +22,8 @@ pub(crate) struct ReadAhead {
     room: usize,
     // The number of sectors that the last read asked for.
     asked: usize,
-    // The memory for all sectors is reserved. Only as much of it is touched as a read has asked
-    // for.
+    // The memory for all sectors is reserved. A read touches only the memory of the sectors that it
+    // asks for.
     contents: Vec<[u8; SECTOR_BYTES]>,
     ghost some: { 0 < room },
     ghost most: { room ≤ 256 },
@@ -69,7 +69,7 @@ impl ReadAhead {
         }
     }
 
-    /// If sector `at` is kept, forgets it and all others.
+    /// If sector `at` is in the buffer, empties the buffer.
     pub(crate) fn forget(&mut self, at: u32)
         ensures here { read_ahead_at self.new at ≡ None }
         ensures others { (k : ℕ) → IsForgotten self.old self.new k }
@@ -116,8 +116,8 @@ impl ReadAhead {
         }
     }
 
-    /// Reads sector `at`, and as many sectors after it as are worth reading ahead, but at most
-    /// `most` sectors in all.
+    /// Reads sector `at` and sectors after it into the buffer: as many in all as `choose_length`
+    /// chooses, but at most `most`.
     pub(crate) fn fill<F: SectorFile>(
         &mut self,
         file: &mut F,

@@ -27,8 +27,8 @@ pub trait SectorFile {
         ensures honest { IsTrue is_honest → IsCounted (facts self.old) (facts self.new) result }
         ensures length { IfErr result IsLengthFault };
 
-    /// Reads the sectors from sector `at` on into `into`. Returns the number of sectors that were
-    /// read. Their contents are at the front of `into`.
+    /// Reads sector `at` and the sectors after it into `into`. Returns the number of sectors that
+    /// were read. Their contents are at the front of `into`.
     fn read_at(&mut self, at: u32, into: &mut [[u8; SECTOR_BYTES]]) -> io::Result<usize>
         requires inside { IsTrue is_honest → at + length into.old ≤ (facts self.old).sectors }
         ensures bound { moved result ≤ length into.old }
@@ -36,8 +36,8 @@ pub trait SectorFile {
             → IsFileRead (facts self.old) (facts self.new) at into.new result };
 
     /// Writes the sectors of `from` to sector `at` and the sectors after it. Returns the number of
-    /// sectors that were written, counted from the front of `from`. A caller that continues passes
-    /// the next sector whole.
+    /// sectors that were written, counted from the front of `from`. To continue, a caller passes
+    /// the next sector from its first byte on.
     fn write_at(&mut self, at: u32, from: &[[u8; SECTOR_BYTES]]) -> io::Result<usize>
         requires inside { IsTrue is_honest → at + length from.now ≤ (facts self.old).sectors }
         ensures bound { moved result ≤ length from.now }

@@ -13,7 +13,7 @@ use thiserror::Error;
 /// The maximum length of a name in bytes.
 const LONGEST_NAME: usize = 255;
 
-/// The ending of the other name.
+/// The ending of the other name, under which a file is made.
 const ENDING: &str = ".rlibreg-new";
 
 /// Why a file that was made complete didn't get its name, or may lose it.
@@ -131,7 +131,7 @@ fn lacks_links(kind: ErrorKind) -> bool {
     )
 }
 
-/// Returns Ok if both syncs succeeded: the new name is on the medium.
+/// Returns Ok if both calls succeeded, so that the new name is on the medium.
 fn both(first: io::Result<()>, second: io::Result<()>) -> Result<(), NameFault> {
     match (first, second) {
         (Ok(()), Ok(())) => Ok(()),

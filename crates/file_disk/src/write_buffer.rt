@@ -116,7 +116,7 @@ impl WriteBuffer {
         self.contents.push_reserved(*from);
     }
 
-    /// Returns the contents of all buffered sectors, in their order.
+    /// Returns the contents of all buffered sectors, in the order of the sectors.
     pub(crate) fn contents(&self) -> &[[u8; SECTOR_BYTES]]
         ensures { result.now ≡ self.now.contents.items }
     {

@@ -1,4 +1,4 @@
--- A catalogue: which catalogues can be encoded, and the sector that encodes one.
+-- A catalogue: which catalogues can be encoded, and the sector that encodes a catalogue.
 use Rattle.std.specs.Prelude.{◌≡◌, ℕ, ◌-◌, ◌<◌, ◌≤◌, List, ◌++◌, length, take, codes, All}
 use Rattle.std.specs.Int.{w16, w32, to_le_bytes}
 use Rattle.extents.specs.Limits.{root_sectors, most_sectors}
@@ -16,8 +16,9 @@ catalogue_bytes catalogue =
     ++ numbers w32 catalogue.entry_sectors  -- 16
     ++ zeros 240  -- 272
 
--- The limits of the fields: a catalogue can be encoded if and only if it keeps to them. It lists at
--- least one entry. It doesn't name its disk, so its sectors may be any of the largest disk.
+-- The limits of the fields: a catalogue can be encoded if and only if it keeps to these limits. A catalogue
+-- lists at least one entry. It doesn't name its disk, so the sectors that it lists may be any sectors of
+-- the largest disk.
 pub record CatalogueHasSpelling (catalogue : Catalogue) : Type 0 where
   pub some : 1 ≤ catalogue.count
   pub sectors : ListsSectors most_catalogue_entries catalogue.count most_sectors catalogue.entry_sectors

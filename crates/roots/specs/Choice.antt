@@ -1,4 +1,4 @@
--- Which root is current: the choice between the two slots, and what it means for the two sectors.
+-- Which root is current: the choice between the two slots, and the condition on the two sectors.
 use Rattle.std.specs.Prelude.{◌≡◌, ◌⊎◌, ℕ, ◌+◌, ◌%◌, List, Bool, true, false}
 use Rattle.std.specs.Prelude.{Result, Ok, Err, ◌&&◌, ◌==◌, nat_lt, if◌then◌else◌}
 use Rattle.std.specs.Int.{abs_diff}
@@ -52,7 +52,7 @@ pub record AreSuccessive (even odd : ℕ) : Type 0 where
   pub parity1 : slot_of odd ≡ 1
   pub apart : (odd ≡ even + 1) ⊎ (even ≡ odd + 1)
 
--- the newer root is of version 1 only if the older one is
+-- the newer root is of version 1 only if the older root is of version 1
 abbrev pub KeepsVersion : Root → Root → Type 0
 KeepsVersion older newer = version_of newer ≡ One → version_of older ≡ One
 

@@ -1,4 +1,4 @@
--- An entry: which entries can be encoded, and the sector that encodes one.
+-- An entry: which entries can be encoded, and the sector that encodes an entry.
 use Rattle.std.specs.Prelude.{◌≡◌, ◌≢◌, ℕ, ◌+◌, ◌-◌, ◌≤◌, List, ◌++◌, length, take, replicate, codes, sum_by}
 use Rattle.std.specs.List.{flat_map}
 use Rattle.std.specs.Int.{w16, w32, to_le_bytes, IsInRange, div_ceil}
@@ -43,13 +43,14 @@ pub record NameFits (entry : Entry) : Type 0 where
   pub some : 1 ≤ entry.name_length
   pub listed : UsesFirst most_name_bytes entry.name_length IsNameByte 0 entry.name
 
--- the extents fit into their places, and have exactly the sectors of the file; the last sector may be used in part
+-- the extents fit into their places, and have exactly as many sectors as the file takes; the file may use
+-- only a part of the last sector
 pub record ExtentsFit (entry : Entry) : Type 0 where
   pub some : 1 ≤ entry.extent_count
   pub listed : UsesFirst most_extents entry.extent_count IsDataExtent no_extent entry.extents
   pub sum : sum_by (λ extent. extent.count) (take entry.extent_count entry.extents) ≡ div_ceil entry.file_length sector_bytes
 
--- The limits of the fields: an entry can be encoded if and only if it keeps to them.
+-- The limits of the fields: an entry can be encoded if and only if it keeps to these limits.
 pub record EntryHasSpelling (entry : Entry) : Type 0 where
   pub file_length : IsInRange least_file_bytes most_file_bytes entry.file_length
   pub name : NameFits entry

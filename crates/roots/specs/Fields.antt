@@ -5,7 +5,7 @@ use Rattle.std.specs.Int.{Width, to_le_bytes}
 use Rattle.extents.specs.Limits.{root_sectors}
 use Rattle.extents.specs.Extent.{AreDistinct}
 
--- n zero bytes
+-- a list of n zero bytes
 abbrev pub zeros : ℕ → List ℕ
 zeros n = replicate n 0
 

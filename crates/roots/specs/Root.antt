@@ -1,4 +1,4 @@
--- A root, of version 1 or 2: which roots can be encoded, and the sector that encodes one.
+-- A root, of version 1 or 2: which roots can be encoded, and the sector that encodes a root.
 use Rattle.std.specs.Prelude.{◌≡◌, ℕ, ◌-◌, ◌<◌, ◌≤◌, ◌^◌, List, [], ◌∷◌, ◌++◌, length, take, codes, All, Contains}
 use Rattle.std.specs.Int.{w16, w32, w64, to_le_bytes, IsInRange}
 use Rattle.extents.specs.Limits.{root_sectors, most_sectors}
@@ -25,7 +25,7 @@ magic_2 = codes "RLIBREG2"
 abbrev pub root_magics : List (List ℕ)
 root_magics = magic_1 ∷ magic_2 ∷ []
 
--- the version of a disk whose roots have such a list
+-- the version of a disk whose roots have a list of this form
 abbrev pub version_of_list : EntryList → Version
 version_of_list (InRoot sectors) = One
 version_of_list (InCatalogues count sectors) = Two
@@ -88,7 +88,7 @@ abbrev pub ListFits : ℕ → ℕ → EntryList → Type 0
 ListFits libraries disk (InRoot sectors) = ListsSectors most_root_entries libraries disk sectors
 ListFits libraries disk (InCatalogues count sectors) = CatalogueListFits libraries disk count sectors
 
--- The limits of the fields: a root can be encoded if and only if it keeps to them.
+-- The limits of the fields: a root can be encoded if and only if it keeps to these limits.
 pub record RootHasSpelling (root : Root) : Type 0 where
   pub generation : root.generation < 2 ^ 64
   pub sectors : IsInRange least_sectors most_sectors root.sectors

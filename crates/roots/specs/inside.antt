@@ -1,2 +1,3 @@
--- The fields of a sector at their offsets, as the code reads them. A reader needn't believe these definitions.
+-- The fields of a sector at their offsets, as the code reads them. A reader needn't check these
+-- definitions.
 pub mod Reading

@@ -41,7 +41,7 @@ impl Catalogue {
     }
 
     /// Returns whether each field is within the format's limits, so that a sector can encode this
-    /// catalogue. The call compares each sector with those before it, which takes at most 2,016
+    /// catalogue. The call compares each sector with the sectors before it: at most 2,016
     /// comparisons.
     pub fn has_spelling(&self) -> bool
         ensures { IsTrue result ↔ CatalogueHasSpelling self.now }

@@ -29,7 +29,7 @@ pub fn slot_of(generation: u64) -> u32
     (generation % u64::from(ROOT_SECTORS)) as u32
 }
 
-/// Returns the current root. Slot 0 is for even generations, and slot 1 for odd ones.
+/// Returns the current root. Slot 0 is for even generations, and slot 1 is for odd generations.
 pub fn choose(slot0: Slot, slot1: Slot) -> Result<Root, ChooseRefusal>
     ensures table { result ≡ chosen slot0 slot1 }
 
@@ -44,7 +44,7 @@ pub fn choose(slot0: Slot, slot1: Slot) -> Result<Root, ChooseRefusal>
     by_table(slot0, slot1)
 }
 
-// Returns the result by the table `chosen`. The clauses about the sectors follow from it.
+// Returns the result by the table `chosen`. The clauses about the sectors follow from this table.
 fn by_table(slot0: Slot, slot1: Slot) -> Result<Root, ChooseRefusal>
     ensures { result ≡ chosen slot0 slot1 }
 {

@@ -54,7 +54,7 @@ impl Entry {
         &self.name[..usize::from(self.name_length)]
     }
 
-    /// Returns the extents of the file, in its order.
+    /// Returns the extents of the file, in the order of the file.
     pub fn file_extents(&self) -> &[Extent]
         requires { EntryHasSpelling self.now }
         ensures { result.now ≡ extents_of self.now }

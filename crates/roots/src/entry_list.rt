@@ -23,7 +23,7 @@ pub enum EntryList {
 }
 
 impl EntryList {
-    /// Returns the version of a disk whose roots have such a list.
+    /// Returns the version of a disk whose roots have a list of this form.
     pub fn version(&self) -> Version
         ensures { result ≡ version_of_list self.now }
     {

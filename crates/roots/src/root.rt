@@ -24,7 +24,7 @@ pub struct Root {
     pub library_count: u16,
     /// The number of preloads.
     pub preload_count: u16,
-    /// The preloads in their order, each by its position in the list of libraries.
+    /// The positions of the preloads in the list of libraries, in the order of the preloads.
     pub preloads: [u16; MOST_PRELOADS],
     /// The list that leads to the libraries' entries. Its form depends on the version of the disk.
     pub list: EntryList,
@@ -99,7 +99,8 @@ impl Root {
         }
     }
 
-    /// Returns the positions of the preloads in the list of libraries, in their order.
+    /// Returns the positions of the preloads in the list of libraries, in the order of the
+    /// preloads.
     pub fn preload_positions(&self) -> &[u16]
         requires { RootHasSpelling self.now }
         ensures { result.now ≡ listed_preloads self.now }
@@ -108,7 +109,7 @@ impl Root {
     }
 
     /// Returns whether each field is within the format's limits, so that a sector can encode this
-    /// root. The call compares each listed sector with those before it, which takes at most 4,950
+    /// root. The call compares each listed sector with the sectors before it: at most 4,950
     /// comparisons.
     pub fn has_spelling(&self) -> bool
         ensures { IsTrue result ↔ RootHasSpelling self.now }

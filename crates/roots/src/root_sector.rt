@@ -15,7 +15,7 @@ use crate::slot::Slot;
 use crate::writer::SectorWriter;
 use sector_disk::SECTOR_BYTES;
 
-// The first bytes of root sectors, by their version.
+// The first bytes of root sectors, for each version.
 const MAGIC_1: [u8; 8] = *b"RLIBREG1";
 
 const MAGIC_2: [u8; 8] = *b"RLIBREG2";
@@ -72,8 +72,8 @@ fn put_list(sector: &mut SectorWriter, list: &EntryList)
     }
 }
 
-/// Returns what a root sector holds. It holds a root if it is exactly the sector that encodes this
-/// root.
+/// Returns the slot of a root sector. The slot has a root if the sector is exactly the sector that
+/// encodes this root.
 pub fn decode_root(bytes: &[u8; SECTOR_BYTES]) -> Slot
     // The sector is read as this slot.
     ensures slot { IsSlotOf bytes.now result }

@@ -24,8 +24,8 @@ pub record OpensOnAnyDisk {D : Type 0} (facts : D → DiskFacts) (disk : D) (ope
   pub ends : EndsOnAnyDisk (IsRefusalOfOpen (facts disk).sectors) facts disk opening
   pub old_calls : IfErr opening (λ e. e.0 ≡ OldFormat → AreCallsExactly 3 (facts disk) (facts e.1))
 
--- Making a store ended as `EndsOnAnyDisk` says. It made at most five calls, and lack of memory is found before
--- the first of them.
+-- Making a store ended as `EndsOnAnyDisk` says. At most five calls were made. If memory was refused, no
+-- call was made.
 pub record MakesOnAnyDisk {D : Type 0} (facts : D → DiskFacts) (disk : D) (making : Result (Opened D) (StoreRefusal × D)) : Type 0 where
   pub ends : EndsOnAnyDisk (IsRefusalOfFormat (facts disk).sectors) facts disk making
   pub early : IfErr making (λ e. e.0 ≡ OutOfMemory → e.1 ≡ disk)

@@ -1,4 +1,4 @@
--- The effect of a change on any disk, honest or not, for each of its results.
+-- The effect of a change on any disk, honest or not, for each result of the change.
 use Rattle.std.specs.Prelude.{◌≡◌, ◌≢◌, ◌<◌, ◌↔◌, ℕ, IsTrue, IsFalse, Result, Err, IfErr, OnOk}
 use Rattle.sector_disk.specs.Disk.{DiskFacts, AreCallsExactly, AreCallsAtMost}
 use Rattle.store.specs.Opened.{Opened}

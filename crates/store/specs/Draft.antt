@@ -40,11 +40,11 @@ pub record Drafted (D : Type 0) : Type 0 where
   -- which part of the draft was changed
   pub touched : Touched
 
--- whether one of the entries is in the sector of `placed`
+-- whether one of `entries` is in the sector of `placed`
 abbrev pub lists : List PlacedEntry → PlacedEntry → Bool
 lists entries placed = list_any (λ other. other.at == placed.at) entries
 
--- the entries that aren't in the same sector as an entry of `others`
+-- the elements of `entries` that aren't in the sector of any entry of `others`
 abbrev pub apart_from : (others : List PlacedEntry) → List PlacedEntry → List PlacedEntry
 apart_from others entries = filter (λ placed. not (lists others placed)) entries
 
@@ -61,13 +61,13 @@ left_out u = apart_from u.entries u.store.entries
 abbrev pub layout_drafted : {D : Type 0} → Drafted D → List Bool
 layout_drafted u = layout_of u.store.root.sectors (in_use u.store.root u.store.entries u.store.held ++ flat_map sectors_of (staged u))
 
--- the number of sectors of the 32 longest unused runs
+-- the number of sectors of the 32 longest unused runs in the layout of a draft
 abbrev pub longest_drafted : {D : Type 0} → Drafted D → ℕ
 longest_drafted u = sector_count (longest_runs (layout_drafted u))
 
--- the number of sectors that the draft's state can't use: those of the current list's entries that aren't
--- in the draft's list, those that only holders use, and two for each catalogue that the current list has
--- more than the draft's list needs
+-- The number of sectors that the draft's state can't use. These are the sectors of the current entries that
+-- aren't in the draft's list; the sectors that only holders use; and, if the current list has more
+-- catalogues than the draft's list needs, two sectors for each catalogue too many.
 abbrev pub beside : {D : Type 0} → Drafted D → ℕ
 beside u = entries_cost (left_out u) + length (lone_sectors u.store.held)
     + 2 * (length (catalogues_of u.store.root) - catalogues_for (length u.entries))
@@ -154,8 +154,7 @@ abbrev pub ReadBytes : DiskFacts → PlacedEntry → List ℕ → Type 0
 ReadBytes disk put bytes = IsTrue disk.honest
     → bytes_at disk.now (places (extents_of put.entry)) ≡ padded (sector_bytes * div_ceil (length bytes) sector_bytes) bytes
 
--- the draft's list has one more entry, which comes last; the sectors of this entry and of its bytes
--- weren't in use
+-- One entry was appended to the draft's list. The sectors of this entry and of its bytes weren't in use.
 pub record IsDraftedBehind {D : Type 0} (facts : D → DiskFacts) (old new : Drafted D) (bytes : List ℕ) : Type 0 where
   pub put : PlacedEntry
   pub taken : IsTaken (layout_drafted old) (div_ceil (length bytes) sector_bytes) (extents_of put.entry) put.at []
@@ -164,8 +163,8 @@ pub record IsDraftedBehind {D : Type 0} (facts : D → DiskFacts) (old new : Dra
   pub touched : new.touched ≡ Listed
   pub written : ReadBytes (facts new.store.disk) put bytes
 
--- the draft's entry with the name `name` was replaced by an entry whose sectors, and those of its bytes,
--- weren't in use
+-- The entry with the name `name` was replaced in the draft. The sectors of the new entry and of its bytes
+-- weren't in use.
 pub record IsDraftedOver {D : Type 0} (facts : D → DiskFacts) (old new : Drafted D) (name bytes : List ℕ) : Type 0 where
   pub position : ℕ
   pub at : IsDraftedNamed old name position
@@ -193,8 +192,8 @@ touched_preloads touched = touched
 abbrev pub listing : {D : Type 0} → Drafted D → Opened D
 listing u = record { disk = u.store.disk; root = u.store.root; entries = u.entries; held = u.store.held; failed = u.store.failed }
 
--- The byte string at a position of the draft was read, as in a store that lists it. Each of its sectors was
--- read once, and nothing was written.
+-- The byte string at `position` of the draft was read, as in a store that lists the draft's entries. Each
+-- sector of the byte string was read once, and nothing was written.
 pub record ReadsDraft {D : Type 0} (facts : D → DiskFacts) (old new : Drafted D) (position : ℕ) (result : Result (Vec ℕ) StoreRefusal) : Type 0 where
   pub read : ReadsBlob Two facts (listing old) (listing new) position result
   pub ok : (s d : State) → IsDraftedAt facts old s d → IfOk result (λ bytes. bytes.items ≡ (slice_index_or d.libraries position no_library).bytes)

@@ -1,5 +1,5 @@
--- Byte strings that somebody holds: the sectors that they keep beside the state, what a holder may rely on, and
--- what holding, reading and releasing one does.
+-- Held byte strings: the sectors that they keep beside the state, the guarantees for their holders, and the
+-- effects of holding, reading and releasing a byte string.
 use Rattle.std.specs.Prelude.{◌≡◌, ◌≢◌, ◌↔◌, ◌⊎◌, ℕ, ◌+◌, ◌-◌, ◌<◌, ◌==◌, true, Bool, List, [], ◌++◌, length}
 use Rattle.std.specs.Prelude.{slice_index_or, sum_by, All, AllPairs, Contains, IsTrue, IsFalse, Result, Err, IfOk, IfErr, OnOk, OnErr, if◌then◌else◌}
 use Rattle.std.specs.Global.{Vec}
@@ -20,8 +20,8 @@ use Rattle.store.specs.Opened.{Opened, IsAt}
 abbrev pub HaveOwnRows : List HeldRow → Type 0
 HaveOwnRows held = AllPairs (λ a b. a.placed.at ≢ b.placed.at) held
 
--- the sectors that a held byte string keeps beside the state: all of them if the state no longer lists it, and
--- otherwise none
+-- the sectors that a held byte string keeps beside the state: all its sectors if the state no longer lists
+-- the byte string, and otherwise none
 abbrev pub own_sectors : HeldRow → List ℕ
 own_sectors hold = if hold.listed then [] else sectors_of hold.placed
 
@@ -87,8 +87,8 @@ pub record AreHolds {D : Type 0} (store : Opened D) : Type 0 where
   pub holders : (sector : ℕ) (placed : PlacedEntry) → IsHeldBy store.held sector placed → 0 < holders_of store.held sector
   pub flags : AreFlagged store
 
--- The byte string at a position has one more holder, who holds its present bytes. No call of the disk is made, and no
--- sector is claimed.
+-- The byte string at `position` has one more holder, which holds the present bytes of the byte string. No
+-- call of the disk is made, and no sector is claimed.
 pub record TakesHold {D : Type 0} (facts : D → DiskFacts) (old new : Opened D) (position : ℕ) (result : Result ℕ StoreRefusal) : Type 0 where
   pub ok : (s : State) → IsAt facts old s → IfOk result (λ held. HeldIs facts new held (slice_index_or s.libraries position no_library))
   pub same : (s : State) → IsAt facts old s → IsAt facts new s
@@ -104,13 +104,13 @@ pub record TakesHold {D : Type 0} (facts : D → DiskFacts) (old new : Opened D)
   pub err : OnErr result (new ≡ old)
   pub refusals : IfErr result (λ e. (e ≡ Reopen) ⊎ (e ≡ OutOfMemory))
 
--- The held byte string was read. Each of its sectors was read once, and nothing was written. The call refuses
--- with Damaged if nobody holds the byte string in this store.
+-- The held byte string was read. Each sector of the byte string was read once, and nothing was written. The
+-- call refuses with Damaged if nobody holds the byte string in this store.
 pub record ReadsHeld {D : Type 0} (facts : D → DiskFacts) (old new : Opened D) (held : ℕ) (result : Result (Vec ℕ) StoreRefusal) : Type 0 where
-  -- a stop at any moment leaves what it could leave before
+  -- a stop at any moment leaves only contents that a stop could leave before
   pub any_moment : IsTrue (facts old.disk).honest → LeavesOnly (facts old.disk) (facts new.disk) (Mixture (facts old.disk))
   pub ok : IsTrue (facts old.disk).honest → (library : Library) → HeldIs facts old held library → IfOk result (λ bytes. bytes.items ≡ library.bytes)
-  -- reads return what they returned before, and a stop may leave what it could leave before
+  -- reads return the same contents as before, and a stop may leave the same contents as before
   pub unchanged : IsTrue (facts old.disk).honest → IsUnchanged (facts old.disk) (facts new.disk)
   pub others : KeepsHeld facts old new
   pub same : (s : State) → IsAt facts old s → IsAt facts new s
@@ -128,7 +128,7 @@ pub record ReadsHeld {D : Type 0} (facts : D → DiskFacts) (old new : Opened D)
       → OnOk result (AreCallsExactly (div_ceil placed.entry.file_length sector_bytes) (facts old.disk) (facts new.disk))
   pub calls : (placed : PlacedEntry) → IsHeldBy old.held held placed
       → AreCallsAtMost (div_ceil placed.entry.file_length sector_bytes) (facts old.disk) (facts new.disk)
-  -- this also holds if nobody holds the byte string
+  -- this clause also applies if nobody holds the byte string
   pub called : AreCalls (facts old.disk) (facts new.disk)
 
 -- A holder released a byte string, and nothing else changed. If nobody held the byte string in this

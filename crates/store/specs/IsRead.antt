@@ -1,4 +1,4 @@
--- Reading byte strings of a store: whatever the results are, nothing is changed.
+-- The effect of reading byte strings of a store: the reads change nothing, whatever they return.
 use Rattle.std.specs.Prelude.{◌≡◌, ℕ, IsTrue}
 use Rattle.std.specs.Int.{div_ceil}
 use Rattle.sector_disk.specs.Disk.{sector_bytes, DiskFacts, Mixture, IsUnchanged, LeavesOnly, AreCalls}

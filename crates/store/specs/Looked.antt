@@ -33,15 +33,14 @@ abbrev pub IsSeenOldAt : {D : Type 0} → (D → DiskFacts) → Look D → State
 IsSeenOldAt facts (Current store) s = ⊥
 IsSeenOldAt facts (Old store) s = IsOldAt facts store s
 
--- The contents of the disk were found out, or the disk was refused and handed back. Nothing was
--- written.
+-- The store on the disk was found, or the disk was refused and handed back. Nothing was written.
 pub record Looks {D : Type 0} (facts : D → DiskFacts) (disk : D) (looking : Result (Look D) (StoreRefusal × D)) : Type 0 where
-  -- a stop at any moment leaves what it could leave before
+  -- a stop at any moment leaves only contents that a stop could leave before
   pub any_moment : IsTrue (facts disk).honest → LeavesOnly (facts disk) (facts (looked_after looking)) (Mixture (facts disk))
-  -- reads return what they returned before, also if a call fails
+  -- reads return the same contents as before, even if a call fails
   pub now : IsTrue (facts disk).honest → (facts (looked_after looking)).now ≡ (facts disk).now
   pub log : IsTrue (facts disk).honest → MayAddSync (facts disk).log (facts (looked_after looking)).log
-  -- the store is of the version of its root, and at the state that the disk's sectors hold
+  -- the store has the version of its root, and is at the state that the disk's sectors hold
   pub stands : IsTrue (facts disk).honest → (s : State) → Stands (facts disk).now s
       → MatchResult looking (λ look. IsSeenAt facts look s) (λ e. (e.0 ≡ Device) ⊎ (e.0 ≡ OutOfMemory))
   pub stands_old : IsTrue (facts disk).honest → (s : State) → StandsOld (facts disk).now s

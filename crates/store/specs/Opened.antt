@@ -1,4 +1,4 @@
--- A store in memory, and what it means that the store is at a state.
+-- A store in memory, and the definition of the state that a store is at.
 use Rattle.std.specs.Prelude.{ℕ, ◌+◌, Bool, List, length, IsTrue, IsFalse, Result, Ok, Err}
 use Rattle.sector_disk.specs.Disk.{Sector, DiskFacts, Mixture}
 use Rattle.roots.specs.declared.root.Root.{Root}
@@ -10,8 +10,8 @@ use Rattle.states.specs.State.{State}
 use Rattle.store.specs.declared.holds.HeldRow.{HeldRow}
 use Rattle.store.specs.Stands.{StandsBy, catalogues_of}
 
--- what a store keeps: its disk, the current root, its entries with their sectors, the held byte strings, and whether a
--- write or a sync failed
+-- the data of a store: its disk, the current root, its entries with their sectors, the held byte strings,
+-- and whether a write or a sync failed
 pub record Opened (D : Type 0) : Type 0 where
   pub disk : D
   pub root : Root

@@ -15,9 +15,9 @@ use Rattle.store.specs.declared.refusal.StoreRefusal.TheVariants.{Device, OutOfM
 -- when a store is at a state.
 pub record Opens (StandsFor : List Sector → State → Type 0) {D : Type 0} (facts : D → DiskFacts) (AtFor : Opened D → State → Type 0)
     (disk : D) (opening : Result (Opened D) (StoreRefusal × D)) : Type 0 where
-  -- a stop at any moment leaves what it could leave before
+  -- a stop at any moment leaves only contents that a stop could leave before
   pub any_moment : IsTrue (facts disk).honest → LeavesOnly (facts disk) (facts (disk_after opening)) (Mixture (facts disk))
-  -- reads return what they returned before, also if a call fails
+  -- reads return the same contents as before, even if a call fails
   pub now : IsTrue (facts disk).honest → (facts (disk_after opening)).now ≡ (facts disk).now
   -- the log gets at most one sync, and nothing else
   pub log : IsTrue (facts disk).honest → MayAddSync (facts disk).log (facts (disk_after opening)).log

@@ -1,4 +1,4 @@
--- The effect of reading a byte string, for each of its results.
+-- The effect of reading a byte string, for each result of the read.
 use Rattle.std.specs.Prelude.{◌≡◌, ◌≢◌, ◌↔◌, ◌⊎◌, ◌<◌, ℕ, length, slice_index_or, IsTrue, Result, Err, IfOk, IfErr, OnOk}
 use Rattle.std.specs.Global.{Vec}
 use Rattle.std.specs.Int.{div_ceil}
@@ -12,14 +12,14 @@ use Rattle.store.specs.Opened.{Opened, IsAtBy}
 use Rattle.store.specs.Stands.{no_library}
 use Rattle.states.specs.State.{State}
 
--- The byte string at a position of a store of this version was read. Each of its sectors was read
--- once, and nothing was written.
+-- The byte string at `position` was read, in a store of the version `version`. Each sector of the byte
+-- string was read once, and nothing was written.
 pub record ReadsBlob (version : Version) {D : Type 0} (facts : D → DiskFacts) (old new : Opened D) (position : ℕ)
     (result : Result (Vec ℕ) StoreRefusal) : Type 0 where
-  -- a stop at any moment leaves what it could leave before
+  -- a stop at any moment leaves only contents that a stop could leave before
   pub any_moment : IsTrue (facts old.disk).honest → LeavesOnly (facts old.disk) (facts new.disk) (Mixture (facts old.disk))
   pub ok : (s : State) → IsAtBy version facts old s → IfOk result (λ bytes. bytes.items ≡ (slice_index_or s.libraries position no_library).bytes)
-  -- reads return what they returned before, and a stop may leave what it could leave before
+  -- reads return the same contents as before, and a stop may leave the same contents as before
   pub unchanged : IsTrue (facts old.disk).honest → IsUnchanged (facts old.disk) (facts new.disk)
   pub same : (s : State) → IsAtBy version facts old s → IsAtBy version facts new s
   -- on any disk, honest or not, a failed read leaves `failed` as it was

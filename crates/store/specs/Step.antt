@@ -1,4 +1,4 @@
--- The refusals of a store's changes, in their order.
+-- The refusals of a store's changes, in the order of their tests.
 use Rattle.std.specs.Prelude.{◌≡◌, ℕ, ◌+◌, ◌⊎◌, Bool, nat_lt, List, [], ◌∷◌, ◌++◌}
 use Rattle.std.specs.Prelude.{length, Option, Some, None, Result, Ok, Err, if◌then◌else◌}
 use Rattle.extents.specs.Extent.{sector_count}
@@ -27,7 +27,7 @@ refusal_of_room room.GenerationEnd = GenerationEnd
 refusal_of_room room.Full = Full
 refusal_of_room room.Fragmented = Fragmented
 
--- the first refusal whose test applies
+-- the refusal of the first test that is true, if there is one
 abbrev pub first_refusal : List (Bool × RoomRefusal) → Option StoreRefusal
 first_refusal [] = None
 first_refusal (test ∷ others) = if test.0 then Some (refusal_of_room test.1) else first_refusal others
@@ -53,8 +53,8 @@ refusal_of_change s = first_refusal (change_tests s.generation)
 abbrev pub refusal_of_upgrade : (sectors : ℕ) → State → Option StoreRefusal
 refusal_of_upgrade sectors s = first_refusal (change_tests s.generation ++ (nat_lt sectors (root_sectors + taken_by s), room.Full) ∷ [])
 
--- a put may have this answer if this is the first refusal of its tests: the answer that follows from the
--- tests; S11 in place of Ok, Full or Fragmented; or S1 in place of Ok
+-- a put may have this answer if its tests have this first refusal: the answer that follows from the tests;
+-- S11 in place of Ok, Full or Fragmented; or S1 in place of Ok
 abbrev pub IsAnswer : Option StoreRefusal → Result (Unit {0}) StoreRefusal → Type 0
 IsAnswer None (Ok done) = Unit
 IsAnswer None (Err refusal) = (refusal ≡ Device) ⊎ (refusal ≡ OutOfMemory)
@@ -63,17 +63,17 @@ IsAnswer (Some Full) (Err refusal) = (refusal ≡ Full) ⊎ (refusal ≡ OutOfMe
 IsAnswer (Some Fragmented) (Err refusal) = (refusal ≡ Fragmented) ⊎ (refusal ≡ OutOfMemory)
 IsAnswer (Some first) (Err refusal) = refusal ≡ first
 
--- an upgrade may have this answer if this is the first refusal of its tests: the answer that follows
--- from the tests, or S1 or S11 in place of any answer, because the upgrade reads the disk before it
--- makes these tests
+-- an upgrade may have this answer if its tests have this first refusal: the answer that follows from the
+-- tests, or S1 or S11 in place of any answer, because the upgrade reads the disk before it makes these
+-- tests
 abbrev pub IsUpgradeAnswer : Option StoreRefusal → Result (Unit {0}) StoreRefusal → Type 0
 IsUpgradeAnswer None (Ok done) = Unit
 IsUpgradeAnswer None (Err refusal) = (refusal ≡ Device) ⊎ (refusal ≡ OutOfMemory)
 IsUpgradeAnswer (Some first) (Ok done) = ⊥
 IsUpgradeAnswer (Some first) (Err refusal) = (refusal ≡ first) ⊎ (refusal ≡ Device) ⊎ (refusal ≡ OutOfMemory)
 
--- a change that allocates nothing may have this answer if this is the first refusal of its tests: the
--- answer that follows from the tests, or S1 in place of Ok
+-- a change that allocates nothing may have this answer if its tests have this first refusal: the answer
+-- that follows from the tests, or S1 in place of Ok
 abbrev pub IsExactAnswer : Option StoreRefusal → Result (Unit {0}) StoreRefusal → Type 0
 IsExactAnswer None (Ok done) = Unit
 IsExactAnswer None (Err refusal) = refusal ≡ Device
@@ -106,7 +106,7 @@ IsRefusalOfCommit GenerationEnd = Unit
 IsRefusalOfCommit Full = Unit
 IsRefusalOfCommit other = ⊥
 
--- an answer, without the store or the disk that is in it
+-- the answer of a call, without the store or the disk that the call returns
 abbrev pub answer_of : {D : Type 0} → Result (Opened D) (StoreRefusal × D) → Result (Unit {0}) StoreRefusal
 answer_of (Ok store) = Ok tt
 answer_of (Err refused) = Err refused.0

@@ -21,8 +21,8 @@ abbrev pub AreTaken : List Bool → List ℕ → Type 0
 AreTaken layout [] = Unit
 AreTaken layout (k ∷ ks) = IsLowestUnused layout k × AreTaken (with_flag true (one_sector k) layout) ks
 
--- sectors of this layout are taken: the extents by `take`, then the lowest unused sector for the
--- entry, and then the sectors of the catalogues
+-- sectors of this layout are taken: first those of the extents, as `taken` chooses them; then the lowest
+-- unused sector for the entry; and then the sectors of the catalogues
 pub record IsTaken (layout : List Bool) (need : ℕ) (extents : List Extent) (at : ℕ) (catalogues : List ℕ) : Type 0 where
   pub bytes : extents ≡ taken need layout
   pub entry : IsLowestUnused (with_flags true extents layout) at
@@ -34,8 +34,8 @@ HaveBytes disk extents bytes = (m : List Sector) → Mixture disk m
     → bytes_at m (places extents)
     ≡ padded (sector_bytes * div_ceil (length bytes) sector_bytes) bytes
 
--- The list has one more entry, which comes last. The entry, its bytes and the catalogues are in sectors that weren't in
--- use.
+-- One entry was appended to the list. The entry, its bytes and the catalogues are in sectors that weren't
+-- in use.
 pub record IsPutBehind {D : Type 0} (facts : D → DiskFacts) (old new : Opened D)
     (bytes : List ℕ) : Type 0 where
   pub put : PlacedEntry
@@ -73,7 +73,7 @@ pub record IsTakenOut {D : Type 0} (old new : Opened D) (name : List ℕ) : Type
   pub taken : AreTaken (layout_in_use old) (catalogues_of new.root)
   pub entries : new.entries ≡ remove old.entries position
 
--- the same entries are listed by catalogues, which are in sectors that weren't in use
+-- Catalogues list the same entries as before. The catalogues are in sectors that weren't in use.
 pub record IsRelisted {D : Type 0} (old new : Opened D) : Type 0 where
   pub taken : AreTaken (layout_of old.root.sectors (used old.root old.entries)) (catalogues_of new.root)
   pub entries : new.entries ≡ old.entries

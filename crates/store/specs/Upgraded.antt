@@ -18,8 +18,8 @@ upgraded s = next s s.libraries s.preloads
 abbrev pub IsNotOld : List Sector → Type 0
 IsNotOld m = (s : State) → StandsOld m s → ⊥
 
--- The store is at the state that these sectors held. If they held it by the rules of version 1, the store is at the
--- upgraded state.
+-- If these sectors held the state by the rules of version 2, the store is at this state. If they held it by
+-- the rules of version 1, the store is at the upgraded state.
 abbrev pub IsUpgradeOf : {D : Type 0} → (D → DiskFacts) → Opened D → List Sector → State → Type 0
 IsUpgradeOf facts store m s = (Stands m s × IsAt facts store s) ⊎ (StandsOld m s × IsAt facts store (upgraded s))
 

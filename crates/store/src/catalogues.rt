@@ -20,8 +20,8 @@ use std::marker::Model;
 /// The maximum number of sectors that a change writes one by one: all catalogues and one entry.
 const MOST_SINGLES: usize = MOST_CATALOGUES + 1;
 
-/// The sectors that a change writes one by one, in their order. Their memory is kept from one
-/// change to the next, so that no change allocates memory for them.
+/// The sectors that a change writes one by one, in the order of the writes. Their memory is kept
+/// from one change to the next, so that no change allocates memory for them.
 #[derive(Drop)]
 pub(crate) struct Singles {
     list: Vec<SingleSector>,
@@ -43,7 +43,7 @@ impl Singles {
         })
     }
 
-    /// Returns the sectors, in their order.
+    /// Returns the sectors, in the order of the writes.
     pub(crate) fn as_slice(&self) -> &[SingleSector]
         ensures { result.now ≡ self.now }
     {

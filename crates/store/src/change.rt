@@ -36,7 +36,7 @@ pub(crate) struct Change {
     pub root: Root,
 }
 
-/// Writes what a change stages, and syncs if the change stages anything.
+/// Writes the staged sectors of a change, and syncs. If nothing is staged, does nothing.
 fn write_staged<D: Disk>(
     disk: &mut D,
     singles: &mut Singles,
@@ -77,8 +77,8 @@ fn write_staged<D: Disk>(
 }
 
 impl Change {
-    /// Writes what the change stages, with the bytes `bytes` and with catalogues that list the
-    /// entry sectors `listed`. Then writes the change's root, and syncs. The current root may be of
+    /// Writes the staged sectors, with the bytes `bytes` and with catalogues that list the entry
+    /// sectors `listed`. Then writes the change's root, and syncs. The current root may be of
     /// either version.
     pub(crate) fn carry_out<D: Disk>(
         &self,
@@ -100,8 +100,8 @@ impl Change {
             → OnOk result ((m : List Sector) → Mixture (D.facts disk.new) m
             → HasBytes m self.now.staged bytes.now) }
 
-        // Outside the root sectors and the staged sectors, a stop leaves what a stop before the
-        // call could leave.
+        // Outside the root sectors and the staged sectors, a stop leaves only contents that a stop
+        // before the call could leave.
         ensures others { IsTrue (D.facts disk.old).honest
             → (m : List Sector) → Mixture (D.facts disk.new) m
             → IsMixtureBut (IsRootOr (staged_sectors self.now.staged)) (D.facts disk.old) m }

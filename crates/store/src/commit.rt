@@ -1,4 +1,4 @@
-// Turning the store that was found on a disk of version 1 into a store of version 2.
+// Turns the store that was found on a disk of version 1 into a store of version 2.
 use crate::change::{Change, Staged};
 use crate::next::next_root;
 use crate::old_store::OldStore;
@@ -22,9 +22,9 @@ impl<D: Disk> OldStore<D> {
     ghost use Rattle.store.specs.Step.{IsRefusalOfCommit};
     ghost use Rattle.store.specs.Upgraded.{upgraded};
 
-    /// Makes this store one of version 2, with the same byte strings and preloads: writes their
-    /// catalogues and the next root. Refuses with S10 or S7 before the first write, or with S1. A
-    /// refusal hands the disk back. Allocates nothing.
+    /// Makes this store one of version 2, with the same byte strings and preloads: writes
+    /// catalogues of these byte strings, and the next root. Refuses with S10 or S7 before the first
+    /// write, or with S1. A refusal hands the disk back. Allocates nothing.
     pub fn commit(self) -> Result<Store<D>, (StoreRefusal, D)>
         // A stop at any moment leaves the old state, by the rules of version 1, or the state after
         // the commit.

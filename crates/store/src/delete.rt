@@ -1,4 +1,4 @@
-// Removing a byte string.
+// Removes a byte string.
 use crate::change::{Change, Staged};
 use crate::edit::Edit;
 use crate::kept::Kept;

@@ -37,7 +37,7 @@ pub(crate) type Preloads = ArrayVec<u16, MOST_PRELOADS>;
 #[derive(Drop)]
 pub(crate) struct Draft {
     pub entries: Vec<PlacedEntry>,
-    /// The sectors of the entries, in their order.
+    /// The sectors of the entries, in the order of the entries.
     pub sectors: Vec<u32>,
     pub index: NameIndex,
     pub preloads: Preloads,

@@ -1,4 +1,5 @@
-// The sectors that a draft takes beside the current state, what it writes there, and what it frees.
+// Takes sectors for a draft beside the current state, writes the draft's byte strings to these
+// sectors, and frees sectors that the draft no longer uses.
 ghost use Rattle.std.specs.Prelude.{◌≡◌, ◌+◌, ◌*◌, ◌<◌, ◌≤◌, ◌^◌, [], All, Contains, IfErr};
 ghost use Rattle.std.specs.Prelude.{◌≢◌, ℕ, IsFalse, IsTrue, OnErr, OnOk, length, vec_capacity, vec_len};
 ghost use Rattle.extents.specs.Extent.{places, sector_count};
@@ -36,7 +37,8 @@ use roots::{MOST_LIBRARIES, Root, catalogues_for};
 use sector_disk::Disk;
 
 /// Returns the number of sectors that have to stay unused beside a draft of `libraries` byte
-/// strings: for the commit's catalogues, and for those of the change after it.
+/// strings: for the catalogues of the commit, and for the catalogues of the change after the
+/// commit.
 fn spare_for(root: &Root, libraries: usize) -> usize
     requires root { RootHasSpelling root.now }
     requires few { libraries ≤ most_libraries }

@@ -20,9 +20,9 @@ use roots::Root;
 pub(crate) enum Edit {
     /// The list stays the same, and so do its catalogues.
     Nothing,
-    /// The entry is put after the others.
+    /// The entry is put after all other entries.
     Append(PlacedEntry),
-    /// The entry takes the place of the entry at the position, which has the same name.
+    /// The entry takes the place of the entry at the position. Both have the same name.
     Replace(usize, PlacedEntry),
     /// The entry at the position is removed, and those after it move up.
     Remove(usize),

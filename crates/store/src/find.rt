@@ -1,4 +1,4 @@
-// Reading what a disk holds: the current root, and the entries that it lists.
+// Reads the current root of a disk, and the entries that this root lists.
 ghost use Rattle.std.specs.Prelude.{◌≡◌, ◌+◌, ◌<◌, ◌⊎◌, IsTrue, IfOk, IfErr, OnOk, List};
 ghost use Rattle.std.specs.Prelude.{length};
 ghost use Rattle.sector_disk.specs.Disk.{sector, IsSynced};
@@ -28,7 +28,8 @@ use roots::{Root, Version, choose};
 use sector_disk::Disk;
 use std::alloc::Global;
 
-/// Syncs a disk, which a stop may have left, and returns its current root, of either version.
+/// Syncs a disk that a stop may have left, and returns the disk's current root, which may be of
+/// either version.
 fn read_root<D: Disk>(disk: &mut D) -> Result<Root, StoreRefusal>
     requires { IsGeometry (D.facts disk.old).sectors }
     ensures calls { AreCallsAtMost 3 (D.facts disk.old) (D.facts disk.new) }
@@ -108,7 +109,7 @@ fn find_entries<D: Disk>(
     FoundState::over(alloc, root, entries)
 }
 
-/// Returns what a disk of either version holds. Writes nothing.
+/// Returns the contents of a disk of either version, as a store keeps them. Writes nothing.
 pub(crate) fn find_store<D: Disk>(alloc: Global, disk: &mut D) -> Result<FoundState, StoreRefusal>
     requires { IsGeometry (D.facts disk.old).sectors }
     ensures finds { Finds (RefusesLook StandsEither) (D.facts disk.old) (D.facts disk.new) result }
@@ -120,8 +121,8 @@ pub(crate) fn find_store<D: Disk>(alloc: Global, disk: &mut D) -> Result<FoundSt
     find_entries(alloc, disk, root)
 }
 
-/// Returns what a disk of version 2 holds. Refuses with OldFormat if the current root is of version
-/// 1. Writes nothing.
+/// Returns the contents of a disk of version 2, as a store keeps them. Refuses with OldFormat if
+/// the current root is of version 1. Writes nothing.
 pub(crate) fn find_current<D: Disk>(alloc: Global, disk: &mut D) -> Result<FoundState, StoreRefusal>
     requires { IsGeometry (D.facts disk.old).sectors }
     ensures finds { Finds (RefusesOpen Stands) (D.facts disk.old) (D.facts disk.new) result }

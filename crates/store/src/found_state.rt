@@ -30,7 +30,7 @@ pub(crate) struct FoundState {
     pub layout: Layout,
 }
 
-/// Returns the sectors of entries, in their order.
+/// Returns the sectors of `entries`, in the order of the entries.
 fn sectors_of_entries(alloc: Global, entries: &[PlacedEntry]) -> Result<Vec<u32>, AllocError>
     ensures { IfOk result (λ sectors. sectors.items ≡ entry_sectors entries.now) }
 {

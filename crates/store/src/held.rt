@@ -1,4 +1,5 @@
-// Holding byte strings: a held byte string can be read as it was, whatever replaces it.
+// Holds byte strings. A held byte string can be read unchanged, even after it was replaced or
+// removed.
 use crate::read::read_file;
 use crate::refusal::StoreRefusal;
 use crate::room::give_back;

@@ -19,7 +19,7 @@ pub(crate) struct Kept {
     pub index: NameIndex,
     pub held: Holds,
     pub layout: Layout,
-    /// Whether a write or a sync has failed. Then only another opening finds out what the disk
-    /// holds.
+    /// Whether a write or a sync has failed. Then the disk has to be opened again to find out which
+    /// state it holds.
     pub failed: bool,
 }

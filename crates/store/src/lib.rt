@@ -1,11 +1,11 @@
 //! The store of version 2 of the disk: up to 2,048 named byte strings that survive a power cut.
 //!
 //! `Store::format` makes a store on a disk, and `Store::open` opens it again after a stop at any
-//! moment. `put_new` puts a byte string after the others, `put_over` replaces the bytes under a
-//! name, `delete` removes a byte string, and `set_preloads` chooses the preloads. `Store::look`
-//! finds out what a disk of either version holds, and `OldStore::commit` turns a disk of version 1
-//! into one of version 2. `Store::update` begins an update: several changes of a draft, and one
-//! commit. specs/Stands.antt defines which state a list of sectors holds.
+//! moment. `put_new` puts a byte string after all other byte strings, `put_over` replaces the bytes
+//! under a name, `delete` removes a byte string, and `set_preloads` chooses the preloads.
+//! `Store::look` finds the store on a disk of either version, and `OldStore::commit` turns a disk
+//! of version 1 into one of version 2. `Store::update` begins an update: several changes of a
+//! draft, and one commit. specs/Stands.antt defines which state a list of sectors holds.
 #![tactic(auto)]
 
 mod catalogues;

@@ -1,4 +1,4 @@
-// Reading the list of entries. A root of version 1 lists the entries itself; a root of version 2
+// Reads the list of entries. A root of version 1 lists the entries itself; a root of version 2
 // lists catalogues, which list the entries.
 ghost use Rattle.std.specs.Prelude.{◌≡◌, ◌<◌, ◌↔◌, ℕ, All, List, Some, IsTrue, IfOk, IfErr};
 ghost use Rattle.std.specs.Prelude.{OnOk, length};
@@ -27,7 +27,7 @@ pub(crate) fn catalogues(root: &Root) -> &[u32]
     }
 }
 
-/// Reads sector `at`, and returns the catalogue that it encodes, if it encodes one.
+/// Reads sector `at`, and returns the catalogue that the sector encodes, if there is one.
 fn read_catalogue<D: Disk>(disk: &mut D, at: u32) -> Result<Option<Catalogue>, DiskFault>
     requires { at < (D.facts disk.old).sectors }
     ensures calls { IsCall (D.facts disk.old) (D.facts disk.new) result }
@@ -44,9 +44,9 @@ fn read_catalogue<D: Disk>(disk: &mut D, at: u32) -> Result<Option<Catalogue>, D
     Ok(decode_catalogue(&content))
 }
 
-/// Returns the sectors of the entries that a root's catalogues list, in their order. Reads each
-/// catalogue once. Refuses with Damaged if a catalogue doesn't decode, or lists another number of
-/// entries than it must.
+/// Returns the sectors of the entries that a root's catalogues list, in the order of the list.
+/// Reads each catalogue once. Refuses with Damaged if a catalogue doesn't decode, or doesn't list
+/// the number of entries that it must list.
 fn read_catalogues<D: Disk>(
     alloc: Global,
     disk: &mut D,

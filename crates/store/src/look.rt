@@ -1,4 +1,4 @@
-// Finding out what a disk of either version holds.
+// Finds the store on a disk of either version.
 use crate::find::find_store;
 use crate::old_store::OldStore;
 use crate::refusal::StoreRefusal;
@@ -19,9 +19,9 @@ pub enum Look<D: Disk> {
 impl<D: Disk> Store<D> {
     ghost use Rattle.store.specs.Looked.{Looks};
 
-    /// Finds out what a disk holds, also after a stop: a store of version 2 or one of version 1.
-    /// Syncs, reads the two root sectors, each catalogue, and one sector for each entry, and writes
-    /// nothing. If it refuses, with S6, S3, S5, S11 or S1, hands the disk back.
+    /// Finds the store on a disk, of version 2 or of version 1, also after a stop. Syncs, and reads
+    /// the two root sectors, each catalogue, and one sector for each entry. Writes nothing. Refuses
+    /// with S6, S3, S5, S11 or S1, and then hands the disk back.
     pub fn look(alloc: Global, disk: D) -> Result<Look<D>, (StoreRefusal, D)>
         ensures { Looks D.facts disk result }
     {

@@ -69,7 +69,7 @@ fn precedes(entries: &[PlacedEntry], position: u16, name: &[u8]) -> bool
 }
 
 /// Returns a sum over the bytes of a name: the place of the name's guess. Adds eight bytes at a
-/// time to be fast: a file decides how many names are looked up and how long they are.
+/// time to be fast, because a file decides how many names are looked up and how long they are.
 fn guess_place(name: &[u8]) -> usize {
     let (words, rest) = name.as_chunks::<8>();
     let mut sum = 0u64;
@@ -102,7 +102,7 @@ fn guesses_for(alloc: Global, entries: &[PlacedEntry]) -> Result<Vec<u16>, Alloc
     Ok(guesses)
 }
 
-/// Returns all positions of `count` entries.
+/// Returns the positions of `count` entries: the numbers below `count`, in ascending order.
 fn all_positions(alloc: Global, count: usize) -> Result<Vec<u16>, AllocError>
     requires { count < 2 ^ 16 }
     ensures { IfOk result (λ positions. positions.items ≡ range_with_len 0 count) }
@@ -187,7 +187,7 @@ impl NameIndex {
         }
     }
 
-    /// Copies the order into memory of its own.
+    /// Returns a copy of the order, in newly allocated memory.
     pub(crate) fn copy(&self, alloc: Global) -> Result<NameIndex, AllocError>
         ensures { IfOk result (λ index. index.positions ≡ self.now.positions) }
     {
@@ -262,7 +262,7 @@ impl NameIndex {
         self.positions.reserve(1)
     }
 
-    /// Inserts the name of an entry that is put after the others. Allocates nothing.
+    /// Inserts the name of an entry that is put after all other entries. Allocates nothing.
     pub(crate) fn insert(&mut self, entries: &[PlacedEntry], name: &[u8])
         requires index { IsIndex entries.now self.old }
         requires spellings { HaveSpellings entries.now }

@@ -1,4 +1,4 @@
-// Queries of a store of version 1. They read what is kept in memory, and make no call of the disk.
+// Queries of a store of version 1. They read only memory, and make no call of the disk.
 use crate::old_store::OldStore;
 use sector_disk::Disk;
 
@@ -69,7 +69,7 @@ impl<D: Disk> OldStore<D> {
         self.found.index.position_of(&self.found.entries, name)
     }
 
-    /// The positions of the preloads, in their order.
+    /// The positions of the preloads, in the order of the preloads.
     pub fn preloads(&self) -> &[u16]
         ensures value { result.now ≡ listed_preloads self.now.root }
         ensures few { length result.now ≤ most_preloads }

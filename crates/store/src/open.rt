@@ -1,4 +1,4 @@
-// Opening a store again.
+// Opens a store again.
 use crate::find::find_current;
 use crate::refusal::StoreRefusal;
 use crate::store::Store;
@@ -9,10 +9,10 @@ use std::alloc::Global;
 impl<D: Disk> Store<D> {
     ghost use Rattle.store.specs.Opens.{OpensByEntries};
 
-    /// Opens the store that a disk of version 2 holds, also after a stop. Refuses with S12
-    /// (OldFormat) if the current root is of version 1. Syncs, reads the two root sectors, each
-    /// catalogue, and one sector for each entry, and writes nothing. If it refuses, with S6, S3,
-    /// S12, S5, S11 or S1, hands the disk back.
+    /// Opens the store that a disk of version 2 holds, also after a stop. Syncs, and reads the two
+    /// root sectors, each catalogue, and one sector for each entry. Writes nothing. Refuses with
+    /// S6, S3, S12, S5, S11 or S1, and then hands the disk back. S12 (OldFormat) means that the
+    /// current root is of version 1.
     pub fn open(alloc: Global, disk: D) -> Result<Store<D>, (StoreRefusal, D)>
         ensures { OpensByEntries D.facts disk result }
     {

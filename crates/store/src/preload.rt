@@ -1,4 +1,4 @@
-// Choosing the preloads.
+// Chooses the preloads.
 use crate::change::{Change, Staged};
 use crate::edit::Edit;
 use crate::kept::Kept;

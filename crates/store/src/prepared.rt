@@ -6,8 +6,7 @@ use crate::kept::Kept;
 use crate::refusal::StoreRefusal;
 use sector_disk::Disk;
 
-/// A prepared change: what it writes, in sectors that are taken already, and what it does to the
-/// list.
+/// A prepared change: its writes, to sectors that are taken already, and its change of the list.
 #[derive(Drop)]
 pub(crate) struct Prepared {
     pub change: Change,

@@ -1,4 +1,4 @@
-// Putting a byte string after the others.
+// Puts a byte string after all other byte strings.
 use crate::change::{Change, Staged};
 use crate::edit::Edit;
 use crate::kept::Kept;
@@ -23,7 +23,8 @@ impl Kept {
     ghost use Rattle.store.specs.inside.Prepared.{Makes, Prepares, Puts, done_of};
     ghost use Rattle.store.specs.inside.Stored.{IsCounted, IsStored, longest_in, sectors_for};
 
-    /// Prepares to put a byte string after the others. Refuses with S2, S9, S10, S11, S7 or S8.
+    /// Prepares to put a byte string after all other byte strings. Refuses with S2, S9, S10, S11,
+    /// S7 or S8.
     pub(crate) fn prepare_new(
         &mut self,
         name: &[u8],
@@ -76,8 +77,9 @@ impl<D: Disk> Store<D> {
     ghost use Rattle.states.specs.Changes.{with_new};
     ghost use Rattle.store.specs.Step.{longest_unused, refusal_of_new, IsAnswer, IsRefusalOfPutNew};
 
-    /// Puts a byte string of 64 bytes to 16 MiB, with a name that no other has, after the others.
-    /// Refuses with S2, S9, S10, S7, S8, S11 or S1; only S1 may come after the first write.
+    /// Puts a byte string of 64 bytes to 16 MiB after all other byte strings. No other byte string
+    /// has the name `name`. Refuses with S2, S9, S10, S7, S8, S11 or S1; only S1 may come after the
+    /// first write.
     pub fn put_new(&mut self, name: &[u8], bytes: &[u8]) -> Result<(), StoreRefusal>
         requires name { IsName name.now }
         requires size { IsFileSize (length bytes.now) }

@@ -1,4 +1,4 @@
-// Replacing the bytes of a byte string.
+// Replaces the bytes of a byte string.
 use crate::change::{Change, Staged};
 use crate::edit::Edit;
 use crate::kept::Kept;

@@ -1,4 +1,4 @@
-// Reading a byte string.
+// Reads byte strings from a disk.
 ghost use Rattle.std.specs.Prelude.{◌≡◌, ◌⊎◌, ◌<◌, ◌^◌, All, IsTrue, IfOk, IfErr, OnOk, length};
 ghost use Rattle.std.specs.Int.{div_ceil};
 ghost use Rattle.sector_disk.specs.Disk.{sector_bytes, AreCallsExactly, AreCallsAtMost};

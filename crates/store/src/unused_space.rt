@@ -1,4 +1,5 @@
-// How much of a store's disk is unused, and how large the largest byte string is that can be put.
+// Computes how much of a store's disk is unused, and the greatest length of a byte string that can
+// be put.
 ghost use Rattle.std.specs.Prelude.{◌≡◌, ◌+◌, ◌-◌, ◌*◌, ◌≤◌, min};
 ghost use Rattle.sector_disk.specs.Disk.{sector_bytes};
 ghost use Rattle.extents.specs.Extent.{sector_count};

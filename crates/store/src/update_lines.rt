@@ -23,9 +23,9 @@ impl<D: Disk> Update<D> {
     ghost use Rattle.store.specs.Step.{IsRefusalOfPutNew, IsRefusalOfPutOver};
     ghost use Rattle.store.specs.Step.{refusal_of_change, refusal_of_new, refusal_of_put};
 
-    /// Puts a byte string of 64 bytes to 16 MiB after the draft's others, with a name that no other
-    /// byte string of the draft has. Writes its sectors and the sector of its entry, and doesn't
-    /// sync. Refuses with S2, S9, S10, S11, S7, S8 or S1; only S1 may come after the first write.
+    /// Puts a byte string of 64 bytes to 16 MiB after the draft's other byte strings. None of these
+    /// has the name `name`. Writes its sectors and the sector of its entry, and doesn't sync.
+    /// Refuses with S2, S9, S10, S11, S7, S8 or S1; only S1 may come after the first write.
     pub fn put_new(&mut self, name: &[u8], bytes: &[u8]) -> Result<(), StoreRefusal>
         requires name { IsName name.now }
         requires size { IsFileSize (length bytes.now) }

@@ -83,7 +83,7 @@ impl<D: Disk> Update<D> {
         self.draft.index.position_of(&self.draft.entries, name)
     }
 
-    /// The positions of the draft's preloads, in their order.
+    /// The positions of the draft's preloads, in the order of the preloads.
     pub fn preloads(&self) -> &[u16]
         ensures value { result.now ≡ self.now.preloads }
         ensures few { length result.now ≤ most_preloads }

@@ -1,4 +1,4 @@
-// Opening a disk of either version as one of version 2.
+// Opens a disk of either version as a disk of version 2.
 use crate::look::Look;
 use crate::refusal::StoreRefusal;
 use crate::store::Store;
@@ -26,8 +26,8 @@ impl<D: Disk> Store<D> {
     /// store or the new one whole. Refuses with S6, S3, S5, S10, S7, S11 or S1, and then hands the
     /// disk back; only S1 may come after the first write.
     pub fn upgrade(alloc: Global, disk: D) -> Result<Store<D>, (StoreRefusal, D)>
-        // A stop at any moment leaves what it could leave before. On a disk of version 1, it may
-        // also leave the state after the upgrade.
+        // A stop at any moment leaves only contents that a stop could leave before. On a disk of
+        // version 1, it may also leave the state after the upgrade.
         ensures any_moment { IsTrue (D.facts disk).honest → (s : State)
             → StandsOld (D.facts disk).now s
             → LeavesOnly (D.facts disk) (D.facts (disk_after result))
@@ -38,7 +38,7 @@ impl<D: Disk> Store<D> {
             → IfErr result (λ e. e.0 ≢ StoreRefusal.Device
             → LeavesOnly (D.facts disk) (D.facts e.1) (Mixture (D.facts disk))) }
 
-        // If nothing is written, reads return what they returned before.
+        // If nothing is written, reads return the same contents as before.
         ensures now { IsTrue (D.facts disk).honest → IsNotOld (D.facts disk).now
             → (D.facts (disk_after result)).now ≡ (D.facts disk).now }
         ensures now_refused { IsTrue (D.facts disk).honest
@@ -64,8 +64,8 @@ impl<D: Disk> Store<D> {
         ensures refused { IsTrue (D.facts disk).honest → IsNotOld (D.facts disk).now
             → IfErr result (λ e. RefusesLook StandsEither (D.facts disk).now e.0) }
 
-        // The call reads what an opening reads. On a disk of version 1 it then writes the
-        // catalogues and the root, and syncs twice.
+        // The call makes the same sync and the same reads as an opening. On a disk of version 1 it
+        // then writes the catalogues and the root, and syncs twice.
         ensures calls_current { IsTrue (D.facts disk).honest → (s : State)
             → Stands (D.facts disk).now s → IfOk result (λ store. AreCallsExactly
             (calls_to_open store) (D.facts disk) (D.facts store.disk)) }

@@ -1,4 +1,4 @@
--- What is true of a disk over an honest file at any moment.
+-- Laws about a disk over an honest file, at any moment.
 use Rattle.std.specs.Prelude.{ℕ, ◌<◌, ◌-◌, ◌&&◌, Bool, true, false, List, [], length, slice_index_or, IsTrue, Option, Some, None, if◌then◌else◌, nat_le, nat_lt}
 use Rattle.std.proofs.Common.{◌≡◌, ⊎_elim, refl, sym, subst, arith}
 use Rattle.std.proofs.Math.Logic.{∥∥₁_elim}

@@ -1,4 +1,4 @@
--- What is true of a file in memory at any moment.
+-- Laws about a file in memory, at any moment.
 use Rattle.std.specs.Prelude.{◌≡◌, length, slice_index_or}
 use Rattle.std.proofs.Common.{sym, subst, arith}
 use Rattle.std.proofs.lemmas.List.{get_or_past}
@@ -9,7 +9,7 @@ use Rattle.file_disk.specs.declared.memory_file.MemoryFile.{MemoryFile}
 use Rattle.file_disk.specs.SectorFile.{HoldsWhatIsRead, HasWholeContents}
 use Rattle.file_disk.specs.MemoryFile.{memory_file_facts}
 
--- at the present moment the medium is the present one
+-- the medium at the present moment is the file's present medium
 abbrev present : (file : MemoryFile) → slice_index_or file.past.items (length file.past.items) file.medium ≡ file.medium
 present file = get_or_past file.past.items (length file.past.items) file.medium (omega arith)
 

@@ -27,7 +27,7 @@ pub record IsReadAt (at : ℕ) (into : List Sector) (count : ℕ) (old new : Fil
   pub now : new.now ≡ old.now
   pub read : (i : ℕ) → i < count → sector into i ≡ sector old.now (at + i)
 
--- The read-ahead buffer has what was read, or a call failed.
+-- The read-ahead buffer has the contents that were read, or a call failed.
 pub record IsFilled {T E : Type 0} (old new : FileFacts) (read_ahead : ReadAhead) (result : Result T E) : Type 0 where
   pub within : StaysWithin (MayHave old) old new
   pub trusted : new.sync_failed ≡ false

@@ -11,7 +11,7 @@ use Rattle.states.specs.Cost.{catalogues_for}
 abbrev pub catalogue_single : ℕ → List ℕ → SingleSector
 catalogue_single at sectors = record { at = at; content = catalogue_bytes (catalogue_of_sectors sectors) }
 
--- the sectors of catalogues, which together list these entry sectors
+-- the sectors of the catalogues that together list these entry sectors
 abbrev pub catalogue_singles : List ℕ → List ℕ → List SingleSector
 catalogue_singles [] sectors = []
 catalogue_singles (at ∷ catalogues) sectors =

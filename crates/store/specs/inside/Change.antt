@@ -1,4 +1,4 @@
--- A planned change: what it stages, and what the sectors hold once it is carried out.
+-- A planned change: the sectors that it stages, and the state that the disk holds after the change.
 use Rattle.std.specs.Prelude.{◌≡◌, ◌⊎◌, ℕ, ◌+◌, ◌*◌, List, [], ◌++◌, length, set, Contains, Result, OnOk}
 use Rattle.std.specs.List.{flat_map}
 use Rattle.sector_disk.specs.Disk.{Sector, sector, sector_bytes, DiskFacts, Mixture, LeavesOnly}
@@ -39,8 +39,8 @@ HasSpelling Nothing = Unit
 HasSpelling (Catalogues catalogues) = Unit
 HasSpelling (Put put catalogues) = EntryHasSpelling put.entry
 
--- What is staged fits on a disk of `sectors` sectors, and the number of catalogues is the number that these entry
--- sectors need.
+-- The staged sectors fit on a disk of `sectors` sectors, and the number of staged catalogues is the number
+-- that these entry sectors need.
 abbrev pub CanBeStaged : ℕ → Staged → List ℕ → Type 0
 CanBeStaged sectors Nothing listed = Unit
 CanBeStaged sectors (Catalogues catalogues) listed = HavePlaces sectors catalogues × CanBeCatalogued (length catalogues) listed
@@ -75,8 +75,9 @@ HasSync staged written = Unit
 pub record AreWritten (now : List Sector) (written : List PlacedEntry) (m : List Sector) : Type 0 where
   pub each : (k : ℕ) → Contains (flat_map sectors_of written) k → sector m k ≡ sector now k
 
--- What is staged is in sectors that `s` doesn't use and that weren't written before. If sectors hold
--- `s`, what is staged and what was written before, then they hold `s'` once the next root is written.
+-- The change stages only sectors that `s` doesn't use and that weren't written before. Let sectors hold
+-- `s`, the staged contents, and the contents that were written before. Then they hold `s'` after the next
+-- root is written.
 pub record IsFollowed (version : Version) (root : Root) (entries : List PlacedEntry) (s : State) (now : List Sector) (written : List PlacedEntry)
     (change : Change) (bytes listed : List ℕ) (others : List PlacedEntry) (s' : State) : Type 0 where
   pub unused : (k : ℕ) → Contains (staged_sectors change.staged) k → Contains (used root entries) k → ⊥
@@ -85,8 +86,8 @@ pub record IsFollowed (version : Version) (root : Root) (entries : List PlacedEn
   pub stands : (m : List Sector) → StandsBy version m root entries s → IsStaged m change.staged bytes listed → AreWritten now written m
       → StandsBy Two (set m (slot_of change.root.generation) (root_bytes change.root)) change.root others s'
 
--- A state with its root and its entries, the entries that were written beside it since, and the state after a change,
--- with that state's entries.
+-- The state before a change, with its root and its entries; the entries that were written beside this state
+-- since; and the state after the change, with its entries.
 pub record Transition : Type 0 where
   pub version : Version
   pub root : Root

@@ -13,8 +13,8 @@ use Rattle.store.specs.Opened.{IsAt, Opened}
 use Rattle.store.specs.Stands.{Stands, catalogues_of}
 use Rattle.store.specs.Taken.{AreTaken}
 
--- A store that had this draft now has the draft's list and preloads. If a call failed, the store has the list and
--- preloads that it had before.
+-- The store of the draft `u` now has the draft's list and preloads. If a call failed, the store has the
+-- same list and preloads as before.
 pub record Commits {D : Type 0} (facts : D → DiskFacts) (u : Drafted D) (new : Opened D) (result : Result (Unit {0}) StoreRefusal) : Type 0 where
   pub any_moment : (s d : State) → IsDraftedAt facts u s d
       → LeavesOnly (facts u.store.disk) (facts new.disk) (λ m. Stands m s ⊎ Stands m (committed u.touched s d))

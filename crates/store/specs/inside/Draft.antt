@@ -23,7 +23,7 @@ use Rattle.store.specs.inside.NameIndex.{IsIndex}
 use Rattle.store.specs.inside.Room.{IsPutTaken}
 use Rattle.store.specs.inside.Stored.{opened}
 
--- an update as contracts see it
+-- the value of an update in contracts
 abbrev pub drafting : {D : Type 0} → D → Kept → Draft → Drafted D
 drafting disk kept draft = record { store = opened disk kept; entries = draft.entries.items; preloads = draft.preloads.items; touched = draft.touched }
 
@@ -35,7 +35,7 @@ own_in others placed = if lists others placed then [] else sectors_of placed
 abbrev pub own_sectors_in : (others entries : List PlacedEntry) → List ℕ
 own_sectors_in others entries = flat_map (own_in others) entries
 
--- If the entry is in the sector of one of these entries, it is one of them.
+-- If the sector of `placed` is the sector of an entry of `others`, then `others` contains `placed`.
 abbrev pub IsOneOrApart : List PlacedEntry → PlacedEntry → Type 0
 IsOneOrApart others placed = IsTrue (lists others placed) → Contains others placed
 
@@ -47,20 +47,20 @@ pub record IsDraftList (standing entries : List PlacedEntry) : Type 0 where
   pub once : AreDistinct (entry_sectors entries)
   pub each : All (IsOneOrApart standing) entries
 
--- the positions can be those of a draft's preloads, in a list of `libraries` entries
+-- `preloads` can be the positions of a draft's preloads, in a list of `libraries` entries
 pub record ArePreloads (libraries : ℕ) (preloads : List ℕ) : Type 0 where
   pub few : length preloads ≤ most_preloads
   pub inside : All (λ position. position < libraries) preloads
   pub once : AreDistinct preloads
 
--- The number of sectors that stay unused beside a draft of `libraries` byte strings, if the current
--- list has `standing` catalogues. They are for the commit's catalogues, and for those of the change
--- that follows it.
+-- The number of sectors that stay unused beside a draft of `libraries` byte strings, if the current list
+-- has `standing` catalogues. They are for the catalogues of the commit, and for the catalogues of the
+-- change after the commit.
 abbrev pub spare_of : (standing libraries : ℕ) → ℕ
 spare_of standing libraries = standing + 2 * (catalogues_for libraries - standing)
 
--- exactly the sectors of the current state, of held byte strings and of what the update wrote are
--- claimed in the layout, and there is room for the commit
+-- exactly the sectors of the current state, of held byte strings and of the entries that the update wrote
+-- are claimed in the layout, and there is room for the commit
 pub record IsStagedIn (kept : Kept) (entries : List PlacedEntry) : Type 0 where
   pub standing : List Bool
   pub stands : IsKept kept.root kept.entries.items kept.held standing
@@ -82,7 +82,7 @@ pub record IsDrafting (sectors : ℕ) (kept : Kept) (draft : Draft) : Type 0 whe
   pub same : draft.touched ≢ touched.List → draft.entries.items ≡ kept.entries.items
   pub first : draft.touched ≡ touched.Nothing → draft.preloads.items ≡ listed_preloads kept.root
 
--- what is kept, with another layout
+-- the data `kept`, with the layout `layout` in place of its own
 abbrev pub with_layout : Kept → List Bool → Kept
 with_layout kept layout = record {
   root = kept.root;
@@ -115,7 +115,7 @@ pub record TakesBeside (old new : Kept) (name bytes : List ℕ) (spare : ℕ) (R
   pub early : IfErr result (λ e. e ≢ Device)
 
 -- The generation, the number of byte strings and the free sectors of a draft's state, on a disk of
--- `sectors` sectors, agree with what is kept.
+-- `sectors` sectors, agree with `kept`.
 pub record IsDraftCounted (kept : Kept) (libraries sectors : ℕ) (d : State) : Type 0 where
   pub generation : d.generation ≡ kept.root.generation
   pub count : length d.libraries ≡ libraries

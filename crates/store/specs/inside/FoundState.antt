@@ -16,7 +16,7 @@ use Rattle.store.specs.inside.Reading.{AreReadsBehindSync}
 pub record IsFound (root : Root) (entries : List PlacedEntry) (sectors : List ℕ) (index : Index) (layout : List Bool) : Type 0 where
   pub kept : IsKept root entries [] layout
   pub indexed : IsIndex entries index
-  -- the sectors of the entries, in their order
+  -- the sectors of the entries, in the order of the entries
   pub listed : sectors ≡ entry_sectors entries
 
 -- The contents of a disk, honest or not, were found. That took `before` calls, and then one for each catalogue and each

@@ -1,5 +1,4 @@
--- The effects of the calls of the table of held byte strings, and the rows that a store keeps in
--- it.
+-- The effects of calls on the table of held byte strings, and the conditions that the table's rows meet.
 use Rattle.std.specs.Prelude.{◌≡◌, ◌≢◌, ℕ, ◌+◌, ◌<◌, ◌≤◌, false, true, List}
 use Rattle.std.specs.Prelude.{length, set, insert, remove, slice_index_or, All, Contains}
 use Rattle.roots.specs.Entry.{EntryHasSpelling}

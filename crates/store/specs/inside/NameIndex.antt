@@ -1,4 +1,4 @@
--- The order of names in which entries are found.
+-- The order of the entries' names, in which an entry is found by its name.
 use Rattle.std.specs.Prelude.{◌≡◌, ℕ, ◌+◌, ◌<◌, ◌≤◌, List, length, slice_index, false, nat_lt, ◌-◌, if◌then◌else◌}
 use Rattle.std.specs.List.{range_with_len}
 use Rattle.std.specs.List.Sorted.{IsPermutation, IsSortedBy}
@@ -9,7 +9,7 @@ use Rattle.std.specs.declared.cmp.Ordering.TheVariants.{Less}
 use Rattle.store.specs.declared.placed_entry.PlacedEntry.{PlacedEntry}
 use Rattle.store.specs.NameOrder.{entry_names, name_at, name_order, IsOrderOf}
 
--- what an index keeps: positions, and the number of further positions that fit in its memory
+-- the data of an index: positions, and the number of further positions that fit in its memory
 pub record Index : Type 0 where
   pub positions : List ℕ
   pub room : ℕ
@@ -31,7 +31,7 @@ pub record IsSortedOrder (names : List (List ℕ)) (positions : List ℕ) : Type
 pub record Rises (names : List (List ℕ)) (positions : List ℕ) : Type 0 where
   pub rise : (k : ℕ) → k + 1 < length positions → name_order names (slice_index positions k) (slice_index positions (k + 1)) ≡ Less
 
--- the place of a name: the number of names that come before it
+-- `place` is the number of names that come before `name`, in the order of the positions
 pub record IsPlace (names : List (List ℕ)) (positions name : List ℕ) (place : ℕ) : Type 0 where
   pub within : place ≤ length positions
   pub before : (k : ℕ) → k < place → order_to names name (slice_index positions k) ≡ Less

@@ -1,4 +1,4 @@
--- A prepared change, its effect on a state, and the effect of preparing one.
+-- A prepared change, its effect on a state, and the effect of preparing a change.
 use Rattle.std.specs.Prelude.{◌≡◌, ◌≢◌, ◌⊎◌, ◌↔◌, ℕ, ◌+◌, ◌-◌, ◌<◌, ◌≤◌, Bool, List, length, slice_index_or, IsTrue, IsFalse, Result, Ok, Err, IfOk, IfErr, OnErr}
 use Rattle.std.specs.Int.{div_ceil}
 use Rattle.sector_disk.specs.Disk.{Sector, sector_bytes}
@@ -31,14 +31,14 @@ use Rattle.store.specs.inside.NameIndex.{IsIndex}
 use Rattle.store.specs.inside.Next.{IsNext}
 use Rattle.store.specs.inside.Stored.{IsStored, ShowsSame}
 
--- why a change is refused before anything is taken: the store has to be opened again, or there is no
+-- the reasons to refuse a change before anything is taken: the store has to be opened again, or there is no
 -- next generation
 abbrev pub IsTestedChange : Kept → StoreRefusal → Type 0
 IsTestedChange kept e = ((e ≡ Reopen) × IsTrue kept.failed)
     ⊎ ((e ≡ GenerationEnd) × IsFalse kept.failed × (kept.root.generation ≡ last_generation))
 
--- why one more byte string is refused before anything is taken: the store has to be opened again, has 2,048
--- byte strings, or has no next generation
+-- the reasons to refuse one more byte string before anything is taken: the store has to be opened again,
+-- has 2,048 byte strings, or has no next generation
 abbrev pub IsTestedNew : Kept → StoreRefusal → Type 0
 IsTestedNew kept e = ((e ≡ Reopen) × IsTrue kept.failed)
     ⊎ ((e ≡ TooMany) × IsFalse kept.failed × (most_libraries ≤ length kept.entries.items))
@@ -60,7 +60,8 @@ pub record IsPrepared (root : Root) (entries : List PlacedEntry) (held : List He
   pub room : (sectors : ℕ) → root.sectors ≤ sectors + (length (lone_sectors held) + length (gone_entry prepared.edit entries))
       → HasRoom sectors prepared.change.root.list (edited prepared.edit entries)
 
--- A change is prepared on what is kept beside a disk of `sectors` sectors.
+-- `prepared` is a change that was prepared on `kept`, the data that a store keeps beside a disk of
+-- `sectors` sectors.
 pub record IsReady (sectors : ℕ) (kept : Kept) (prepared : Prepared) : Type 0 where
   pub change : IsPrepared kept.root kept.entries.items kept.held kept.layout prepared
   pub list : CanEditSectors prepared.edit kept.sectors
@@ -82,8 +83,8 @@ pub record IsMade (old new : Kept) (prepared : Prepared) : Type 0 where
   pub root : new.root ≡ prepared.change.root
   pub entries : new.entries.items ≡ edited prepared.edit old.entries.items
 
--- The effect of preparing a change, with refusals that `Refuses` allows. Preparing changes nothing that
--- contracts see.
+-- The effect of preparing a change, with refusals that `Refuses` allows. Preparing doesn't change the
+-- store's value in contracts.
 pub record Prepares (old new : Kept) (Refuses : StoreRefusal → Type 0) (result : Result Prepared StoreRefusal) : Type 0 where
   pub same : ShowsSame old new
   pub ready : IfOk result (IsReady old.root.sectors new)
@@ -111,8 +112,8 @@ pub record TakesOut (kept : Kept) (prepared : Prepared) (name : List ℕ) : Type
   pub taken : AreTaken (layout_of kept.root.sectors (in_use kept.root kept.entries.items kept.held)) (catalogues_of prepared.change.root)
   pub count : length (catalogues_of prepared.change.root) ≡ catalogues_for (length kept.entries.items - 1)
 
--- The change puts bytes. Their sectors, the entry's, and those of the catalogues of `libraries` libraries
--- weren't in use.
+-- The change puts the bytes `bytes`. The sectors of these bytes, of their entry, and of the catalogues of
+-- `libraries` libraries weren't in use.
 pub record Puts (kept : Kept) (prepared : Prepared) (edit : PlacedEntry → Edit) (libraries : ℕ) (bytes : List ℕ) : Type 0 where
   pub put : PlacedEntry
   pub edits : prepared.edit ≡ edit put

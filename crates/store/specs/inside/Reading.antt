@@ -9,25 +9,25 @@ use Rattle.store.specs.declared.refusal.StoreRefusal.TheVariants.{NotFormatted, 
 use Rattle.store.specs.Opening.{HasRootMagic}
 use Rattle.store.specs.Stands.{IsIntact}
 
--- A sync was tried on an honest disk, and the disk was read. A stop at any moment leaves what it could leave before,
--- and reads return what they returned before.
+-- A sync was tried on an honest disk, and the disk was read. A stop at any moment leaves only contents that
+-- a stop could leave before, and reads return the same contents as before.
 pub record AreReadsBehindSync (old new : DiskFacts) : Type 0 where
   pub leaves : LeavesOnly old new (Mixture old)
   pub now : new.now ≡ old.now
   pub log : MayAddSync old.log new.log
 
--- the refusals of the choice of a root
+-- reading the current root of the sectors `m` may be refused with `refusal`
 pub record RefusesRoot (m : List Sector) (refusal : StoreRefusal) : Type 0 where
   pub may : (refusal ≡ Device) ⊎ (refusal ≡ NotFormatted) ⊎ (refusal ≡ Damaged)
   pub unformatted : refusal ≡ NotFormatted → HasRootMagic m → ⊥
   pub formatted : refusal ≡ Damaged → HasRootMagic m
   pub damaged : refusal ≡ Damaged → (root : Root) → IsCurrent (sector m 0) (sector m 1) root → ⊥
 
--- the refusals of reading what a root lists, on any disk
+-- the refusals of reading the list of a root, on any disk
 abbrev pub IsRefusalOfList : StoreRefusal → Type 0
 IsRefusalOfList refusal = (refusal ≡ Device) ⊎ (refusal ≡ Damaged) ⊎ (refusal ≡ OutOfMemory)
 
--- the refusals of reading the entries of a current root
+-- reading the entries of the current root `root` may be refused with `refusal`
 pub record RefusesEntries (m : List Sector) (root : Root) (refusal : StoreRefusal) : Type 0 where
   pub may : IsRefusalOfList refusal
   pub damaged : refusal ≡ Damaged → (entries : List PlacedEntry) → IsIntact m root entries → ⊥

@@ -16,7 +16,7 @@ use Rattle.store.specs.declared.holds.HeldRow.{HeldRow}
 use Rattle.store.specs.inside.Claimed.{IsClaimedBeside, IsUsable}
 use Rattle.store.specs.inside.HeldRows.{IsLeft, IsUnheld}
 
--- `k` is a root sector, or one of these sectors
+-- `k` is a root sector, or one of the sectors `places`
 abbrev pub IsRootOr : List ℕ → ℕ → Type 0
 IsRootOr places k = (k < root_sectors) ⊎ Contains places k
 
@@ -30,8 +30,8 @@ pub record IsReleased (old new : List Bool) (gone : List ℕ) : Type 0 where
   pub each : (kept : List ℕ) → ClaimsJust old (kept ++ gone) → AreDistinct (kept ++ gone) → ClaimsJust new kept
 
 -- The state no longer uses the sectors of an entry and of its bytes, nor those of the catalogues. The
--- sectors of the catalogues are unused now. Those of the entry and its bytes are too, unless somebody
--- holds its byte string.
+-- sectors of the catalogues are unused now. The sectors of the entry and of its bytes are unused too,
+-- unless somebody holds the byte string.
 abbrev pub IsGivenUp : (held left : List HeldRow) (old new : List Bool) (placed : PlacedEntry) (catalogues : List ℕ) → Type 0
 IsGivenUp held left old new placed catalogues =
     (IsLeft held left placed.at × IsReleased old new catalogues)

@@ -18,7 +18,7 @@ use Rattle.store.specs.Stands.{entry_sectors}
 use Rattle.store.specs.inside.Kept.{IsKept}
 use Rattle.store.specs.inside.NameIndex.{IsIndex}
 
--- a store with the disk `disk` and the data `kept`, as contracts see it
+-- the value in contracts of a store with the disk `disk` and the data `kept`
 abbrev pub opened : {D : Type 0} → D → Kept → Opened D
 opened disk kept = record { disk = disk; root = kept.root; entries = kept.entries.items; held = kept.held; failed = kept.failed }
 
@@ -34,20 +34,20 @@ IsStored sectors kept = IsKept kept.root kept.entries.items kept.held kept.layou
 abbrev pub sectors_for : Kept → ℕ
 sectors_for kept = kept.root.sectors - length (lone_sectors kept.held)
 
--- the number of sectors of the longest unused runs, with as many runs as a byte string may have extents
+-- the number of sectors of the 32 longest unused runs: 32 is the maximum number of extents of a byte string
 abbrev pub longest_in : Kept → ℕ
 longest_in kept = sector_count (longest_runs kept.layout)
 
--- Contracts see no difference between `old` and `new`: root, entries, held byte strings, and whether a call failed are
--- the same.
+-- `old` and `new` have the same value in contracts: the same root, entries and held byte strings, and the
+-- same flag whether a call failed.
 pub record ShowsSame (old new : Kept) : Type 0 where
   pub root : new.root ≡ old.root
   pub entries : new.entries.items ≡ old.entries.items
   pub held : new.held ≡ old.held
   pub failed : new.failed ≡ old.failed
 
--- The generation, the number of libraries, the free sectors and the longest runs of the state agree
--- with what is kept.
+-- The generation, the number of libraries, the free sectors and the longest runs of the state agree with
+-- the data that the store keeps.
 pub record IsCounted (root : Root) (entries : List PlacedEntry) (held : List HeldRow) (layout : List Bool) (s : State) : Type 0 where
   pub generation : s.generation ≡ root.generation
   pub count : length s.libraries ≡ length entries

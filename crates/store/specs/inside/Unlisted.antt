@@ -11,14 +11,14 @@ use Rattle.store.specs.inside.Kept.{IsKept}
 use Rattle.store.specs.inside.Moved.{occurs}
 use Rattle.store.specs.inside.Room.{AreClaimedOnce, IsReleased}
 
--- The rows of held byte strings are the same, except for whether the state lists them.
+-- The rows of held byte strings are the same, except for the flag whether the state lists the byte string.
 pub record KeepsRows (old new : List HeldRow) : Type 0 where
   pub holders : (sector : ℕ) → holders_of new sector ≡ holders_of old sector
   pub holds : (sector : ℕ) (placed : PlacedEntry) → IsHeldBy old sector placed ↔ IsHeldBy new sector placed
   pub none : old ≡ [] → new ≡ []
 
--- The current list is kept. Its sectors that the draft's list doesn't use are still claimed, and so are those of its
--- catalogues.
+-- The store has the current list `standing`. The sectors that this list uses and the draft's list `drafted`
+-- doesn't use are still claimed, and so are the sectors of the current catalogues.
 pub record CanReleaseUnlisted (root : Root) (standing drafted : List PlacedEntry) (held : List HeldRow) (layout : List Bool) : Type 0 where
   pub before : List Bool
   pub kept : IsKept root standing held before
