@@ -6,10 +6,10 @@ killed at random.
     python3 bench/updates.py RLIBREG_TOOL FOLDER [--updates N] [--cuts N] [--kills N] [--first NUMBER]
 
 If strace is there, a power cut comes after each call of N of the updates (--cuts): the disk has each sector that was
-written since the last sync, or doesn't have it (all such disks if at most 6 sectors are unsynced, else some). It has to
-hold the old registry; from the root's write on perhaps the updated one, and after the last sync only the updated one. After
-a kill the disk has to hold the old 20 libraries or the new ones, and the new ones if `ok` was answered. The script exits
-with status 1 if something is wrong.
+written since the last sync, or doesn't have it (all such disks if at most 6 sectors are unsynced, else some). Up to the
+write of the root, this disk has to hold the old registry; from that write on, the old or the updated registry; and after
+the last sync, only the updated registry. After a kill the disk has to hold the old 20 libraries or the new ones, and the
+new ones if `ok` was answered. The script exits with status 1 if something is wrong.
 """
 
 import argparse
@@ -106,8 +106,9 @@ class Draft:
         return None
 
     def lacks_room(self, command, data):
-        """Returns whether there are fewer free sectors than the file costs. The sectors of the current state, of the
-        plan, and of the catalogues of either, twice, aren't free."""
+        """Returns whether there are fewer free sectors than the file costs. The following sectors aren't free: the
+        roots, the files and entries of the current state and of the plan, and twice as many as the larger of the two
+        numbers of catalogues."""
         count = len(self.state.libraries)
         kept = 2 * max(self.catalogues, lists(count)) - self.catalogues
         more = 2 if command == 'install' and count % 64 == 0 else 0

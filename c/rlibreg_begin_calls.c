@@ -29,8 +29,8 @@ struct walk {
     struct rlibreg_objects objects;
     char was_entered[MOST + 1];  /* by number */
     uint16_t order[MOST];        /* the order in which the libraries are initialized */
-    size_t ordered;              /* at the end of the program: number of libraries that are left */
-    struct functions finalizers; /* those of one library that are left, and its DT_FINI or 0 */
+    size_t ordered;              /* number of libraries in `order` that aren't finalized yet */
+    struct functions finalizers; /* those of one library that remain; `last` is its DT_FINI, or 0 */
     uintptr_t last;
 };
 static struct walk *walked;
