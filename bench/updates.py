@@ -48,8 +48,8 @@ class Files:
         return file
 
     def library(self, choose, name):
-        """Returns one of the libraries of this name: of 1 to 13 sectors, or rarely more. Some export another symbol,
-        some need a library."""
+        """Returns one of the libraries of this name, which has 1 to 13 sectors, or rarely more. Some of these
+        libraries export another symbol, and some need a library."""
         size = choose.choice((0, 0, 500, 1500, choose.randrange(6000), choose.randrange(15000)))
         return self.made(name, choose.choice(((), (), (), (b'a',), (b'b', b'a'))), (choose.choice((b'f', b'f', b'g')) + name,), (), size)
 
@@ -209,7 +209,7 @@ class Bench:
             self.checks.skip('power cuts', 'there is no strace')
 
     def updates(self, count, choose):
-        """Runs `count` updates, some of them after each other on each disk."""
+        """Runs `count` updates, up to 29 of them one after the other on each disk."""
         while count:
             many = choose.random() < 0.1
             names = [b'l%d' % i for i in range(70)] if many else list(b'abcdefg'[i:i + 1] for i in range(7))
