@@ -14,8 +14,8 @@ WRITING = 'while :; do dd if=/dev/zero of="$0" bs=1M count=8 conv=fsync 2> /dev/
 
 @contextlib.contextmanager
 def kept_folder(place='/dev/shm'):
-    """Makes a folder for images, in `place` or in memory. First waits, so that no existing file counts as just
-    changed."""
+    """Makes a folder for images, in `place` or in memory. Waits before the `with` block begins, so that no
+    existing file counts as just changed."""
     with tempfile.TemporaryDirectory(dir=place) as name:
         time.sleep(2.5)
         yield Path(name)

@@ -5,8 +5,8 @@
 
 The script makes COUNT random programs, from number FIRST on, each with up to 8 libraries made by gcc. Their functions
 and data have few names, so most names are defined several times. There are weak definitions and references, protected
-ones, symbolic objects, references to names that no object defines, and up to 3 preloads. The load order, the bindings
-of all symbols and the undefined symbols have to be those of ld.so (LD_TRACE_LOADED_OBJECTS, LD_DEBUG=bindings,
+definitions, symbolic objects, references to names that no object defines, and up to 3 preloads. The load order, the
+bindings of all symbols and the undefined symbols have to be those of ld.so (LD_TRACE_LOADED_OBJECTS, LD_DEBUG=bindings,
 LD_WARN). A value has to be that of `readelf`. Then up to 3 libraries are removed. The names that each object needs, and
 those that are missing, have to be those that a walk by levels finds in the output of `readelf`. The script prints each
 difference, and exits with status 1 if there is one.

@@ -80,7 +80,7 @@ def conjuncts(text):
 @cache
 def parts_of(name, path):
     """Returns the parts of the record that a name refers to: each group of fields with the comment above it. Returns
-    none if the name is no record. An abbreviation is replaced by its text."""
+    none if the name isn't that of a record. An abbreviation is replaced by its text."""
     found = found_at(name, path)
     if found is None or f'{found[0].parts[-3]}/{found[0].stem}' in GENERAL:
         return ()

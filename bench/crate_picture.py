@@ -24,7 +24,7 @@ def crates_and_kinds():
 
 
 def direct(uses):
-    """Returns the uses that don't follow from others."""
+    """Returns the uses that don't follow from other uses."""
     below = {}
     for name in uses:
         collect(name, uses, below)

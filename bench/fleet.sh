@@ -9,7 +9,8 @@
 #   signed by another key, and a list after which a program can't be bound. Afterwards the way still
 #   works.
 # - The power fails CUTS times (3) in each way, over and over: afterwards the device has the version that
-#   it had reached, or the next. The same is tried once more by a list, and the way goes on.
+#   it had reached, or the next. Then every way except `list` is run again for the version that was
+#   found, and each way goes on to the next versions.
 #
 # The script needs root, debootstrap, qemu-system-x86, fdisk, e2fsprogs, gcc and python3 (3.9 or later),
 # and loads some 300 MB from a mirror of Debian. ACCEL is qemu's -accel.

@@ -71,8 +71,8 @@ power_cut() {
     ended
 }
 
-# ended: waits for the end of the guest. Its output is without the console's own signs, and without the
-# firmware's last line, which may not have ended.
+# ended: waits for the end of the guest. The output of the guest is kept without the console's own
+# signs, and without the firmware's last line, which may not have ended.
 ended() {
     timeout "${PATIENCE:-1800}" tail --pid=$guest -f /dev/null || failed 'the guest goes on'
     wait $guest || true

@@ -54,7 +54,7 @@ class Graph:
         self.preloads = choose.sample(libraries, choose.choice((0, 0, 0, 1, min(3, self.count))))
 
     def is_cyclic(self):
-        """Returns whether a library needs itself, through others or directly."""
+        """Returns whether a library needs itself, directly or through other libraries."""
         return any(at in self.reached(at) for at in range(1, self.count + 1))
 
     def reached(self, start):

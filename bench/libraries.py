@@ -151,8 +151,8 @@ def function(library, i):
 
 
 def graph(count):
-    """Returns `count` libraries with 2,000 exports each, which name 1,000 exports of three others and 500 of their
-    own; and a program that names 2,000 exports of all of them."""
+    """Returns `count` libraries, each of which has 2,000 exports, and names 1,000 exports of three other libraries
+    and 500 of its own; and a program that names 2,000 exports of all of them."""
     libraries = []
     for k in range(count):
         pick = random.Random(k)

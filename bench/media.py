@@ -1,16 +1,16 @@
 #!/usr/bin/env python3
 """Tries the program `rlibreg` on disks that lie on read-only media, and on disks that are block devices: loop devices and
-partitions of them. Needs root and the programs that make such media; what the machine lacks is left out, with a line that
-says so.
+partitions of them. Needs root and the programs that make such media; if the machine lacks something, the part that needs
+it is left out, and a line reports this.
 
     python3 bench/media.py PROGRAM FOLDER [--run RLIBREG_RUN] [--clib TOOL]
 
 The images are made by mksquashfs, mkfs.erofs, genisoimage and mkfs.ext4, and mounted read-only. Commands that only read
 work as on an ordinary file; a change is answered with S1 (Device), or with the message that the disk can't be read. On
 ext4, xfs and btrfs the roots of a file are changed underneath the page cache, also while somebody has that page mapped. On
-a device each command does what it does on a file of as many bytes. A device that is mounted, swapped to or under device
-mapper, or whose disk or partition is, is read and not changed. RLIBREG_RUN is the loader, which starts a program from each
-medium; TOOL is the program of c/tests/tool.c.
+a device each command does what it does on a file of as many bytes. A device is in use if it, its disk or one of its
+partitions is mounted, swapped to or under device mapper: such a device is read, and not changed. RLIBREG_RUN is the
+loader, which starts a program from each medium; TOOL is the program of c/tests/tool.c.
 """
 
 import argparse
@@ -452,8 +452,8 @@ class Media:
             os.fsync(file.fileno())
 
     def locks(self):
-        """Checks that a change waits some two seconds for a device, because others look at it after each write; a
-        command that only reads doesn't wait."""
+        """Checks that a change waits some two seconds for a device, because other processes look at the device
+        after each write. A command that only reads doesn't wait."""
         with loop(zeros(self.image, 64)) as device:
             self.make(device, 64, 'a.so')
             plain = self.answers(device)[0]
@@ -625,8 +625,8 @@ class Media:
 
     def full_medium(self):
         """Tries a device whose medium has no space: the system accepts the write, and the sync fails. A loop device
-        reports it only if it can't write the first page of several, so it is the making of a registry that fails. The
-        device is open meanwhile, because otherwise the system would drop its cached bytes."""
+        reports the error only if it can't write the first of several pages, so the test lets the making of a registry
+        fail. The device is open meanwhile, because otherwise the system would drop its cached bytes."""
         kind = 'a device whose writes fail at the sync'
         options = ('-t', 'tmpfs', '-o', 'size=64k')
         with mounted('tmpfs', self.place, *options), loop(zeros(self.place / 'image', 64)) as device, open(device, 'rb'):

@@ -8,8 +8,9 @@ The arguments are those of real_programs.py, which builds SQLite. For each way t
 
 - the fall of MemAvailable, as the median of several rounds, which is meaningful only on an idle machine;
 - the memory that the system counts for a group of these processes (cgroups, as root);
-- the part of that which the system can't give to others, and by which MemAvailable falls: what the processes have written,
-  what is on tmpfs, and what the kernel has for them; also the least of it;
+- the part of this memory that the system can't give to other processes, and by which MemAvailable falls: the pages that
+  the processes have written, the pages of tmpfs, and the kernel's memory for these processes; also the least value of this
+  part;
 - the sum of the processes' own memory and of their part of the shared memory (Pss of /proc/PID/smaps_rollup);
 - the pages that they have written, and the tables of pages.
 

@@ -9,10 +9,12 @@
 # - With two such devices, rlibreg-switch switches to and fro, and is killed with everything that it has
 #   started, at 40 random moments. The link then leads to the old state or to the new one, and the same
 #   switch succeeds.
-# - The node's group and mode; the service that waits, the one that starts, its kept image; the switch;
-#   growing, also after a switch was cut; and the way back to the shorter partition.
-# - A program that the initramfs starts, and a first process, from a registry on a partition.
-# - dm-verity: the same over it; a changed byte, and another root hash, start nothing.
+# - In the guest, the script checks the node's group and mode; the service that waits, the service that
+#   starts, and the kept image of the latter; the switch; growing, also after a switch was cut; and the
+#   way back to the shorter partition.
+# - A program that the initramfs starts, and a first process, run from a registry on a partition.
+# - The same is tried over dm-verity. With a changed byte, or with another root hash, nothing
+#   starts.
 # - The power fails CUTS times (5) while rlibreg-switch goes to and fro: the link leads to one of the two
 #   partitions, whose registry is whole, and the next switch succeeds.
 #
@@ -56,7 +58,8 @@ END
     $object -DFIRST "$room/program.c" "$room/made/libone.so" -pie -Wl,-e,_start -o "$room/made/first"
 }
 
-# Runs the page's commands for a loop device, and compares with the same registry in a file.
+# Runs the page's commands for a loop device, and checks that the same commands write the same bytes
+# to a file.
 over_a_loop_device() {
     cd "$room/made"
     eval "$(of Partitions 'fallocate')"

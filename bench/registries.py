@@ -1,6 +1,6 @@
 """The registry that the bytes of a disk hold, by docs/FORMATS.md, and the results of commands on it. For the other
-scripts here. Whether a file is a library isn't tested: its name is given with its bytes. It knows only the refusals
-that are possible on a disk with room for all libraries."""
+scripts here. Whether a file is a library isn't tested: its name is given with its bytes. This module knows only the
+refusals that are possible on a disk with room for all libraries."""
 
 import collections
 import struct
@@ -53,7 +53,7 @@ def root(sector):
 
 
 def current(even, odd):
-    """Returns the current one of the roots in the sectors 0 and 1."""
+    """Returns the current root. `even` is the root in sector 0, and `odd` that in sector 1."""
     need(even and even.generation % 2 == 0)
     if not odd:
         need(even.generation == 0)

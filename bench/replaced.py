@@ -132,7 +132,7 @@ class Replaced:
     # Between two lines.
 
     def lines(self, by, words, first, replies, rest, do):
-        """Returns the answers to the rest of the lines, if something is done once the first lines are answered."""
+        """Returns the answers to the lines `rest`, if `do` is called once the lines `first` are answered."""
         self.put(self.one)
         with subprocess.Popen([by.path, *words], cwd=self.folder, stdin=subprocess.PIPE, stdout=subprocess.PIPE) as process:
             process.stdin.write(first)
@@ -167,7 +167,8 @@ class Replaced:
     # After each sync.
 
     def traced(self, by, words, given=b'', more=(), number=None):
-        """Starts a command whose syncs are logged, and which stops after the sync of this number."""
+        """Starts a command and logs its syncs. With `number`, the command stops after its sync of
+        this number."""
         self.log.unlink(missing_ok=True)
         stops = ['-e', f'inject=fsync:signal=STOP:when={number}'] if number else []
         wrapped = ['strace', '-D', '-qq', '-o', str(self.log), '-e', 'trace=fsync', *stops]
@@ -185,7 +186,7 @@ class Replaced:
         return self.log.read_text().count('fsync('), ended
 
     def stopped(self, by, words, number, do, given=b'', more=()):
-        """Returns how a command ends if something is done after its sync of this number."""
+        """Returns how a command ends if `do` is called after its sync number `number`."""
         process = self.traced(by, words, given, more, number)
         end = time.monotonic() + SECONDS
         while process.poll() is None and time.monotonic() < end:

@@ -9,9 +9,9 @@ There are three ways to make a call short:
 - `short.c` makes each call, or one of them, transfer a part of what was asked for. It can do so only in a program that
   isn't static.
 
-A run has to end, and leave the disk, as if no call were short. Or it is answered S1 (Device) or is ended by the signal,
-and the disk holds the registry from before the command or from after it. If each call transfers a sector or more, the run
-has to go on to its end.
+A run has one of two outcomes. Either it ends, and leaves the disk, as if no call were short. Or it is answered S1
+(Device), or is ended by the signal, and then the disk holds the registry from before the command or from after it. If
+each call transfers a sector or more, the run has to go on to its end.
 """
 
 import collections

@@ -9,13 +9,13 @@ Each sync of each changing command fails in turn, also two in a row, and brings 
 the medium; or the process ends before one of its steps. Then come a `list`, and each further change, also with a failing
 sync or a cut at each of its steps. After all of these comes a power cut, after which the medium has each dirty page, or
 each sector of these pages, or doesn't have it. If the medium is left with other roots than those that are shown, the script
-also tries that somebody has them mapped, or that no read gets past memory.
+also tries a process that has the shown roots mapped, and a system in which no read gets past its memory.
 
-The failing command has to end with S1 (Device) or with status 3. The disk has to hold what was acknowledged, or that
-with the one command that wasn't. It must never be damaged, and from an opening on it has to hold what that opening has
-shown. The script has its own record of the states (`registries.py`), and reads the medium by itself. The calls in
-between have an order: lock, sync, the roots compared with the medium's, the first read; all writes before the sync, and
-the sync before the reply; the lock until the last sync.
+The failing command has to end with S1 (Device) or with status 3. The disk has to hold the acknowledged state, or the
+state after the one command that wasn't acknowledged. It must never be damaged, and from an opening on it has to hold
+what that opening has shown. The script has its own record of the states (`registries.py`), and reads the medium by
+itself. The calls in between have an order: lock, sync, the roots compared with the medium's, the first read; all writes
+before the sync, and the sync before the reply; the lock until the last sync.
 
 The script prints a line for each command, and exits with status 1 if something is wrong. --all tries more mixtures, parts
 and chains of faults. --body NAME makes the body NAME of `bodies.c` make other calls than PROGRAM does: then something has to
@@ -70,8 +70,8 @@ def told(state):
 
 
 def unanswered(state, replies):
-    """Returns the states that lines without answers may have led to: no other change is made before an accepted change
-    is answered."""
+    """Returns the states to which lines without answers may have led: at most the first accepted change was made,
+    because no other change is made before it is answered."""
     return {state, *[after for reply, after in replies if reply == b'ok\n'][:1]}
 
 
@@ -101,8 +101,8 @@ class Book:
         return replies, int(any(reply.startswith(b'refused') for reply, _ in replies))
 
     def after(self, state, command, ended):
-        """Returns the states that are possible after a run from a state that ended in this way. Returns none if the run
-        can't have ended in this way."""
+        """Returns the states that are possible after a run of `command` from `state` that ended as `ended`. Returns
+        none if no such run can end in this way."""
         replies, status = self.answers(state, command)
         text, number = ended.output, 0
         while number < len(replies) and text.startswith(replies[number][0]) and (text or ended.status == status):
@@ -133,7 +133,8 @@ class Bench:
             print(f'WRONG: {kind}: {what}{more}', flush=True)
 
     def states(self, held):
-        """Returns the states that machines may find after a cut, with their number."""
+        """Returns the number of disks that machines may find after a cut of `held`, and the set of
+        the states of these disks."""
         if held not in self.of_cuts:
             disks = {machine.content if DISK in machine.names else None for machine in found(held, self.trials)}
             self.of_disks.update((disk, state_of(disk)) for disk in disks if disk not in self.of_disks)
@@ -274,8 +275,8 @@ class Bench:
             self.wrong('another answer', f'{way.what}, {command[0]}, {what}', f': {ended.status} {ended.output}')
 
     def shown_otherwise(self, way, further):
-        """Tries a medium that has other roots than are shown: a read past memory fails, or isn't available, or
-        somebody has the roots mapped."""
+        """Tries a medium that has other roots than are shown: a read past the system's memory fails, or isn't
+        available, or another process has the roots mapped."""
         changes = [command for command in further if command[0] not in ('script', 'format')]
         mapped = way._replace(what=way.what + ', mapped')
         self.refused(mapped, LIST, 'which only looks', mapped=1)

@@ -36,9 +36,9 @@ def words(numbers):
 
 
 def library(strings, symbols, buckets, chains, needed=0):
-    """Returns a library named `q`. It has symbols from number 1 on as pairs (offset of the name, st_info), the strings after
-    the library's own, the buckets and the chain words, also that of symbol 0, and names `q` `needed` times as a needed
-    library. Addresses are offsets of the file."""
+    """Returns a library named `q`. `symbols` has the symbols from number 1 on, as pairs (offset of the name, st_info).
+    `strings` come after the library's own strings. `chains` has the chain words, also that of symbol 0. The library names
+    `q` `needed` times as a needed library. Addresses are offsets of the file."""
     own = b'\0q\0'
     table = words([len(buckets), len(chains)]) + words(buckets) + words(chains)
     table += bytes(-len(table) % 8)
@@ -75,7 +75,7 @@ def placed(names):
 
 
 def line(count):
-    """Returns the chain words of one walk from symbol 1 through all."""
+    """Returns the chain words of one walk that begins at symbol 1 and visits all symbols."""
     return [0] + [i + 1 if i < count else 0 for i in range(1, count + 1)]
 
 
@@ -101,8 +101,8 @@ def own_buckets(count):
 
 
 def tree(count):
-    """Makes chains that merge: the word of symbol i is i // 2. Each symbol whose bucket is free is exported, and its bucket
-    has an index as deep below it as there is."""
+    """Makes chains that merge: the word of symbol i is i // 2. Each symbol whose bucket is free is exported. The walk from
+    the bucket of symbol i begins at symbol i * 2^k, for the greatest k that is possible."""
     names = numbered(count)
     strings, offsets = placed(names)
     buckets, symbols = [count - i % (count // 2) for i in range(count)], []
@@ -120,8 +120,8 @@ def tree(count):
 
 
 def comb(count):
-    """Makes chains that merge into one of half the symbols: each symbol of the other half begins a walk along it. The
-    symbols of the long walk whose buckets are free are exported."""
+    """Makes chains that merge into one chain of half the symbols: each symbol of the other half begins a walk along
+    this chain. The symbols of the long chain whose buckets are free are exported, except its last 1,000."""
     half = count // 2
     names = numbered(count)
     strings, offsets = placed(names)

@@ -8,10 +8,10 @@ TOOL is the program of c/tests/tool.c, built as c/tests/run.sh builds it. Every 
 present at the end. All other commands have to report that the disk is locked: a change by PROGRAM after two seconds,
 and any other command at once. A `list` has to show a state between those before and after it.
 
-The rounds are: installs; the same, each repeated until it is done; all commands; both programs; lists beside one writer; a
-file that is put in another's place (mv); and two and twelve `format`s of one name. Before them come a disk that another
-process has locked, shared or exclusively, and, if strace is there, a file system that can't lock and a file that is put in
-another's place between opening and locking. The script makes 10 rounds of each; 200 take some minutes.
+The rounds are: installs; installs that are each repeated until they succeed; all commands; both programs; lists beside one
+writer; a file that is put in another's place (mv); and two and twelve `format`s of one name. Before them come a disk that
+another process has locked, shared or exclusively, and, if strace is there, a file system that can't lock and a file that
+is put in another's place between opening and locking. The script makes 10 rounds of each; 200 take some minutes.
 """
 
 import argparse

@@ -4,11 +4,11 @@
     python3 bench/turns.py PROGRAM FOLDER [--loops N..] [--changes N] [--wide]
 
 The folder of PROGRAM has what c/build.sh has built with it. Beside N loops of `rlibreg-run`, and of `list`, the updater
-of docs/C.md makes one change after the other, which waits, and then `rlibreg replace`, which tries for two seconds. The
-script checks that each updater succeeds, and 19 of 20 replacements; that half of the updaters take at most 100 ms, or
-five times their time without the loops; that every start succeeds; that each list succeeds, or reports that the disk is
-locked; and that both kinds of loops go on meanwhile. With --wide the script prints the figures of 1, 2, 4, 8 and 16
-loops and 100 changes; otherwise it tries 8 loops and 20 changes.
+of docs/C.md makes one change after the other, each of which waits for the lock. Then `rlibreg replace` makes changes,
+each of which tries for two seconds. The script checks that each updater succeeds, and 19 of 20 replacements; that half
+of the updaters take at most 100 ms, or five times their time without the loops; that every start succeeds; that each
+list succeeds, or reports that the disk is locked; and that both kinds of loops go on meanwhile. With --wide the script
+prints the figures of 1, 2, 4, 8 and 16 loops and 100 changes; otherwise it tries 8 loops and 20 changes.
 """
 
 import argparse

@@ -8,8 +8,8 @@ from debian_sources import NotHad
 from real_builds import Build, need, run
 
 # A project: its package; its commands, in which {cc} and {cxx} are the compilers, {words} are those of `linked` or of
-# `static`, and the name of a project in `before` is its folder; the places of its libraries, in the order of what
-# needs what; its programs, by their places, and the places of the static ones; and the tools that it needs.
+# `static`, and the name of a project in `before` is its folder; the places of its libraries, each after those that it
+# needs; its programs, each with its place and the place of the static one; and the tools that it needs.
 Project = collections.namedtuple(
     'Project', 'package commands linked static libraries programs tools before', defaults=((), ()))
 # The packages of tools that have another name.

@@ -8,9 +8,9 @@
 # FS is vfat, exfat and ext2. Each sync of the `format` fails in turn, with all writes of the device, which
 # then heals. A cut is a copy of what was written to the device. The script also prints what happens
 # without mounting again, and doesn't judge it. It needs root, dmsetup, strace, mkfs of each FS, and a
-# kernel with loop devices, dm-flakey and FS; what is missing is left out, with a line that says so. The
-# shell may be busybox's. If the kernel has none of these, the script can run in a guest; DELAY is then the
-# number of microseconds that a slow guest takes to exchange a table.
+# kernel with loop devices, dm-flakey and FS; if one of them is missing, the part that needs it is left
+# out, and a line reports this. The shell may be busybox's. If the kernel has none of these, the script can
+# run in a guest; DELAY is then the number of microseconds that a slow guest takes to exchange a table.
 set -u
 program=$(realpath "$1")
 library=$(realpath "${3:-$(dirname "$0")/../crates/cases/data/strong.so}")

@@ -6,10 +6,10 @@ killed at random.
     python3 bench/updates.py RLIBREG_TOOL FOLDER [--updates N] [--cuts N] [--kills N] [--first NUMBER]
 
 If strace is there, a power cut comes after each call of N of the updates (--cuts): the disk has each sector that was
-written since the last sync, or doesn't have it (all such disks if at most 6 sectors are unsynced, else some). It has to
-hold the old registry; from the root's write on perhaps the updated one, and after the last sync only the updated one. After
-a kill the disk has to hold the old 20 libraries or the new ones, and the new ones if `ok` was answered. The script exits
-with status 1 if something is wrong.
+written since the last sync, or doesn't have it (all such disks if at most 6 sectors are unsynced, else some). Up to the
+write of the root, this disk has to hold the old registry; from that write on, the old or the updated registry; and after
+the last sync, only the updated registry. After a kill the disk has to hold the old 20 libraries or the new ones, and the
+new ones if `ok` was answered. The script exits with status 1 if something is wrong.
 """
 
 import argparse
@@ -48,8 +48,8 @@ class Files:
         return file
 
     def library(self, choose, name):
-        """Returns one of the libraries of this name: of 1 to 13 sectors, or rarely more. Some export another symbol,
-        some need a library."""
+        """Returns one of the libraries of this name, which has 1 to 13 sectors, or rarely more. Some of these
+        libraries export another symbol, and some need a library."""
         size = choose.choice((0, 0, 500, 1500, choose.randrange(6000), choose.randrange(15000)))
         return self.made(name, choose.choice(((), (), (), (b'a',), (b'b', b'a'))), (choose.choice((b'f', b'f', b'g')) + name,), (), size)
 
@@ -106,8 +106,9 @@ class Draft:
         return None
 
     def lacks_room(self, command, data):
-        """Returns whether there are fewer free sectors than the file costs. The sectors of the current state, of the
-        plan, and of the catalogues of either, twice, aren't free."""
+        """Returns whether there are fewer free sectors than the file costs. The following sectors aren't free: the
+        roots, the files and entries of the current state and of the plan, and twice as many as the larger of the two
+        numbers of catalogues."""
         count = len(self.state.libraries)
         kept = 2 * max(self.catalogues, lists(count)) - self.catalogues
         more = 2 if command == 'install' and count % 64 == 0 else 0
@@ -208,7 +209,7 @@ class Bench:
             self.checks.skip('power cuts', 'there is no strace')
 
     def updates(self, count, choose):
-        """Runs `count` updates, some of them after each other on each disk."""
+        """Runs `count` updates, up to 29 of them one after the other on each disk."""
         while count:
             many = choose.random() < 0.1
             names = [b'l%d' % i for i in range(70)] if many else list(b'abcdefg'[i:i + 1] for i in range(7))

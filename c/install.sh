@@ -2,8 +2,8 @@
 # install.sh PREFIX [FOLDER]     installs what build.sh has put into FOLDER (c/out) below PREFIX
 # install.sh --remove LIST       removes what is in LIST: PREFIX/share/rlibreg/installed
 #
-# DESTDIR is put before every path; LIST may begin with it or not. PYTHONDIR is the folder for the Python
-# module; without it, this is the folder below PREFIX/lib in which python3 looks for modules, or
+# DESTDIR is put before every path; LIST may begin with DESTDIR or not. PYTHONDIR is the folder for the
+# Python module; without it, this is the folder below PREFIX/lib in which python3 looks for modules, or
 # PREFIX/share/rlibreg. Both are absolute.
 #
 # The list is written first, and a file gets its name only when it is whole, so the script can be run

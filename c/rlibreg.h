@@ -51,9 +51,9 @@
  *   over a file do this, and so does the program `rlibreg`. If the disk is locked, the program ends
  *   with status 3, but a change tries for two seconds first.
  * - So a caller needs no lock of its own. A process that locks the disk around the program (`flock
- *   DISK rlibreg ..`) locks the program out. To make several calls without others in between, lock
- *   another file (`flock DISK.lock rlibreg ..`). All other processes then have to lock that file
- *   too.
+ *   DISK rlibreg ..`) locks the program out. To make several calls without calls of other processes
+ *   in between, lock another file (`flock DISK.lock rlibreg ..`). All other processes then have to
+ *   lock that file too.
  * - A change that waits gets its turn, even if loaders come one after the other. A process that
  *   opens the disk to read gives way to it, for two seconds at most. A reader is never refused
  *   because it gives way, but only because of the lock. The change marks the disk by an open file's
@@ -67,19 +67,20 @@
  *   too, until the process that opened the disk closes it. If that process ends without closing it,
  *   the disk stays locked as long as the child keeps the file open.
  * - Each call checks the file's length. Before and after a change, the call also checks that the
- *   path still names the file, or the same block device. If one of these has changed, the call
- *   returns S1 (RLIBREG_DEVICE), with errno ESTALE, or with an errno for the reason why the path
- *   can't be checked. So a call never returns 0 for a change that nobody would see.
+ *   path still names the file, or the same block device. If the length has changed, or the path
+ *   names something else, the call returns S1 (RLIBREG_DEVICE), with errno ESTALE, or with an errno
+ *   for the reason why the path can't be checked. So a call never returns 0 for a change that
+ *   nobody would see.
  *
  * FAILED WRITES
  *
  * - After a failed write, Linux treats the pages as written, and shows them to every reader. So an
  *   opening syncs the file. Then it compares the registry's two roots, the sectors that lead to the
  *   current state, as the system shows them and as the medium has them. It reads the medium past
- *   the system's memory. If they differ, the library makes the system drop its own. This fails if a
- *   process without the lock has the roots mapped. Then an opening for changes writes the shown
- *   roots to the medium, and an opening for reading is refused with RLIBREG_SYSTEM and EIO. Locked
- *   memory (mlockall) makes no difference.
+ *   the system's memory. If the roots differ, the library makes the system drop the roots that it
+ *   shows. This fails if a process without the lock has the roots mapped. Then an opening for
+ *   changes writes the shown roots to the medium, and an opening for reading is refused with
+ *   RLIBREG_SYSTEM and EIO. Locked memory (mlockall) makes no difference.
  * - Encrypted and compressed files, loop devices without direct I/O, and file systems without
  *   O_DIRECT can't be read past the system's memory. There an opening for changes always writes the
  *   shown roots to the medium, and an opening for reading may show a change that returned S1.
@@ -108,12 +109,12 @@
  *   bytes. The host of docs/C.md does so.
  * - A disk that may only be read, or is on a read-only file system, can be read. There a sync that
  *   fails with EINVAL has nothing to do, and counts as done. A sync that fails with EROFS has
- *   failed: a file system that a failure has made read-only answers this.
+ *   failed: a file system that a failure has made read-only returns EROFS.
  * - The disk can be a block device or a partition. It is opened exclusively for a change, which is
- *   refused with EBUSY if the device is mounted or in use in another way. Readers share it. The
- *   lock is that of the device's node, so all processes have to name the same node. The system's
- *   udev holds the lock for a moment after each change, so a change without RLIBREG_WAIT tries for
- *   two seconds there.
+ *   refused with EBUSY if the device is mounted or in use in another way. Readers share the device.
+ *   The lock is that of the device's node, so all processes have to name the same node. The
+ *   system's udev holds the lock for a moment after each change, so a change without RLIBREG_WAIT
+ *   tries for two seconds there.
  * - Each call opens the registry again. It reads the roots, the catalogues (sectors that list the
  *   libraries) and one sector for each library. It reads only those libraries' files that a bind
  *   needs. So a library that is damaged or can't be read affects only rlibreg_check and a bind that
@@ -139,9 +140,10 @@
  *   cleanup handler has to call (pthread_cleanup_push). A wait for a lock isn't cancelled either,
  *   but a limit ends it (rlibreg_set_wait_limit). A thread that can be cancelled asynchronously
  *   makes no calls.
- * - malloc, realloc and free are the program's, of one allocator. malloc and realloc have to align
- *   a block to each power of two up to 16 that divides its size. Each block is freed before the
- *   call ends, except the blocks for which the description of a call names who frees them. */
+ * - malloc, realloc and free are those of the program, and all three belong to one allocator.
+ *   malloc and realloc have to align a block to each power of two up to 16 that divides its size.
+ *   Each block is freed before the call ends, except the blocks for which the description of a call
+ *   names who frees them. */
 #ifndef RLIBREG_H
 #define RLIBREG_H
 
@@ -641,9 +643,9 @@ int rlibreg_stream_of(const char *path);
  *
  * - RLIBREG_LOCKED: another struct, of this process or another, has locked the file, and either
  *   FLAGS lacks RLIBREG_WAIT or the wait has reached its limit. With RLIBREG_WAIT the call returns
- *   this at once if this thread would wait for itself: for a struct that it used last, or for a
- *   thread that waits for such a struct. It also returns this if the path named another file each
- *   of 16 times.
+ *   this at once if this thread would wait for itself. It would, if it was the last thread to use
+ *   the struct that has the lock, or if the last thread to use that struct waits for this thread.
+ *   The call also returns this if the path named another file at each of 16 tries.
  * - RLIBREG_SYSTEM: a call of the system failed, and errno has the reason. EINTR: a signal ended a
  *   wait without limit. EINVAL: the path is neither a regular file nor a block device. EBUSY: a
  *   block device is in use. ETXTBSY: the file is a standard stream that may be written.
@@ -672,7 +674,7 @@ uint32_t rlibreg_open(rlibreg *registry, const char *path, unsigned flags);
  * - RLIBREG_LOCKED: the disk or the file with the other name is locked.
  * - RLIBREG_SYSTEM: something that comes before the plan failed. errno is EINVAL if the other name
  *   isn't that of a regular file.
- * - The other statuses are the same as rlibreg_open and rlibreg_plan_format return.
+ * - All other statuses are those of rlibreg_open and rlibreg_plan_format.
  *
  * Refusals: S1 if a write or a sync of the plan fails, if the sync of the folder fails after the
  * file has its name, or if the other name can't be removed; errno has the reason. On a file that

@@ -29,8 +29,8 @@ struct walk {
     struct rlibreg_objects objects;
     char was_entered[MOST + 1];  /* by number */
     uint16_t order[MOST];        /* the order in which the libraries are initialized */
-    size_t ordered;              /* at the end of the program: number of libraries that are left */
-    struct functions finalizers; /* those of one library that are left, and its DT_FINI or 0 */
+    size_t ordered;              /* number of libraries in `order` that aren't finalized yet */
+    struct functions finalizers; /* those of one library that remain; `last` is its DT_FINI, or 0 */
     uintptr_t last;
 };
 static struct walk *walked;
@@ -119,8 +119,8 @@ static void initialize(const struct rlibreg_object *it, int count, char **words,
 }
 
 /* Returns the number of the library that is initialized before everything else, because of its
- * DF_1_INITFIRST. As in rlibreg-run, it is the last of them in load order. Returns 0 if there is
- * none. */
+ * DF_1_INITFIRST. If several libraries have this flag, it is the last of these libraries in load
+ * order, as in rlibreg-run. Returns 0 if there is none. */
 static size_t first_of(const struct rlibreg_objects *all) {
     size_t i = all->count - 1;
     while (i && !(rlibreg_tag_of(&all->at[i], DT_FLAGS_1, 0) & DF_1_INITFIRST)) i--;

@@ -186,7 +186,7 @@ static uint32_t open_and_lock(struct disk_file *it, const char *path, unsigned f
     return rlibreg_disk_file_lock(it, found, flags);
 }
 
-/* Returns whether `path` still names the file that was locked: another may have replaced it
+/* Returns whether `path` still names the file that was locked: another file may have replaced it
  * meanwhile. */
 static int is_still_there(const char *path, const struct stat *locked) {
     struct stat now;

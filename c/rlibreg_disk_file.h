@@ -62,8 +62,8 @@ uint32_t rlibreg_disk_file_map(struct disk_file *it, unsigned flags);
 int rlibreg_meet_front(int fd, int (*sync)(int));
 
 /* Locks a file that is open, and puts it into the list of the locks of this process. Returns a
- * status. This is RLIBREG_LOCKED, even with RLIBREG_WAIT, if this thread would wait for itself, and
- * RLIBREG_SYSTEM with ENOMEM if forks can't be watched. */
+ * status. The status is RLIBREG_LOCKED, even with RLIBREG_WAIT, if this thread would wait for
+ * itself, and RLIBREG_SYSTEM with ENOMEM if forks can't be watched. */
 uint32_t rlibreg_disk_file_lock(struct disk_file *it, const struct stat *found, unsigned flags);
 
 /* Puts a file that is locked exclusively into the list of the locks of this process. Returns a
@@ -149,7 +149,7 @@ int rlibreg_path_names(int folder, const char *path, const struct stat *file);
 
 /* Checks, after a successful sync of a folder, whether its names are on the medium
  * (rlibreg_names.c). Returns -1 with errno if the names aren't on the medium, and otherwise 0, also
- * if this can't be found out. */
+ * if that can't be found out. */
 int rlibreg_names_last(int folder);
 
 #endif

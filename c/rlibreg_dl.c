@@ -133,7 +133,7 @@ static void append(struct search *it, const struct rlibreg_object *object) {
     it->order[it->count++] = (uint16_t)number;
 }
 
-/* Finds a name in an object, and then in the libraries that it needs, level by level. */
+/* Finds a name in an object, and then in the libraries that the object needs, level by level. */
 static int find_below(const struct rlibreg_object *first, const char *name, void **address) {
     struct search search = { 0 };
     Elf64_Word hash = hash_of(name);

@@ -30,9 +30,9 @@ struct rlibreg {
 
 /* ---- Cancellation
  *
- * A thread isn't cancelled within a call that opens, changes or closes a file. Otherwise the lock
- * would stay. After a part of a change nobody could go on: the current root is written last, and
- * nobody would know whether the medium has this root. */
+ * A thread isn't cancelled within a call that opens, changes or closes a file. Otherwise the file
+ * would stay locked. A change that was cut off couldn't be continued either: the current root is
+ * written last, and no caller would know whether the medium has this root. */
 
 /* Begins a call: disables cancellation. Returns the former state of cancellation, for end_call. */
 static int begin_call(void) {
@@ -137,7 +137,7 @@ int rlibreg_errno(const rlibreg *it) {
 
 /* ---- The file */
 
-/* Returns whether another process opened the file, of which this process is a child. */
+/* Returns whether the file was opened by another process, of which this process is a child. */
 static int is_inherited(const rlibreg *it) {
     return it->file.fd >= 0 && !rlibreg_is_this_process(&it->file.owner);
 }
@@ -475,8 +475,8 @@ uint32_t rlibreg_format(rlibreg *it, const char *path, uint32_t sectors, unsigne
 
 /* ---- Reading */
 
-/* Lists the registry into new buffers, for `entries` entries and `names` bytes of names. Returns a
- * status. */
+/* Lists the registry. Puts the listing into new buffers, for `entries` entries and `names` bytes of
+ * names. Returns a status. */
 static uint32_t list(rlibreg *it, rlibreg_listing *out, size_t entries, size_t names) {
     out->entries = malloc(entries * sizeof *out->entries);
     out->names = malloc(names);
@@ -613,8 +613,8 @@ uint32_t rlibreg_get_info(rlibreg *it, rlibreg_information *out) {
     return status;
 }
 
-/* Checks the libraries into new buffers, for `libraries` findings and `names` bytes of names.
- * Returns a status. */
+/* Checks the libraries. Puts the findings into new buffers, for `libraries` findings and `names`
+ * bytes of names. Returns a status. */
 static uint32_t check(rlibreg *it, rlibreg_findings *out, size_t libraries, size_t names) {
     out->findings = malloc(libraries * sizeof *out->findings);
     out->names = malloc(names);

@@ -2,9 +2,9 @@
  *
  * The first object is the program. Each other object lies at the least multiple of its unit that
  * isn't below the end of the object before it (COMMANDS, `bind`). The unit isn't known before the
- * object is found, so each unit is tried: one place for each. A library is found if its memory
- * begins with its ELF header, as linkers make it. This works under rlibreg-run and in a file of
- * `rlibreg-tool executable`.
+ * object is found, so each possible unit is tried, with one place for each unit. A library is found
+ * if its memory begins with its ELF header, as linkers make it. This works under rlibreg-run and in
+ * a file of `rlibreg-tool executable`.
  *
  * Under musl's loader, which starts programs where they are built, the objects are those in the
  * list to which DT_DEBUG points. */
@@ -210,7 +210,7 @@ static void add_placed(struct table *all) {
     while (read_next(all, &it, all->at[all->count - 1].end)) add(all, &it);
 }
 
-/* Ends the process if a library that an object needs isn't among them. */
+/* Ends the process if a library that an object needs isn't in the table. */
 static void test_needed(const struct table *all) {
     for (size_t i = 0; i < all->count; i++)
         for (const Elf64_Dyn *it = all->at[i].dynamic; it->d_tag != DT_NULL; it++)

@@ -10,12 +10,12 @@
 #pragma GCC visibility push(hidden)
 
 struct rlibreg_object {
-    uintptr_t base;            /* what is added to the addresses of its file */
-    uintptr_t end;             /* where its memory ends: objects don't overlap */
+    uintptr_t base;            /* number that is added to the addresses of its file */
+    uintptr_t end;             /* address at which its memory ends; objects don't overlap */
     const Elf64_Phdr *headers; /* its program headers */
     size_t header_count;
     const Elf64_Dyn *dynamic; /* its dynamic section */
-    const char *name;         /* its DT_SONAME; of the program, and of a library without, "" */
+    const char *name;         /* its DT_SONAME; "" for the program, and for a library without one */
     const char *strings;      /* DT_STRTAB */
     const Elf64_Sym *symbols; /* DT_SYMTAB */
     const Elf64_Word *hash;   /* DT_HASH: the numbers of buckets and of symbols, buckets, chain */

@@ -111,7 +111,7 @@ static void each_pages_of(const struct part *part, page_action *action) {
     }
 }
 
-/* Two objects never share a page. */
+/* Each object is handled by itself, because two objects never share a page. */
 void each_pages(const struct program *program, page_action *action, void *context) {
     const rlibreg_image *image = &program->image;
     for (size_t i = 0; i < image->object_count; i++) {
@@ -136,8 +136,8 @@ static void protect_run(const struct run *it) {
     fail("permissions");
 }
 
-/* Protects pages, together with those before if the permissions are the same. The last pages aren't
- * protected until the next ones are known. */
+/* Protects pages. If the pages before them get the same permissions, one call protects both. So the
+ * last pages aren't protected until the next pages are known. */
 static void protect(const struct part *part, uint64_t from, uint64_t to, int how) {
     struct run *run = part->context;
     if (from == run->to && how == run->how) {

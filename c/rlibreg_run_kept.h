@@ -9,11 +9,12 @@
 
 /* ---- The key (rlibreg_run_key.c)
  *
- * If two images have equal keys, they differ only if what is compared at each start differs. */
+ * Two images with equal keys are equal, unless the bytes that each start compares are different. */
 
 enum { ROOTS = 1024, MOST_COMPARED = 2 << 20 };
 
-/* The identity of an open file or of a device, and the state of its bytes. */
+/* The identity of an open file or of a device, and the state of its bytes. These are the kinds of
+ * states: */
 enum {
     OF_FILE = 1, /* a file whose times show when it was changed */
     OF_DEVICE,   /* a device: nothing shows when it was changed */
@@ -43,9 +44,9 @@ struct key {
     uint64_t choice, base, may_be_both;
 };
 
-/* state_of reads the state of an open file. The others read the parts of the key: of the loader, of
- * the disk with the boot, and of the program with its options. They return 0, or -1 if an image
- * can't be kept. */
+/* state_of reads the state of an open file. The other functions read the parts of the key: of the
+ * loader, of the disk with the boot, and of the program with its options. These functions return 0,
+ * or -1 if an image can't be kept. */
 int state_of(int fd, struct state *it);
 int key_of_loader(struct key *key);
 int key_of_disk(int fd, struct key *key);
@@ -129,7 +130,8 @@ struct kept_file {
 uint64_t place_of_others(const struct counts *counts);
 uint64_t place_of_pages(const struct counts *counts);
 
-/* Returns the parts of the beginning of a kept file at `beginning`. Its head has the length of each. */
+/* Returns the parts of the beginning of a kept file at `beginning`. Its head has the length of each
+ * part. */
 struct kept_file parts_of(void *beginning);
 
 /* Returns the piece that has an address, or null. It is the last piece that begins at the address
@@ -223,7 +225,8 @@ int make_file(const struct keeping *it);
 int name_file(const struct keeping *it, int fd);
 
 /* Removes the images whose keys are older than that of `head`, an image that is to be kept. Also
- * removes the images of other builds of the loader, except one of these builds. */
+ * removes the images of other builds of the loader, except those of the build that kept an image
+ * last. */
 void drop_older(const struct keeping *it, const struct head *head);
 
 /* Returns whether every user may read the open file of a path, and reach it by its real path

@@ -57,8 +57,8 @@ int name_file(const struct keeping *it, int fd) {
 
 /* ---- Which images are removed */
 
-/* The two builds of the loader whose images stay: its own, and of all others the one that kept an
- * image last. */
+/* The two builds of the loader whose images stay: the build that is running, and that one of the
+ * other builds which kept an image last. */
 struct builds {
     const uint8_t *own;
     uint8_t other[BUILD];

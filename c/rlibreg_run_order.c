@@ -38,7 +38,8 @@ static int compare_names(const void *a, const void *b) {
     return strcmp(((const struct named *)a)->name, ((const struct named *)b)->name);
 }
 
-/* A name to look for, and the most bytes of memory that it has. */
+/* A name to look for, and the maximum number of its bytes: those up to the end of the segment in
+ * which it lies. */
 struct wanted {
     const char *name;
     uint64_t room;
@@ -49,8 +50,8 @@ static int compare_wanted(const void *wanted, const void *named) {
     return strncmp(it->name, ((const struct named *)named)->name, it->room);
 }
 
-/* Returns the number of the library that another one, `it`, needs by the name at `offset` in its
- * string table. */
+/* Returns the number of the library that the library `it` needs by the name at `offset` in the
+ * string table of `it`. */
 static size_t needed_library(const struct walk *walk, const struct entered *it, uint64_t offset) {
     const rlibreg_image *image = &walk->program->image;
     const rlibreg_object *object = &image->objects[it->number];

@@ -17,8 +17,8 @@ static int open_nothing(void) {
     return fd < 0 ? open("/", O_RDONLY | O_DIRECTORY) : fd;
 }
 
-/* Opens each stream that isn't open. Returns 0, or -1 if the system doesn't report whether one is
- * open: a filter of system calls (seccomp) can refuse fcntl. */
+/* Opens each stream that isn't open. Returns 0, or -1 if the system doesn't report whether a stream
+ * is open: a filter of system calls (seccomp) can refuse fcntl. */
 static int fill_streams(void) {
     for (int number = 0; number < STREAMS; number++)
         while (fcntl(number, F_GETFD) < 0) {

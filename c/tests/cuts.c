@@ -3,12 +3,12 @@
  * program `rlibreg`. The CHANGE `update` is followed by several changes, with a word `,` between
  * each two.
  *
- * Each sector that was written since the last sync has its old content, or any that was written to
- * it. A disk that a cut leaves has to be, as a whole, the disk from before the change or the disk
- * after it. The test judges this by the listing, with the generation, and by the image of a program
- * that is bound against the disk. `rlibreg` has to print for the disk what it prints for one of
- * these two. As a control, the test tries the plan without the sync before its last write: then
- * some disk has to be neither of the two. */
+ * Each sector that was written since the last sync has its old content, or any content that was
+ * written to it since then. A disk that a cut leaves has to be, as a whole, the disk from before
+ * the change or the disk after it. The test judges this by the listing, with the generation, and by
+ * the image of a program that is bound against the disk. `rlibreg` has to print for the disk what
+ * it prints for one of these two. As a control, the test tries the plan without the sync before its
+ * last write: then some disk has to be neither of the two. */
 #define _GNU_SOURCE
 #include "../rlibreg.h"
 
@@ -161,7 +161,7 @@ static void try_disk(struct cuts *it, const uint8_t *disk) {
 }
 
 /* Tries the disks that the steps from `from` up to `to` may leave. Each sector that these steps
- * write has its content from before, or any that they write to it. */
+ * write has its content from before, or any content that these steps write to it. */
 static void try_mixtures(struct cuts *it, uint8_t *disk, size_t from, size_t to) {
     while (from < to && !it->steps->content[from]) from++;
     if (from == to) {

@@ -157,8 +157,8 @@ ends 'two halves of a script' old "$gcc: half.map: it ends within a version" \
 ends 'a folder in the place of a script' old "$gcc: folder: it can't be read" \
     $gcc -shared plain.c -Wl,--version-script=folder
 
-# Folders of temporary files that can't be used, with which the driver does what gcc does, and a
-# full one.
+# A folder of temporary files that doesn't exist: the driver then uses another one, as gcc does.
+# After that, folders without room for temporary files, or for a registry.
 TMPDIR=/none $gcc -shared plain.c -o libone.so
 want 'another folder of temporary files' 'one ' "$(exported libone.so)"
 if unshare -rm mount -t tmpfs none /mnt 2> told; then

@@ -1,7 +1,8 @@
 /* making LIBRARY NAME makes registries in the folder where it is run, with the calls of the system
- * watched. Each call fails, every two of them fail, and the process ends at each. There are file
- * systems without hard links, and files that exist before or are put there meanwhile. After each of
- * these there is no disk or a whole one, and one can be made. LIBRARY has the SONAME NAME. */
+ * watched. The test makes each call fail, and every two calls, and ends the process at each call.
+ * It also tries file systems without hard links, and files that exist before or are put there
+ * meanwhile. After each of these, there has to be no disk or a whole one, and a registry can be
+ * made. LIBRARY has the SONAME NAME. */
 #define _GNU_SOURCE
 #include "watched.h"
 

@@ -76,9 +76,8 @@ taking=-Wl,--wrap=mmap,--wrap=kernel_map,--wrap=rlibreg_bind
 gcc $loader -o "$room/run-taken" $taking "$here/taken.c" "$objects"/loader/*.o \
     "$built/librlibreg.a"
 gcc $flags -o "$room/within" "$here/within.c"
-# The loader that keeps images without a wait, also for each start of the loader's tests. The first has
-# the id of the build. The others are the same, except that one has the id of another build, and one has
-# no id.
+# Three loaders that keep images without a wait. The first has the id of the build, and is also used for
+# each start of the loader's tests. The second has the id of another build, and the third has no id.
 keeping=$taking$(printf ',--wrap=%s' kernel_clock kernel_read kernel_advise openat fchmod writev fdatasync \
     linkat unlinkat)
 build_id=0x$(readelf -nW "$built/rlibreg-run" | sed -n 's/.*Build ID: //p')

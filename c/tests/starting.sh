@@ -51,7 +51,7 @@ cp disk cut
 want 'a disk that is cut while it is read' "rlibreg-run: the disk can't be read
 = 126" "$(ended env CUT_LATE=cut ./run-taken cut ./words)"
 # An address space into which the kernel can't even map the loader: the kernel then kills it. If the
-# system's loader comes before it, that reports the same by status 127.
+# system's loader runs first, it reports this with status 127.
 few=
 memory=$(error_text 12)
 interpreter=$(readelf -lW "$built/rlibreg-run" | grep INTERP || true)

@@ -23,7 +23,8 @@ old=$(digest "$data/strong.so")
 new=$(digest "$data/protected.so")
 both=$(digest "$data/protected.so" "$data/long.so")
 
-# The copy of the script here lies beside the programs, and its wait may be shorter.
+# The tests run a copy of the script that lies beside the programs, and may shorten the wait of this
+# copy.
 mkdir bin steps start
 sed 's/^readonly patience=10 /readonly patience=${PATIENCE:-10} /' "$here/../rlibreg-switch" > bin/rlibreg-switch
 want 'its patience' 1 "$(grep -c '^readonly patience=${PATIENCE:-10} ' bin/rlibreg-switch)"

@@ -1,10 +1,10 @@
 /* Maps at addresses that are in use, and a bind that reports itself if BINDS is set. They are
  * linked into the loader with --wrap=mmap, --wrap=kernel_map and --wrap=rlibreg_bind. Of the maps
- * that request an address, the first FREE get it, the next TAKEN find it in use, and the others get
- * it again. If ELSEWHERE is set, the maps that find it in use get another address, as from a kernel
- * before 4.17. The file CUT is shortened after each map of a file, and the file CUT_LATE before a
- * bind. After each bind, the bytes of the file RAW are written over the file `disk`, as a process
- * would do that takes no lock. */
+ * that request an address, the first FREE get it, the next TAKEN find it in use, and all later maps
+ * get it again. If ELSEWHERE is set, the maps that find it in use get another address, as from a
+ * kernel before 4.17. The file CUT is shortened after each map of a file, and the file CUT_LATE
+ * before a bind. After each bind, the bytes of the file RAW are written over the file `disk`, as a
+ * process would do that takes no lock. */
 #define _GNU_SOURCE
 #include "../rlibreg.h"
 #include "../rlibreg_run_kernel.h"

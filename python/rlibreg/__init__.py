@@ -697,8 +697,8 @@ class Registry:
     """The registry in a file, or on a block device. It is open and locked until `close`, or until
     the end of a `with` block. With `read_write` it is open for changes too, and the lock is
     exclusive; otherwise the lock is shared with other readers. If somebody else has the lock,
-    Locked is raised; with `wait` the call waits for the lock instead, without end or for that many
-    seconds.
+    Locked is raised; with `wait` the call waits for the lock instead: without a limit if `wait` is
+    True, and otherwise for `wait` seconds.
 
     The file of a library or a program is given as its bytes (any object that has a buffer), or by
     its path (a str or an os.PathLike). A path is read whole."""
@@ -780,8 +780,8 @@ class Registry:
         return self._handle.do(lambda: _list(self._handle))
 
     def file(self, name: str) -> bytes:
-        """Returns the bytes of the library of this name, as they were installed. It doesn't test
-        whether they still are those of a library, and reads no other library's file."""
+        """Returns the bytes of the library of this name, as they were installed. The call doesn't
+        test whether these bytes still are a library, and reads no other library's file."""
         word = _word(name)
         return self._handle.do(lambda: _file(self._handle, word))
 
@@ -793,7 +793,7 @@ class Registry:
         return bytes(given.raw)
 
     def info(self) -> Info:
-        """Returns the numbers of the registry as a whole. It reads no library's file."""
+        """Returns the numbers of the registry as a whole. The call reads no library's file."""
         given = _calls.Information()
         self._handle.call('get_info', ctypes.byref(given))
         return Info(*(getattr(given, name) for name in Info._fields))

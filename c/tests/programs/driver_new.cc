@@ -1,6 +1,6 @@
 /* Operators new and delete. g++ declares some of them itself; without C++'s headers the others are
- * declared here. With an argument the program asks for an impossible block, the one of that number.
- * Without an argument it asks for possible blocks. */
+ * declared here. With an argument, the program asks for the impossible block of that number.
+ * Without an argument, it asks for possible blocks. */
 typedef decltype(sizeof 0) size;
 namespace std {
 enum class align_val_t : size {};

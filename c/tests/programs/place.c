@@ -1,5 +1,5 @@
-/* A program that prints its name and its maps, as the kernel reports them. If it has an argument,
- * it then prints the file that this names. */
+/* A program that prints its name and its maps, as the kernel reports them. If the program has an
+ * argument, it then prints the file that the argument names. */
 #include "start.h"
 
 static void show(const char *path) {

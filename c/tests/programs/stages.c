@@ -1,6 +1,6 @@
 /* A program that prints a line when it is entered. At its end it calls the function whose address
- * the loader passed to it: twice, but only once if there is one argument, and not at all if there
- * are two. */
+ * the loader passed to it: twice without an argument, once with one argument, and not at all with
+ * two arguments. */
 #include "start.h"
 
 static void before(int argc, char **argv, char **variables) {
