@@ -34,7 +34,7 @@ Ended = collections.namedtuple('Ended', 'status output errors')
 Variant = collections.namedtuple('Variant', 'name file before')
 
 
-# The programs that are built by hand; unchanged.PROJECTS has those that are built by their own commands.
+# The programs that are built by hand. `unchanged.PROJECTS` has those that are built by their own commands.
 BY_HAND = {'Lua': real_builds.lua, 'SQLite': real_builds.sqlite}
 
 

@@ -29,8 +29,8 @@ static int fill_streams(void) {
     return 0;
 }
 
-/* Moves a file to a higher descriptor. The file was opened as a stream, because another thread had
- * closed that stream. Returns its new descriptor, or -1 with errno. */
+/* Moves a file to a descriptor above those of the standard streams. The file got the number of a
+ * stream because another thread had closed that stream. Returns the new descriptor, or -1 with errno. */
 static int move_up(int stream) {
     int fd = fcntl(stream, F_DUPFD_CLOEXEC, STREAMS), nothing = open_nothing();
     if (nothing < 0 || dup2(nothing, stream) < 0) close(stream);

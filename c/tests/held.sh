@@ -23,7 +23,7 @@ let_go
 want 'a change after it' 'ok
 = 0' "$(ended ./tool install disk "$data/strong.so")"
 
-# The program takes the same lock as the library. Its changes try for two seconds.
+# The program takes the same lock as the library. A change by the program tries for two seconds to get it.
 shut_out='rlibreg: cannot read disk
 = 3'
 # tries TENTHS TENTHS COMMAND..: checks that a command gives up after this many tenths of a second at

@@ -9,8 +9,8 @@ export ROOM=$PWD
 lines() {
     printf '%s %s\n' "$1" "$(od -An -v -tx1 "$2" | tr -d ' \n')"
 }
-# digest FILE..: prints what rlibreg-tool prints of a registry of these libraries: `b`, and then
-# `a`.
+# digest FILE..: prints the output of `rlibreg-tool digest` for a registry of these libraries. The first
+# is named `b`, and the second `a`.
 digest() {
     local names=(b a) at
     for ((at = 1; at <= $#; at++)); do

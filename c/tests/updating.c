@@ -124,8 +124,8 @@ static void *update(void *unused) {
     return unused;
 }
 
-/* Checks that each thread succeeds: it waits for the others, including the one that makes the
- * disk. */
+/* Checks that threads can update the disk at once: each waits for the others, also for the one that
+ * makes the disk, and succeeds. */
 static void try_threads(void (*leave)(void)) {
     int status;
     leave();

@@ -4,7 +4,7 @@ use roots::Version;
 use sector_disk::Disk;
 use store::UnusedSpace;
 
-/// The numbers of a disk and of the state that it holds.
+/// Facts about a disk and the state that it holds: its version, sizes and counts.
 #[derive(Clone, Copy, PartialEq, Eq)]
 pub struct Info {
     /// The version of the disk.

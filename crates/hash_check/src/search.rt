@@ -1,4 +1,4 @@
-// Searches for a name by the hash table.
+// Searches for a name in an object's hash table.
 
 ghost use Rattle.std.specs.Prelude.{◌≡◌, ◌≢◌, false, length, take};
 ghost use Rattle.std.specs.Str.{bytes_eq};

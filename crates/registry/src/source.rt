@@ -94,7 +94,7 @@ impl<'a, D: Disk> Named for Files<'a, D> {
     ghost counted = { λ files. offered_count files.source files.store.now };
 }
 
-/// Returns the positions of the preloads as numbers.
+/// Returns the positions of the preloads as `usize`.
 pub(crate) fn preload_numbers<N: Named>(alloc: Global, files: &N) -> Result<Vec<usize>, AllocError>
     ensures same { IfOk result (λ v. v.items ≡ N.listed files.now) }
     ensures inside { All (λ p. p < N.offered files.now) (N.listed files.now) }

@@ -120,8 +120,9 @@ impl Course {
         self.open_list(tally, &sides, &disk, plain.wanted)
     }
 
-    // Opens the disk that a cut has left. If the cut call was late and all later ones failed, also
-    // cuts the openings of this disk. If only one call failed, also opens the disk with its fuse.
+    // Opens the disk that a cut has left. If the failing call took effect first (`late`) and all
+    // later calls failed, also cuts the openings of this disk. If only one call failed, also opens
+    // the disk through the `Fuse` that made the call fail.
     fn open_list(&self, tally: &mut Tally, sides: &Sides, disk: &Memory, on: Wanted) -> Result<()> {
         let count = self.run.events.len();
         sides.open(tally, disk, on)?;

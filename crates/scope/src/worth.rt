@@ -1,4 +1,5 @@
-// Decides whether finding the definitions of all symbols at once may be cheaper than walks.
+// Decides whether it may be cheaper to find the definitions of all symbols at once than to walk through
+// the hash tables for each symbol.
 
 ghost use Rattle.std.specs.Prelude.{◌≤◌, map, IfSome};
 ghost use Rattle.std.specs.List.{All};

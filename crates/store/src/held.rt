@@ -58,12 +58,12 @@ impl<D: Disk> Store<D> {
         Some(placed.entry.name_bytes())
     }
 
-    /// Returns the held byte string. Reads each of its sectors once, and writes nothing. Refuses
-    /// with S2, S11 or S1. If nobody holds the byte string in this store, refuses with Damaged,
-    /// without a call of the disk. Such a handle comes from another store, or was made before the
-    /// same disk was opened again. A handle is only the sector of an entry. So if somebody holds,
-    /// in this store, another byte string whose entry is in that sector, the call reads that byte
-    /// string.
+    /// Returns the byte string of the handle `held`. Reads each of its sectors once, and writes
+    /// nothing. Refuses with S2, S11 or S1. If nobody holds the byte string in this store, refuses
+    /// with Damaged, without a call of the disk: then the handle comes from another store, or from
+    /// before the disk was opened again. A handle identifies only the sector of an entry. So a
+    /// handle from elsewhere reads another byte string, if somebody holds one in this store whose
+    /// entry is in that sector.
     pub fn read_held(&mut self, alloc: Global, held: &Held) -> Result<Vec<u8>, StoreRefusal>
         ensures { ReadsHeld D.facts self.old self.new held.now result }
     {

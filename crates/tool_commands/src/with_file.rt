@@ -14,7 +14,7 @@ use requests::Command;
 pub(crate) enum WithFile {
     /// Replaces the library with the same name by the file.
     Replace,
-    /// Writes the executable file of the program that is read from the file.
+    /// Binds the program in the file, and writes its executable file.
     Executable {
         /// The address at which the program is bound.
         base: u64,

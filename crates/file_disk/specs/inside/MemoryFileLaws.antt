@@ -13,7 +13,7 @@ use Rattle.file_disk.specs.MemoryFile.{memory_file_facts}
 abbrev present : (file : MemoryFile) → slice_index_or file.past.items (length file.past.items) file.medium ≡ file.medium
 present file = get_or_past file.past.items (length file.past.items) file.medium (omega arith)
 
--- The contents that reads of a file in memory return are on the medium, or may reach it.
+-- Reads of a file in memory return contents that are on the medium or may reach it.
 pub file_holds : (file : MemoryFile) → HoldsWhatIsRead (memory_file_facts file)
 file_holds file =
     let holds = memory_holds file.medium in
