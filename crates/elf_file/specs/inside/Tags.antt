@@ -39,7 +39,7 @@ place_of number =
 abbrev pub slot_of : List Entry → ℕ → Slot
 slot_of es tag = record { count = count_by (has_tag tag) es; value = unwrap_or (option_map (λ e. e.value) (find (has_tag tag) es)) 0 }
 
--- the slot of a tag after one more entry with this tag, whose value is the first argument
+-- the slot of a tag after one more entry with this tag, whose value is `value`
 abbrev pub slot_more : ℕ → Slot → Slot
 slot_more value slot = record { count = slot.count + 1; value = if slot.count == 0 then value else slot.value }
 
