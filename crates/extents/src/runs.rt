@@ -128,9 +128,9 @@ pub(crate) fn count_behind(runs: &[Extent], place: usize, sector: u32) -> u32
     if run.start == sector { run.count } else { 0 }
 }
 
-/// Inserts `extent` into the runs at `place`, and joins it to adjacent runs. `left` is the length of
-/// the run that ends where `extent` begins, and `right` the length of the run that begins where it
-/// ends. Each is 0 if there is no such run.
+/// Inserts `extent` into the runs at `place`, and joins it to adjacent runs. `left` is the length
+/// of the run that ends where `extent` begins, and `right` the length of the run that begins where
+/// it ends. Each is 0 if there is no such run.
 pub(crate) fn join(runs: &mut RunList, place: usize, extent: Extent, left: u32, right: u32)
     requires before { min left 1 ≤ place }
     requires behind { place + min right 1 ≤ length runs.old.items }

@@ -98,7 +98,8 @@ fn lock_made<R: Files<File = File>>(
         Ok(()) if is_name_of(rt, other, &file) => Ok(Some(file)),
         Ok(()) | Err(TryLockError::WouldBlock) => Ok(None),
         Err(TryLockError::Error(_)) => {
-            // The file can't be locked at all: no other process has the lock. So its name is removed.
+            // The file can't be locked at all: no other process has the lock. So its name is
+            // removed.
             if is_name_of(rt, other, &file) {
                 let _ = fs::remove_file(rt, other);
             }

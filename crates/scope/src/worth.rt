@@ -1,5 +1,5 @@
-// Decides whether it may be cheaper to find the definitions of all symbols at once than to walk through
-// the hash tables for each symbol.
+// Decides whether it may be cheaper to find the definitions of all symbols at once than to walk
+// through the hash tables for each symbol.
 
 ghost use Rattle.std.specs.Prelude.{◌≤◌, map, IfSome};
 ghost use Rattle.std.specs.List.{All};
