@@ -1,5 +1,5 @@
 #!/bin/sh
-# Tests the advice of GUIDE about a `format` that is answered S1 (Device) on file systems without a
+# Tests the advice of GUIDE about a `format` that is refused with S1 (Device) on file systems without a
 # journal. The file system is mounted again, and the `format` is run again. From then on, everything that
 # is answered `ok` has to survive a power cut.
 #

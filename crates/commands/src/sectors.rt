@@ -8,7 +8,7 @@ ghost use Rattle.commands.specs.Sectors.{is_decimal, sectors_of};
 
 use states::is_geometry;
 
-/// The maximum number of digits of a number of sectors.
+/// The maximum number of digits of the argument SECTORS.
 const MOST_DIGITS: usize = 7;
 
 /// Returns whether all bytes are decimal digits.

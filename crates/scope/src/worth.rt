@@ -82,8 +82,8 @@ fn may_be_long(objects: &[LoadedObject<'_>]) -> bool {
     lookups.saturating_mul(steps) > names.saturating_mul(STEPS_OF_A_NAME)
 }
 
-/// Returns whether the names of the symbols that an object looks up have so many bytes in total
-/// that many names are tails of other names. Hashing such names one by one would cost the sum of
+/// Returns whether the total length of the names that an object looks up shows that many of these
+/// names are tails of other names. Hashing such names one by one would cost the sum of
 /// their lengths.
 fn share_bytes(object: &Object<'_>) -> bool {
     let mut budget = NameBudget::new(object.string_table().len());
