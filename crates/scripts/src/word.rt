@@ -39,7 +39,7 @@ fn are_names(words: &[u8]) -> bool
     words.split(|b| *b == b' ').all(|word| is_name(word))
 }
 
-/// Returns the parts of `words` that the spaces separate.
+/// Returns the parts of `words` between its spaces.
 fn words_of(alloc: Global, words: &[u8]) -> Result<Vec<&[u8]>, AllocError>
     ensures { IfOk result (λ v. map (λ w. w.now) v.items ≡ slice_split (λ b. b == 32) words.now) }
 {
