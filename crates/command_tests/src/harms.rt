@@ -14,7 +14,7 @@ const S4: Wanted = Err(StoreRefusal::AlreadyFormatted);
 
 const S5: Wanted = Err(StoreRefusal::Damaged);
 
-// The library `a` is listed. When its bytes are read again, they are zeros.
+// The library `a` is listed. The second read of its bytes returns zeros.
 const HELD: Wanted = Ok((
     "library a 344\nend\nrefused S5 Damaged\nrefused C2 AlreadyInstalled\n",
     9,
