@@ -104,8 +104,8 @@ fn not_opened(
     tell(alloc, words, at, disk, 0)
 }
 
-// Opens a copy of the disk, and applies command number `at` to its registry. A copy has no reserved
-// memory, so its next write has to allocate.
+// Opens a copy of the disk, and applies command number `at` to its registry. The next write to a
+// copy has to allocate.
 fn go(alloc: Global, disk: &Memory, step: Step, at: usize) -> Result<Went, AllocError> {
     match Registry::open(alloc, counted(disk.copy()?)) {
         Ok(mut registry) => {
