@@ -19,13 +19,13 @@ enum { FIRST_OBJECTS = 1024, FIRST_SEGMENTS = 4096, FIRST_BYTES = 16 << 20 };
 struct rlibreg {
     struct disk_file file;
     struct place place; /* path of the file, if it was opened for changes */
-    int may_change; /* whether the file was opened for changes */
+    int may_change; /* whether the file is open for changes */
     int has_failed; /* whether a write or a sync failed */
     int limit;      /* milliseconds to wait for a lock; less than 0: without a limit */
     char *text;     /* text of the last answer, followed by a byte 0 */
     size_t text_room;
     rlibreg_answer answer;
-    int why; /* errno at the last answer that no call over bytes made */
+    int why; /* errno of the last answer, if no call over bytes made it */
 };
 
 /* ---- Cancellation
@@ -47,8 +47,7 @@ static void end_call(int before) {
 
 /* ---- Answers */
 
-/* Sets the answer of a call that made no call over bytes, with `status` and `text`. Returns
- * `status`. */
+/* Sets the answer of a call that made no call over bytes: `status` and `text`. Returns `status`. */
 static uint32_t say(rlibreg *it, uint32_t status, const char *text) {
     it->answer = (rlibreg_answer){ .status = status, .text = strlen(text) };
     it->why = errno;
@@ -65,8 +64,8 @@ static uint32_t say_memory(rlibreg *it) {
 }
 
 /* Ends the text of the last call with a byte 0. If the text was cut, makes the buffer larger and
- * returns 1: the call has to be made again. If there is no memory for a larger buffer, the text
- * stays cut. */
+ * returns 1, and the caller has to repeat the call. If there is no memory for a larger buffer, the
+ * text stays cut. */
 static int text_was_cut(rlibreg *it) {
     size_t whole = it->answer.text;
     if (whole < it->text_room) {
@@ -102,7 +101,7 @@ rlibreg *rlibreg_create(void) {
     return it;
 }
 
-/* Closes the file, and leaves errno as it is. */
+/* Closes the file, and leaves errno unchanged. */
 static void let_go(rlibreg *it) {
     rlibreg_place_end(&it->place);
     rlibreg_disk_file_close(&it->file);
@@ -146,7 +145,7 @@ void rlibreg_set_wait_limit(rlibreg *it, int milliseconds) {
     it->limit = milliseconds;
 }
 
-/* Sets the moment until which a call waits for a lock. */
+/* Sets the moment at which a call stops waiting for a lock. */
 static void begin_waiting(rlibreg *it) {
     it->file.until = it->limit < 0 ? RLIBREG_NO_END : rlibreg_moment_in(it->limit);
 }
@@ -175,8 +174,8 @@ static uint32_t fail(rlibreg *it) {
     return say(it, RLIBREG_DEVICE, "refused S1 Device\n");
 }
 
-/* Returns the status with which each call on this struct is refused, or 0. If the file was
- * shortened, its map can't be read: that would end the process. */
+/* Returns the status with which each call of this struct is refused, or 0. If the file was
+ * shortened, its map must not be read, because that would end the process. */
 static uint32_t refuse(rlibreg *it) {
     if (is_inherited(it)) return say(it, RLIBREG_BAD_ARGUMENT, "");
     if (it->has_failed) return say(it, RLIBREG_REOPEN, "refused S2 Reopen\n");
@@ -207,9 +206,9 @@ static int write_all(int fd, const uint8_t *from, size_t length, off_t at) {
 }
 
 /* Writes the sector of the step at the front of a plan. The same write includes the sectors of the
- * following steps, as long as each sector follows the one before it. For that, the bytes of the
- * sectors are moved together. Returns the number of bytes that these steps take in the plan, or 0
- * if the write fails. */
+ * following steps, as long as each sector follows the previous one. To do so, moves the bytes of
+ * the sectors together. Returns the number of bytes that these steps take in the plan, or 0 if the
+ * write fails. */
 static size_t write_run(int fd, uint8_t *plan, size_t length) {
     uint32_t first = number_at(plan), next = first + 1;
     size_t at = STEP_NUMBER + SECTOR, bytes = SECTOR;
@@ -222,8 +221,8 @@ static size_t write_run(int fd, uint8_t *plan, size_t length) {
 }
 
 /* Makes the writes and syncs of a plan in their order, until one fails. Returns 0, or -1 with
- * errno. Checks the file's length before each step: a write past the end of a shortened file would
- * hide that it was shortened. The plan must not be used again. */
+ * errno. Checks the file's length before each step, because a write past the end of a shortened
+ * file would hide that it was shortened. The plan must not be used again. */
 static int carry_out(const struct disk_file *file, uint8_t *plan, size_t length) {
     for (size_t at = 0; at < length;) {
         size_t done = STEP_NUMBER;
@@ -286,8 +285,8 @@ static uint32_t plan_preload(rlibreg *it, const void *asked, size_t length, uint
                                 it->text, it->text_room, &it->answer);
 }
 
-/* Plans a change, in a buffer that is as large as the plan needs. Returns a status. The caller
- * frees the plan, which is null if the status isn't 0. */
+/* Plans a change, in a buffer of the size that the plan needs. Returns a status. The caller frees
+ * the plan, which is null if the status isn't 0. */
 static uint32_t make_plan(rlibreg *it, plan_call *call, const void *asked, size_t length,
                           uint8_t **plan) {
     size_t room = (length / SECTOR + 1 + SMALL_PLAN) * (STEP_NUMBER + SECTOR);
@@ -311,8 +310,8 @@ static int is_stream(const rlibreg *it) {
     return fstat(it->file.fd, &found) || rlibreg_stream_of_file(&found) >= 0;
 }
 
-/* Plans a change and carries it out. Returns a status. Checks the file before and after the change:
- * it may have been shortened, or another file may have taken its place. */
+/* Plans a change and carries it out. Returns a status. Checks the file before and after the change,
+ * because it may have been shortened or replaced. */
 static uint32_t change_file(rlibreg *it, plan_call *call, const void *asked, size_t length) {
     uint8_t *plan;
     uint32_t status = refuse(it);
@@ -386,8 +385,8 @@ static uint32_t plan_update(rlibreg *it, const void *asked, size_t length, uint8
                                &it->answer);
 }
 
-/* Returns the maximum number of bytes that an update writes besides those for which each plan has
- * room. For each change, these are its bytes, the rest of their last sector, and an entry. */
+/* Returns the maximum number of bytes that an update writes in addition to those for which each
+ * plan has room: for each change, its bytes, the rest of their last sector, and an entry. */
 static size_t written_by(const struct update *it) {
     return it->length + it->count * 2 * SECTOR;
 }
@@ -425,8 +424,8 @@ static uint32_t format_file(rlibreg *it, const char *path, size_t length, unsign
     return make_registry(it);
 }
 
-/* Makes a registry on a new file, which gets its name once all of it is on the medium. Returns a
- * status. */
+/* Makes a registry on a new file, which gets its name when the whole file is on the medium. Returns
+ * a status. */
 static uint32_t format_new(rlibreg *it, const char *path, size_t length, unsigned flags) {
     struct new_disk new = { .folder = -1 };
     struct place place;
@@ -475,8 +474,8 @@ uint32_t rlibreg_format(rlibreg *it, const char *path, uint32_t sectors, unsigne
 
 /* ---- Reading */
 
-/* Lists the registry. Puts the listing into new buffers, for `entries` entries and `names` bytes of
- * names. Returns a status. */
+/* Lists the libraries and the preloads. Puts the listing into new buffers, for `entries` entries
+ * and `names` bytes of names. Returns a status. */
 static uint32_t list(rlibreg *it, rlibreg_listing *out, size_t entries, size_t names) {
     out->entries = malloc(entries * sizeof *out->entries);
     out->names = malloc(names);
@@ -530,8 +529,8 @@ static void *fitting(void *block, size_t bytes) {
 }
 
 /* Makes a request, whose result is never empty. Returns a status, and the result in `bytes`,
- * followed by a byte 0. The first buffer has room for `first` bytes or, if that much memory is
- * refused, for a small file. */
+ * followed by a byte 0. The first buffer has room for `first` bytes or, if this memory is refused,
+ * for a small file. */
 static uint32_t give(rlibreg *it, give_call *call, struct asked what, size_t first, void **bytes,
                      size_t *length) {
     *bytes = NULL;
@@ -653,8 +652,8 @@ struct room {
     size_t objects, segments, bytes;
 };
 
-/* Asks the system for large pages if there is much room: they are faster if most of the room is
- * used. The beginning gets no large pages, so that a small image needs little memory. */
+/* Requests large pages from the system if there is much room, because they are faster if most of
+ * the room is used. Requests none for the beginning, so that a small image needs little memory. */
 static void ask_for_large_pages(uint8_t *bytes, size_t room) {
     const uintptr_t large = 2 << 20, small_image = 4 << 20, much = 32 << 20;
     uintptr_t from = ((uintptr_t)bytes + small_image) / large * large;
@@ -695,12 +694,13 @@ static uint32_t bind_into(rlibreg *it, const uint8_t *disk, const struct asked *
                         it->text, it->text_room, &it->answer);
 }
 
-/* Binds a program against the bytes of a disk. At first there is room for `first_bytes` bytes of
- * the image. Returns a status. */
+/* Binds a program with the bytes of a disk. At first there is room for `first_bytes` bytes of the
+ * image. Returns a status. */
 static uint32_t bind_over(rlibreg *it, const uint8_t *disk, const struct asked *what,
                           rlibreg_image *out, size_t first_bytes) {
     struct room room = { FIRST_OBJECTS, FIRST_SEGMENTS, first_bytes };
-    if (!make_first_room(out, &room)) room = (struct room){ 0 }; /* the bind reports the sizes */
+    if (!make_first_room(out, &room)) room = (struct room){ 0 }; /* if there are no buffers, the
+                                                                  * bind still reports the sizes */
     for (;;) {
         uint32_t status = bind_into(it, disk, what, out, room);
         int again = text_was_cut(it) || status == RLIBREG_BUFFER_TOO_SMALL;
@@ -733,8 +733,8 @@ uint32_t rlibreg_image_in(rlibreg *it, const void *program, size_t length, uint6
     return status ? status : bind_over(it, it->file.bytes, &what, out, first_bytes);
 }
 
-/* Returns the bytes of the disk as they are after a plan, or null if memory is refused. The map is
- * private: the system copies the pages that are written, and writes nothing to the file. */
+/* Returns the bytes of the disk after a plan, or null if memory is refused. The map is private: the
+ * system copies the pages that are written, and writes nothing to the file. */
 static uint8_t *copy_after(const struct disk_file *file, const uint8_t *plan, size_t length) {
     const int kind = MAP_PRIVATE | MAP_NORESERVE;
     uint8_t *copy = mmap(NULL, file->length, PROT_READ | PROT_WRITE, kind, file->fd, 0);

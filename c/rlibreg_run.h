@@ -26,15 +26,15 @@ struct calls {
 
 struct program {
     const char *path;
-    int fd;            /* descriptor of its file, while that is read */
+    int fd;            /* descriptor of its file, while the file is being read */
     struct stat found; /* state of the file when it was opened */
     uint8_t *bytes;    /* bytes of the file */
     size_t length;
     uint64_t base;         /* base at which it is bound */
     int has_base;          /* whether the user named the base */
-    int may_be_both;       /* whether memory may be writable and executable at once */
-    rlibreg_image image;   /* image of it and its libraries; once it is started, only the objects
-                            * and the libraries' names */
+    int may_be_both;       /* whether memory may be both writable and executable */
+    rlibreg_image image;   /* image of the program and its libraries; after the start, only the
+                            * objects and the libraries' names */
     rlibreg_object object; /* first object of the image: the program itself */
     struct calls initializers; /* in the order in which they are called */
     struct calls finalizers;   /* in the reverse of the order in which they are called */
