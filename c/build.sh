@@ -52,9 +52,9 @@ fi
 cp "$RLIBREG_C" "$folder/proved.a"
 
 # The C code over the proved calls, and the functions by which the proved calls get memory.
-parts='file disk_file process streams place new_disk names turn front status'
-for part in $parts; do
-    $cc $flags -c -o "$folder/rlibreg_$part.o" "c/library/rlibreg_$part.c"
+parts=(c/library/*.c) parts=("${parts[@]##*/}") parts=("${parts[@]%.c}")
+for part in "${parts[@]}"; do
+    $cc $flags -c -o "$folder/$part.o" "c/library/$part.c"
 done
 rm -f "$folder/librlibreg.a"
 (
@@ -63,10 +63,10 @@ rm -f "$folder/librlibreg.a"
 CREATE librlibreg.a
 ADDLIB proved.a
 ADDLIB $kit/c/liblibc_c.a
-$(printf 'ADDMOD rlibreg_%s.o\n' $parts)
+$(printf 'ADDMOD %s.o\n' "${parts[@]}")
 SAVE
 END
-    rm proved.a $(printf 'rlibreg_%s.o ' $parts)
+    rm proved.a "${parts[@]/%/.o}"
 )
 cp c/rlibreg.h "$folder/"
 # linked STATUS STREAM MESSAGE NAME WORD..: links a program. If the program is refused memory at its

@@ -1,5 +1,5 @@
-/* The file of a disk, for the calls over a file (rlibreg_file.c). The programs and the loader use
- * parts of it. Nothing here is for users. */
+/* The file of a disk, for the calls over a file (rlibreg_registry.h). The programs and the loader
+ * use parts of it. Nothing here is for users. */
 #ifndef RLIBREG_DISK_FILE_H
 #define RLIBREG_DISK_FILE_H
 
@@ -78,7 +78,7 @@ void rlibreg_disk_file_use(struct disk_file *it);
 void rlibreg_disk_file_close(struct disk_file *it);
 
 /* Binds a program as rlibreg_bind_program does. At first the image's bytes have room for
- * `first_bytes` bytes, which are 16 MiB or more (rlibreg_file.c). Returns a status. */
+ * `first_bytes` bytes, which are 16 MiB or more (rlibreg_image.c). Returns a status. */
 uint32_t rlibreg_image_in(rlibreg *registry, const void *program, size_t length, uint64_t base,
                           rlibreg_image *image, size_t first_bytes);
 

@@ -1,5 +1,5 @@
 /* Makes the file of a disk that doesn't exist yet, under another name until it is whole.
- * rlibreg_format calls this (rlibreg_file.c). */
+ * rlibreg_format calls this (rlibreg_format.c). */
 #define _GNU_SOURCE
 #include "rlibreg_disk_file.h"
 

@@ -1,5 +1,5 @@
 /* Checks whether the path of a file that is being changed still names the file, and whether the
- * file still has its length. rlibreg_file.c calls this before and after each change. */
+ * file still has its length. rlibreg_change.c calls this before and after each change. */
 #define _GNU_SOURCE
 #include "rlibreg_disk_file.h"
 

@@ -5,51 +5,53 @@ uint32_t rlibreg_version(void) {
     return RLIBREG_VERSION;
 }
 
+/* The name of each status. */
+static const struct {
+    uint32_t status;
+    const char *name;
+} names[] = {
+    { RLIBREG_DONE, "done" },
+    { RLIBREG_BUFFER_TOO_SMALL, "a buffer is too small" },
+    { RLIBREG_BAD_ARGUMENT, "bad argument" },
+    { RLIBREG_SYSTEM, "a call of the system failed" },
+    { RLIBREG_LOCKED, "the file is locked" },
+    { RLIBREG_READ_ONLY, "opened for reading only" },
+    { RLIBREG_BAD_PROGRAM, "B1" },
+    { RLIBREG_BAD_BASE, "B2 BadBase" },
+    { RLIBREG_MISSING, "B3 Missing" },
+    { RLIBREG_ADDRESS_TOO_HIGH, "B4 NoRoom" },
+    { RLIBREG_UNDEFINED, "B5 Undefined" },
+    { RLIBREG_BAD_FILE, "C1" },
+    { RLIBREG_ALREADY_INSTALLED, "C2 AlreadyInstalled" },
+    { RLIBREG_NOT_INSTALLED, "C3 NotInstalled" },
+    { RLIBREG_IN_PRELOADS, "C4 InPreloads" },
+    { RLIBREG_REPEATED_PRELOAD, "C5 RepeatedPreload" },
+    { RLIBREG_TOO_MANY_PRELOADS, "C6 TooManyPreloads" },
+    { RLIBREG_DEVICE, "S1 Device" },
+    { RLIBREG_REOPEN, "S2 Reopen" },
+    { RLIBREG_NOT_FORMATTED, "S3 NotFormatted" },
+    { RLIBREG_ALREADY_FORMATTED, "S4 AlreadyFormatted" },
+    { RLIBREG_DAMAGED, "S5 Damaged" },
+    { RLIBREG_BAD_GEOMETRY, "S6 BadGeometry" },
+    { RLIBREG_FULL, "S7 Full" },
+    { RLIBREG_FRAGMENTED, "S8 Fragmented" },
+    { RLIBREG_TOO_MANY, "S9 TooMany" },
+    { RLIBREG_GENERATION_END, "S10 GenerationEnd" },
+    { RLIBREG_OUT_OF_MEMORY, "S11 OutOfMemory" },
+    { RLIBREG_OLD_FORMAT, "S12 OldFormat" },
+    { RLIBREG_NO_ENTRY, "NoEntry" },
+    { RLIBREG_STATIC_PIE, "StaticPie" },
+    { RLIBREG_PRE_INITIALIZERS, "PreInitializers" },
+    { RLIBREG_INITIALIZERS, "Initializers" },
+    { RLIBREG_FINALIZERS, "Finalizers" },
+    { RLIBREG_TOO_MANY_HEADERS, "TooManyHeaders" },
+    { RLIBREG_WRITABLE_CODE, "WritableCode" },
+    { RLIBREG_NO_PAGES, "NoPages" },
+};
+
 const char *rlibreg_status_name(uint32_t status) {
-    static const struct {
-        uint32_t status;
-        const char *name;
-    } all[] = {
-        { RLIBREG_DONE, "done" },
-        { RLIBREG_BUFFER_TOO_SMALL, "a buffer is too small" },
-        { RLIBREG_BAD_ARGUMENT, "bad argument" },
-        { RLIBREG_SYSTEM, "a call of the system failed" },
-        { RLIBREG_LOCKED, "the file is locked" },
-        { RLIBREG_READ_ONLY, "opened for reading only" },
-        { RLIBREG_BAD_PROGRAM, "B1" },
-        { RLIBREG_BAD_BASE, "B2 BadBase" },
-        { RLIBREG_MISSING, "B3 Missing" },
-        { RLIBREG_ADDRESS_TOO_HIGH, "B4 NoRoom" },
-        { RLIBREG_UNDEFINED, "B5 Undefined" },
-        { RLIBREG_BAD_FILE, "C1" },
-        { RLIBREG_ALREADY_INSTALLED, "C2 AlreadyInstalled" },
-        { RLIBREG_NOT_INSTALLED, "C3 NotInstalled" },
-        { RLIBREG_IN_PRELOADS, "C4 InPreloads" },
-        { RLIBREG_REPEATED_PRELOAD, "C5 RepeatedPreload" },
-        { RLIBREG_TOO_MANY_PRELOADS, "C6 TooManyPreloads" },
-        { RLIBREG_DEVICE, "S1 Device" },
-        { RLIBREG_REOPEN, "S2 Reopen" },
-        { RLIBREG_NOT_FORMATTED, "S3 NotFormatted" },
-        { RLIBREG_ALREADY_FORMATTED, "S4 AlreadyFormatted" },
-        { RLIBREG_DAMAGED, "S5 Damaged" },
-        { RLIBREG_BAD_GEOMETRY, "S6 BadGeometry" },
-        { RLIBREG_FULL, "S7 Full" },
-        { RLIBREG_FRAGMENTED, "S8 Fragmented" },
-        { RLIBREG_TOO_MANY, "S9 TooMany" },
-        { RLIBREG_GENERATION_END, "S10 GenerationEnd" },
-        { RLIBREG_OUT_OF_MEMORY, "S11 OutOfMemory" },
-        { RLIBREG_OLD_FORMAT, "S12 OldFormat" },
-        { RLIBREG_NO_ENTRY, "NoEntry" },
-        { RLIBREG_STATIC_PIE, "StaticPie" },
-        { RLIBREG_PRE_INITIALIZERS, "PreInitializers" },
-        { RLIBREG_INITIALIZERS, "Initializers" },
-        { RLIBREG_FINALIZERS, "Finalizers" },
-        { RLIBREG_TOO_MANY_HEADERS, "TooManyHeaders" },
-        { RLIBREG_WRITABLE_CODE, "WritableCode" },
-        { RLIBREG_NO_PAGES, "NoPages" },
-    };
-    for (size_t i = 0; i < sizeof all / sizeof *all; i++)
-        if (all[i].status == status) return all[i].name;
+    for (size_t i = 0; i < sizeof names / sizeof *names; i++)
+        if (names[i].status == status) return names[i].name;
     return "unknown";
 }
 

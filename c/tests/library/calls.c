@@ -464,6 +464,16 @@ static int is_status(uint32_t status) {
     return status <= RLIBREG_BAD_ARGUMENT || strcmp(rlibreg_status_name(status), "unknown");
 }
 
+/* Flips some bits of the disk, more in each of four rounds. Returns the state of the random
+ * numbers. */
+static unsigned damage(unsigned random, int round) {
+    for (int i = 0; i < 1 + round % 4; i++) {
+        random = random * 1103515245 + 12345;
+        disk[(random >> 8) % sizeof disk] ^= (uint8_t)(1u << (random >> 4) % 8);
+    }
+    return random;
+}
+
 static void try_damaged(struct file program, struct file library) {
     static rlibreg_entry entries[64];
     static rlibreg_object objects[64];
@@ -474,10 +484,7 @@ static void try_damaged(struct file program, struct file library) {
     unsigned random = 1, refused = 0;
     memcpy(kept, disk, sizeof disk);
     for (int round = 0; round < 3000; round++) {
-        for (int i = 0; i < 1 + round % 4; i++) {
-            random = random * 1103515245 + 12345;
-            disk[(random >> 8) % sizeof disk] ^= (uint8_t)(1u << (random >> 4) % 8);
-        }
+        random = damage(random, round);
         uint32_t listed =
             rlibreg_list(disk, sizeof disk, entries, 64, names, ROOM, text, ROOM, &answer);
         WANT(is_status(listed) && listed == answer.status && listed != RLIBREG_BAD_ARGUMENT);

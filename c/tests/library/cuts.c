@@ -278,6 +278,27 @@ static uint32_t plan_change(const uint8_t *disk, size_t length, char **words, ui
     return status;
 }
 
+/* Cuts the plan without a sync, if there is such a plan: a disk then has neither registry. */
+static void try_control(struct cuts *cuts, const struct steps *steps, const uint8_t *disk) {
+    struct steps unsynced = without_sync(steps);
+    if (!unsynced.count) return;
+    cuts->steps = &unsynced;
+    cuts->is_control = 1;
+    try_prefixes(cuts, disk);
+    printf("; without a sync %zu neither", cuts->neither);
+    if (!cuts->neither) fail("the control isn't noticed");
+    free_tried(cuts);
+}
+
+/* Returns the bytes of a disk after the steps. */
+static uint8_t *disk_after(const struct steps *steps, const uint8_t *disk, size_t length) {
+    uint8_t *whole = malloc(length);
+    memcpy(whole, disk, length);
+    for (size_t i = 0; i < steps->count; i++)
+        if (steps->content[i]) write_step(whole, steps, i);
+    return whole;
+}
+
 int main(int argc, char **argv) {
     static uint8_t plan[ROOM];
     static char text[ROOM];
@@ -291,10 +312,7 @@ int main(int argc, char **argv) {
         fail("no plan");
     }
     struct steps steps = steps_of(plan, &answer);
-    uint8_t *whole = malloc(files.length);
-    memcpy(whole, disk, files.length);
-    for (size_t i = 0; i < steps.count; i++)
-        if (steps.content[i]) write_step(whole, &steps, i);
+    uint8_t *whole = disk_after(&steps, disk, files.length);
     struct cuts cuts = { .files = &files, .steps = &steps };
     cuts.before = look(&files, disk);
     cuts.after = look(&files, whole);
@@ -306,15 +324,7 @@ int main(int argc, char **argv) {
            cuts.new);
     if (!cuts.old || !cuts.new) fail("one of the two is never left");
     free_tried(&cuts);
-    struct steps unsynced = without_sync(&steps);
-    if (unsynced.count) {
-        cuts.steps = &unsynced;
-        cuts.is_control = 1;
-        try_prefixes(&cuts, disk);
-        printf("; without a sync %zu neither", cuts.neither);
-        if (!cuts.neither) fail("the control isn't noticed");
-        free_tried(&cuts);
-    }
+    try_control(&cuts, &steps, disk);
     puts("");
     free(cuts.before.bytes);
     free(cuts.before.printed);

@@ -323,7 +323,8 @@ static void try_ends(const struct change *change, long calls) {
 
 enum { LOOKS = 9 };
 
-/* Reads the disk by call number `number`. Returns its status. */
+/* Reads the disk by call number `number`. Returns its status. The function is long because each
+ * call has a result of its own type. */
 static uint32_t look_by(rlibreg *it, int number) {
     uint32_t status;
     rlibreg_listing listing;
@@ -417,7 +418,8 @@ static long try_memory(const struct change *change) {
 
 /* ---- Wrong use of a struct */
 
-static void try_misuse(void) {
+/* Makes calls on a struct that has no file. */
+static void try_without_file(rlibreg *it) {
     char *text;
     rlibreg_listing listing;
     rlibreg_image image;
@@ -426,10 +428,8 @@ static void try_misuse(void) {
     uint8_t digest[RLIBREG_DIGEST_BYTES] = { 0 };
     void *bytes;
     size_t length;
-    leave_empty();
-    rlibreg *it = rlibreg_create();
     WANT(!rlibreg_text(it)[0] && rlibreg_last_answer(it)->status == 0);
-    WANT(rlibreg_get_listing(it, &listing) == RLIBREG_BAD_GEOMETRY); /* the struct has no file */
+    WANT(rlibreg_get_listing(it, &listing) == RLIBREG_BAD_GEOMETRY);
     WANT(!strcmp(rlibreg_text(it), "refused S6 BadGeometry\n"));
     WANT(rlibreg_bind_program(it, program.bytes, program.length, 0, &image) ==
          RLIBREG_BAD_GEOMETRY);
@@ -447,8 +447,13 @@ static void try_misuse(void) {
     WANT(rlibreg_open(it, "/", 0) == RLIBREG_SYSTEM && errno == EINVAL);
     WANT(rlibreg_open(it, "/none/none", 0) == RLIBREG_SYSTEM && errno == ENOENT);
     WANT(rlibreg_format(it, "/none/none", 128, 0) == RLIBREG_SYSTEM && errno == ENOENT);
+    rlibreg_image_free(&image);
+}
 
-    WANT(!rlibreg_open(it, DISK, 0) && !rlibreg_text(it)[0]); /* only for reading */
+/* Makes changes of a disk that is open only for reading. */
+static void try_read_only(rlibreg *it) {
+    rlibreg_listing listing;
+    WANT(!rlibreg_open(it, DISK, 0) && !rlibreg_text(it)[0]);
     WANT(rlibreg_open(it, DISK, 0) == RLIBREG_BAD_ARGUMENT);
     WANT(make_format(it) == RLIBREG_BAD_ARGUMENT);
     WANT(make_install(it) == RLIBREG_READ_ONLY);
@@ -459,7 +464,13 @@ static void try_misuse(void) {
     WANT(!rlibreg_get_listing(it, &listing) && listing.libraries == 0);
     rlibreg_listing_free(&listing);
     rlibreg_listing_free(&listing);
-    rlibreg_image_free(&image);
+}
+
+static void try_misuse(void) {
+    leave_empty();
+    rlibreg *it = rlibreg_create();
+    try_without_file(it);
+    try_read_only(it);
     rlibreg_close(it);
     rlibreg_close(NULL);
     WANT(!strcmp(state(), "end\n"));

@@ -255,6 +255,8 @@ struct change {
     uint64_t number;
 };
 
+/* Makes each change of a file in turn; no changed file may be used. The function is long because it
+ * has the table of the changes, whose offsets lie in the file. */
 static void try_changes(const uint8_t *sound, uint64_t length) {
     uint8_t *bytes = malloc(length);
     struct head *head = (struct head *)bytes;
