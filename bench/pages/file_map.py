@@ -30,6 +30,7 @@ FOLDERS = {
     'python/rlibreg': 'the Python module',
     'python/tests': 'its tests',
     '.ci': 'the gate',
+    '.ci/tool.d': 'the parts of `.ci/tool`',
     'bench': 'the commands that make the documents and the Debian package; the folders have tests, benchmarks and the parts of both ([by kind](../bench/README.md))',
     'bench/gate': 'the tests over files and systems that the gate runs',
     'bench/trials': 'the tests that are run by hand, over devices, kernels and real programs',
