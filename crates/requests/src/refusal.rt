@@ -13,7 +13,7 @@ pub enum Refusal {
     AlreadyInstalled,
     /// C3: no library with this name is installed.
     NotInstalled,
-    /// C5: a name occurs more than once.
+    /// C4: the library is a preload.
     InPreloads,
     /// C5: a name occurs twice.
     RepeatedPreload,
