@@ -81,7 +81,7 @@ class Turns:
         return sorted(times)
 
     def beside(self, kind, loops, changes):
-        """Returns the times of updaters and of replacements, and what the loops did."""
+        """Returns the times of updaters and of replacements, and the results of the loops."""
         begun = self.begin_loops(kind, loops)
         since = time.perf_counter()
         time.sleep(0.2)

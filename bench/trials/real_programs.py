@@ -107,7 +107,7 @@ class Bench:
             self.checks.want(kind, wanted[1] == left, 'files:', sorted(wanted[1]), sorted(left))
 
     def users(self):
-        """Yields the users who start the programs, and the words by which they do."""
+        """Yields the users who start the programs, each with the words that come before the command."""
         yield 'who asked', []
         paths = [self.programs / 'rlibreg-run', self.folder]
         if not has('setpriv') or subprocess.run([*NOBODY, 'true'], capture_output=True).returncode:
@@ -149,7 +149,7 @@ def try_all(bench, sources, names):
 
 
 def asked_for():
-    """Returns what the command line asks for, and empties FOLDER."""
+    """Returns the arguments of the command line, and empties FOLDER."""
     asked = argparse.ArgumentParser()
     asked.add_argument('programs', type=Path)
     asked.add_argument('folder', type=Path)

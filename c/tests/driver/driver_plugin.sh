@@ -1,4 +1,4 @@
-# A part of driver_threads.sh: tests what gcc makes with the plugin.
+# A part of driver_threads.sh: tests the files that gcc makes with the plugin.
 
 for linker in $linkers; do shares "gcc and $linker" $gcc $gcc $gcc -fuse-ld=$linker; done
 "$built/rlibreg-tool" executable thread.disk threads 0x10000000 > alone
