@@ -235,7 +235,7 @@ class Streams:
         return self.run(words, {stream: given})
 
     def without_proc(self):
-        """Checks that a message is still printed if nothing can tell which file a stream leads to."""
+        """Checks that the program still prints a message if it can't find out which file a stream leads to."""
         hidden = ['unshare', '-m', 'sh', '-c', 'mount -t tmpfs none /proc && exec "$@"', 'sh']
         if os.getuid() or subprocess.run([*hidden, 'true'], capture_output=True).returncode:
             print('skipped: no /proc: nothing can be mounted')

@@ -291,8 +291,8 @@ class Bench:
                 self.opened(later)
 
     def faulty(self, start, command, further):
-        """Runs a command with its faults, and after each of them an opening and each further change. Returns how many
-        states it led to."""
+        """Runs a command with its faults, and after each of them an opening and each further change. Returns the
+        number of states to which it led."""
         states = 0
         for way in self.ways(start, command, PARTS):
             states += 1

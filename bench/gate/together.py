@@ -83,7 +83,7 @@ class State:
 
 
 def change_of(folder, words):
-    """Returns the change that a command asks for, as `State.changed` takes it."""
+    """Returns the change that a command requests, as `State.changed` takes it."""
     if words[0] in ('install', 'replace'):
         return words[0], [name(int(words[2].split('-')[1])).decode()], (folder / words[2]).stat().st_size
     return words[0], words[2:], 0

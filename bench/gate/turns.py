@@ -56,7 +56,7 @@ class Turns:
         return loops
 
     def end_loops(self, loops):
-        """Ends the loops. Returns how many starts ended with each status."""
+        """Ends the loops. Returns the number of starts that ended with each status."""
         found = collections.Counter()
         for loop, _ in loops:
             loop.kill()

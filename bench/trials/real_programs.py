@@ -7,7 +7,7 @@ own commands.
 PROGRAMS has rlibreg, rlibreg-run, rlibreg-tool and rlibreg-gcc (c/build.sh). Each program has musl inside, and its own code
 in libraries of a registry, as docs/LINKING.md says. Its output, its status and the files that it leaves are compared with
 those of the same sources linked statically. The executable file of its image is compared too. If the script runs as root, a
-user without privileges does all of it once more. SOURCES keeps the archives; `apt-get source` gets those that aren't there.
+user without privileges repeats all of it. SOURCES keeps the archives; `apt-get source` gets those that aren't there.
 If this machine lacks something, the part that needs it is left out, and a line reports this.
 """
 

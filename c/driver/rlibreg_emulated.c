@@ -3,7 +3,7 @@
  *
  * Each object has a control block, which the compiler makes. The object gets a number when it is first
  * used. Each thread has a table of its copies of the objects, by these numbers. A thread's copy is made
- * when the thread first asks for it, in memory of mmap(2), because the program's malloc may have
+ * when the thread first requests it, in memory of mmap(2), because the program's malloc may have
  * thread-local data itself. No lock is taken, so no lock stays locked in a child if another thread makes
  * a copy during fork(2). Signals are blocked while a copy is made, because their handlers may use
  * thread-local data too. */

@@ -4,8 +4,8 @@
  * Linux treats a page that it couldn't write back as written, and shows it. For this reason the
  * roots are read twice, after the sync of an opening and before any map: from the system's memory
  * and past it (O_DIRECT). If the two are equal, nothing else is done. As long as the lock is held,
- * no process that asks for it can make them differ, even if the system drops pages from its memory
- * and reads them again. */
+ * no process that requests the lock can make them differ, even if the system drops pages from its
+ * memory and reads them again. */
 #define _GNU_SOURCE
 #include "rlibreg_disk_file.h"
 

@@ -107,7 +107,7 @@ static void let_bytes_go(rlibreg_image *it) {
     it->segments = NULL;
 }
 
-/* Binds the program. If the user has asked for it (-c), also keeps the image, before any code of
+/* Binds the program. If the user has requested it (-c), also keeps the image, before any code of
  * the program runs. */
 static void bind_program(struct program *it, struct keeping *keeping, const char *disk) {
     read_program(it);

@@ -283,7 +283,7 @@ int compare_image(const struct program *program, int disk, int kept, const struc
 
 /* ---- Taking (rlibreg_run_kept.c) and keeping (rlibreg_run_keep.c) */
 
-/* Print to standard error, if the user has asked for this (-v). */
+/* Print to standard error, if the user has requested this (-v). */
 void say_more(const struct keeping *it, const char *what);
 void say_error(const struct keeping *it, int error);
 

@@ -402,7 +402,7 @@ class _Handle:
                 given = work()
         finally:
             self.turn.is_taken = False
-            if self.is_closed:  # a handler has asked for it meanwhile
+            if self.is_closed:  # a handler has requested it meanwhile
                 self.close()
         if isinstance(given, Error):
             raise given

@@ -189,7 +189,7 @@ class Handlers(OnDisk):
         self.assertEqual((wrong, len(closed)), ([], 80))
 
     def test_a_child_of_a_handler_closes(self):
-        """A child that a handler makes within a call also makes the rest of that call."""
+        """A handler makes a child within a call. The child, too, completes the call."""
         children = []
 
         def handler():

@@ -27,7 +27,7 @@ want 'a malloc that has thread-local data' '100 bytes of thread 0
 212 bytes of thread 2
 = 0' "$(ended "$built/rlibreg-run" thread.disk ./memory)"
 
-# A library has no emulation of its own, even if it asks for one.
+# A library has no emulation of its own, even if its command names gcc's emulation (-lgcc_eh).
 $gcc -O1 -shared -o libthreads1.so driver_threads_one.o -lgcc_eh
 want 'the emulation of a library' '                 U __emutls_get_address' \
     "$(nm libthreads1.so | grep emutls_get_address)"

@@ -19,7 +19,7 @@ fn parts_of(alloc: Global, row: &[u8]) -> Result<Vec<&[u8]>, AllocError>
     row.split(|byte| *byte == 0).collect(alloc)
 }
 
-/// Returns the names in `bytes`, each of which is followed by a byte 0, or `None` if the last byte
+/// Returns the names in `bytes`. Each name is followed by a byte 0. Returns `None` if the last byte
 /// isn't 0.
 pub(crate) fn names_in(alloc: Global, bytes: &[u8]) -> Result<Option<Vec<&[u8]>>, AllocError>
     ensures { IfOk result (λ read. MatchOption read

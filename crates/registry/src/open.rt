@@ -15,7 +15,7 @@ impl<D: Disk> Registry<D> {
     ghost use Rattle.registry.specs.Opening.{opening_calls};
     ghost use Rattle.registry.specs.Stands.{Stands};
 
-    /// Opens the registry on `disk`, also after a stop. Writes nothing. Syncs, and reads the two
+    /// Opens the registry on `disk`, even after a stop. Writes nothing. Syncs, and reads the two
     /// root sectors, each catalogue, one sector for each entry, and each file once. Reads all files
     /// into one buffer, and admits each file before it reads the next one. Refuses with S6
     /// (BadGeometry), S3 (NotFormatted), S12 (OldFormat), S5 (Damaged), S1 (Device) or S11

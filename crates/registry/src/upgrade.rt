@@ -10,7 +10,7 @@ impl<D: Disk> Registry<D> {
     ghost use Rattle.registry.specs.Opening.{EndsUpgrading};
 
     /// Opens the registry on `disk`, which may be of version 1 or 2, as a registry of version 2,
-    /// also after a stop. Opens a disk of version 2 in the same way as `open`. On a disk of version
+    /// even after a stop. Opens a disk of version 2 in the same way as `open`. On a disk of version
     /// 1, reads by the rules of version 1, admits every file, and then writes the catalogues of the
     /// same libraries and the next root. A stop at any moment leaves the whole old registry or the
     /// whole new one. Refuses with S6 (BadGeometry), S3 (NotFormatted), S5 (Damaged), S10

@@ -46,7 +46,7 @@ fn words_of(alloc: Global, words: &[u8]) -> Result<Vec<&[u8]>, AllocError>
     words.split(|b| *b == b' ').collect(alloc)
 }
 
-/// Returns the NAMEs in `rest`, each of which comes after a space, or `None` if `rest` has another
+/// Returns the NAMEs in `rest`. Each NAME comes after a space. Returns `None` if `rest` has another
 /// form.
 pub(crate) fn names_behind(alloc: Global, rest: &[u8]) -> Result<Option<Vec<&[u8]>>, AllocError>
     ensures { IfOk result
