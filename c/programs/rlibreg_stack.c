@@ -25,7 +25,8 @@ static void cannot_grow(int number) {
     _exit(then.status);
 }
 
-/* Writes a byte that lies `bytes` bytes down the stack, so the system extends the stack to this byte. */
+/* Writes a byte that lies `bytes` bytes down the stack, so the system extends the stack to this
+ * byte. */
 __attribute__((noinline)) static void touch(size_t bytes) {
     *(volatile char *)alloca(bytes) = 0;
 }

@@ -58,7 +58,7 @@ def program_command(name):
 
 
 def tags(text):
-    """By which tags readelf says that an object is symbolic."""
+    """Returns the tags by which an object is symbolic, as readelf prints them."""
     own = '(SYMBOLIC)' in text
     flag = any('(FLAGS)' in line and 'SYMBOLIC' in line.split() for line in text.splitlines())
     return BOTH if own and flag else TAG if own else FLAG if flag else NONE
@@ -110,7 +110,8 @@ def printed_case(name, case):
 
 
 def bound(program, libraries, preloads=(), base=BASE, alone=None):
-    """A program with these libraries: the cases of its order and of each relocation, or of those of one object alone."""
+    """Binds a program with these libraries. Returns the cases of its order and of each relocation, or only those of
+    one object."""
     cases = {(n if isinstance(n, str) else n.name): (Case(file_of(n)) if isinstance(n, str) else n.case()) for n in libraries}
     objects = {f'{n}.so': printed_case(f'{n}.so', case) for n, case in cases.items()}
     bind = Bind(Case(file_of(program)), list(cases.values()), [f'{n}.so' for n in preloads], base)
@@ -131,7 +132,7 @@ def bound(program, libraries, preloads=(), base=BASE, alone=None):
 
 
 def found_in(program, libraries, preloads, asker, name):
-    """In which object a name is found for an object, for what a comment says of it."""
+    """Returns the object in which a name is found for an object, as text for a comment."""
     objects = {f'{n}.so': Printed(f'{n}.so', DATA / file_of(n)) for n in libraries}
     order = load_order(Printed('/program', DATA / file_of(program)), objects, [f'{n}.so' for n in preloads], BASE)
     asks = next(o for o in order if o.name == asker)
@@ -143,7 +144,7 @@ LINKERS = {'bfd': 'GNU ld', 'gold': 'gold', 'lld': 'lld'}
 
 
 def said(linker, how, by):
-    """How an object was linked, and by which tags it is symbolic."""
+    """Returns a text with the way in which an object was linked, and the tags by which it is symbolic."""
     return f'{LINKERS[linker]} with {how}, ' + (f'symbolic by {by}.' if by else 'which isn\'t symbolic.')
 
 
