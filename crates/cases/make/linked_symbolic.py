@@ -22,8 +22,8 @@ FIXED = '--defsym=fixed_datum=0x4321'
 LEFT = '--dynamic-list=kept.map'
 NONE, TAG, FLAG, BOTH = '', 'SYMBOLIC', 'FLAGS', 'SYMBOLIC and FLAGS'
 
-# Libraries of own.c: the linker, its options, and by which tags it makes the library symbolic. The words of what is left to
-# the loader by a list of names (kept.map) are those of symbols; the others of a symbolic library are bound by the linker.
+# Libraries of own.c: the linker, its options, and the tags by which it makes the library symbolic. A list of names
+# (kept.map) leaves some words of a symbolic library to the loader: those name symbols. The linker binds the others.
 LIBRARIES = {
     'plain': ('bfd', '-z,now', NONE), 'bfd': ('bfd', '-Bsymbolic', BOTH), 'bfd-now': ('bfd', '-Bsymbolic,-z,now', BOTH),
     'bfd-tag': ('bfd', '-Bsymbolic,--disable-new-dtags', TAG), 'bfd-list': ('bfd', f'-Bsymbolic,{LEFT}', NONE),
@@ -33,7 +33,8 @@ LIBRARIES = {
     'lld': ('lld', '-Bsymbolic', FLAG), 'lld-list': ('lld', f'-Bsymbolic,{LEFT}', FLAG),
     'lld-now': ('lld', f'-Bsymbolic,{LEFT},-z,now', FLAG), 'lld-functions': ('lld', '-Bsymbolic-functions', NONE),
 }
-# Programs of program.c: the linker, how, and the libraries that it needs; base.so is the first and the last is that of `work`.
+# Programs of program.c: the linker, the way of linking, and the libraries that the program needs: first base.so, and
+# last the library of `work`.
 PROGRAMS = {
     'program': ('bfd', '-pie', '', NONE), 'program-gold': ('gold', '-pie', ',-Bsymbolic', BOTH),
     'program-lld': ('lld', '-pie', f',-Bsymbolic,{LEFT}', FLAG), 'program-bfd': ('bfd', '-pie', ',-Bsymbolic', NONE),
