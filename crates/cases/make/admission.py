@@ -303,8 +303,8 @@ def tables():
 
 
 def bounds():
-    """Tables that end with their segment, and tables that are one byte longer: the strings are last, at the end of
-    the file."""
+    """Tables that end with their segment, and tables that are one byte longer: the strings are last, at the end of the
+    file."""
     m = Case('minimal.so')
     end = 0x190
     strings, size, table, sym, rela = 0x110, 0x130, 0x100, 0x120, 0x150

@@ -3,8 +3,8 @@
 
     python3 crates/cases/make/binds.py
 
-Every answer stands here as it was worked out by hand from the rules, and agrees with `binder.py`, the second reading.
-`WRONG` has readings that break a rule each: for every one of them some case has to give another answer.
+This file has each answer, which was determined by hand from the rules and agrees with `binder.py`, the second
+reading. `WRONG` has readings that break one rule each. For each of them, some case has to give another answer.
 """
 
 import struct
@@ -18,7 +18,7 @@ from samples import (
     R_JUMP_SLOT, R_NONE, R_RELATIVE, UNDEFINED, WEAK, Object, Symbol, build, program_header)
 from wrong_binders import WRONG
 
-ASKED = []  # every call that has an answer here: what it asks, its arguments, and the answer
+ASKED = []  # each call with an answer in this file: its name, its arguments, and the answer
 HIGHEST = 0x7ffffffff000
 
 
@@ -585,8 +585,8 @@ def order_of_tests():
 
 
 def edges_of_segments():
-    """A library whose data end with a segment that touches another segment, and a word in the last eight bytes of
-    the first segment."""
+    """A library whose data end with a segment that touches another segment, and a word in the last eight bytes of the
+    first segment."""
     o = Object(b'a', symbols=[Symbol(b'f', GLOBAL, FUNC, DEFINED)], relocations=[(R_64, 8, 1, 0)], data=16, headers=[bytes(56)])
     end = places(o)['data'] + 16
     o.headers = [program_header(1, 6, 0, end, 0, 16, 0)]

@@ -20,8 +20,8 @@ def hexed(form, *values):
 
 
 def one_library(i):
-    """Returns the changes that write library i: the sectors of the first library, with another name in the file and
-    in the entry, and another place."""
+    """Returns the changes that write library i: the sectors of the first library, with another name in the file and in
+    the entry, and another place."""
     at, digits = SECTOR * (2 * i + 2), numbered(i)[1:].hex()
     return f'0x{at:x}=@numbered.sectors 0x{at + 0xda:x}={digits} 0x{at + 0x211:x}={digits} 0x{at + 0x300:x}={hexed("H", 2 * i + 2)}'
 
@@ -41,8 +41,8 @@ def catalogue_of(count, j):
 
 
 def made(count, sectors, last=one_library):
-    """Returns the text of a disk of `count` libraries and generation 1. The data of library i is in sector 2i + 2,
-    its entry is in the next sector, and the catalogues follow all of these. `last` writes the last library."""
+    """Returns the text of a disk of `count` libraries and generation 1. The data of library i is in sector 2i + 2, its
+    entry is in the next sector, and the catalogues follow all of these. `last` writes the last library."""
     catalogues = range(2 * count + 2, 2 * count + 2 + catalogues_for(count))
     lines = [f'bytes={ROOT}{hexed("QI", 0, sectors)} pad={SECTOR * sectors}',
              f'0x200={ROOT}{hexed("QIH", 1, sectors, count)} 0x238={hexed("H", len(catalogues))} 0x240=' + ''.join(hexed('I', k) for k in catalogues)]
@@ -135,8 +135,8 @@ def edges():
 
 
 def split_at(first):
-    """Returns the changes by which the first catalogue of 65 libraries lists `first` entries, and the second lists
-    the others, up to its number of places."""
+    """Returns the changes by which the first catalogue of 65 libraries lists `first` entries, and the second lists the
+    others, up to its number of places."""
     entries, second = [2 * i + 3 for i in range(65)], min(65 - first, 64)
     return (f'0x10804={hexed("H", first)} 0x10810={hexed("64I", *entries[:first], *[0] * (64 - first))}'
             f' 0x10a04={hexed("H", second)} 0x10a10={hexed(f"{second}I", *entries[first:first + second])}')

@@ -1,13 +1,13 @@
 #!/usr/bin/env python3
-"""Writes the lists of command lines over disks, `disks.txt`, `catalogues.txt`, `bytes.txt` and `upgrades.txt` of `data/`, and the
-disks and files that they name.
+"""Writes the lists of command lines over disks, `disks.txt`, `catalogues.txt`, `bytes.txt` and `upgrades.txt` of
+`data/`, and the disks and files that they name.
 
     python3 crates/cases/make/disks.py
 
-It needs files that the other scripts of this folder write. Expected statuses, answers and disks come from `program.py` over
-`disk.py`, a second reading of the sectors of a disk and of the changes of a registry; where a case has an answer or sectors of its
-own, worked out by hand, the two have to agree. `wrong_disks.py` has readings that break a rule each: for every one of them some case
-ends otherwise, or this stops.
+It needs files that the other scripts of this folder write. Expected statuses, answers and disks come from `program.py`
+over `disk.py`, a second reading of the sectors of a disk and of the changes of a registry; if a case has an answer or
+sectors that were determined by hand, the two have to agree. `wrong_disks.py` has readings that break one rule each. The
+script stops if no case ends differently by one of them.
 """
 
 import catalogues

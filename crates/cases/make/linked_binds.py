@@ -3,9 +3,9 @@
 
     python3 crates/cases/make/linked_binds.py
 
-It needs gcc, GNU ld, gold, lld and readelf. Load order, bases and the words of all relocations are worked out here from
-what `readelf -lrdsW` prints, and from the addends that it prints; nothing is read from the files themselves. All is
-compared with `binder.py`.
+It needs gcc, GNU ld, gold, lld and readelf. The script determines load order, bases and the words of all relocations
+from the output of `readelf -lrdsW`, including the addends, and reads nothing from the files themselves. It compares all
+of this with `binder.py`.
 """
 
 import re

@@ -3,9 +3,9 @@
 
     python3 crates/cases/make/linked_symbolic.py
 
-It needs gcc, GNU ld, gold, lld and readelf, and `linked-base.so`, which `linked_binds.py` makes. Which objects are symbolic, and
-the words of all relocations, are worked out from what `readelf -lrdsW` prints, as there; nothing is read from the files
-themselves. All is compared with `binder.py`.
+It needs gcc, GNU ld, gold, lld and readelf, and `linked-base.so`, which `linked_binds.py` makes. Like that script, this
+one determines the symbolic objects and the words of all relocations from the output of `readelf -lrdsW`, and reads
+nothing from the files themselves. It compares all of this with `binder.py`.
 """
 
 import subprocess
@@ -94,8 +94,8 @@ class Changed:
 
 
 def changed_flags(name, entry):
-    """A library whose FLAGS is 0x8, which the linker made so that all words of its names are left to the loader, with another
-    entry in its place."""
+    """Returns a library whose FLAGS is 0x8, with another entry in place of FLAGS. The linker has left all words of the
+    library's names to the loader."""
     data, text = (DATA / file_of(name)).read_bytes(), printed(DATA / file_of(name))
     assert any('(FLAGS)' in line and line.split()[2:] == ['BIND_NOW'] for line in text.splitlines())
     old = u64(30) + u64(8)

@@ -3,8 +3,8 @@
 
     python3 crates/cases/make/make.py
 
-Expected answers come from `rules.py`, a second reading of the rules; where a table below has an answer of its own,
-worked out by hand, the two have to agree. Nothing here comes from the program.
+Expected answers come from `rules.py`, a second reading of the rules; if a table below has an answer that was
+determined by hand, the two have to agree. No answer comes from the program.
 """
 
 import struct

@@ -6,7 +6,7 @@ from program import Program
 from samples import Object, build
 from scripts import SECTOR
 
-CASES = []  # the disk, the words, what is given, and the status, the answer, the error and the disk behind it
+CASES = []  # the disk, the words, the input, and the status, the answer, the error and the disk afterwards
 FILES = {}  # the first name of the objects of the folder that have these bytes
 FILES_OF = {}  # the bytes of each object, by its name
 
@@ -102,8 +102,8 @@ def answer_text(answer, error, file):
 
 
 def on(before, words, wanted=None, after=None, given=None, file=None, has=''):
-    """Returns a case. `wanted` is its status and answer, and `after` is the disk after it, if these were determined
-    by hand; `has` is some bytes of that disk. `file` has an answer of several lines."""
+    """Returns a case. `wanted` is its status and answer, and `after` is the disk after it, if these were determined by
+    hand; `has` is some bytes of that disk. `file` has an answer of several lines."""
     disk, text = bytes_of(before), b'' if given is None else bytes_of(given)
     status, answer, error, left = Program().run(words.split(' '), disk, text)
     ending = f'{status} {answer_text(answer, error, file)}'
@@ -159,7 +159,7 @@ def listed(before, file):
 
 
 def other_files(a, b):
-    """The changes of a disk whose libraries a and b are the objects `first.so` and `strong.so`, with a sector each:
-    a in b's place, b in a's place, both, and zeros in a's and in b's place."""
+    """The changes of a disk whose libraries a and b are the objects `first.so` and `strong.so`, with a sector each: a
+    in b's place, b in a's place, both, and zeros in a's and in b's place."""
     zeros = bytes(376).hex()
     return [f'{b}=@first.so', f'{a}=@strong.so', f'{a}=@strong.so {b}=@first.so', f'{a}={zeros}', f'{b}={zeros}']

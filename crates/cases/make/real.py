@@ -3,8 +3,9 @@
 
     python3 crates/cases/make/real.py
 
-It needs gcc, g++, GNU ld, gold, lld, clang, objcopy and readelf. What a reader sees of an object is worked out from
-`readelf --dyn-syms -dW` alone; refusals stand in the table below, by hand. Both are compared with `rules.py`.
+It needs gcc, g++, GNU ld, gold, lld, clang, objcopy and readelf. The script determines the names and symbols of an
+object only from the output of `readelf --dyn-syms -dW`. The table below has the refusals, which were determined by
+hand. The script compares both with `rules.py`.
 """
 
 import re

@@ -27,7 +27,7 @@ class Object:
     """An object whose addresses are its file's offsets, with one writable segment.
 
     The parts follow each other, each padded by zeros to a multiple of 8: the headers, a hash table of one bucket, the
-    symbols, the strings, the relocations, the dynamic section and the data. The relocations are (type, place behind the
+    symbols, the strings, the relocations, the dynamic section and the data. The relocations are (type, offset from the
     start of the data, symbol, addend).
     """
     soname: bytes = None

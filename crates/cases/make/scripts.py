@@ -3,8 +3,8 @@
 
     python3 crates/cases/make/scripts.py
 
-Expected outputs come from `Model` below, a second reading of what a registry does that shares nothing with the program,
-with `binder.py` for what it binds; where a table has an output of its own, worked out by hand, the two have to agree.
+Expected outputs come from `Model` below, a second reading of a registry that shares no code with the program, and from
+`binder.py` for its binds; if a table has an output that was determined by hand, the two have to agree.
 """
 
 import re
@@ -36,8 +36,8 @@ def catalogues_for(libraries):
 
 
 class Model:
-    """A registry on a number of sectors: its libraries in the order of installation, each as a new pair for each
-    time that it was put; the names of its preloads; and for each slot a binder, or none."""
+    """A registry on a number of sectors: its libraries in the order of installation, each as a new pair for each time
+    that it was put; the names of its preloads; and for each slot a binder, or none."""
 
     def __init__(self, sectors):
         self.sectors, self.libraries, self.preloads, self.slots = sectors, [], [], [None] * SLOTS

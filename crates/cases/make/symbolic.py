@@ -1,11 +1,11 @@
 #!/usr/bin/env python3
-"""Writes the list of objects that are looked in first for what they ask for themselves, and its files.
+"""Writes the list of symbolic objects, in which their own names are looked up first, and its files.
 
     python3 crates/cases/make/symbolic.py
 
-It needs files that `binds.py` writes. Every answer stands here as it was worked out by hand from the rules, and agrees with
-`binder.py`, the second reading. `wrong_symbolic.py` has readings that break a rule of symbolic objects each: for every one of
-them some case has to give another answer.
+It needs files that `binds.py` writes. This file has each answer, which was determined by hand from the rules and agrees
+with `binder.py`, the second reading. `wrong_symbolic.py` has readings that break one rule of symbolic objects each. For
+each of them, some case has to give another answer.
 """
 
 from itertools import product

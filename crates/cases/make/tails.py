@@ -3,9 +3,9 @@
 
     python3 crates/cases/make/tails.py
 
-So many bytes of names are asked for that a binder which looks for each name by itself reads the strings many times over.
-The texts come from `binder.py`, the second reading; which object defines each word, and where, stands here as it was worked
-out by hand, and the texts agree with it.
+The names have a lot of bytes, so a binder that looks up each name separately reads the strings many times. The texts
+come from `binder.py`, the second reading. This file has the object that defines each word, and its place, which were
+determined by hand. The texts agree with them.
 """
 
 from dataclasses import dataclass
@@ -19,10 +19,10 @@ from samples import DEFINED, GLOBAL, OBJECT, R_64, R_GLOB_DAT, WEAK, Object, Sym
 
 LENGTH = 4000
 STRING = bytes(97 + i * i * i // 97 % 26 for i in range(LENGTH))
-LATE = 3000  # where another string differs, far from the first, the last and the middle bytes of its tails
+LATE = 3000  # the offset at which another string differs, far from the first, the last and the middle bytes of its tails
 OTHER = STRING[:LATE] + b'#' + STRING[LATE + 1:]
-FRONT = range(24)  # where tails begin that have the place of the difference in them
-BACK = range(LATE + 1, LATE + 7)  # and where some begin behind it
+FRONT = range(24)  # the beginnings of tails that contain the difference
+BACK = range(LATE + 1, LATE + 7)  # and of tails that begin after it
 SYMBOLIC = [(16, 0)]
 
 
@@ -63,8 +63,8 @@ def gives(k, at, string=0, of=STRING):
 
 
 def asking(symbols, soname=None, needed=(), strings=(STRING,), entries=(), room=0):
-    """An object that refers to its first symbols, those that aren't defined. It refers to each twice: in their
-    order, and again."""
+    """An object that refers to its first symbols, those that aren't defined. It refers to each twice: in their order,
+    and again."""
     asked = [i for i, s in enumerate(symbols) if s.section != DEFINED]
     relocations = [(kind, 8 * (n * len(asked) + i), s + 1, 0) for n, kind in enumerate((R_64, R_GLOB_DAT)) for i, s in enumerate(asked)]
     return Shared(soname, list(needed), symbols, relocations, 16 * len(asked) + room, entries=list(entries), strings=tuple(strings))
@@ -74,7 +74,7 @@ def giving(soname, symbols, strings=(STRING,), needed=()):
     return Shared(soname, list(needed), symbols, data=8 * (1 + len(symbols)), strings=tuple(strings))
 
 
-DATA_OF = {}  # where the data of each file begin
+DATA_OF = {}  # the offset of the data of each file
 
 
 def kept(name, o):
@@ -107,8 +107,8 @@ def bound(bind, file, asker, words):
 
 
 def libraries():
-    """Libraries that export tails of strings that are equal in all but one byte. The tails that begin after this
-    byte are equal."""
+    """Libraries that export tails of strings that are equal in all but one byte. The tails that begin after this byte
+    are equal."""
     def exporting(name, *exports):
         strings = tuple(of for _, of in exports)
         return kept(name, giving(b'a', [gives(k, 0, n, of) for n, (tails, of) in enumerate(exports) for k in tails], strings))

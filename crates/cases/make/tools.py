@@ -1,10 +1,12 @@
 #!/usr/bin/env python3
-"""Writes `tools.txt` of `data/`, and the files that it names: what `rlibreg-tool` tells of a disk, executables and bindings.
+"""Writes `tools.txt` of `data/`, and the files that it names: the answers of `rlibreg-tool` about a disk, executables
+and bindings.
 
     python3 crates/cases/make/tools.py
 
-It needs the disks and files that `disks.py` writes. Expected answers are `Tool`'s, a second reading over `disk.py` and `binder.py`.
-`WRONG` has readings that break a rule each: for every one of them some case has another answer, or this stops.
+It needs the disks and files that `disks.py` writes. Expected answers are `Tool`'s, a second reading over `disk.py` and
+`binder.py`. `WRONG` has readings that break one rule each. The script stops if no case has another answer by one of
+them.
 """
 
 import hashlib
@@ -171,8 +173,8 @@ class Executable:
         return CALLS in self.notes()
 
     def pages(self):
-        """Returns the permissions of each page: those of any of its segments. The page may be both written and
-        executed only if one segment permits both."""
+        """Returns the permissions of each page: those of any of its segments. The page may be both written and executed
+        only if one segment permits both."""
         pages = {}
         for o, start, end, flags in self.segments:
             for page in range(start // PAGE, (end - 1) // PAGE + 1):
@@ -188,8 +190,8 @@ class Executable:
         return pages
 
     def pieces(self):
-        """Returns runs of neighbouring pages with the same permissions, each from the first byte of a segment in it
-        to the last."""
+        """Returns runs of neighbouring pages with the same permissions, each from the first byte of a segment in it to
+        the last."""
         pieces, pages = [], self.pages()
         for page, flags in sorted(pages.items()):
             inside = [(max(start, page * PAGE), min(end, (page + 1) * PAGE)) for _, start, end, _ in self.segments

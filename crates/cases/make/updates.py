@@ -3,9 +3,9 @@
 
     python3 crates/cases/make/updates.py
 
-It needs the disks and files that `disks.py` writes. Expected answers and disks come from `Draft`, a second reading of the rules of an
-update over `disk.py`; where a row has an answer or sectors of its own, worked out by hand, the two have to agree. `WRONG` has
-readings that break a rule each: for every one of them some case ends otherwise, or this stops.
+It needs the disks and files that `disks.py` writes. Expected answers and disks come from `Draft`, a second reading of
+the rules of an update over `disk.py`; if a row has an answer or sectors that were determined by hand, the two have to
+agree. `WRONG` has readings that break one rule each. The script stops if no case ends differently by one of them.
 """
 
 import struct
@@ -210,8 +210,8 @@ def sized(before, sectors):
 
 
 def at_the_last_sector(before, sectors, *lines):
-    """Two cases: on a disk with one sector fewer, a line has no room; on a disk of `sectors` sectors, all changes
-    are made."""
+    """Two cases: on a disk with one sector fewer, a line has no room; on a disk of `sectors` sectors, all changes are
+    made."""
     return [on(sized(before, sectors - 1), *lines, b'commit', wanted=S7), on(sized(before, sectors), *lines, b'commit', wanted=OK)]
 
 

@@ -90,8 +90,8 @@ def images():
 
 
 def first_of_hundred(count, sectors):
-    """Returns a disk of `sectors` sectors with the first `count` of a hundred libraries. From sector 2 on, their
-    data and entries alternate."""
+    """Returns a disk of `sectors` sectors with the first `count` of a hundred libraries. From sector 2 on, their data
+    and entries alternate."""
     return f'old-hundred.disk cut={512 * sectors} 0x10={sectors:02x} 0x14={count:02x} 0x{64 + 4 * count:x}={bytes(4 * (100 - count)).hex()}'
 
 
