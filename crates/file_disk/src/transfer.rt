@@ -1,4 +1,4 @@
-// Moves sectors to and from a file, in as many calls as are needed.
+// Moves sectors to and from a file, with as many calls as necessary.
 ghost use Rattle.std.specs.Prelude.{◌≡◌, ◌<◌, ◌≤◌, ◌+◌, ◌^◌, false, IsTrue, OnOk, OnErr, length};
 ghost use Rattle.file_disk.specs.inside.Transfer.{IsWrittenAt, IsReadAt};
 
@@ -6,8 +6,8 @@ use crate::sector_file::SectorFile;
 use sector_disk::{DiskFault, SECTOR_BYTES};
 use std::io::ErrorKind;
 
-/// Writes all sectors of `from`, from sector `at` on, even if the file accepts only a few at a time
-/// or a signal interrupts a call.
+/// Writes all sectors of `from` to sector `at` and the sectors after it, even if the file accepts
+/// only a few sectors at a time, or a signal interrupts a call.
 pub(crate) fn write_all<F: SectorFile>(
     file: &mut F,
     at: u32,
@@ -42,7 +42,7 @@ pub(crate) fn write_all<F: SectorFile>(
     Err(DiskFault::Failed)
 }
 
-/// Reads sectors until `most` sectors have been read, the file returns none, or a read fails.
+/// Reads sectors until `most` sectors have been read, a call returns no sector, or a read fails.
 /// Returns the number of sectors that were read.
 pub(crate) fn read_most<F: SectorFile>(
     file: &mut F,

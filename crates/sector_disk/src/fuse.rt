@@ -13,7 +13,7 @@ pub(crate) struct Plan {
     pub late: bool,
 }
 
-/// The outcome of a call: it passes, or it fails before or after it has reached the inner disk.
+/// The outcome of a call: it succeeds, or it fails before or after it has reached the inner disk.
 #[derive(Clone, Copy)]
 pub(crate) enum CallOutcome {
     Pass,
@@ -28,13 +28,14 @@ pub(crate) struct Step {
     pub failed: bool,
 }
 
-/// A disk that passes its calls on to an inner disk, and fails at planned calls. Reads return what
-/// the inner disk returns, and a stop may leave what a stop of the inner disk may leave.
+/// A disk that passes its calls on to an inner disk, and fails at planned calls. Reads return the
+/// contents that reads of the inner disk return. A stop may leave the contents that a stop of the
+/// inner disk may leave.
 pub struct Fuse<D> {
     inner: D,
     plan: Plan,
-    // The number of calls that are left up to the planned one, counting that one. After the planned
-    // call, the number is 0.
+    // The number of calls up to the planned one, including it. After the planned call, the number
+    // is 0.
     wait: u64,
     past: Past<Step>,
     ghost waits: { wait ≡ plan.call - length past.items },
@@ -45,10 +46,10 @@ impl<D: Disk> Fuse<D> {
     ghost use Rattle.sector_disk.specs.Disk.{IsSameDisk};
     ghost use Rattle.sector_disk.specs.Fuse.{fuse_facts, inner_of, plan_of, next_outcome};
 
-    /// Makes a fuse over `inner`. Its call number `k` fails: reads, writes and syncs are counted
-    /// together, from 1. If `forever` is true, all later calls fail too, without reaching `inner`.
-    /// If `late` is true, call number `k` reaches `inner` before it fails. If `k` is 0, a call
-    /// fails only if it fails on `inner`.
+    /// Makes a fuse over `inner`. Call number `k` of the fuse fails; reads, writes and syncs are
+    /// counted together, from 1. If `forever` is true, all later calls fail too, and don't reach
+    /// `inner`. If `late` is true, call number `k` reaches `inner` before it fails. If `k` is 0, a
+    /// call fails only if it fails on `inner`.
     pub fn new(inner: D, k: u64, forever: bool, late: bool) -> Fuse<D>
         ensures inner { inner_of result ≡ inner }
         ensures plan { plan_of result ≡ record { call = k; forever = forever; late = late } }
@@ -68,7 +69,7 @@ impl<D: Disk> Fuse<D> {
         }
     }
 
-    /// Returns the inner disk, as the calls that reached it left it.
+    /// Returns the inner disk, in the state after the calls that have reached it.
     pub fn into_inner(self) -> D
         ensures inner { result ≡ inner_of self }
         ensures same { IsSameDisk (fuse_facts D.facts self) (D.facts result) }
@@ -116,7 +117,7 @@ impl<D: Disk> Fuse<D> {
     }
 }
 
-// This drop is written by hand, for the same reason as that of `Memory`.
+// This drop is written by hand for the same reason as the drop of `Memory`.
 impl<D: Drop> Drop for Fuse<D> {
     fn drop(self) {
         let Fuse {

@@ -1,4 +1,4 @@
--- What is true of a disk under a fuse at any moment.
+-- Laws about a disk under a fuse, which hold at any moment.
 use Rattle.std.specs.Prelude.{◌≡◌, ◌-◌, ℕ, List, length}
 use Rattle.std.proofs.Common.{sym, subst, ap, ◌∙◌, arith}
 use Rattle.std.proofs.lemmas.List.{drop_all}
