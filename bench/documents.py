@@ -4,7 +4,8 @@
     python3 bench/documents.py            writes the generated pages again
     python3 bench/documents.py --check    writes nothing, and fails if a page would change
 
-The script fails if a name between backquotes isn't in the tree, if the list of bench/README.md doesn't name each file of
+The generated parts are CLAUSES, DEFINITIONS and MAP, the tables of definitions in PROOFS, and the tables of files in the
+READMEs of folders and crates (folder_pages.py). The script fails if a name between backquotes isn't in the tree, if the list of bench/README.md doesn't name each file of
 bench/ once, if a source file has no comment at its head, if a picture would change (pictures.py), if a refusal code comes
 before its name on a page, if a command of a page doesn't exist (page_checks.py), if a crate doesn't export a name of
 docs/PROMISED_CALLS.txt, or if no test calls it by its path. A name is a path, or a word of the code: a word with `_`, `::`
