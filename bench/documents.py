@@ -8,10 +8,11 @@ The generated parts are CLAUSES, DEFINITIONS and MAP, the tables of definitions 
 READMEs of folders and crates (folder_pages.py). The script fails if a name between backquotes isn't in the tree, if the
 list of bench/README.md doesn't name each file of bench/ once, if a source file has no comment at its head, if a picture
 would change (pictures.py), if a refusal code comes before its name on a page, if a command of a page doesn't exist
-(page_checks.py), if a crate doesn't export a name of docs/PROMISED_CALLS.txt, or if no test calls it by its path. A name
-is a path, or a word of the code: a word with `_`, `::` or a capital letter within it. In a crate's page, a path that
-begins with `src/`, `specs/`, `proofs/`, `data/` or `must-fail/` is a path of that crate; in any other page it is a path of
-some crate. All other paths begin at the root of the repository.
+(page_checks.py), if a list of refusals differs from the definitions (refusals.py), if a crate doesn't export a name of
+docs/PROMISED_CALLS.txt, or if no test calls it by its path. A name is a path, or a word of the code: a word with `_`, `::`
+or a capital letter within it. In a crate's page, a path that begins with `src/`, `specs/`, `proofs/`, `data/` or `must-
+fail/` is a path of that crate; in any other page it is a path of some crate. All other paths begin at the root of the
+repository.
 """
 
 import re
@@ -26,6 +27,7 @@ import folder_pages
 import page_checks
 import pictures
 import promised
+import refusals
 
 ROOT = Path(__file__).resolve().parent.parent
 PROOFS, DEFINITIONS, CLAUSES, MAP = (ROOT / 'docs' / f'{name}.md' for name in ('PROOFS', 'DEFINITIONS', 'CLAUSES', 'MAP'))
@@ -121,6 +123,7 @@ def faults_of_files():
     yield from (f'bench/README.md names {name} not once' for name in unlisted())
     yield from (f'{name} has no comment at its head' for name in file_map.page(crates())[1])
     yield from promised.broken()
+    yield from refusals.wrong()
     if '--check' in sys.argv:
         yield from pictures.wrong()
 

@@ -37,7 +37,7 @@ def tracked():
     """Returns the names of the repository's files."""
     words = ['git', '-C', str(ROOT), 'ls-files', '-co', '--exclude-standard']
     names = subprocess.run(words, capture_output=True, text=True, check=True).stdout.splitlines()
-    return [name for name in names if (ROOT / name).is_file()]
+    return sorted(name for name in names if (ROOT / name).is_file())
 
 
 @lru_cache

@@ -113,7 +113,7 @@ pub(crate) fn count_before(runs: &[Extent], place: usize, sector: u32) -> u32
 
 /// Returns the number of sectors of the run at `place` if that run begins at `sector`, and
 /// otherwise 0.
-pub(crate) fn count_behind(runs: &[Extent], place: usize, sector: u32) -> u32
+pub(crate) fn count_after(runs: &[Extent], place: usize, sector: u32) -> u32
     requires { place ≤ length runs.now }
     ensures none { result ≡ 0 → place < length runs.now → (d : Extent) →
         let run = slice_index_or runs.now place d in (run.start ≡ sector) → run.count ≡ 0 }

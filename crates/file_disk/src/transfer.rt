@@ -25,6 +25,8 @@ pub(crate) fn write_all<F: SectorFile>(
         ((F.facts file.old).failures < (F.facts file.new).failures) }
 {
     let mut done = 0;
+    // Each round writes a sector, returns, or was interrupted by a signal. The bound is there so
+    // that the loop has an end: 2^64 signals would take centuries.
     for _ in 0..u64::MAX {
         if done >= from.len() {
             return Ok(());
@@ -62,6 +64,7 @@ pub(crate) fn read_most<F: SectorFile>(
         → (F.facts file.old).failures < (F.facts file.new).failures }
 {
     let mut count = 0;
+    // Each round reads a sector, returns, or was interrupted by a signal, as in `write_all`.
     for _ in 0..u64::MAX {
         if count >= most {
             return count;

@@ -5,7 +5,7 @@ use Rattle.sector_disk.specs.declared.disk.DiskFault.{DiskFault}
 use Rattle.sector_disk.specs.declared.disk.DiskFault.TheVariants.{Failed}
 use Rattle.sector_disk.specs.declared.fuse.Fuse.{Fuse}
 use Rattle.sector_disk.specs.declared.fuse.Plan.{Plan}
-use Rattle.sector_disk.specs.declared.fuse.Step.{Step}
+use Rattle.sector_disk.specs.declared.fuse.PastCall.{PastCall}
 use Rattle.sector_disk.specs.declared.fuse.CallOutcome.{CallOutcome}
 use Rattle.sector_disk.specs.declared.fuse.CallOutcome.TheVariants.{Pass, Early, Late}
 use Rattle.sector_disk.specs.Disk.{Sector, DiskFacts, IsCall, IsRead, IsWrite, IsSync}
@@ -19,18 +19,18 @@ outcome_of plan n =
     else (if plan.forever && nat_lt 0 plan.call && nat_lt plan.call n then Early else Pass)
 
 -- the number of these calls that reached the inner disk
-abbrev pub reached : List Step → ℕ
+abbrev pub reached : List PastCall → ℕ
 reached steps = length (filter (λ step. step.reached) steps)
 
 -- the moment of the inner disk at moment u of the fuse: the inner disk's present moment `time`,
 -- minus the number of calls that reached the inner disk since u
-abbrev pub inner_moment : ℕ → List Step → ℕ → ℕ
+abbrev pub inner_moment : ℕ → List PastCall → ℕ → ℕ
 inner_moment time past u = time - reached (drop u past)
 
 -- The facts of a disk under a fuse: those of the inner disk, except that the fuse has its own clock
 -- and its own count of failures, and adds its plan. The mark of a moment is the inner disk's mark
 -- at that moment.
-abbrev pub fused : Plan → DiskFacts → List Step → DiskFacts
+abbrev pub fused : Plan → DiskFacts → List PastCall → DiskFacts
 fused plan inner past = record {
   honest = inner.honest;
   sectors = inner.sectors;

@@ -23,7 +23,7 @@ pub(crate) enum CallOutcome {
 
 /// A past call: whether it reached the inner disk, and whether it failed.
 #[derive(Clone, Copy)]
-pub(crate) struct Step {
+pub(crate) struct PastCall {
     pub reached: bool,
     pub failed: bool,
 }
@@ -37,12 +37,13 @@ pub struct Fuse<D> {
     // The number of calls up to the planned one, including it. After the planned call, the number
     // is 0.
     wait: u64,
-    past: Past<Step>,
+    past: Past<PastCall>,
     ghost waits: { wait ≡ plan.call - length past.items },
 }
 
 impl<D: Disk> Fuse<D> {
-    ghost use Rattle.std.specs.Prelude.{◌++◌, ◌∷◌, [], is_err};
+    ghost use Rattle.std.specs.Prelude.{◌++◌, ◌∷◌, [], is_err, Err, true, false};
+    ghost use Rattle.sector_disk.specs.declared.disk.DiskFault.TheVariants.{Failed};
     ghost use Rattle.sector_disk.specs.Disk.{IsSameDisk};
     ghost use Rattle.sector_disk.specs.Fuse.{fuse_facts, inner_of, plan_of, next_outcome};
 
@@ -100,20 +101,44 @@ impl<D: Disk> Fuse<D> {
         }
     }
 
-    // Ends a call with `reply`. `reached` states whether the call reached the inner disk.
-    fn end_call(&mut self, reached: bool, reply: Result<(), DiskFault>) -> Result<(), DiskFault>
+    // Notes a call: adds it to the past, and counts it towards the planned one.
+    fn note(&mut self, call: PastCall)
+        ensures inner { self.new.inner ≡ self.old.inner }
+        ensures plan { self.new.plan ≡ self.old.plan }
+        ensures past { self.new.past.items ≡ self.old.past.items ++ call ∷ [] }
+    {
+        self.past = self.past.and(&call);
+        self.wait = self.wait.saturating_sub(1);
+    }
+
+    // Ends a call that has reached the inner disk. The call returns `reply`.
+    fn end_call(&mut self, reply: Result<(), DiskFault>) -> Result<(), DiskFault>
         ensures reply { result ≡ reply }
         ensures inner { self.new.inner ≡ self.old.inner }
         ensures plan { self.new.plan ≡ self.old.plan }
         ensures past { self.new.past.items
-            ≡ self.old.past.items ++ record { reached = reached; failed = is_err reply } ∷ [] }
+            ≡ self.old.past.items ++ record { reached = true; failed = is_err reply } ∷ [] }
     {
-        self.past = self.past.and(&Step {
-            reached,
+        self.note(PastCall {
+            reached: true,
             failed: reply.is_err(),
         });
-        self.wait = self.wait.saturating_sub(1);
         reply
+    }
+
+    // Ends a call that fails before it reaches the inner disk.
+    fn fail_early(&mut self) -> Result<(), DiskFault>
+        ensures reply { result ≡ Err Failed }
+        ensures inner { self.new.inner ≡ self.old.inner }
+        ensures plan { self.new.plan ≡ self.old.plan }
+        ensures past { self.new.past.items
+            ≡ self.old.past.items ++ record { reached = false; failed = true } ∷ [] }
+    {
+        self.note(PastCall {
+            reached: false,
+            failed: true,
+        });
+        Err(DiskFault::Failed)
     }
 }
 
@@ -163,12 +188,12 @@ impl<D: Disk> Disk for Fuse<D> {
         match self.next_outcome() {
             CallOutcome::Pass => {
                 let reply = self.inner.read(at, into);
-                self.end_call(true, reply)
+                self.end_call(reply)
             }
-            CallOutcome::Early => self.end_call(false, Err(DiskFault::Failed)),
+            CallOutcome::Early => self.fail_early(),
             CallOutcome::Late => {
                 let _ = self.inner.read(at, into);
-                self.end_call(true, Err(DiskFault::Failed))
+                self.end_call(Err(DiskFault::Failed))
             }
         }
     }
@@ -186,12 +211,12 @@ impl<D: Disk> Disk for Fuse<D> {
         match self.next_outcome() {
             CallOutcome::Pass => {
                 let reply = self.inner.write(at, from);
-                self.end_call(true, reply)
+                self.end_call(reply)
             }
-            CallOutcome::Early => self.end_call(false, Err(DiskFault::Failed)),
+            CallOutcome::Early => self.fail_early(),
             CallOutcome::Late => {
                 let _ = self.inner.write(at, from);
-                self.end_call(true, Err(DiskFault::Failed))
+                self.end_call(Err(DiskFault::Failed))
             }
         }
     }
@@ -207,12 +232,12 @@ impl<D: Disk> Disk for Fuse<D> {
         match self.next_outcome() {
             CallOutcome::Pass => {
                 let reply = self.inner.sync();
-                self.end_call(true, reply)
+                self.end_call(reply)
             }
-            CallOutcome::Early => self.end_call(false, Err(DiskFault::Failed)),
+            CallOutcome::Early => self.fail_early(),
             CallOutcome::Late => {
                 let _ = self.inner.sync();
-                self.end_call(true, Err(DiskFault::Failed))
+                self.end_call(Err(DiskFault::Failed))
             }
         }
     }

@@ -49,7 +49,7 @@ impl Model for PieceBuffer {
 }
 
 /// Writes a piece that isn't the last one to the writer, with one call of `write_all`.
-fn give<W: Write>(piece: &mut Piece, out: &mut W) -> Result<(), WriteFault>
+fn write_piece<W: Write>(piece: &mut Piece, out: &mut W) -> Result<(), WriteFault>
     requires { IsFrontPiece piece.old.waiting }
     ensures ok { OnOk result (Appends (W.contents out.old) (W.contents out.new)
         piece.old.waiting) }
@@ -89,7 +89,7 @@ impl PieceBuffer {
             return Ok(());
         }
         if self.piece.room() <= text.len() + 1 {
-            give(&mut self.piece, out)?;
+            write_piece(&mut self.piece, out)?;
         }
         if self.line_is_ended {
             self.piece.append(b"\n");
