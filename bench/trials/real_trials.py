@@ -81,7 +81,7 @@ def sqlite_trials(_):
 
 
 def right(*_):
-    """Accepts any results, which only have to be those of the static program."""
+    """Accepts all results: they only have to equal those of the static program."""
     return True
 
 
