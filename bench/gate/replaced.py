@@ -187,7 +187,7 @@ class Replaced:
         return self.log.read_text().count('fsync('), ended
 
     def stopped(self, by, words, number, do, given=b'', more=()):
-        """Returns how a command ends if `do` is called after its sync number `number`."""
+        """Returns the end of a command if `do` is called after the command's sync number `number`."""
         process = self.traced(by, words, given, more, number)
         end = time.monotonic() + SECONDS
         while process.poll() is None and time.monotonic() < end:

@@ -44,7 +44,7 @@ int rlibreg_text_was_cut(rlibreg *it);
 
 /* ---- The file (rlibreg_file.c) */
 
-/* Opens a file whose lock is waited for until the moment that rlibreg_begin_waiting has set.
+/* Opens a file. Waits for the file's lock until the moment that rlibreg_begin_waiting has set.
  * Returns a status. */
 uint32_t rlibreg_open_file(rlibreg *it, const char *path, unsigned flags);
 

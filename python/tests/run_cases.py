@@ -122,8 +122,8 @@ def run_lines(registry, script):
 
 
 def update_by(registry, lines):
-    """Returns the replies to the lines of an update. The tool refuses at the line itself, and the module later, with
-    the number of the change."""
+    """Returns the replies to the lines of an update. The tool refuses a line immediately. The module refuses it
+    later, with the number of the change."""
     replies, changes = [], []
     try:
         with registry.update() as update:

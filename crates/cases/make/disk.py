@@ -113,7 +113,7 @@ class OnDisk(Model):
             raise Refused('S6 BadGeometry')
 
     def look(self, root):
-        """Reads what a root of either version lists."""
+        """Reads the entries that a root of either version lists."""
         self.root, self.places = root, self.listed_entries(root)
         if any(k >= self.count() for k in self.places):
             raise Refused('S5 Damaged')

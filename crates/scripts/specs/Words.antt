@@ -22,7 +22,7 @@ is_name word = not (length word == 0) && list_all is_visible word
 abbrev pub named : List ℕ → Option (List ℕ)
 named word = if is_name word then Some word else None
 
--- the NAMEs in the bytes, each of which comes after a space; none if the bytes have another form
+-- the NAMEs in the bytes, each after a space; none if the bytes have another form
 abbrev pub names_behind : List ℕ → Option (List (List ℕ))
 names_behind [] = Some []
 names_behind (b ∷ rest) =
