@@ -1,5 +1,5 @@
-/* The calls over a file, in C over the calls over bytes: what their parts share. rlibreg.h is the
- * manual of the calls. Nothing here is for users. */
+/* The calls over a file, in C over the calls over bytes: the declarations that their parts share.
+ * rlibreg.h is the manual of the calls. Users don't need this file. */
 #ifndef RLIBREG_REGISTRY_H
 #define RLIBREG_REGISTRY_H
 
@@ -67,8 +67,8 @@ uint32_t rlibreg_fail(rlibreg *it);
  * errno. The plan must not be used again. */
 int rlibreg_carry_out(const struct disk_file *file, uint8_t *plan, size_t length);
 
-/* Returns the bytes of the disk as they are after a plan, or null if memory is refused. The caller
- * unmaps them. */
+/* Returns the bytes of the disk after a plan, or null if memory is refused. The caller unmaps
+ * them. */
 uint8_t *rlibreg_copy_after(const struct disk_file *file, const uint8_t *plan, size_t length);
 
 /* ---- Changes (rlibreg_change.c) */
