@@ -158,7 +158,7 @@ CRATES = [
     ('hash_check', 'Admission and the search for names'), ('scope', 'Load order and lookup'),
     ('text_output', 'Text on its way to a writer'), ('image', 'Images'), ('executable', 'Executable files'),
     ('bindings', 'What symbols are bound to'), ('requests', 'Requests and the step table'),
-    ('sector_disk', 'The disk model'), ('file_disk', 'A disk over a file'), ('extents', 'Unused and claimed sectors'),
+    ('sector_disk', 'The disk model'), ('reasons', 'Why a file fails'), ('file_disk', 'A disk over a file'), ('extents', 'Unused and claimed sectors'),
     ('states', 'States'), ('roots', 'Root, catalogue and entry sectors'), ('passes', 'Passes over a disk'), ('store', 'Named byte strings'),
     ('snapshots', 'Snapshots'), ('contents', 'What a disk has'), ('registry', 'The registry on a disk'),
     ('binders', 'Binders in slots'), ('byte_disk', 'A disk over given bytes'),

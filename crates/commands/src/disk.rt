@@ -35,7 +35,7 @@ pub(crate) fn no_disk(fault: OpenFault) -> NoRegistry
     ensures upgrade { IsNoRegistry IsUpgradeRefusal result }
 {
     match fault {
-        OpenFault::CannotOpen => NoRegistry::CannotOpen,
+        OpenFault::CannotOpen(_) => NoRegistry::CannotOpen,
         OpenFault::BadLength(_) => NoRegistry::Refused(StoreRefusal::BadGeometry),
         OpenFault::OutOfMemory => NoRegistry::Refused(StoreRefusal::OutOfMemory),
     }
@@ -47,8 +47,8 @@ fn name_file<R: Files<File = File>>(rt: &R, name: Option<UnnamedFile<'_>>) -> Re
 {
     match name.map_or(Ok(()), |name| name.publish(rt)) {
         Ok(()) => Ok(()),
-        Err(NameFault::NotGiven) => Err(NoRegistry::CannotOpen),
-        Err(NameFault::NotSynced) => Err(NoRegistry::Refused(StoreRefusal::Device)),
+        Err(NameFault::NotGiven(_)) => Err(NoRegistry::CannotOpen),
+        Err(NameFault::NotSynced(_)) => Err(NoRegistry::Refused(StoreRefusal::Device)),
     }
 }
 

@@ -97,6 +97,13 @@ impl<F: SectorFile> FileDisk<F> {
         ensures { IsTrue F.is_honest → HoldsOfTheMedium self.now P.holds }
     {}
 
+    /// Returns the file.
+    pub(crate) fn file(&self) -> &F
+        ensures { result.now ≡ file_of self.now }
+    {
+        &self.buffered.file
+    }
+
     /// Returns the file. The contents of the write buffer are lost.
     pub fn into_file(self) -> F
         ensures { result ≡ file_of self }

@@ -4,8 +4,9 @@ ghost use Rattle.std.specs.Prelude.{◌≡◌, ◌/◌, IfErr, false};
 ghost use Rattle.file_disk.specs.Length.{IsLengthFault};
 ghost use Rattle.file_disk.specs.SectorFile.{unknown_file};
 
-use crate::open::{OpenFault, sectors_in};
+use crate::open::{OpenFault, cannot_open, sectors_in};
 use crate::sector_file::SectorFile;
+use reasons::Reason;
 use sector_disk::SECTOR_BYTES;
 use std::fs::{File, OpenFile};
 use std::io;
@@ -24,12 +25,25 @@ pub enum Access {
     Changes,
 }
 
+/// A call of a file that failed, and the reason.
+#[derive(Clone, Copy, Debug, PartialEq, Eq)]
+pub enum FailedCall {
+    /// The file couldn't be read, or its length couldn't be found out.
+    Read(Reason),
+    /// The file couldn't be written or synced, or its length has changed before a write.
+    Write(Reason),
+}
+
 /// A regular file or a block device. It stays open and locked until it is dropped.
 #[derive(Drop)]
 pub struct DiskFile {
     file: File,
     /// Whether the file is open only for reading.
     is_read_only: bool,
+    /// The length in bytes that was found first.
+    first_length: Option<u64>,
+    /// The first call that failed.
+    failed: Option<FailedCall>,
 }
 
 impl DiskFile {
@@ -40,10 +54,49 @@ impl DiskFile {
     {
         match file.metadata() {
             Ok(found) if found.is_file() || found.file_type().is_block_device() => {
-                Ok(DiskFile { file, is_read_only })
+                Ok(DiskFile {
+                    file,
+                    is_read_only,
+                    first_length: None,
+                    failed: None,
+                })
             }
-            _ => Err(OpenFault::CannotOpen),
+            Ok(_) => Err(OpenFault::CannotOpen(Reason::NotADisk)),
+            Err(fault) => Err(cannot_open(&fault)),
         }
+    }
+
+    /// Returns the first call that failed, if one has failed.
+    pub(crate) fn failed_call(&self) -> Option<FailedCall> {
+        self.failed
+    }
+
+    /// Keeps a call that failed, unless another call failed before.
+    fn note(&mut self, failed: FailedCall) {
+        if self.failed.is_none() {
+            self.failed = Some(failed);
+        }
+    }
+
+    /// Keeps that the length isn't the one that was found first.
+    fn note_length(&mut self, length: u64) {
+        match self.first_length {
+            None => self.first_length = Some(length),
+            Some(first) if first != length => {
+                self.note(FailedCall::Write(Reason::LengthChanged));
+            }
+            Some(_) => {}
+        }
+    }
+
+    /// Keeps a sync that failed. The file of a disk that is only read isn't written by a sync.
+    fn note_sync(&mut self, fault: &io::Error) {
+        let reason = Reason::of(fault);
+        self.note(if self.is_read_only {
+            FailedCall::Read(reason)
+        } else {
+            FailedCall::Write(reason)
+        });
     }
 
     /// Returns the length in bytes, which is the position of the file's end. The metadata of a
@@ -51,6 +104,16 @@ impl DiskFile {
     /// times as long.
     fn length(&mut self) -> io::Result<u64> {
         self.file.seek(SeekFrom::End(0))
+    }
+}
+
+/// Returns the reason why a call moved no sector, unless a signal interrupted it. `short` is the
+/// reason if the call moved only a part of a sector.
+fn why_none(moved: &io::Result<usize>, short: Reason) -> Option<Reason> {
+    match moved {
+        Ok(bytes) if *bytes < SECTOR_BYTES => Some(short),
+        Err(fault) if fault.kind() != ErrorKind::Interrupted => Some(Reason::of(fault)),
+        _ => None,
     }
 }
 
@@ -85,9 +148,14 @@ impl SectorFile for DiskFile {
     ghost whole_sectors = { λ file honest. Prim.cc };
 
     fn count_sectors(&mut self) -> Result<u32, OpenFault> {
-        let Ok(length) = self.length() else {
-            return Err(OpenFault::CannotOpen);
+        let length = match self.length() {
+            Ok(length) => length,
+            Err(fault) => {
+                self.note(FailedCall::Read(Reason::of(&fault)));
+                return Err(cannot_open(&fault));
+            }
         };
+        self.note_length(length);
         match sectors_in(length) {
             Some(sectors) => Ok(sectors),
             None => Err(OpenFault::BadLength(length)),
@@ -95,13 +163,19 @@ impl SectorFile for DiskFile {
     }
 
     fn read_at(&mut self, at: u32, into: &mut [[u8; SECTOR_BYTES]]) -> io::Result<usize> {
-        let bytes = self.file.read_at(into.as_flattened_mut(), place_of(at))?;
-        Ok(whole_sectors(bytes))
+        let moved = self.file.read_at(into.as_flattened_mut(), place_of(at));
+        if let Some(reason) = why_none(&moved, Reason::LengthChanged) {
+            self.note(FailedCall::Read(reason));
+        }
+        Ok(whole_sectors(moved?))
     }
 
     fn write_at(&mut self, at: u32, from: &[[u8; SECTOR_BYTES]]) -> io::Result<usize> {
-        let bytes = self.file.write_at(from.as_flattened(), place_of(at))?;
-        Ok(whole_sectors(bytes))
+        let moved = self.file.write_at(from.as_flattened(), place_of(at));
+        if let Some(reason) = why_none(&moved, Reason::Partial) {
+            self.note(FailedCall::Write(reason));
+        }
+        Ok(whole_sectors(moved?))
     }
 
     /// Syncs the file. Succeeds without a sync if the file is open only for reading, on a read-only
@@ -109,7 +183,11 @@ impl SectorFile for DiskFile {
     fn sync(&mut self) -> io::Result<()> {
         match self.file.sync_all() {
             Err(fault) if self.is_read_only && has_no_sync(&fault) => Ok(()),
-            answer => answer,
+            Err(fault) => {
+                self.note_sync(&fault);
+                Err(fault)
+            }
+            Ok(()) => Ok(()),
         }
     }
 }

@@ -21,7 +21,7 @@ mod unnamed_file;
 mod write_buffer;
 
 pub use disk::FileDisk;
-pub use disk_file::{Access, DiskFile};
+pub use disk_file::{Access, DiskFile, FailedCall};
 pub use memory_file::{CallOutcome, FilePlan, MemoryFile};
 pub use open::{Made, OpenFault};
 pub use property::Property;

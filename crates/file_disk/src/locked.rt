@@ -5,8 +5,9 @@ ghost use Rattle.std.specs.Fs.{new_options, with_read, with_write};
 ghost use Rattle.file_disk.specs.Length.{IsLengthFault};
 
 use crate::disk_file::{Access, DiskFile};
-use crate::open::OpenFault;
+use crate::open::{OpenFault, cannot_open};
 use block_devices::is_in_use;
+use reasons::Reason;
 use std::alloc::Global;
 use std::fs::{File, Metadata, OpenOptions, TryLockError};
 use std::io::ErrorKind;
@@ -85,6 +86,19 @@ fn try_lock(file: &File, access: Access) -> Result<(), TryLockError> {
     }
 }
 
+/// Returns the fault of a file that couldn't be locked. A device that is busy is locked too.
+pub(crate) fn not_locked(fault: &TryLockError) -> OpenFault
+    ensures { IsLengthFault result }
+{
+    match fault {
+        TryLockError::WouldBlock => OpenFault::CannotOpen(Reason::Locked),
+        TryLockError::Error(fault) if fault.kind() == ErrorKind::ResourceBusy => {
+            OpenFault::CannotOpen(Reason::Locked)
+        }
+        TryLockError::Error(fault) => cannot_open(fault),
+    }
+}
+
 /// Locks a file. If the file is a device that is opened for changes, retries for two seconds.
 /// Otherwise makes one attempt.
 fn lock<R: Clock>(rt: &R, file: &File, access: Access, is_device: bool) -> Result<(), OpenFault>
@@ -98,12 +112,12 @@ fn lock<R: Clock>(rt: &R, file: &File, access: Access, is_device: bool) -> Resul
         match try_lock(file, access) {
             Ok(()) => return Ok(()),
             Err(TryLockError::WouldBlock) => sleep(rt, Duration::from_millis(PAUSE)),
-            Err(TryLockError::Error(_)) => return Err(OpenFault::CannotOpen),
+            Err(fault) => return Err(not_locked(&fault)),
         }
     }
     match try_lock(file, access) {
         Ok(()) => Ok(()),
-        Err(_) => Err(OpenFault::CannotOpen),
+        Err(fault) => Err(not_locked(&fault)),
     }
 }
 
@@ -114,7 +128,8 @@ fn check_kind<R: Files>(rt: &R, path: &str) -> Result<(), OpenFault>
 {
     match fs::metadata(rt, path) {
         Ok(found) if found.is_file() || found.file_type().is_block_device() => Ok(()),
-        _ => Err(OpenFault::CannotOpen),
+        Ok(_) => Err(OpenFault::CannotOpen(Reason::NotADisk)),
+        Err(fault) => Err(cannot_open(&fault)),
     }
 }
 
@@ -138,11 +153,13 @@ pub(crate) fn open_locked<R: Files<File = File> + Clock>(
 {
     for _ in 0..TRIES {
         check_kind(rt, path)?;
-        let Ok((file, is_read_only)) = open_file(rt, path, access) else {
-            return Err(OpenFault::CannotOpen);
+        let (file, is_read_only) = match open_file(rt, path, access) {
+            Ok(opened) => opened,
+            Err(fault) => return Err(cannot_open(&fault)),
         };
-        let Ok(found) = file.metadata() else {
-            return Err(OpenFault::CannotOpen);
+        let found = match file.metadata() {
+            Ok(found) => found,
+            Err(fault) => return Err(cannot_open(&fault)),
         };
         let is_device = found.file_type().is_block_device();
         lock(rt, &file, access, is_device)?;
@@ -154,7 +171,7 @@ pub(crate) fn open_locked<R: Files<File = File> + Clock>(
         }
         return DiskFile::new(file, is_read_only);
     }
-    Err(OpenFault::CannotOpen)
+    Err(OpenFault::CannotOpen(Reason::Replaced))
 }
 
 /// Refuses the device with the number `rdev` if it is in use.
@@ -163,7 +180,8 @@ fn refuse_in_use<R: Files<File = File>>(rt: &R, alloc: Global, rdev: u64) -> Res
 {
     match is_in_use(rt, alloc, rdev) {
         Ok(false) => Ok(()),
+        Ok(true) => Err(OpenFault::CannotOpen(Reason::InUse)),
         Err(fault) if fault.kind() == ErrorKind::OutOfMemory => Err(OpenFault::OutOfMemory),
-        _ => Err(OpenFault::CannotOpen),
+        Err(fault) => Err(cannot_open(&fault)),
     }
 }

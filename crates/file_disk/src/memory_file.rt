@@ -2,7 +2,7 @@
 ghost use Rattle.std.specs.Prelude.{◌≡◌, ◌-◌, length};
 
 use crate::medium::{get, put, sync_if};
-use crate::open::OpenFault;
+use crate::open::{OpenFault, cannot_open};
 use crate::sector_file::SectorFile;
 use sector_disk::{CallCount, Disk, DiskFault, Memory, Past, SECTOR_BYTES};
 use std::io;
@@ -200,7 +200,7 @@ impl SectorFile for MemoryFile {
         let outcome = self.begin_call();
         match self.end_call(outcome.fails, 1) {
             Ok(_) => Ok(self.medium.sectors()),
-            Err(_) => Err(OpenFault::CannotOpen),
+            Err(fault) => Err(cannot_open(&fault)),
         }
     }
 

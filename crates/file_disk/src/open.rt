@@ -7,10 +7,11 @@ ghost use Rattle.file_disk.specs.Length.{IsDiskLength, IsLengthFault};
 ghost use Rattle.file_disk.specs.declared.open.OpenFault.TheVariants.{OutOfMemory};
 
 use crate::disk::FileDisk;
-use crate::disk_file::{Access, DiskFile};
+use crate::disk_file::{Access, DiskFile, FailedCall};
 use crate::locked::open_locked;
 use crate::sector_file::SectorFile;
 use crate::unnamed_file::UnnamedFile;
+use reasons::Reason;
 use sector_disk::{Disk, SECTOR_BYTES};
 use std::alloc::{AllocError, Global};
 use std::fs::File;
@@ -24,9 +25,9 @@ use thiserror::Error;
 #[derive(Clone, Copy, Debug, PartialEq, Eq, Error)]
 pub enum OpenFault {
     /// The file can't be opened, locked, made or measured; or it is neither a regular file nor a
-    /// block device; or it is a device in use.
+    /// block device; or it is a device in use. Has the reason.
     #[error("the file can't be opened")]
-    CannotOpen,
+    CannotOpen(Reason),
     /// The file's length isn't the length of a disk, or isn't the requested length. Has the length
     /// in bytes, which isn't a multiple of 512, isn't the requested number of sectors, or is 2^32
     /// sectors or more.
@@ -35,6 +36,13 @@ pub enum OpenFault {
     /// Memory was refused.
     #[error("out of memory")]
     OutOfMemory,
+}
+
+/// Returns the fault of a file for which a call of the system failed.
+pub(crate) fn cannot_open(fault: &io::Error) -> OpenFault
+    ensures { IsLengthFault result }
+{
+    OpenFault::CannotOpen(Reason::of(fault))
 }
 
 impl From<AllocError> for OpenFault {
@@ -74,9 +82,9 @@ pub(crate) fn open_folder<R: Files<File = File>>(rt: &R, path: &str) -> io::Resu
 
 /// Syncs the folder of a file, so that the file's name is on the medium.
 fn sync_folder<R: Files<File = File>>(rt: &R, path: &str) -> Result<(), OpenFault> {
-    match open_folder(rt, path) {
-        Ok(folder) if folder.sync_all().is_ok() => Ok(()),
-        _ => Err(OpenFault::CannotOpen),
+    match open_folder(rt, path).and_then(|folder| folder.sync_all()) {
+        Ok(()) => Ok(()),
+        Err(fault) => Err(cannot_open(&fault)),
     }
 }
 
@@ -134,6 +142,11 @@ impl FileDisk<DiskFile> {
         ensures { MatchResult result (λ disk. IsNew disk) IsLengthFault }
     {
         FileDisk::over(alloc, open_locked(rt, alloc, path, access)?)
+    }
+
+    /// Returns the first call of the file that failed, if one has failed.
+    pub fn failed_call(&self) -> Option<FailedCall> {
+        self.file().failed_call()
     }
 
     /// Opens the file at `path` as a disk of `sectors` sectors, for changes, and syncs its folder,

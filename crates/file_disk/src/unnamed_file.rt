@@ -1,7 +1,8 @@
 // A file that is completed under another name before it gets its own name.
 
-use crate::locked::{TRIES, is_same_file};
-use crate::open::{OpenFault, is_free, open_folder};
+use crate::locked::{TRIES, is_same_file, not_locked};
+use crate::open::{OpenFault, cannot_open, is_free, open_folder};
+use reasons::Reason;
 use std::alloc::{AllocError, Global};
 use std::fs::{File, TryLockError};
 use std::io::ErrorKind;
@@ -19,12 +20,12 @@ const ENDING: &str = ".rlibreg-new";
 /// The reason why a completed file didn't get its name, or may lose the name.
 #[derive(Clone, Copy, Debug, PartialEq, Eq, Error)]
 pub enum NameFault {
-    /// The file didn't get its name, and it no longer exists.
+    /// The file didn't get its name, and it no longer exists. Has the reason.
     #[error("the file can't be given its name")]
-    NotGiven,
-    /// The file got its name, but a power cut may remove the name.
+    NotGiven(Reason),
+    /// The file got its name, but a power cut may remove the name. Has the reason.
     #[error("the folder of the file can't be synced")]
-    NotSynced,
+    NotSynced(Reason),
 }
 
 /// The name that a file still has to get. The file stays locked as long as this value exists.
@@ -70,21 +71,25 @@ fn is_name_of<R: Files>(rt: &R, name: &str, file: &File) -> bool {
 fn take_leftover<R: Files<File = File>>(rt: &R, other: &str) -> Result<(), OpenFault> {
     match fs::symlink_metadata(rt, other) {
         Ok(found) if found.is_file() => {}
+        Ok(_) => return Err(OpenFault::CannotOpen(Reason::Exists)),
         Err(fault) if fault.kind() == ErrorKind::NotFound => return Ok(()),
-        _ => return Err(OpenFault::CannotOpen),
+        Err(fault) => return Err(cannot_open(&fault)),
     }
     let file = match File::open(rt, other) {
         Ok(file) => file,
         Err(fault) if fault.kind() == ErrorKind::NotFound => return Ok(()),
-        Err(_) => return Err(OpenFault::CannotOpen),
+        Err(fault) => return Err(cannot_open(&fault)),
     };
-    if file.try_lock().is_err() {
-        return Err(OpenFault::CannotOpen);
+    if let Err(fault) = file.try_lock() {
+        return Err(not_locked(&fault));
     }
-    if is_name_of(rt, other, &file) && fs::remove_file(rt, other).is_err() {
-        return Err(OpenFault::CannotOpen);
+    if !is_name_of(rt, other, &file) {
+        return Ok(());
     }
-    Ok(())
+    match fs::remove_file(rt, other) {
+        Ok(()) => Ok(()),
+        Err(fault) => Err(cannot_open(&fault)),
+    }
 }
 
 /// Locks a file that was just made. Returns `None` if another process has locked the file or
@@ -97,13 +102,13 @@ fn lock_made<R: Files<File = File>>(
     match file.try_lock() {
         Ok(()) if is_name_of(rt, other, &file) => Ok(Some(file)),
         Ok(()) | Err(TryLockError::WouldBlock) => Ok(None),
-        Err(TryLockError::Error(_)) => {
+        Err(TryLockError::Error(fault)) => {
             // The file can't be locked, although no other process has locked it. Therefore the name
             // is removed.
             if is_name_of(rt, other, &file) {
                 let _ = fs::remove_file(rt, other);
             }
-            Err(OpenFault::CannotOpen)
+            Err(cannot_open(&fault))
         }
     }
 }
@@ -118,10 +123,10 @@ fn make_locked<R: Files<File = File>>(rt: &R, other: &str) -> Result<File, OpenF
                 }
             }
             Err(fault) if fault.kind() == ErrorKind::AlreadyExists => take_leftover(rt, other)?,
-            Err(_) => return Err(OpenFault::CannotOpen),
+            Err(fault) => return Err(cannot_open(&fault)),
         }
     }
-    Err(OpenFault::CannotOpen)
+    Err(OpenFault::CannotOpen(Reason::Replaced))
 }
 
 /// Returns whether a hard link was refused because the file system has no hard links.
@@ -134,9 +139,9 @@ fn lacks_links(kind: ErrorKind) -> bool {
 
 /// Returns Ok if both calls succeeded, so that the new name is on the medium.
 fn both(first: io::Result<()>, second: io::Result<()>) -> Result<(), NameFault> {
-    match (first, second) {
-        (Ok(()), Ok(())) => Ok(()),
-        _ => Err(NameFault::NotSynced),
+    match first.and(second) {
+        Ok(()) => Ok(()),
+        Err(fault) => Err(NameFault::NotSynced(Reason::of(&fault))),
     }
 }
 
@@ -150,15 +155,15 @@ impl<'a> UnnamedFile<'a> {
         bytes: u64,
     ) -> Result<(File, UnnamedFile<'a>), OpenFault> {
         let Some(other) = other_name(alloc, path)? else {
-            return Err(OpenFault::CannotOpen);
+            return Err(OpenFault::CannotOpen(Reason::Missing));
         };
         let file = make_locked(rt, &other)?;
         let name = UnnamedFile { file, other, path };
         match name.fill(bytes) {
             Ok(file) => Ok((file, name)),
-            Err(_) => {
+            Err(fault) => {
                 name.take_away(rt);
-                Err(OpenFault::CannotOpen)
+                Err(cannot_open(&fault))
             }
         }
     }
@@ -180,11 +185,12 @@ impl<'a> UnnamedFile<'a> {
     /// Gives the file its own name, unless a file with this name exists, and removes the other
     /// name. Then syncs the folder. The caller must have synced the file itself before.
     pub fn publish<R: Files<File = File>>(self, rt: &R) -> Result<(), NameFault> {
-        let Ok(folder) = open_folder(rt, self.path) else {
-            return self.refuse(rt);
+        let folder = match open_folder(rt, self.path) {
+            Ok(folder) => folder,
+            Err(fault) => return self.refuse(rt, Reason::of(&fault)),
         };
         if !is_name_of(rt, &self.other, &self.file) {
-            return self.refuse(rt);
+            return self.refuse(rt, Reason::Replaced);
         }
         match fs::hard_link(rt, self.other.as_str(), self.path) {
             Ok(()) => both(fs::remove_file(rt, self.other.as_str()), folder.sync_all()),
@@ -192,15 +198,15 @@ impl<'a> UnnamedFile<'a> {
                 match fs::rename(rt, self.other.as_str(), self.path) {
                     // FAT stores a file's length with the file's name, so the file is synced too.
                     Ok(()) => both(self.file.sync_all(), folder.sync_all()),
-                    Err(_) => self.refuse(rt),
+                    Err(fault) => self.refuse(rt, Reason::of(&fault)),
                 }
             }
-            Err(_) => self.refuse(rt),
+            Err(fault) => self.refuse(rt, Reason::of(&fault)),
         }
     }
 
-    fn refuse<R: Files>(self, rt: &R) -> Result<(), NameFault> {
+    fn refuse<R: Files>(self, rt: &R, reason: Reason) -> Result<(), NameFault> {
         self.take_away(rt);
-        Err(NameFault::NotGiven)
+        Err(NameFault::NotGiven(reason))
     }
 }

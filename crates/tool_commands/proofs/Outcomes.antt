@@ -107,7 +107,7 @@ executable_fault executable_refusal.OutOfMemory = memory_fault
 executable_fault other = refused_fault
 
 open_fault : (fault : OpenFault) → IsFault (open_status fault)
-open_fault disk_file.CannotOpen = failed_fault
+open_fault (disk_file.CannotOpen reason) = failed_fault
 open_fault (disk_file.BadLength length) = refused_fault
 open_fault disk_file.OutOfMemory = memory_fault
 

@@ -34,7 +34,7 @@ use Rattle.updates.specs.Streams.{outputs_of}
 
 -- the status if a file can't be opened as a disk
 abbrev pub open_status : OpenFault → Status
-open_status disk_file.CannotOpen = Failed
+open_status (disk_file.CannotOpen reason) = Failed
 open_status (disk_file.BadLength length) = Refused
 open_status disk_file.OutOfMemory = NoMemory
 
@@ -46,7 +46,7 @@ read_status read_file.OutOfMemory = NoMemory
 -- The text on standard error if a file can't be opened as a disk. If the file can't be opened at all,
 -- the text is unspecified.
 abbrev pub SaysFault : OpenFault → Option (List ℕ) → Option (List ℕ) → Type 0
-SaysFault disk_file.CannotOpen before after = Unit {0}
+SaysFault (disk_file.CannotOpen reason) before after = Unit {0}
 SaysFault (disk_file.BadLength length) before after = AppendsFront before after (refusal_line BadGeometry)
 SaysFault disk_file.OutOfMemory before after = AppendsFront before after memory_line
 

@@ -32,7 +32,7 @@ fn not_opened<E: Write>(alloc: Global, path: &str, fault: OpenFault, errors: &mu
     ensures said { SaysFault fault (E.contents errors.old) (E.contents errors.new) }
 {
     match fault {
-        OpenFault::CannotOpen => cannot_read(errors, path),
+        OpenFault::CannotOpen(_) => cannot_read(errors, path),
         OpenFault::BadLength(_) => say_refusal(alloc, StoreRefusal::BadGeometry, errors),
         OpenFault::OutOfMemory => say_refusal(alloc, StoreRefusal::OutOfMemory, errors),
     }

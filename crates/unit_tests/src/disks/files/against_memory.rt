@@ -4,6 +4,7 @@ use crate::disks::alike::{are_same, call_both};
 use crate::disks::files::fake::{Fake, Plan, WELL, disk, reopened};
 use crate::disks::stops::{fill, is_filled, read, write};
 use file_disk::{CallOutcome, FileDisk, FilePlan, MemoryFile, OpenFault};
+use reasons::Reason;
 use sector_disk::{Disk, Memory};
 use std::alloc::Global;
 
@@ -127,7 +128,7 @@ const OVER: [(u32, u64, Result<u32, OpenFault>); 5] = [
     (1, 0, Ok(1)),
     (8, 0, Ok(8)),
     (8, 2, Ok(8)),
-    (8, 1, Err(OpenFault::CannotOpen)),
+    (8, 1, Err(OpenFault::CannotOpen(Reason::Unknown))),
 ];
 
 // Makes a disk over a file of `sectors` sectors. The file's call number `call` fails. Returns the

@@ -3,6 +3,7 @@ ghost use Rattle.file_disk.specs.SectorFile.{unknown_file};
 ghost use Rattle.std.specs.Prelude.{false};
 
 use file_disk::{FileDisk, OpenFault, SectorFile};
+use reasons::Reason;
 use sector_disk::SECTOR_BYTES;
 use std::alloc::Global;
 use std::io;
@@ -85,9 +86,9 @@ impl SectorFile for Fake {
         match self.call() {
             Ok(()) => match u32::try_from(self.sectors.len()) {
                 Ok(sectors) => Ok(sectors),
-                Err(_) => Err(OpenFault::CannotOpen),
+                Err(_) => Err(OpenFault::CannotOpen(Reason::Unknown)),
             },
-            Err(_) => Err(OpenFault::CannotOpen),
+            Err(_) => Err(OpenFault::CannotOpen(Reason::Unknown)),
         }
     }
 

@@ -1,7 +1,8 @@
 // Tests of disks over files of the system.
 
 use crate::disks::stops::{read, write};
-use file_disk::{Access, DiskFile, FileDisk, Made, OpenFault};
+use file_disk::{Access, DiskFile, FailedCall, FileDisk, Made, OpenFault};
+use reasons::Reason;
 use sector_disk::Disk;
 use std::fs;
 use std::fs::File;
@@ -23,7 +24,7 @@ fn make(rt: &HostRuntime, path: &str) -> Result<FileDisk<DiskFile>, OpenFault> {
     if is_named {
         Ok(disk)
     } else {
-        Err(OpenFault::CannotOpen)
+        Err(OpenFault::CannotOpen(Reason::Unknown))
     }
 }
 
@@ -86,8 +87,9 @@ fn a_disk_that_is_opened_for_reading_is_not_written(rt: HostRuntime) {
     );
     let ended = fs::remove_dir_all(&rt, folder).is_ok();
     let right = answers == Ok((true, false));
-    let refused = Err(OpenFault::CannotOpen);
-    let closed = none == refused && others == (refused, refused);
+    let missing = Err(OpenFault::CannotOpen(Reason::Missing));
+    let refused = Err(OpenFault::CannotOpen(Reason::NotADisk));
+    let closed = none == missing && others == (refused, refused);
     assert!(rt; begun && kept && ended && right && closed);
 }
 
@@ -203,19 +205,19 @@ fn a_cut_between_two_writes_is_seen_by_the_sync(rt: HostRuntime) {
     assert!(rt; begun && ended && answers == Ok((true, false)));
 }
 
-// The paths that can't be opened, and the paths that can't be made.
-const OPENED: [&str; 5] = [
-    "/dev/full",
-    "/dev/null",
-    "/dev/zero",
-    "file_disk_test_refused",
-    "file_disk_test_refused/none",
+// The paths that can't be opened, and the paths that can't be made, each with the reason.
+const OPENED: [(&str, Reason); 5] = [
+    ("/dev/full", Reason::NotADisk),
+    ("/dev/null", Reason::NotADisk),
+    ("/dev/zero", Reason::NotADisk),
+    ("file_disk_test_refused", Reason::NotADisk),
+    ("file_disk_test_refused/none", Reason::Missing),
 ];
 
-const MADE: [&str; 3] = [
-    "/dev/full",
-    "file_disk_test_refused",
-    "file_disk_test_refused/none/disk",
+const MADE: [(&str, Reason); 3] = [
+    ("/dev/full", Reason::NotADisk),
+    ("file_disk_test_refused", Reason::NotADisk),
+    ("file_disk_test_refused/none/disk", Reason::Missing),
 ];
 
 // Each row has the length of a file, and the result of opening a disk over the file.
@@ -235,13 +237,13 @@ const LENGTHS: [(u64, Result<u32, OpenFault>); 8] = [
 
 // Returns the first path whose opening or making doesn't have the expected result.
 fn opened_otherwise(rt: &HostRuntime) -> Option<&'static str> {
-    for path in &OPENED {
-        if sectors(rt, path) != Err(OpenFault::CannotOpen) {
+    for (path, reason) in &OPENED {
+        if sectors(rt, path) != Err(OpenFault::CannotOpen(*reason)) {
             return Some(*path);
         }
     }
-    for path in &MADE {
-        if make(rt, path).err() != Some(OpenFault::CannotOpen) {
+    for (path, reason) in &MADE {
+        if make(rt, path).err() != Some(OpenFault::CannotOpen(*reason)) {
             return Some(*path);
         }
     }
@@ -265,4 +267,52 @@ fn other_files_and_lengths_are_refused(rt: HostRuntime) {
     let length = measured_otherwise(&rt, "file_disk_test_refused/length");
     let ended = fs::remove_dir_all(&rt, "file_disk_test_refused").is_ok();
     assert!(rt; (begun && ended, other, length) == (true, None, None));
+}
+
+// Opens the disk at `path` while another disk over the same file is open for changes.
+fn opened_twice(rt: &HostRuntime, path: &str) -> Result<Result<u32, OpenFault>, OpenFault> {
+    let disk = make(rt, path)?;
+    let second = sectors(rt, path);
+    drop(disk);
+    Ok(second)
+}
+
+#[test]
+fn a_locked_file_has_its_own_reason(rt: HostRuntime) {
+    let folder = "file_disk_test_locked";
+    let begun = make_folder(&rt, folder);
+    let second = opened_twice(&rt, "file_disk_test_locked/disk");
+    let ended = fs::remove_dir_all(&rt, folder).is_ok();
+    let locked = Ok(Err(OpenFault::CannotOpen(Reason::Locked)));
+    assert!(rt; begun && ended && second == locked);
+}
+
+// Makes a disk of eight sectors, sets the length of its file to `length`, and syncs the disk.
+// Returns the failed calls that the disk reports before and after the sync.
+fn failed_calls(
+    rt: &HostRuntime,
+    path: &str,
+    length: u64,
+) -> Result<[Option<FailedCall>; 2], OpenFault> {
+    let mut disk = make(rt, path)?;
+    let before = disk.failed_call();
+    let is_resized = set_length(rt, path, length);
+    let is_synced = disk.sync().is_ok();
+    if is_resized && is_synced == (length == 8 * 512) {
+        Ok([before, disk.failed_call()])
+    } else {
+        Err(OpenFault::CannotOpen(Reason::Unknown))
+    }
+}
+
+#[test]
+fn the_first_failed_call_is_kept(rt: HostRuntime) {
+    let folder = "file_disk_test_failed";
+    let path = "file_disk_test_failed/disk";
+    let begun = make_folder(&rt, folder);
+    let sound = failed_calls(&rt, path, 8 * 512);
+    let cut = failed_calls(&rt, path, 512);
+    let ended = fs::remove_dir_all(&rt, folder).is_ok();
+    let changed = Some(FailedCall::Write(Reason::LengthChanged));
+    assert!(rt; begun && ended && sound == Ok([None, None]) && cut == Ok([None, changed]));
 }
