@@ -4,13 +4,15 @@
     python3 bench/documents.py            writes the generated pages again
     python3 bench/documents.py --check    writes nothing, and fails if a page would change
 
-The script fails if a name between backquotes isn't in the tree, if the list of bench/README.md doesn't name each file of
-bench/ once, if a source file has no comment at its head, if a picture would change (pictures.py), if a refusal code comes
-before its name on a page, if a command of a page doesn't exist (page_checks.py), if a list of refusals differs from the
-definitions (refusals.py), if a crate doesn't export a name of docs/PROMISED_CALLS.txt, or if no test calls it by its path.
-A name is a path, or a word of the code: a word with `_`, `::` or a capital letter within it. In a crate's page, a path that
-begins with `src/`, `specs/`, `proofs/`, `data/` or `must-fail/` is a path of that crate; in any other page it is a path of
-some crate. All other paths begin at the root of the repository.
+The generated parts are CLAUSES, DEFINITIONS and MAP, the tables of definitions in PROOFS, and the tables of files in the
+READMEs of folders and crates (folder_pages.py). The script fails if a name between backquotes isn't in the tree, if the
+list of bench/README.md doesn't name each file of bench/ once, if a source file has no comment at its head, if a picture
+would change (pictures.py), if a refusal code comes before its name on a page, if a command of a page doesn't exist
+(page_checks.py), if a list of refusals differs from the definitions (refusals.py), if a crate doesn't export a name of
+docs/PROMISED_CALLS.txt, or if no test calls it by its path. A name is a path, or a word of the code: a word with `_`, `::`
+or a capital letter within it. In a crate's page, a path that begins with `src/`, `specs/`, `proofs/`, `data/` or `must-
+fail/` is a path of that crate; in any other page it is a path of some crate. All other paths begin at the root of the
+repository.
 """
 
 import re

@@ -1,5 +1,4 @@
-# bindings: prints what each symbol is bound to, everything that is undefined, and everything that is
-# missing.
+# bindings: prints the binding of each symbol, and everything that is undefined or missing.
 cat > upper.c <<'END'
 extern int shared(void), below(void), lost(void), gone(void);
 __attribute__((weak)) extern int nobody(void);

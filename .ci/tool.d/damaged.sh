@@ -1,4 +1,4 @@
-# A damaged library among others: what `check`, `digest`, `dump` and `file` answer.
+# A damaged library among others: the answers of `check`, `digest`, `dump` and `file`.
 cp old whole
 damage old "$(place old libl2.so)"
 ends 1 check old

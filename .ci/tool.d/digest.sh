@@ -1,4 +1,4 @@
-# digest: prints the same as sha256sum for the files, in the registry's order, also if sha256sum escapes
+# digest: prints the same as sha256sum for the files, in the registry's order, even if sha256sum escapes
 # a name. A changed byte of code, which `check` doesn't detect, changes the digest.
 gcc -shared -fPIC -nostdlib -Wl,--hash-style=sysv -Wl,-soname,'lib\\n\4.so' -o 'lib\\n\4.so' l1.c
 sums=(libl3.so 'lib\\n\4.so' libl1.so)

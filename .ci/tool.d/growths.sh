@@ -1,6 +1,6 @@
-# Each growth of memory is refused in turn. Then the tool has to report this, leave the disk as it was,
-# and cut a script that it has begun. Or the tool doesn't need the growth, and the result is the usual
-# one.
+# Each growth of memory is refused in turn. If the tool needs the growth, it has to report the refusal,
+# leave the disk unchanged, and cut a script that it has begun. Otherwise the result has to be the
+# usual one.
 "$program" format sound 256 > answer
 for n in 1 2 3; do "$program" install sound "libl$n.so" > answer; done
 gcc -O1 -shared -fPIC -o refuse.so "$bench/gate/refuse.c"

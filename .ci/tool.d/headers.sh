@@ -16,9 +16,9 @@ for n in 16 17; do
     [ "$n" = 17 ] || told ''
 done
 
-# As many program headers as Linux accepts, 1,170, and one more, which is refused. A program has one page
-# more for each, with eight bytes of its file, and the permissions of the pages alternate. Linux starts
-# it from 6.17 on.
+# As many program headers as Linux accepts (1,170), and then one more, which is refused. For each program
+# header the program has another page, with eight bytes of its file; the permissions of the pages
+# alternate. Linux starts the program from 6.17 on.
 gcc -O1 -fPIC -nostdlib -fno-stack-protector -shared -Wl,--hash-style=sysv,-e,_start -o few shared.c
 ends 0 executable many few 0x400000
 python3 - few $((1170 - $(count))) << 'END'

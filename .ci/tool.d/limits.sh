@@ -17,9 +17,9 @@ tells_refusal() {
     fi
 }
 
-# Limits of the address space: from one under which no program starts, because the kernel or the loader
-# of the C library ends it, to one that is enough. If memory is refused, for the stack too, the status
-# and a line report this.
+# Limits of the address space: from a limit under which no program starts, because the kernel or the
+# loader of the C library ends it, to a limit that is large enough. If memory is refused, even for the
+# stack, the status and a line report this.
 cp sound copy
 declare -A least
 for form in "$tool replace libl2.so" "$tool update" "$tool executable pl1 0x200000" "$program list" "$program bind pl1 0x200000"; do

@@ -86,7 +86,7 @@ def sentence(path):
 
 def files_in(folder, tracked):
     """Returns the listed files of a folder, in the order of their names."""
-    return [ROOT / name for name in tracked if str(Path(name).parent) == folder
+    return [ROOT / name for name in sorted(tracked) if str(Path(name).parent) == folder
             and Path(name).suffix in ENDINGS and Path(name).name not in UNLISTED and (ROOT / name).exists()]
 
 

@@ -1,7 +1,7 @@
 #!/usr/bin/env bash
 # driver.sh BUILT  tries rlibreg-gcc of BUILT (c/build.sh) with everything that the gate may lack: gcc's plugin
-# for thread-local data, which it makes, and trees of folders by libtool and meson. It prints what an access
-# to thread-local data costs. If this machine lacks something, the part that needs it is left out, and a line
+# for thread-local data, which it makes, and trees of folders by libtool and meson. It prints the time of an
+# access to thread-local data. If this machine lacks something, the part that needs it is left out, and a line
 # reports this.
 #
 # The script needs musl-tools, g++, and gcc-12-plugin-dev for gcc 12; and automake, libtool and

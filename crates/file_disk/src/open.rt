@@ -3,8 +3,8 @@ ghost use Rattle.std.specs.Prelude.{◌≡◌, ◌*◌, IfOk, IfErr, IfSome, IfN
 ghost use Rattle.std.specs.Prelude.{false, IsTrue, MatchResult};
 ghost use Rattle.file_disk.specs.FileDisk.{file_facts, IsNew, IsAsTheFile, IsOver, HasCause};
 ghost use Rattle.file_disk.specs.FileDisk.{StartsAsFound};
-ghost use Rattle.file_disk.specs.Length.{IsDiskLength, IsLengthFault};
-ghost use Rattle.file_disk.specs.declared.open.OpenFault.TheVariants.{OutOfMemory};
+ghost use Rattle.file_disk.specs.Length.{IsDiskLength, IsLengthFault, IsOtherLength};
+ghost use Rattle.file_disk.specs.declared.open.OpenFault.TheVariants.{BadLength, OutOfMemory};
 
 use crate::disk::FileDisk;
 use crate::disk_file::{Access, DiskFile, FailedCall};
@@ -67,7 +67,9 @@ pub(crate) fn sectors_in(length: u64) -> Option<u32>
 }
 
 /// Returns the fault of a file that is a disk, but with another number of sectors than requested.
-fn other_length(disk: &FileDisk<DiskFile>) -> OpenFault {
+fn other_length(disk: &FileDisk<DiskFile>) -> OpenFault
+    ensures { result ≡ BadLength (512 * (file_facts disk.now).sectors) }
+{
     OpenFault::BadLength(u64::from(disk.sectors()) * SECTOR_BYTES as u64)
 }
 
@@ -81,10 +83,19 @@ pub(crate) fn open_folder<R: Files<File = File>>(rt: &R, path: &str) -> io::Resu
 }
 
 /// Syncs the folder of a file, so that the file's name is on the medium.
+<<<<<<< HEAD
 fn sync_folder<R: Files<File = File>>(rt: &R, path: &str) -> Result<(), OpenFault> {
     match open_folder(rt, path).and_then(|folder| folder.sync_all()) {
         Ok(()) => Ok(()),
         Err(fault) => Err(cannot_open(&fault)),
+=======
+fn sync_folder<R: Files<File = File>>(rt: &R, path: &str) -> Result<(), OpenFault>
+    ensures { IfErr result IsLengthFault }
+{
+    match open_folder(rt, path) {
+        Ok(folder) if folder.sync_all().is_ok() => Ok(()),
+        _ => Err(OpenFault::CannotOpen),
+>>>>>>> up/main
     }
 }
 
@@ -161,6 +172,9 @@ impl FileDisk<DiskFile> {
     ) -> Result<Made<'a>, OpenFault>
         ensures new { IfOk result (λ made. IsNew made.disk) }
         ensures sectors { IfOk result (λ made. (file_facts made.disk).sectors ≡ sectors) }
+
+        // A file is refused for its length only if the length isn't that of `sectors` sectors.
+        ensures length { IfErr result (IsOtherLength sectors) }
     {
         if is_free(rt, path) {
             return make_new(rt, alloc, path, sectors);
@@ -183,6 +197,7 @@ fn make_new<'a, R: Files<File = File>>(
 ) -> Result<Made<'a>, OpenFault>
     ensures new { IfOk result (λ made. IsNew made.disk) }
     ensures sectors { IfOk result (λ made. (file_facts made.disk).sectors ≡ sectors) }
+    ensures length { IfErr result (IsOtherLength sectors) }
 {
     let length = u64::from(sectors) * SECTOR_BYTES as u64;
     let (file, name) = UnnamedFile::make(rt, alloc, path, length)?;
@@ -202,6 +217,7 @@ fn make_new<'a, R: Files<File = File>>(
 fn over_made(alloc: Global, file: File, sectors: u32) -> Result<FileDisk<DiskFile>, OpenFault>
     ensures new { IfOk result (λ disk. IsNew disk) }
     ensures sectors { IfOk result (λ disk. (file_facts disk).sectors ≡ sectors) }
+    ensures length { IfErr result (IsOtherLength sectors) }
 {
     let disk = FileDisk::over(alloc, DiskFile::new(file, false)?)?;
     if disk.sectors() != sectors {

@@ -1,8 +1,16 @@
 // A file that is completed under another name before it gets its own name.
 
+<<<<<<< HEAD
 use crate::locked::{TRIES, is_same_file, not_locked};
 use crate::open::{OpenFault, cannot_open, is_free, open_folder};
 use reasons::Reason;
+=======
+ghost use Rattle.std.specs.Prelude.{IfErr};
+ghost use Rattle.file_disk.specs.Length.{IsLengthFault};
+
+use crate::locked::{TRIES, is_same_file};
+use crate::open::{OpenFault, is_free, open_folder};
+>>>>>>> up/main
 use std::alloc::{AllocError, Global};
 use std::fs::{File, TryLockError};
 use std::io::ErrorKind;
@@ -68,7 +76,9 @@ fn is_name_of<R: Files>(rt: &R, name: &str, file: &File) -> bool {
 /// Removes the other name if a process that has ended left it there. Doesn't write the file,
 /// because it may be a complete registry that also has its own name. Doesn't remove a file that is
 /// locked or that isn't a regular file.
-fn take_leftover<R: Files<File = File>>(rt: &R, other: &str) -> Result<(), OpenFault> {
+fn take_leftover<R: Files<File = File>>(rt: &R, other: &str) -> Result<(), OpenFault>
+    ensures { IfErr result IsLengthFault }
+{
     match fs::symlink_metadata(rt, other) {
         Ok(found) if found.is_file() => {}
         Ok(_) => return Err(OpenFault::CannotOpen(Reason::Exists)),
@@ -98,7 +108,9 @@ fn lock_made<R: Files<File = File>>(
     rt: &R,
     other: &str,
     file: File,
-) -> Result<Option<File>, OpenFault> {
+) -> Result<Option<File>, OpenFault>
+    ensures { IfErr result IsLengthFault }
+{
     match file.try_lock() {
         Ok(()) if is_name_of(rt, other, &file) => Ok(Some(file)),
         Ok(()) | Err(TryLockError::WouldBlock) => Ok(None),
@@ -114,7 +126,9 @@ fn lock_made<R: Files<File = File>>(
 }
 
 /// Makes an empty file under the other name and locks it. Never opens an existing file.
-fn make_locked<R: Files<File = File>>(rt: &R, other: &str) -> Result<File, OpenFault> {
+fn make_locked<R: Files<File = File>>(rt: &R, other: &str) -> Result<File, OpenFault>
+    ensures { IfErr result IsLengthFault }
+{
     for _ in 0..TRIES {
         match File::create_new(rt, other) {
             Ok(made) => {
@@ -153,7 +167,9 @@ impl<'a> UnnamedFile<'a> {
         alloc: Global,
         path: &'a str,
         bytes: u64,
-    ) -> Result<(File, UnnamedFile<'a>), OpenFault> {
+    ) -> Result<(File, UnnamedFile<'a>), OpenFault>
+        ensures { IfErr result IsLengthFault }
+    {
         let Some(other) = other_name(alloc, path)? else {
             return Err(OpenFault::CannotOpen(Reason::Missing));
         };
