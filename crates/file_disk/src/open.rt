@@ -83,19 +83,12 @@ pub(crate) fn open_folder<R: Files<File = File>>(rt: &R, path: &str) -> io::Resu
 }
 
 /// Syncs the folder of a file, so that the file's name is on the medium.
-<<<<<<< HEAD
-fn sync_folder<R: Files<File = File>>(rt: &R, path: &str) -> Result<(), OpenFault> {
-    match open_folder(rt, path).and_then(|folder| folder.sync_all()) {
-        Ok(()) => Ok(()),
-        Err(fault) => Err(cannot_open(&fault)),
-=======
 fn sync_folder<R: Files<File = File>>(rt: &R, path: &str) -> Result<(), OpenFault>
     ensures { IfErr result IsLengthFault }
 {
-    match open_folder(rt, path) {
-        Ok(folder) if folder.sync_all().is_ok() => Ok(()),
-        _ => Err(OpenFault::CannotOpen),
->>>>>>> up/main
+    match open_folder(rt, path).and_then(|folder| folder.sync_all()) {
+        Ok(()) => Ok(()),
+        Err(fault) => Err(cannot_open(&fault)),
     }
 }
 

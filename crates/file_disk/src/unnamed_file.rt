@@ -1,16 +1,11 @@
 // A file that is completed under another name before it gets its own name.
 
-<<<<<<< HEAD
-use crate::locked::{TRIES, is_same_file, not_locked};
-use crate::open::{OpenFault, cannot_open, is_free, open_folder};
-use reasons::Reason;
-=======
 ghost use Rattle.std.specs.Prelude.{IfErr};
 ghost use Rattle.file_disk.specs.Length.{IsLengthFault};
 
-use crate::locked::{TRIES, is_same_file};
-use crate::open::{OpenFault, is_free, open_folder};
->>>>>>> up/main
+use crate::locked::{TRIES, is_same_file, not_locked};
+use crate::open::{OpenFault, cannot_open, is_free, open_folder};
+use reasons::Reason;
 use std::alloc::{AllocError, Global};
 use std::fs::{File, TryLockError};
 use std::io::ErrorKind;
