@@ -6,9 +6,11 @@ own commands.
 
 PROGRAMS has rlibreg, rlibreg-run, rlibreg-tool and rlibreg-gcc (c/build.sh). Each program has musl inside, and its own code
 in libraries of a registry, as docs/LINKING.md says. Its output, its status and the files that it leaves are compared with
-those of the same sources linked statically. The executable file of its image is compared too. If the script runs as root, a
-user without privileges repeats all of it. SOURCES keeps the archives; `apt-get source` gets those that aren't there.
-If this machine lacks something, the part that needs it is left out, and a line reports this.
+those of the same sources linked statically, or with those of the system's build if the program opens modules. The program
+is started from kept images too, and so is the executable file of its image. If the script runs as root, a user without
+privileges repeats all of it. In the end the libraries of all programs are put into one registry, and each program is
+started from it again. SOURCES keeps the archives; `apt-get source` gets those that aren't there. If this machine lacks
+something, the part that needs it is left out, and a line reports this.
 """
 
 import argparse
@@ -21,22 +23,31 @@ from pathlib import Path
 sys.path[1:1] = map(str, Path(__file__).resolve().parents[1].glob('*/'))  # the folders of bench
 import real_builds
 import unchanged
+import unchanged_more
 from checks import NOBODY, Checks, emptied, has
 from debian_sources import NotHad
 from disks import install
-from real_trials import TRIALS
+from real_trials import TRIALS as USUAL
 
-SECTORS, BASE = '32768', '0x10000000'
+LEAST, BASE = 16384, '0x10000000'
 ENVIRONMENT = {'PATH': '/usr/bin:/bin', 'HOME': '/', 'LC_ALL': 'C', 'TZ': 'UTC'}
 WAIT = 300
 
+
 Ended = collections.namedtuple('Ended', 'status output errors')
-# How a program is started: its file, and the words that come before the file.
+# How a program is started: its file, and the words that come before the file. KEPT among them stands for the user's folder
+# of kept images.
 Variant = collections.namedtuple('Variant', 'name file before')
+# A user: the words that come before each command of this user, and the user's folder of kept images.
+User = collections.namedtuple('User', 'name before kept')
+# A trial that was run: its program's file for a registry, and the results of the first variant.
+Tried = collections.namedtuple('Tried', 'trial file wanted')
 
-
-# The programs that are built by hand. `unchanged.PROJECTS` has those that are built by their own commands.
+KEPT, NUMBER = object(), 65534
+# The programs that are built by hand, and the projects that are built by their own commands.
 BY_HAND = {'Lua': real_builds.lua, 'SQLite': real_builds.sqlite}
+PROJECTS = {**unchanged.PROJECTS, **unchanged_more.PROJECTS}
+TRIALS = {**USUAL, **unchanged_more.TRIALS}
 
 
 def done(*words):
@@ -48,7 +59,7 @@ def done(*words):
 class Bench:
     def __init__(self, programs, folder, checks):
         self.programs, self.folder, self.checks = programs, folder, checks
-        self.place = folder / 'place'
+        self.place, self.tried, self.libraries = folder / 'place', [], []
         usage = subprocess.run([programs / 'rlibreg-tool'], capture_output=True, text=True).stderr
         self.has_executables = 'executable' in usage
         if not self.has_executables:
@@ -56,9 +67,13 @@ class Bench:
 
     def registry(self, build):
         """Makes a disk with the libraries of a program."""
-        disk = build.folder / 'disk'
-        done(self.programs / 'rlibreg', 'format', disk, SECTORS)
-        install(self.programs / 'rlibreg', disk, (it.read_bytes() for it in build.libraries))
+        return self.disk(build.folder / 'disk', build.libraries)
+
+    def disk(self, disk, libraries):
+        """Makes a disk with libraries, which also has room for their next versions."""
+        sectors = sum(it.stat().st_size for it in libraries) // 256 + LEAST
+        done(self.programs / 'rlibreg', 'format', disk, sectors)
+        install(self.programs / 'rlibreg', disk, (it.read_bytes() for it in libraries))
         disk.chmod(0o644)
         return disk
 
@@ -71,6 +86,9 @@ class Bench:
             made = subprocess.run(words, capture_output=True)
             assert made.returncode == 0, (words, made)
             yield Variant('executable', made.stdout, [])
+
+    def kept_variant(self, name, file, disk):
+        return Variant(name, file, [self.programs / 'rlibreg-run', '-c', KEPT, disk])
 
     def start(self, trial, step, before):
         words = [*map(str, before), f'./{trial.program}', *step.words]
@@ -92,12 +110,13 @@ class Bench:
         left = [it for it in self.place.rglob('*') if it.is_file()]
         return ended, {str(it.relative_to(self.place)): it.read_bytes() for it in left}
 
-    def compare(self, trial, variants, user, wrapped):
-        """Compares a program in all of its variants; the first is the static one."""
-        wanted = None
+    def compare(self, trial, variants, user, wanted=None):
+        """Compares a program in all of its variants; the first is the static one, if no results are wanted. Returns the
+        first results."""
         for variant in variants:
-            ended, left = self.results(trial, variant.file, [*wrapped, *variant.before])
-            kind = f'{trial.program}, {variant.name}, {user}'
+            before = [user.kept if it is KEPT else it for it in variant.before]
+            ended, left = self.results(trial, variant.file, [*user.before, *before])
+            kind = f'{trial.program}, {variant.name}, {user.name}'
             is_right = trial.is_right(ended, left, self.place)
             self.checks.want(kind, is_right, 'not what it has to be:', ended[0])
             wanted = wanted or (ended, left)
@@ -105,17 +124,32 @@ class Bench:
                 self.checks.want(kind, now.status == step.status, step.words, now)
                 self.checks.want(kind, was == now, step.words, was, now)
             self.checks.want(kind, wanted[1] == left, 'files:', sorted(wanted[1]), sorted(left))
+        return wanted
+
+    def compare_together(self, user):
+        """Starts all programs again, from one registry with the libraries of all."""
+        disk = self.disk(self.folder / 'together', self.libraries)
+        for it in self.tried:
+            self.compare(it.trial, [self.kept_variant('one registry', it.file, disk)], user, it.wanted)
+
+    def kept(self, name, user=None):
+        """Makes a user's folder of kept images."""
+        folder = emptied(self.folder / name)
+        folder.chmod(0o700)
+        if user is not None:
+            os.chown(folder, user, user)
+        return folder
 
     def users(self):
-        """Yields the users who start the programs, each with the words that come before the command."""
-        yield 'who asked', []
+        """Yields the users who start the programs."""
+        yield User('who asked', [], self.kept('kept'))
         paths = [self.programs / 'rlibreg-run', self.folder]
         if not has('setpriv') or subprocess.run([*NOBODY, 'true'], capture_output=True).returncode:
             self.checks.skip('nobody', 'this user may not be another, or there is no setpriv')
         elif any(subprocess.run([*NOBODY, 'test', '-x', path]).returncode for path in paths):
             self.checks.skip('nobody', 'another user may not go to PROGRAMS or to FOLDER')
         else:
-            yield 'nobody', NOBODY
+            yield User('nobody', NOBODY, self.kept('kept-nobody', NUMBER))
 
 
 def builds(bench, sources, names):
@@ -127,7 +161,7 @@ def builds(bench, sources, names):
             if name in BY_HAND:
                 built[name] = BY_HAND[name](place, sources)
             else:
-                built[name] = unchanged.build(name, place, sources, built)
+                built[name] = unchanged.build(name, PROJECTS[name], place, sources, built)
         except NotHad as why:
             bench.checks.skip(name, why)
             continue
@@ -142,10 +176,15 @@ def try_all(bench, sources, names):
     users = list(bench.users())
     for name, build in builds(bench, sources, names):
         disk = bench.registry(build)
+        bench.libraries += [it for it in build.libraries if it not in bench.libraries]
         for trial in TRIALS[name](build):
-            variants = list(bench.variants(build, disk, trial.program))
-            for user, wrapped in users:
-                bench.compare(trial, variants, user, wrapped)
+            file = (build.linked / trial.program).read_bytes()
+            variants = [*bench.variants(build, disk, trial.program), bench.kept_variant('kept image', file, disk)]
+            wanted = [bench.compare(trial, variants, user) for user in users]
+            bench.tried.append(Tried(trial, file, wanted[0]))
+    bench.compare_together(users[0])
+    for user in users:
+        bench.checks.want('kept images', any(user.kept.iterdir()), 'none is kept for', user.name)
 
 
 def asked_for():
@@ -154,7 +193,7 @@ def asked_for():
     asked.add_argument('programs', type=Path)
     asked.add_argument('folder', type=Path)
     asked.add_argument('--sources', type=Path)
-    asked.add_argument('--only', nargs='+', choices=TRIALS, default=[*BY_HAND, *unchanged.PROJECTS])
+    asked.add_argument('--only', nargs='+', choices=TRIALS, default=[*BY_HAND, *PROJECTS])
     given = asked.parse_args()
     folder = emptied(given.folder.resolve())
     folder.chmod(0o755)

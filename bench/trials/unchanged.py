@@ -3,17 +3,21 @@ programs by musl-gcc. docs/LINKING.md has a table of them."""
 
 import collections
 import shutil
+from pathlib import Path
 
 from debian_sources import NotHad
 from real_builds import Build, need, run
 
 # A project: its package; its commands, in which {cc} and {cxx} are the compilers, {words} are those of `linked` or of
 # `static`, and the name of a project in `before` is its folder; the places of its libraries, each after those that it
-# needs; its programs, each with its place and the place of the static one; and the tools that it needs.
+# needs; its programs, each with its place and the place of the static one; the tools that it needs, `plugin` among them
+# if it has thread-local data; the projects that it needs; and the compilers of C and C++ of the programs with which those
+# of the driver are compared, if these aren't musl-gcc's.
 Project = collections.namedtuple(
-    'Project', 'package commands linked static libraries programs tools before', defaults=((), ()))
+    'Project', 'package commands linked static libraries programs tools before reference',
+    defaults=((), (), None))
 # The packages of tools that have another name.
-PACKAGES = {'libtoolize': 'libtool', 'tclsh': 'tcl'}
+PACKAGES = {'libtoolize': 'libtool', 'tclsh': 'tcl', 'ninja': 'ninja-build'}
 CMAKE = 'cmake -DCMAKE_C_COMPILER={cc} -DCMAKE_CXX_COMPILER={cxx} {words} . && make'
 STATIC = '-DBUILD_SHARED_LIBS=OFF -DCMAKE_EXE_LINKER_FLAGS=-static'
 CONFIGURE = 'CC="{cc}" ./configure {words} && make'
@@ -45,7 +49,7 @@ TCC = (f'./configure --cc="{{cc}}" {{words}} --extra-cflags="-O2 -DCONFIG_TCC_ST
 
 PROJECTS = {
     'zlib': Project(
-        'zlib', 'CC="{cc}" ./configure {words} && make', '', '--static', ['libz.so'],
+        'zlib', CONFIGURE, '', '--static', ['libz.so'],
         {'minigzip': ('minigzipsh', 'minigzip'), 'example': ('examplesh', 'example')}),
     'bzip2': Project(
         'bzip2', 'make {words} CC="{cc}"', '-f Makefile-libbz2_so', 'bzip2', ['libbz2.so.1.0'],
@@ -114,26 +118,39 @@ def build_one(project, source, kind, words, compiler, before):
     shutil.copytree(kept, source, symlinks=True)
     cc, cxx = compiler
     others = {other: it.place[kind] for other, it in before.items()}
+    words = words.format(**others)
     run('sh', '-c', project.commands.format(cc=cc, cxx=cxx, words=words, **others), cwd=source)
     return source.rename(place)
 
 
-def build(name, folder, archives, built):
+def need_plugin():
+    """Finds the plugin for thread-local data beside the driver."""
+    here = Path(shutil.which('rlibreg-gcc')).resolve().parent
+    if not [*here.glob('rlibreg_tls-*.so'), *here.glob('../lib/rlibreg/rlibreg_tls-*.so')]:
+        raise NotHad('rlibreg-gcc has no plugin for thread-local data, which c/plugin.sh makes')
+
+
+def build(name, project, folder, archives, built):
     """Builds a project with its programs, by the driver and as static programs. `built` has the projects that came
     before."""
-    project, it = PROJECTS[name], Build(folder)
+    it = Build(folder)
     for tool in project.tools:
-        need(tool, PACKAGES.get(tool, tool))
-    before = {other: built[other] for other in project.before if other in built}
+        if tool == 'plugin':
+            need_plugin()
+        else:
+            need(tool, PACKAGES.get(tool, tool))
+    it.before = before = {other: built[other] for other in project.before if other in built}
     if len(before) < len(project.before):
         raise NotHad(f'{name} needs {", ".join(project.before)}')
     source = it.source(archives, project.package)
-    static = ('musl-gcc', 'musl-gcc') if 'cmake' in project.tools else ('musl-gcc -static',) * 2
+    usual = ('musl-gcc' if 'cmake' in project.tools else 'musl-gcc -static',) * 2
     it.place = {
         'linked': build_one(project, source, 'linked', project.linked, ('rlibreg-gcc', 'rlibreg-g++'),
                             before),
-        'static': build_one(project, source, 'static', project.static, static, before)}
-    it.libraries = [path for other in before.values() for path in other.libraries]
+        'static': build_one(project, source, 'static', project.static, project.reference or usual,
+                            before)}
+    for other in before.values():
+        it.libraries += [path for path in other.libraries if path not in it.libraries]
     it.libraries += [(it.place['linked'] / path).resolve() for path in project.libraries]
     for program, paths in project.programs.items():
         for kind, path, to in zip(('linked', 'static'), paths, (it.linked, it.static)):
