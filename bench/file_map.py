@@ -29,6 +29,8 @@ PLAIN = {
     'c/debian/copyright': 'the licence of the package',
     'c/debian/plugin-control': "the same of the package of gcc's plugin",
     'c/debian/plugin-copyright': "the licence of gcc's plugin",
+    'c/debian/cxx-control': "the same of the package of C++'s standard library",
+    'c/debian/cxx-copyright': "the licence of C++'s standard library",
     'c/debian/postinst': 'what the package does after it is installed',
     'c/debian/prerm': 'what the package does before it is removed',
     'c/debian/triggers': 'what the system does after an installation: it updates its list of libraries and its initramfs',
