@@ -17,6 +17,7 @@ import re
 import sys
 from pathlib import Path
 
+sys.path.insert(1, str(Path(__file__).resolve().parent / 'pages'))
 import clauses
 import definitions
 import file_map
@@ -113,10 +114,10 @@ def unknown_names(text, words, crate):
 
 
 def unlisted():
-    """Returns the files of this folder that the list of bench/README.md doesn't name exactly once."""
+    """Returns the files of this folder and its folders that the list of bench/README.md doesn't name exactly once."""
     named = QUOTED.findall((ROOT / 'bench' / 'README.md').read_text())
-    return sorted(path.name for path in (ROOT / 'bench').iterdir()
-                  if path.is_file() and path.name != 'README.md' and named.count(path.name) != 1)
+    return sorted(path.name for path in (ROOT / 'bench').rglob('*')
+                  if path.is_file() and path.suffix != '.pyc' and path.name != 'README.md' and named.count(path.name) != 1)
 
 
 def faults_of_files():

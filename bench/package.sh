@@ -53,12 +53,12 @@ tree() {
     rm -rf "$1"/usr/lib/rlibreg/rlibreg_{tls,cxx}-*       # other packages have them
     strip --strip-unneeded "$1"/usr/bin/rlibreg{,-tool} "$1"/usr/lib/librlibreg.so.*.*.*
     strip --strip-debug --enable-deterministic-archives "$1/usr/lib/librlibreg.a"
-    cp c/debian/copyright "$doc/copyright"
+    cp c/install/debian/copyright "$doc/copyright"
     changelog | gzip -9n > "$doc/changelog.gz"
     for page in "$1"/usr/share/man/man[13]/*; do [ ! -f "$page" ] || gzip -9n "$page"; done
     [ ! -f "$1/usr/share/man/man1/rlibreg-gcc.1.gz" ] ||
         ln -s rlibreg-gcc.1.gz "$1/usr/share/man/man1/rlibreg-g++.1.gz"
-    install -Dm 644 c/debian/overrides "$1/usr/share/lintian/overrides/rlibreg"
+    install -Dm 644 c/install/debian/overrides "$1/usr/share/lintian/overrides/rlibreg"
 }
 
 # control FOLDER: adds the files that dpkg reads about the package.
@@ -67,9 +67,9 @@ control() {
     size=$(du -sk --apparent-size "$1" | cut -f1)
     mkdir "$1/DEBIAN"
     sed "s|@VERSION@|$version|; s|@SIZE@|$size|; s|@DEPENDS@|$(depends "$1")|; s|@WHO@|$who|" \
-        c/debian/control > "$1/DEBIAN/control"
-    install -m 755 c/debian/postinst c/debian/prerm "$1/DEBIAN/"
-    install -m 644 c/debian/triggers "$1/DEBIAN/"
+        c/install/debian/control > "$1/DEBIAN/control"
+    install -m 755 c/install/debian/postinst c/install/debian/prerm "$1/DEBIAN/"
+    install -m 644 c/install/debian/triggers "$1/DEBIAN/"
     echo "librlibreg ${version%.*} rlibreg (>= ${version%.*})" > "$1/DEBIAN/shlibs"
 }
 
@@ -77,8 +77,8 @@ control() {
 plugin_tree() {
     local doc=$1/usr/share/doc/rlibreg-gcc-$gcc
     install -Dm 644 "$plugin" "$1/usr/lib/rlibreg/${plugin##*/}"
-    install -Dm 644 c/debian/plugin-copyright "$doc/copyright"
-    install -Dm 644 c/rlibreg_tls.cc "$doc/rlibreg_tls.cc"
+    install -Dm 644 c/install/debian/plugin-copyright "$doc/copyright"
+    install -Dm 644 c/driver/rlibreg_tls.cc "$doc/rlibreg_tls.cc"
     changelog | sed "1s/^rlibreg /rlibreg-gcc-$gcc /" | gzip -9n > "$doc/changelog.gz"
 }
 
@@ -90,7 +90,7 @@ plugin_control() {
     mkdir "$1/DEBIAN"
     sed "s|@VERSION@|$version|g; s|@WHO@|$who|; s|@GCC@|$gcc|g; s|@RELEASE@|$release|; s|@USING@|$using|
         s|@NEXT@|${release%.*}.$((${release##*.} + 1))~|" \
-        c/debian/plugin-control > "$1/DEBIAN/control"
+        c/install/debian/plugin-control > "$1/DEBIAN/control"
 }
 
 # cxx_tree FOLDER: puts into FOLDER what the package of C++'s standard library installs.
@@ -98,7 +98,7 @@ cxx_tree() {
     local doc=$1/usr/share/doc/rlibreg-g++-$gcc it=$1/usr/lib/rlibreg/${cxx##*/}
     install -d "$1/usr/lib/rlibreg" "$doc"
     cp -R "$cxx" "$it"
-    { sed "s/@GCC@/$gcc/g" c/debian/cxx-copyright && cat "$it/COPYING.RUNTIME"; } > "$doc/copyright"
+    { sed "s/@GCC@/$gcc/g" c/install/debian/cxx-copyright && cat "$it/COPYING.RUNTIME"; } > "$doc/copyright"
     rm "$it"/COPYING*
     chmod -R u=rwX,go=rX "$it"
     changelog | sed "1s/^rlibreg /rlibreg-g++-$gcc /" | gzip -9n > "$doc/changelog.gz"
@@ -113,7 +113,7 @@ cxx_control() {
     mkdir "$1/DEBIAN"
     sed "s|@VERSION@|$version|g; s|@WHO@|$who|; s|@GCC@|$gcc|g; s|@RELEASE@|$release|; s|@USING@|$using|
         s|@SIZE@|$size|; s|@NEXT@|${release%.*}.$((${release##*.} + 1))~|" \
-        c/debian/cxx-control > "$1/DEBIAN/control"
+        c/install/debian/cxx-control > "$1/DEBIAN/control"
 }
 
 # make FILE KIND: makes the package, by the functions KINDtree and KINDcontrol.

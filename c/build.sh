@@ -20,7 +20,7 @@ for tool in ${cc%% *} ar ld nm readelf; do
     fi
 done
 kit=$(dirname "$(rt doc)")
-flags='-std=c11 -O2 -g -fPIC -Wall -Wextra -Wpedantic -Werror'
+flags='-std=c11 -O2 -g -fPIC -Wall -Wextra -Wpedantic -Werror -Ic -Ic/library -Ic/loader -Ic/programs'
 hardened='-fstack-protector-strong -Wl,-z,relro,-z,now'
 mkdir -p "$folder"
 folder=$(cd "$folder" && pwd)
@@ -52,9 +52,9 @@ fi
 cp "$RLIBREG_C" "$folder/proved.a"
 
 # The C code over the proved calls, and the functions by which the proved calls get memory.
-parts='file disk_file process streams place new_disk names turn front status'
-for part in $parts; do
-    $cc $flags -c -o "$folder/rlibreg_$part.o" "c/rlibreg_$part.c"
+parts=(c/library/*.c) parts=("${parts[@]##*/}") parts=("${parts[@]%.c}")
+for part in "${parts[@]}"; do
+    $cc $flags -c -o "$folder/$part.o" "c/library/$part.c"
 done
 rm -f "$folder/librlibreg.a"
 (
@@ -63,17 +63,17 @@ rm -f "$folder/librlibreg.a"
 CREATE librlibreg.a
 ADDLIB proved.a
 ADDLIB $kit/c/liblibc_c.a
-$(printf 'ADDMOD rlibreg_%s.o\n' $parts)
+$(printf 'ADDMOD %s.o\n' "${parts[@]}")
 SAVE
 END
-    rm proved.a $(printf 'rlibreg_%s.o ' $parts)
+    rm proved.a "${parts[@]/%/.o}"
 )
 cp c/rlibreg.h "$folder/"
 # linked STATUS STREAM MESSAGE NAME WORD..: links a program. If the program is refused memory at its
 # start, it prints MESSAGE to the standard stream STREAM, and exits with STATUS.
 linked() {
     $cc $flags $hardened $linking -DOUT_OF_MEMORY="$1" -DSTREAM="$2" -DMESSAGE="\"$3\\n\"" \
-        -Wl,-e,rlibreg_entry -o "$folder/$4" c/rlibreg_entry.c c/rlibreg_stack.c "${@:5}"
+        -Wl,-e,rlibreg_entry -o "$folder/$4" c/programs/rlibreg_entry.c c/programs/rlibreg_stack.c "${@:5}"
 }
 
 # The part of the loader that runs before its C library is set up. It may not call that library, and may
@@ -84,7 +84,7 @@ early='early kernel words key kept kept_file compare folder start debugger'
 alone='-fPIE -ffreestanding -fno-stack-protector -fno-tree-loop-distribute-patterns'
 (
     for part in $early; do
-        $cc $flags $alone -c -o "$folder/early_$part.o" "c/rlibreg_run_$part.c"
+        $cc $flags $alone -c -o "$folder/early_$part.o" "c/loader/rlibreg_run_$part.c"
     done
     cd "$folder"
     echo 'SECTIONS { .text : { *(.text .text.* .rodata .rodata.*) } }' > early.ld
@@ -101,7 +101,8 @@ alone='-fPIE -ffreestanding -fno-stack-protector -fno-tree-loop-distribute-patte
 )
 linked 126 2 'rlibreg-run: memory: Cannot allocate memory' rlibreg-run -DSTARTS_EARLY -Wl,--build-id=sha1 \
     -Wl,-z,noseparate-code -T "$folder/filled.ld" \
-    c/rlibreg_run.c c/rlibreg_run_{base,calls,image,keep,named,objects,order,program,rights,sources,stretches,write}.c \
+    c/loader/rlibreg_run.c \
+    c/loader/rlibreg_run_{base,calls,image,keep,named,objects,order,program,rights,sources,stretches,write}.c \
     "$folder/early.o" "$folder/librlibreg.a"
 rm "$folder/early.o" "$folder/filled.ld"
 
@@ -116,9 +117,9 @@ program() {
         object=crates/$crate/out/$crate.o
     fi
     linked 4 "$stream" "$message" "$name" \
-        -Wl,--gc-sections,--wrap=open,--wrap=pwrite,--wrap=fsync,--wrap=flock,--wrap=main c/rlibreg_{main,front,names,turn}.c \
-        c/rlibreg_program_{lock,sync}.c "$object" "$kit/c/libos_c.a" \
-        "$kit/c/liblibc_c.a" -lm
+        -Wl,--gc-sections,--wrap=open,--wrap=pwrite,--wrap=fsync,--wrap=flock,--wrap=main \
+        c/programs/rlibreg_{main,program_lock,program_sync}.c c/library/rlibreg_{front,names,turn}.c \
+        "$object" "$kit/c/libos_c.a" "$kit/c/liblibc_c.a" -lm
 }
 # A refusal of a command goes to standard output, and a refusal of the tool to standard error.
 refusal='refused S11 OutOfMemory'
@@ -153,10 +154,10 @@ soname=librlibreg.so.${version%.*}
     of_program="$flags -g0 -fno-stack-protector -U_FORTIFY_SOURCE"
     for part in begin begin_calls objects; do
         $cc $of_program -Os -fno-asynchronous-unwind-tables -c -o "$folder/begins_$part.o" \
-            "c/rlibreg_$part.c"
+            "c/driver/rlibreg_$part.c"
     done
     for part in emulated dl unwind each; do
-        $cc $of_program -c -o "$folder/begins_$part.o" "c/rlibreg_$part.c"
+        $cc $of_program -c -o "$folder/begins_$part.o" "c/driver/rlibreg_$part.c"
     done
     cd "$folder"
     ld -r -o rlibreg_begin.o begins_{begin,begin_calls,objects}.o
@@ -167,12 +168,12 @@ soname=librlibreg.so.${version%.*}
     ar rcsD rlibreg_dl.a begins_unwind.o
     rm begins_*.o
 )
-cp c/rlibreg-{gcc,ld} c/rlibreg{,_plus,_cxx}.specs c/rlibreg_plus.cc c/rlibreg_{versions,words}.awk "$folder/"
+cp c/driver/rlibreg{-gcc,-ld,.specs,_plus.specs,_cxx.specs,_plus.cc,_versions.awk,_words.awk} "$folder/"
 ln -sf rlibreg-gcc "$folder/rlibreg-g++"
 # The headers of C++'s standard library, each of which says that the library isn't installed. The header
 # `version` isn't among them, because programs ask whether it exists.
 mkdir -p "$folder/rlibreg_plus"
-cp c/rlibreg_absent.h "$folder/rlibreg_plus/"
+cp c/driver/rlibreg_absent.h "$folder/rlibreg_plus/"
 for name in algorithm any array atomic barrier bit bitset charconv chrono codecvt compare complex concepts \
     condition_variable coroutine deque exception execution expected filesystem format forward_list fstream \
     functional future initializer_list iomanip ios iosfwd iostream istream iterator latch limits list locale \

@@ -52,13 +52,13 @@ print(next(it for it in site.getsitepackages() if it.startswith(sys.argv[1] + "/
 # unit, `%%` means `%`.
 make_files() {
     local file prefix
-    sed "s|@PREFIX@|$1|; s|@VERSION@|$version|" "$here/rlibreg.pc.in" > "$2/rlibreg.pc"
-    for file in "$here"/system/*; do
+    sed "s|@PREFIX@|$1|; s|@VERSION@|$version|" "$here/install/rlibreg.pc.in" > "$2/rlibreg.pc"
+    for file in "$here"/install/system/*; do
         prefix=$1
         case $file in *.service) prefix=${1//%/%%} ;; esac
         sed "s|@PREFIX@|$prefix|g" "$file" > "$2/${file##*/}"
     done
-    "$here/manual.sh" "$2" "$1/share/doc/rlibreg"
+    "$here/install/manual.sh" "$2" "$1/share/doc/rlibreg"
 }
 
 # add_all PREFIX FOLDER ROOM: adds all files to install, except the list.
@@ -69,7 +69,7 @@ add_all() {
     add 755 "$2/rlibreg-tool" "$1/bin/rlibreg-tool"
     add 755 "$2/rlibreg-gcc" "$1/bin/rlibreg-gcc"
     add link rlibreg-gcc "$1/bin/rlibreg-g++"
-    add 755 "$here/rlibreg-switch" "$1/bin/rlibreg-switch"
+    add 755 "$here/programs/rlibreg-switch" "$1/bin/rlibreg-switch"
     add 755 "$2/rlibreg-ld" "$1/lib/rlibreg/rlibreg-ld"
     for name in rlibreg{,_plus,_cxx}.specs rlibreg_begin.o rlibreg_{dl,objects,emulated,each}.a rlibreg_plus.cc \
         rlibreg_{versions,words}.awk; do

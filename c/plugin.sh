@@ -15,6 +15,6 @@ if [ ! -f "$headers/gcc-plugin.h" ]; then
 fi
 plugin=$folder/rlibreg_tls-$("$compiler" -dumpfullversion).so
 g++ -std=c++11 -O2 -fPIC -fno-rtti -fno-exceptions -Wall -Wextra -shared -s -isystem "$headers" \
-    -o "$plugin.new" "$here/rlibreg_tls.cc"
+    -o "$plugin.new" "$here/driver/rlibreg_tls.cc"
 mv "$plugin.new" "$plugin"
 echo "built $plugin"

@@ -13,7 +13,7 @@ for name in updater host; do
     gcc $checked -o checked $name.c "$built/librlibreg.a"
 done
 gcc $checked -Dmain=updater_main -c updater.c
-gcc $checked -o updating "$here/updating.c" updater.o $watched $beside
+gcc $checked -o updating "$here/library/updating.c" updater.o $watched $beside
 mkdir updating.files
 (cd updating.files && ../updating "$data/strong.so" b)
 

@@ -26,7 +26,7 @@ both=$(digest "$data/protected.so" "$data/long.so")
 # The tests run a copy of the script that lies beside the programs, and may shorten the wait of this
 # copy.
 mkdir bin steps start
-sed 's/^readonly patience=10 /readonly patience=${PATIENCE:-10} /' "$here/../rlibreg-switch" > bin/rlibreg-switch
+sed 's/^readonly patience=10 /readonly patience=${PATIENCE:-10} /' "$here/../programs/rlibreg-switch" > bin/rlibreg-switch
 want 'its patience' 1 "$(grep -c '^readonly patience=${PATIENCE:-10} ' bin/rlibreg-switch)"
 chmod +x bin/rlibreg-switch
 ln "$(realpath "$rlibreg")" bin/rlibreg 2> lost || cp "$rlibreg" bin/rlibreg
