@@ -70,24 +70,44 @@ configure_and_make() {
     cd "$room/build"
     "$room/source/libstdc++-v3/configure" --build=x86_64-linux-gnu --host=x86_64-linux-musl \
         --prefix="$room/made" --disable-multilib --disable-nls --disable-tls --disable-symvers \
-        --disable-libstdcxx-pch --disable-shared --enable-static --with-pic CC="$room/for_c" \
+        --disable-libstdcxx-pch --enable-libstdcxx-filesystem-ts=no --disable-shared --enable-static --with-pic CC="$room/for_c" \
         CXX="$room/for_plus" AR=ar RANLIB=ranlib AS=as LD=ld NM=nm STRIP=strip CFLAGS=-O2 CXXFLAGS=-O2
     make -j"${JOBS:-1}"
     make install
 }
 
-# collect: puts the headers, the shared library, gcc's unwinder and the licenses into `$room/new`. The
-# unwinder comes without gcc's emulation of thread-local data, because a program has one of its own.
+# make_unwinder FILE: makes an archive of gcc's unwinder, whose functions a program may export. In gcc's own
+# archive they are hidden, so that each library would have an unwinder with its own data. Here they get other
+# names, and functions with their names jump to them. A program has an emulation of thread-local data of its
+# own, so gcc's is left out.
+make_unwinder() {
+    local name
+    mkdir "$room/unwinder"
+    cp "$("$compiler" -print-file-name=libgcc_eh.a)" "$room/unwinder/all.a"
+    chmod u+w "$room/unwinder/all.a"
+    ar dD "$room/unwinder/all.a" emutls.o
+    nm -g --defined-only "$room/unwinder/all.a" | sed -n 's/^[0-9a-f]* T //p' | sort -u > "$room/unwinder/names"
+    sed 's/.*/& rlibreg_&/' "$room/unwinder/names" > "$room/unwinder/renamed"
+    objcopy -D --redefine-syms="$room/unwinder/renamed" "$room/unwinder/all.a" "$1"
+    while read -r name; do
+        printf '\t.globl %s\n\t.type %s, @function\n%s:\n\t.cfi_startproc\n' "$name" "$name" "$name"
+        printf '\tendbr64\n\tjmp rlibreg_%s\n\t.cfi_endproc\n\t.size %s, .-%s\n' "$name" "$name" "$name"
+    done < "$room/unwinder/names" > "$room/unwinder/rlibreg_names.s"
+    echo '	.section .note.GNU-stack,"",@progbits' >> "$room/unwinder/rlibreg_names.s"
+    "$compiler" -c -o "$room/unwinder/rlibreg_names.o" "$room/unwinder/rlibreg_names.s"
+    ar rD "$1" "$room/unwinder/rlibreg_names.o"
+}
+
+# collect: puts the headers, the shared library, gcc's unwinder and the licenses into `$room/new`.
 collect() {
     local new=$room/new headers
     mkdir "$new"
     headers=$(compgen -G "$room/made/include/c++/*")
     cp -R "$headers" "$new/include"
-    cp "$("$compiler" -print-file-name=libgcc_eh.a)" "$new/rlibreg_eh.a"
-    ar dD "$new/rlibreg_eh.a" emutls.o
+    make_unwinder "$new/rlibreg_eh.a"
     cp "$room/source/COPYING3" "$room/source/COPYING.RUNTIME" "$new/"
     "$folder/rlibreg-gcc" -shared -s "-Wl,-soname,$soname" -o "$new/$soname" -Wl,--whole-archive \
-        "$room/made/lib/libstdc++.a" -Wl,--no-whole-archive "$new/rlibreg_eh.a" "$folder/rlibreg_each.a"
+        "$room/made/lib/libstdc++.a" -Wl,--no-whole-archive "$folder/rlibreg_each.a"
     chmod -R u+w,go-w,a+rX "$new"
     chmod a-x "$new/$soname"
 }

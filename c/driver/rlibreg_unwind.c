@@ -1,6 +1,5 @@
-/* Finds the table of unwind data for an address. The unwinder of gcc asks for it in each frame that
- * an exception passes. Each library that needs the unwinder has one of its own, from gcc's
- * libgcc_eh.a. These unwinders keep no data, and all of them ask this function of the program. */
+/* Finds the table of unwind data for an address. gcc's unwinder, which is in the program, asks for
+ * it in each frame that an exception passes. */
 #define _GNU_SOURCE
 #include "rlibreg_objects.h"
 

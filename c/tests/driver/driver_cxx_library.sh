@@ -44,7 +44,7 @@ for linker in $linkers; do
 done
 builds -std=c++20 -static-libgcc -static-libstdc++
 starts 'with a static libgcc'
-want 'the unwinder of a library' '' "$(nm -D --defined-only libone.so libtwo.so | grep ' _Unwind' || true)"
+want 'the unwinders of libraries' '' "$(nm libone.so libtwo.so | grep ' [Tt] _Unwind' || true)"
 if [ -x "$(readelf -lW program | sed -n 's/.*interpreter: \(.*\)\]/\1/p')" ]; then
     want 'where it is built' "$wanted" "$(LD_LIBRARY_PATH=.:$cxx ended ./program)"
 fi
@@ -70,9 +70,14 @@ done
 
 # Exceptions pass through the functions of a library of C, and a constructor may throw.
 cat > through.c << 'END_OF_FILE'
-int through(int (*call)(int), int with) { return call(with) + 1; }
+#include <stdio.h>
+static void clean(const int *it) { printf("cleaned up %d\n", *it); }
+int through(int (*call)(int), int with) {
+    __attribute__((cleanup(clean))) int own = with + 2;
+    return call(with) + own;
+}
 END_OF_FILE
-$gcc -O2 -shared -o libthrough.so through.c
+$gcc -O2 -fexceptions -shared -o libthrough.so through.c
 installed disk libthrough.so
 cat > passes.cc << 'END_OF_FILE'
 #include <cstdio>
@@ -98,9 +103,11 @@ int main(int count, char **) {
 END_OF_FILE
 $plus -O2 -o passes passes.cc libthrough.so
 want 'through C' 'early 1
+cleaned up 6
 through 4
 = 3' "$(ended "$built/rlibreg-run" disk ./passes)"
 want "through musl's qsort" 'early 1
+cleaned up 6
 through 4
 terminated
 = 9' "$(ended "$built/rlibreg-run" disk ./passes more)"

@@ -40,8 +40,9 @@ static void exceptions() {
     } catch (const std::out_of_range &) {
         std::cout << "out of range\n";
     }
+    volatile std::size_t most = ~std::size_t(0) / 4;
     try {
-        std::unique_ptr<char[]> it(new char[~std::size_t(0) / 2]);
+        ::operator delete(::operator new(most));
     } catch (const std::bad_alloc &) {
         std::cout << "bad_alloc\n";
     }
@@ -143,13 +144,13 @@ static void folders() {
     std::cout << lines << " lines, " << entries << " entries, " << files::file_size("made/inner/file") << "\n";
     files::remove_all("made");
     try {
-        files::file_size("made");
+        std::cout << files::file_size("made") << "\n";
     } catch (const files::filesystem_error &found) {
         std::cout << found.path1() << " " << found.code().value() << "\n";
     }
 }
-static struct last {
-    ~last() { std::cout << "program ends" << std::endl; }
+static struct program {
+    ~program() { std::cout << "program ends" << std::endl; }
 } last;
 int main() {
     exceptions();

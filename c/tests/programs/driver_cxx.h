@@ -1,4 +1,4 @@
-/* What the libraries and the program of driver_cxx.cc share. */
+/* Declares the functions and classes that the libraries and the program of driver_cxx.cc share. */
 #include <atomic>
 #include <stdexcept>
 #include <string>
@@ -24,7 +24,7 @@ struct circle : shape {
 };
 /* An inline function's static object, which all objects share. */
 inline int next_number() {
-    static int last = (shape::alive += 0, 10);
+    static std::atomic<int> last((shape::alive += 0, 10));
     return ++last;
 }
 shape *make_shape(int kind);

@@ -14,9 +14,9 @@ void throw_failure(int number) {
     std::unique_ptr<shape> held(make_shape(0));
     if (number) throw failure("number " + std::to_string(number), next_number());
 }
-static struct last {
-    last() { std::puts("one begins"); }
-    ~last() { std::puts("one ends"); }
+static struct first_library {
+    first_library() { std::puts("one begins"); }
+    ~first_library() { std::puts("one ends"); }
 } last;
 static std::mutex mutex;
 static std::string ended;

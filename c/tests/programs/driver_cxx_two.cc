@@ -2,9 +2,9 @@
 #include "driver_cxx.h"
 #include <cstdio>
 
-static struct last {
-    last() { std::puts("two begins"); }
-    ~last() { std::puts("two ends"); }
+static struct second_library {
+    second_library() { std::puts("two begins"); }
+    ~second_library() { std::puts("two ends"); }
 } last;
 int visit(const shape &it, int (*call)(const shape &)) {
     struct unwound {
